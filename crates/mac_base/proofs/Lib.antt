@@ -1,0 +1,3 @@
+mod Rows
+mod FirstStep
+pub mod Placing

@@ -1,0 +1,190 @@
+-- Worked examples on small maps, computed.
+use Rattle.std.proofs.Common.{◌≡◌, refl, ℕ, List, [], ◌∷◌, ◌++◌, Some, None, replicate}
+use Rattle.mac_base.specs.declared.error.OsErr.TheVariants.{ParamErr, MemFullErr, NilHandleErr, MemWzErr, MemBcErr, MemLockedErr}
+use Rattle.mac_base.specs.declared.block.HeadKind.TheVariants.{Bits24}
+use Rattle.mac_base.specs.declared.block.Kind.TheVariants.{Free, Master, Ptr, Rel}
+use Rattle.mac_base.specs.HeadKind.{Shape, slot_count}
+use Rattle.mac_base.specs.ZoneMap.{block}
+use Rattle.mac_base.specs.HandleTable.{new_table, no_flags}
+use Rattle.mac_base.specs.Suits.{slots_from}
+use Rattle.mac_base.specs.Heap.{Heap, new_heap}
+use Rattle.mac_base.specs.MemoryCall.{MemoryCall, NewHandle, NewPtr, ReserveMem, CompactMem, PurgeMem, NewEmptyHandle, MoreMasters, MaxMem, PurgeSpace, MaxBlock, FreeMem, MaxApplZone, DisposeHandle, GetHandleSize, HandToHand, HLock, HPurge, MoveHHi, HLockHi, Deref, DisposePtr, RecoverHandle, SetHandleSize, SetPtrSize, ReallocateHandle, PtrToHand, HandAndHand, PtrToXHand, PtrAndHand, Peek, Poke, BlockMove, ZoneMap as WalkZone}
+use Rattle.mac_base.specs.GrowZone.{Answer, DisposesHandle, Empties}
+use Rattle.mac_base.specs.Reply.{Refused, Done, Number, TwoNumbers, Bytes, Blocks}
+use Rattle.mac_base.specs.ExactStep.{exact_step, heap_after, replies_to}
+
+abbrev pub zone : Shape
+zone = record { heads = Bits24; base = 0x0010_0000; limit = 4096 }
+
+abbrev pub fresh : Heap
+fresh = new_heap zone 4096
+
+new_zone : fresh ≡ record { table = new_table; map = block Master 264 ∷ block Free 3780 ∷ []; free_slots = slots_from slot_count 0x0010_003C }
+new_zone = refl
+
+abbrev pub h1 : ℕ
+h1 = 0x0010_003C
+
+abbrev h2 : ℕ
+h2 = 0x0010_0040
+
+abbrev h3 : ℕ
+h3 = 0x0010_0044
+
+abbrev h4 : ℕ
+h4 = 0x0010_0048
+
+first_handle : (heap_after zone fresh (NewHandle 100 ∷ [])).map ≡ block Master 264 ∷ block (Rel h1) 108 ∷ block Free 3672 ∷ []
+first_handle = refl
+
+first_handle_report : replies_to zone fresh (NewHandle 100 ∷ WalkZone ∷ []) ≡ Number h1 ∷ Blocks (
+    record { address = 0x0010_0034; entry = block Master 264; length = 256; flags = no_flags }
+    ∷ record { address = 0x0010_013C; entry = block (Rel h1) 108; length = 100; flags = no_flags }
+    ∷ record { address = 0x0010_01A8; entry = block Free 3672; length = 0; flags = no_flags } ∷ []) ∷ []
+first_handle_report = refl
+
+empty_contents : (heap_after zone fresh (NewHandle 0 ∷ [])).map ≡ block Master 264 ∷ block (Rel h1) 12 ∷ block Free 3768 ∷ []
+empty_contents = refl
+
+whole_zone : (heap_after zone fresh (NewHandle 3772 ∷ [])).map ≡ block Master 264 ∷ block (Rel h1) 3780 ∷ []
+whole_zone = refl
+
+too_large : replies_to zone fresh (NewHandle 3773 ∷ []) ≡ Refused MemFullErr ∷ []
+too_large = refl
+
+size_correction : (heap_after zone fresh (NewHandle 3764 ∷ [])).map ≡ block Master 264 ∷ block (Rel h1) 3780 ∷ []
+size_correction = refl
+
+smallest_rest : (heap_after zone fresh (NewHandle 3760 ∷ [])).map ≡ block Master 264 ∷ block (Rel h1) 3768 ∷ block Free 12 ∷ []
+smallest_rest = refl
+
+abbrev three : List MemoryCall
+three = NewHandle 1000 ∷ NewHandle 1000 ∷ NewHandle 1000 ∷ []
+
+abbrev compacting_calls : List MemoryCall
+compacting_calls = three ++ Poke h2 0 (66 ∷ 66 ∷ []) ∷ DisposeHandle h1 ∷ NewHandle 1500 ∷ []
+
+compacted_for_handle : (heap_after zone fresh compacting_calls).map
+    ≡ block Master 264 ∷ block (Rel h2) 1008 ∷ block (Rel h3) 1008 ∷ block (Rel h1) 1508 ∷ block Free 256 ∷ []
+compacted_for_handle = refl
+
+compacted_contents : replies_to zone (heap_after zone fresh compacting_calls) (Peek h2 0 2 ∷ []) ≡ Bytes (66 ∷ 66 ∷ []) ∷ []
+compacted_contents = refl
+
+locked_in_the_way : replies_to zone (heap_after zone fresh (three ++ HLock h2 ∷ DisposeHandle h1 ∷ [])) (NewHandle 1500 ∷ []) ≡ Refused MemFullErr ∷ []
+locked_in_the_way = refl
+
+purged_in_order : replies_to zone (heap_after zone fresh three) (HPurge h1 ∷ HPurge h3 ∷ NewHandle 1500 ∷ GetHandleSize h1 ∷ GetHandleSize h3 ∷ [])
+    ≡ Done ∷ Done ∷ Number h4 ∷ Refused NilHandleErr ∷ Number 1000 ∷ []
+purged_in_order = refl
+
+compacted_before_purging : replies_to zone (heap_after zone fresh three) (HPurge h3 ∷ DisposeHandle h1 ∷ NewHandle 1500 ∷ GetHandleSize h3 ∷ [])
+    ≡ Done ∷ Done ∷ Number h1 ∷ Number 1000 ∷ []
+compacted_before_purging = refl
+
+moved_high : (heap_after zone fresh (NewPtr 200 ∷ NewPtr 100 ∷ DisposePtr 0x0010_0144 ∷ NewHandle 50 ∷ MoveHHi h1 ∷ HLock h1 ∷ [])).map
+    ≡ block Master 264 ∷ block Free 148 ∷ block (Rel h1) 60 ∷ block (Ptr 0x0010_0214) 108 ∷ block Free 3464 ∷ []
+moved_high = refl
+
+moved_high_replies : replies_to zone fresh (NewPtr 200 ∷ NewPtr 100 ∷ DisposePtr 0x0010_0144 ∷ NewHandle 50 ∷ MoveHHi h1 ∷ HLock h1 ∷ MoveHHi h1 ∷ [])
+    ≡ Number 0x0010_0144 ∷ Number 0x0010_0214 ∷ Done ∷ Number h1 ∷ Done ∷ Done ∷ Refused MemLockedErr ∷ []
+moved_high_replies = refl
+
+appended_to_itself : replies_to zone fresh (NewHandle 2 ∷ Poke h1 0 (97 ∷ 98 ∷ []) ∷ HandAndHand h1 h1 ∷ Peek h1 0 4 ∷ NewEmptyHandle ∷ HandAndHand h2 h1 ∷ GetHandleSize h1 ∷ [])
+    ≡ Number h1 ∷ Done ∷ Done ∷ Bytes (97 ∷ 98 ∷ 97 ∷ 98 ∷ []) ∷ Number h2 ∷ Refused NilHandleErr ∷ Number 4 ∷ []
+appended_to_itself = refl
+
+-- an answer that disposes of a protected handle and is worth another trial, and one that is worth none
+abbrev two_answers : List Answer
+two_answers = record { calls = DisposesHandle h1 ∷ []; value = 40 } ∷ record { calls = []; value = 0 } ∷ []
+
+protected_from_answer : (exact_step zone two_answers (heap_after zone fresh (NewHandle 3000 ∷ [])) (SetHandleSize h1 3800)).asks
+    ≡ record { needed = 3808; answer = Some (record { calls = DisposesHandle h1 ∷ []; value = 40 }); codes = [] }
+    ∷ record { needed = 3808; answer = Some (record { calls = []; value = 0 }); codes = [] } ∷ []
+protected_from_answer = refl
+
+abbrev one : Answer
+one = record { calls = []; value = 1 }
+
+sixteen_answers : (exact_step zone (replicate 17 one) fresh (NewHandle 4000)).left ≡ one ∷ []
+sixteen_answers = refl
+
+room_released : (exact_step zone (record { calls = DisposesHandle h1 ∷ []; value = 1 } ∷ []) (heap_after zone fresh (NewHandle 2000 ∷ [])) (NewHandle 3000)).reply ≡ Number h1
+room_released = refl
+
+pointer_goes_low : replies_to zone fresh (NewHandle 100 ∷ NewPtr 20 ∷ Deref h1 ∷ []) ≡ Number h1 ∷ Number 0x0010_0144 ∷ Number 0x0010_0F9C ∷ []
+pointer_goes_low = refl
+
+zone_grows : (heap_after zone (new_heap zone 1024) (NewHandle 500 ∷ HPurge h1 ∷ NewHandle 1000 ∷ [])).map
+    ≡ block Master 264 ∷ block (Rel h1) 508 ∷ block (Rel h2) 1008 ∷ block Free 2264 ∷ []
+zone_grows = refl
+
+disposed_handle : replies_to zone fresh (NewHandle 8 ∷ Deref h1 ∷ RecoverHandle 0x0010_0144 ∷ DisposeHandle h1 ∷ DisposeHandle h1 ∷ RecoverHandle 0x0010_0144 ∷ HLock 0 ∷ NewHandle 8 ∷ GetHandleSize h1 ∷ [])
+    ≡ Number h1 ∷ Number 0x0010_0144 ∷ Number h1 ∷ Done ∷ Refused MemWzErr ∷ Refused MemBcErr ∷ Refused NilHandleErr ∷ Number h1 ∷ Number 8 ∷ []
+disposed_handle = refl
+
+purge_space : replies_to zone fresh (NewHandle 1000 ∷ HPurge h1 ∷ PurgeSpace ∷ MaxBlock ∷ PurgeMem 3000 ∷ PurgeMem 3781 ∷ [])
+    ≡ Number h1 ∷ Done ∷ TwoNumbers 3780 3780 ∷ Number 2772 ∷ Done ∷ Refused MemFullErr ∷ []
+purge_space = refl
+
+handle_grows_in_gap : (heap_after zone fresh (NewHandle 100 ∷ NewHandle 100 ∷ SetHandleSize h1 200 ∷ [])).map
+    ≡ block Master 264 ∷ block (Rel h1) 208 ∷ block Free 3464 ∷ block (Rel h2) 108 ∷ []
+handle_grows_in_gap = refl
+
+pointer_grows : replies_to zone fresh (NewPtr 100 ∷ NewHandle 100 ∷ SetPtrSize 0x0010_0144 200 ∷ Deref h1 ∷ []) ≡ Number 0x0010_0144 ∷ Number h1 ∷ Done ∷ Number 0x0010_0F9C ∷ []
+pointer_grows = refl
+
+high_and_compacted : replies_to zone fresh (NewHandle 100 ∷ NewHandle 100 ∷ DisposeHandle h1 ∷ HLockHi h2 ∷ Deref h2 ∷ CompactMem 0 ∷ CompactMem 4000 ∷ ReserveMem 500 ∷ [])
+    ≡ Number h1 ∷ Number h2 ∷ Done ∷ Done ∷ Number 0x0010_0F9C ∷ Number 3672 ∷ Number 3672 ∷ Done ∷ []
+high_and_compacted = refl
+
+free_block_first : replies_to zone fresh (NewHandle 100 ∷ NewHandle 100 ∷ DisposeHandle h1 ∷ NewHandle 200 ∷ Deref h2 ∷ []) ≡ Number h1 ∷ Number h2 ∷ Done ∷ Number h1 ∷ Number 0x0010_01B0 ∷ []
+free_block_first = refl
+
+grown_by_call : replies_to zone (new_heap zone 1024) (NewHandle 500 ∷ HPurge h1 ∷ MaxMem ∷ MaxApplZone ∷ MaxMem ∷ []) ≡ Number h1 ∷ Done ∷ TwoNumbers 708 3072 ∷ Done ∷ TwoNumbers 3780 0 ∷ []
+grown_by_call = refl
+
+overlapping_move : replies_to zone fresh (NewHandle 6 ∷ Poke h1 0 (97 ∷ 98 ∷ 99 ∷ 100 ∷ 101 ∷ 102 ∷ []) ∷ BlockMove h1 0 h1 2 4 ∷ Peek h1 0 6 ∷ BlockMove h1 0 h1 3 4 ∷ [])
+    ≡ Number h1 ∷ Done ∷ Done ∷ Bytes (97 ∷ 98 ∷ 97 ∷ 98 ∷ 99 ∷ 100 ∷ []) ∷ Refused ParamErr ∷ []
+overlapping_move = refl
+
+reallocated : replies_to zone fresh (NewHandle 1000 ∷ ReallocateHandle h1 4000 ∷ GetHandleSize h1 ∷ ReallocateHandle h1 3772 ∷ GetHandleSize h1 ∷ [])
+    ≡ Number h1 ∷ Refused MemFullErr ∷ Number 1000 ∷ Done ∷ Number 3772 ∷ []
+reallocated = refl
+
+-- 63 handles, and one more that leaves no room for a master block
+abbrev sixty_three : List MemoryCall
+sixty_three = replicate 63 (NewHandle 0)
+
+no_master_block : replies_to zone (heap_after zone fresh (sixty_three ++ NewHandle 2916 ∷ [])) (NewHandle 0 ∷ []) ≡ Refused MemFullErr ∷ []
+no_master_block = refl
+
+-- and one that leaves room for the master block alone
+master_block_stays : replies_to zone (heap_after zone fresh (sixty_three ++ NewHandle 2752 ∷ [])) (NewHandle 0 ∷ NewEmptyHandle ∷ []) ≡ Refused MemFullErr ∷ Number 0x0010_0144 ∷ []
+master_block_stays = refl
+
+abbrev p1 : ℕ
+p1 = 0x0010_0144
+
+copies : replies_to zone fresh (NewPtr 4 ∷ Poke p1 0 (97 ∷ 98 ∷ 99 ∷ 100 ∷ []) ∷ PtrToHand p1 3 ∷ PtrAndHand p1 h1 2 ∷ Peek h1 0 5 ∷ PtrToXHand p1 h1 1 ∷ HandToHand h1 ∷ Peek h2 0 1
+    ∷ SetHandleSize h1 300 ∷ SetPtrSize p1 40 ∷ ReallocateHandle h2 10 ∷ MoreMasters ∷ ReserveMem 500 ∷ PurgeMem 100 ∷ CompactMem 4000 ∷ MaxMem ∷ FreeMem ∷ [])
+    ≡ Number p1 ∷ Done ∷ Number h1 ∷ Done ∷ Bytes (97 ∷ 98 ∷ 99 ∷ 97 ∷ 98 ∷ []) ∷ Done ∷ Number h2 ∷ Bytes (97 ∷ [])
+    ∷ Done ∷ Done ∷ Done ∷ Done ∷ Done ∷ Done ∷ Number 3140 ∷ TwoNumbers 3140 0 ∷ Number 3140 ∷ []
+copies = refl
+
+protected_from_purging : replies_to zone fresh (NewHandle 2000 ∷ HPurge h1 ∷ HandToHand h1 ∷ GetHandleSize h1 ∷ []) ≡ Number h1 ∷ Done ∷ Refused MemFullErr ∷ Number 2000 ∷ []
+protected_from_purging = refl
+
+copies_map : (heap_after zone fresh (NewPtr 4 ∷ PtrToHand p1 3 ∷ PtrAndHand p1 h1 2 ∷ PtrToXHand p1 h1 1 ∷ HandToHand h1
+    ∷ SetHandleSize h1 300 ∷ SetPtrSize p1 40 ∷ ReallocateHandle h2 10 ∷ MoreMasters ∷ ReserveMem 500 ∷ PurgeMem 100 ∷ CompactMem 4000 ∷ MaxMem ∷ [])).map
+    ≡ block Master 264 ∷ block (Ptr p1) 48 ∷ block Master 264 ∷ block (Rel h2) 20 ∷ block (Rel h1) 308 ∷ block Free 3140 ∷ []
+copies_map = refl
+
+answer_emptied : (exact_step zone (record { calls = Empties h1 ∷ DisposesHandle h2 ∷ []; value = 7 } ∷ record { calls = []; value = 0 } ∷ [])
+    (heap_after zone fresh (NewHandle 2000 ∷ NewHandle 1000 ∷ [])) (SetHandleSize h2 3500)).asks
+    ≡ record { needed = 3508; answer = Some (record { calls = Empties h1 ∷ DisposesHandle h2 ∷ []; value = 7 }); codes = None ∷ [] } ∷ []
+answer_emptied = refl
+
+answer_emptied_sizes : replies_to zone (exact_step zone (record { calls = Empties h1 ∷ DisposesHandle h2 ∷ []; value = 7 } ∷ []) (heap_after zone fresh (NewHandle 2000 ∷ NewHandle 1000 ∷ [])) (SetHandleSize h2 3500)).heap
+    (GetHandleSize h1 ∷ GetHandleSize h2 ∷ []) ≡ Refused NilHandleErr ∷ Number 3500 ∷ []
+answer_emptied_sizes = refl

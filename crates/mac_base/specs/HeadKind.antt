@@ -1,0 +1,37 @@
+-- How large the parts of a zone are. A second kind of block header adds one line to each of the first two.
+use Rattle.std.specs.Prelude.{ℕ, ◌+◌, ◌*◌, ◌/◌, max}
+use Rattle.mac_base.specs.declared.block.HeadKind.{HeadKind}
+use Rattle.mac_base.specs.declared.block.HeadKind.TheVariants.{Bits24}
+
+-- the bytes of a block header
+abbrev pub head_size : HeadKind → ℕ
+head_size Bits24 = 8
+
+-- the bytes of the smallest block
+abbrev pub smallest_block : HeadKind → ℕ
+smallest_block Bits24 = 12
+
+-- the bytes of the zone header; blocks begin behind it
+abbrev pub zone_header : ℕ
+zone_header = 52
+
+-- the master pointers of a master block, and its logical size
+abbrev pub slot_count : ℕ
+slot_count = 64
+
+abbrev pub master_length : ℕ
+master_length = 256
+
+-- where a zone lies, how far it may grow, and how its blocks are headed
+pub record Shape : Type 0 where
+  pub heads : HeadKind
+  pub base : ℕ
+  pub limit : ℕ
+
+-- n, or the next multiple of four above it
+abbrev pub round_up : ℕ → ℕ
+round_up n = 4 * ((n + 3) / 4)
+
+-- the physical size of a block with n bytes of contents
+abbrev pub need : HeadKind → ℕ → ℕ
+need heads n = max (smallest_block heads) (round_up (n + head_size heads))

@@ -1,0 +1,97 @@
+//! What a walk over the blocks of a zone finds.
+
+use crate::handle::{Handle, Ptr};
+
+/// How the blocks of a zone are headed.
+#[derive(Clone, Copy, Debug, PartialEq, Eq)]
+pub enum HeadKind {
+    /// 24-bit blocks: 8 bytes of header, 12 bytes at least.
+    Bits24,
+}
+
+impl HeadKind {
+    ghost use Rattle.std.specs.Prelude.{◌≡◌};
+    ghost use Rattle.mac_base.specs.HeadKind.{head_size, smallest_block};
+
+    /// The bytes of a block's header.
+    pub fn head_size(self) -> u32
+        ensures { result ≡ head_size self }
+    {
+        match self {
+            HeadKind::Bits24 => 8,
+        }
+    }
+
+    /// The physical size of the smallest block, in bytes.
+    pub fn smallest_block(self) -> u32
+        ensures { result ≡ smallest_block self }
+    {
+        match self {
+            HeadKind::Bits24 => 12,
+        }
+    }
+}
+
+/// What a block is for.
+#[derive(Clone, Copy, Debug, PartialEq, Eq)]
+pub enum Kind {
+    /// The block is free.
+    Free,
+    /// A master block: 64 master pointers, which no call names.
+    Master,
+    /// A nonrelocatable block: the one whose contents begin at this pointer.
+    Ptr(Ptr),
+    /// A relocatable block: the one of this handle.
+    Rel(Handle),
+}
+
+impl Kind {
+    ghost use Rattle.std.specs.Prelude.{◌≡◌};
+    ghost use Rattle.mac_base.specs.ZoneMap.{is_free};
+
+    /// Whether a block is free.
+    pub fn is_free(self) -> bool
+        ensures { result ≡ is_free self }
+    {
+        match self {
+            Kind::Free => true,
+            Kind::Master | Kind::Ptr(_) | Kind::Rel(_) => false,
+        }
+    }
+}
+
+/// A block of the zone: its physical size in bytes, header included, and what it is for.
+#[derive(Clone, Copy, Debug, PartialEq, Eq)]
+pub struct Entry {
+    pub size: u32,
+    pub kind: Kind,
+}
+
+impl Entry {
+    ghost use Rattle.std.specs.Prelude.{◌≡◌};
+    ghost use Rattle.mac_base.specs.ZoneMap.{has_free};
+
+    /// Whether the block is free and has at least so many bytes.
+    pub fn has_free(self, needed: u32) -> bool
+        ensures { result ≡ has_free needed self }
+    {
+        self.kind.is_free() && needed <= self.size
+    }
+}
+
+/// The flags of a handle, which stand in its master pointer.
+#[derive(Clone, Copy, Debug, PartialEq, Eq)]
+pub struct Flags {
+    pub lock: bool,
+    pub purge: bool,
+    pub resource: bool,
+}
+
+impl Flags {
+    /// No flag is set, as for a new handle and for an empty one.
+    pub const NONE: Flags = Flags {
+        lock: false,
+        purge: false,
+        resource: false,
+    };
+}

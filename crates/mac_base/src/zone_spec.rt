@@ -1,0 +1,138 @@
+//! The sizes that a zone may have.
+
+use crate::block::HeadKind;
+use std::marker::Model;
+use thiserror::Error;
+
+/// The least size of a zone, in bytes.
+pub const LEAST_SIZE: u32 = 1024;
+
+/// The largest limit of a zone, in bytes.
+pub const LARGEST_LIMIT: u32 = 0x10_0000;
+
+/// The least growth of a zone that may grow, in bytes.
+pub const LEAST_GROWTH: u32 = 16;
+
+/// The lowest address at which a zone may begin.
+pub const LOWEST_BASE: u32 = 0x1000;
+
+/// The address that no zone's bytes reach: 24-bit addresses end there.
+pub const ADDRESS_END: u32 = 0x100_0000;
+
+/// Why there is no zone of these sizes.
+#[derive(Clone, Copy, Debug, PartialEq, Eq, Error)]
+pub enum BadSpec {
+    #[error("a zone begins at a multiple of 4, and {0} is none")]
+    UnevenBase(u32),
+    #[error("a zone's size is a multiple of 4 bytes, and {0} is none")]
+    UnevenSize(u32),
+    #[error("a zone's limit is a multiple of 4 bytes, and {0} is none")]
+    UnevenLimit(u32),
+    #[error("a zone has 1024 bytes at least, and {0} are too few")]
+    SmallSize(u32),
+    #[error("a zone's limit is 1048576 bytes at most, and {0} are too many")]
+    LargeLimit(u32),
+    #[error("a zone of {size} bytes can't have a limit of {limit}: its size is at most its limit")]
+    SizeOverLimit { size: u32, limit: u32 },
+    #[error("a zone that may grow may grow by 16 bytes at least, and {0} are too few")]
+    SmallGrowth(u32),
+    #[error("a zone begins at 4096 or above, and {0} is too low")]
+    LowBase(u32),
+    #[error("a zone ends at 16777216 or below: at {base} its limit can't be {limit}")]
+    HighEnd { base: u32, limit: u32 },
+}
+
+/// A zone's place and sizes, in bytes, which meet all conditions. A contract sees them as a record.
+#[derive(Clone, Copy, Debug, PartialEq, Eq)]
+pub struct ZoneSpec {
+    heads: HeadKind,
+    base: u32,
+    size: u32,
+    limit: u32,
+}
+
+impl Model for ZoneSpec {
+    ghost use Rattle.mac_base.specs.ZoneSizes.{ZoneSizes, ArePossible};
+
+    ghost Value = { ZoneSizes };
+
+    ghost view = { λ z. record { heads = z.heads; base = z.base; size = z.size; limit = z.limit } };
+
+    ghost invariant = { λ z. ArePossible (record { heads = z.heads; base = z.base; size = z.size; limit = z.limit }) };
+
+    ghost inverse = { λ z. record { heads = z.heads; base = z.base; size = z.size; limit = z.limit } };
+}
+
+impl ZoneSpec {
+    ghost use Rattle.std.specs.Prelude.{◌≡◌, ◌↔◌, IsOk, IfOk};
+    ghost use Rattle.std.specs.Result.{result_err};
+    ghost use Rattle.mac_base.specs.declared.block.HeadKind.TheVariants.{Bits24};
+    ghost use Rattle.mac_base.specs.ZoneSizes.{ZoneSizes, ArePossible, first_fault};
+
+    /// A zone of 24-bit blocks that begins at `base`, has `size` bytes and may grow to `limit` bytes. The sizes
+    /// are refused where a condition doesn't hold, by the first one in the order of `BadSpec`.
+    pub fn new(base: u32, size: u32, limit: u32) -> Result<ZoneSpec, BadSpec>
+        ensures possible { IsOk result ↔ ArePossible (record { heads = Bits24; base = base; size = size; limit = limit }) }
+        ensures spec { IfOk result (λ spec. spec ≡ record { heads = Bits24; base = base; size = size; limit = limit }) }
+        ensures fault { result_err result ≡ first_fault base size limit }
+    {
+        let fault = if base % 4 != 0 {
+            BadSpec::UnevenBase(base)
+        } else if size % 4 != 0 {
+            BadSpec::UnevenSize(size)
+        } else if limit % 4 != 0 {
+            BadSpec::UnevenLimit(limit)
+        } else if size < LEAST_SIZE {
+            BadSpec::SmallSize(size)
+        } else if limit > LARGEST_LIMIT {
+            BadSpec::LargeLimit(limit)
+        } else if size > limit {
+            BadSpec::SizeOverLimit { size, limit }
+        } else if size != limit && limit - size < LEAST_GROWTH {
+            BadSpec::SmallGrowth(limit - size)
+        } else if base < LOWEST_BASE {
+            BadSpec::LowBase(base)
+        } else if base > ADDRESS_END - limit {
+            BadSpec::HighEnd { base, limit }
+        } else {
+            return Ok(ZoneSpec {
+                heads: HeadKind::Bits24,
+                base,
+                size,
+                limit,
+            });
+        };
+        Err(fault)
+    }
+
+    /// How the zone's blocks are headed.
+    pub fn heads(self) -> HeadKind
+        ensures { result ≡ self.heads }
+    {
+        self.heads
+    }
+
+    /// The address at which the zone begins.
+    pub fn base(self) -> u32
+        ensures value { result ≡ self.base }
+        ensures possible { ArePossible self }
+    {
+        self.base
+    }
+
+    /// The bytes that the zone has at first, its header included.
+    pub fn size(self) -> u32
+        ensures value { result ≡ self.size }
+        ensures possible { ArePossible self }
+    {
+        self.size
+    }
+
+    /// The bytes that the zone may have, its header included.
+    pub fn limit(self) -> u32
+        ensures value { result ≡ self.limit }
+        ensures possible { ArePossible self }
+    {
+        self.limit
+    }
+}
