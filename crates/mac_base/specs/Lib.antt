@@ -10,6 +10,7 @@ pub mod Request
 pub mod Serve
 pub mod Heap
 pub mod Sound
+pub mod ZoneState
 pub mod MemoryCall
 pub mod GrowZone
 pub mod ExactRequest

@@ -47,7 +47,7 @@ pub enum Kind {
 
 impl Kind {
     ghost use Rattle.std.specs.Prelude.{◌≡◌};
-    ghost use Rattle.mac_base.specs.ZoneMap.{is_free};
+    ghost use Rattle.mac_base.specs.ZoneMap.{is_free, is_named};
 
     /// Whether a block is free.
     pub fn is_free(self) -> bool
@@ -56,6 +56,17 @@ impl Kind {
         match self {
             Kind::Free => true,
             Kind::Master | Kind::Ptr(_) | Kind::Rel(_) => false,
+        }
+    }
+
+    /// Whether this number, of a handle or a pointer, names the block.
+    pub fn is_named(self, number: u32) -> bool
+        ensures { result ≡ is_named number self }
+    {
+        match self {
+            Kind::Free | Kind::Master => false,
+            Kind::Ptr(pointer) => pointer.number() == number,
+            Kind::Rel(handle) => handle.number() == number,
         }
     }
 }
@@ -94,4 +105,14 @@ impl Flags {
         purge: false,
         resource: false,
     };
+}
+
+/// A block as a walk over the zone reports it: its header's address, its size and kind, and the bytes of contents and
+/// the flags that its owner has. A block without an owner has no contents and no flags.
+#[derive(Clone, Copy, Debug, PartialEq, Eq)]
+pub struct Block {
+    pub address: u32,
+    pub entry: Entry,
+    pub length: u32,
+    pub flags: Flags,
 }

@@ -1,0 +1,59 @@
+-- What is counted and listed of blocks, over two lists of blocks one behind the other.
+use Rattle.std.proofs.Common.{◌≡◌, ℕ, suc, ◌+◌, Bool, true, false, not, cond, List, [], ◌∷◌, ◌++◌, length, refl, ap, sym, ◌∙◌, add_assoc, append_assoc, append-nil, arith}
+use Rattle.std.specs.Prelude.{◌&&◌, ◌||◌, map, filter, IsTrue, IsFalse, if◌then◌else◌}
+use Rattle.std.specs.List.{list_all, list_any}
+use Rattle.std.proofs.lemmas.Bool.{and_parts, not-true}
+use Rattle.mac_base.specs.declared.block.Entry.{Entry}
+use Rattle.mac_base.specs.declared.block.Kind.{Kind}
+use Rattle.mac_base.specs.HeadKind.{Shape, zone_header}
+use Rattle.mac_base.specs.ZoneMap.{ZoneMap, block, is_free, total_size, free_size, free_bytes, address_behind, addresses_from, addresses, sizes}
+use Rattle.mac_base.specs.Suits.{free_apart, starts_free}
+
+-- the bytes of two lists of blocks
+pub total_size-append : (a b : ZoneMap) → total_size (a ++ b) ≡ total_size a + total_size b
+total_size-append [] b = omega arith
+total_size-append (e ∷ es) b = let rest = total_size-append es b in omega arith
+
+-- the free bytes of two lists of blocks
+pub free_bytes-append : (a b : ZoneMap) → free_bytes (a ++ b) ≡ free_bytes a + free_bytes b
+free_bytes-append [] b = omega arith
+free_bytes-append (e ∷ es) b = let rest = free_bytes-append es b in omega arith
+
+-- the sizes of the blocks that pass a test, in two lists of blocks
+pub sizes-append : (test : Kind → Bool) (a b : ZoneMap) → sizes test (a ++ b) ≡ sizes test a ++ sizes test b
+sizes-append test [] b = refl
+sizes-append test (e ∷ es) b = let first : List ℕ = if test e.kind then e.size ∷ [] else [] in
+    ap (λ ns. first ++ ns) (sizes-append test es b) ∙ sym (append_assoc first (sizes test es) (sizes test b))
+
+-- the addresses of the blocks that pass a test, in two lists of blocks
+pub addresses_from-append : (at : ℕ) (test : Kind → Bool) (a b : ZoneMap) → addresses_from at test (a ++ b) ≡ addresses_from at test a ++ addresses_from (at + total_size a) test b
+addresses_from-append at test [] b = let same : at ≡ at + 0 = omega arith in ap (λ n. addresses_from n test b) same
+addresses_from-append at test (e ∷ es) b = let first : List ℕ = if test e.kind then at ∷ [] else [] in
+    ap (λ ns. first ++ ns) (addresses_from-append (at + e.size) test es b)
+    ∙ sym (append_assoc first (addresses_from (at + e.size) test es) (addresses_from (at + e.size + total_size es) test b))
+    ∙ ap (λ n. first ++ addresses_from (at + e.size) test es ++ addresses_from n test b) (add_assoc at e.size (total_size es))
+
+-- two tests that agree at each kind are one
+pub same_test : {p q : Kind → Bool} → ((k : Kind) → p k ≡ q k) → p ≡ q
+same_test h = λ i k. h k i
+
+-- blocks of which none passes the test
+pub sizes-none : (test : Kind → Bool) (m : ZoneMap) → IsTrue (list_all (λ (e : Entry). not (test e.kind)) m) → sizes test m ≡ []
+sizes-none test [] h = refl
+sizes-none test (e ∷ es) h = let parts = and_parts (not (test e.kind)) (list_all (λ (e : Entry). not (test e.kind)) es) h in
+    ap (λ b. cond b (e.size ∷ []) [] ++ sizes test es) (not-true (test e.kind) parts.0) ∙ sizes-none test es parts.1
+
+-- blocks of which none passes the test have no address
+pub addresses_from-none : (at : ℕ) (test : Kind → Bool) (m : ZoneMap) → IsTrue (list_all (λ (e : Entry). not (test e.kind)) m) → addresses_from at test m ≡ []
+addresses_from-none at test [] h = refl
+addresses_from-none at test (e ∷ es) h = let parts = and_parts (not (test e.kind)) (list_all (λ (e : Entry). not (test e.kind)) es) h in
+    ap (λ b. cond b (at ∷ []) [] ++ addresses_from (at + e.size) test es) (not-true (test e.kind) parts.0) ∙ addresses_from-none (at + e.size) test es parts.1
+
+-- as many addresses as sizes
+pub length-addresses_from : (at : ℕ) (test : Kind → Bool) (m : ZoneMap) → length (addresses_from at test m) ≡ length (sizes test m)
+length-addresses_from at test [] = refl
+length-addresses_from at test (e ∷ es) =
+    elim (test e.kind) as (λ b. length (cond b (at ∷ []) [] ++ addresses_from (at + e.size) test es) ≡ length (cond b (e.size ∷ []) [] ++ sizes test es)) [
+      | true ↦ ap suc (length-addresses_from (at + e.size) test es)
+      | false ↦ length-addresses_from (at + e.size) test es
+    ]

@@ -1,0 +1,93 @@
+-- The words on a map, where some of its blocks are put in place of others.
+use Rattle.std.proofs.Common.{◌≡◌, ℕ, ◌+◌, ◌≤◌, Bool, true, false, not, ◌&&◌, cond, List, [], ◌∷◌, ◌++◌, refl, ap, sym, ◌∙◌, append_assoc, arith}
+use Rattle.std.specs.List.{list_all}
+use Rattle.std.proofs.lemmas.List.Folds.{list_all-append}
+use Rattle.mac_base.specs.declared.block.Entry.{Entry}
+use Rattle.mac_base.specs.declared.block.Kind.{Kind}
+use Rattle.mac_base.specs.declared.block.Kind.TheVariants.{Free}
+use Rattle.mac_base.specs.ZoneMap.{ZoneMap, block, is_free, total_size, addresses_from}
+use Rattle.mac_base.specs.Suits.{free_apart, starts_free}
+
+-- both tests pass where their conjunction does
+pub both_true : (a b : Bool) → (a && b) ≡ true → (a ≡ true) × (b ≡ true)
+both_true true b h = (refl, h)
+both_true false b h = absurd (cc h)
+
+pub true_both : (a b : Bool) → a ≡ true → b ≡ true → (a && b) ≡ true
+true_both true b p q = q
+true_both false b p q = absurd (cc p)
+
+pub not_true : (b : Bool) → b ≡ false → not b ≡ true
+not_true true h = absurd (cc h)
+not_true false h = refl
+
+pub true_not : (b : Bool) → not b ≡ true → b ≡ false
+true_not true h = absurd (cc h)
+true_not false h = refl
+
+-- the sizes of two parts add up
+pub total_size-append : (xs ys : ZoneMap) → total_size (xs ++ ys) ≡ total_size xs + total_size ys
+total_size-append [] ys = omega arith
+total_size-append (e ∷ es) ys = let rest = total_size-append es ys in omega arith
+
+-- what passes in two parts, the second behind the first
+pub addresses_from-append : (at : ℕ) (test : Kind → Bool) (xs ys : ZoneMap) → addresses_from at test (xs ++ ys) ≡ addresses_from at test xs ++ addresses_from (at + total_size xs) test ys
+addresses_from-append at test [] ys = let same : at ≡ at + 0 = omega arith in ap (λ a. addresses_from a test ys) same
+addresses_from-append at test (e ∷ es) ys =
+    let same : (at + e.size) + total_size es ≡ at + (e.size + total_size es) = omega arith in
+    ap (λ found. cond (test e.kind) (at ∷ []) [] ++ found) (addresses_from-append (at + e.size) test es ys ∙ ap (λ a. addresses_from (at + e.size) test es ++ addresses_from a test ys) same)
+    ∙ sym (append_assoc (cond (test e.kind) (at ∷ []) []) (addresses_from (at + e.size) test es) (addresses_from (at + (e.size + total_size es)) test ys))
+
+-- a block that does not pass adds nothing
+pub addresses_from-skip : (at : ℕ) (test : Kind → Bool) (e : Entry) (es : ZoneMap) → test e.kind ≡ false → addresses_from at test (e ∷ es) ≡ addresses_from (at + e.size) test es
+addresses_from-skip at test e es h = ap (λ b. cond b (at ∷ []) [] ++ addresses_from (at + e.size) test es) h
+
+-- what passes in a map in three parts
+pub addresses_from-middle : (at : ℕ) (test : Kind → Bool) (before middle behind : ZoneMap) → addresses_from at test (before ++ (middle ++ behind))
+    ≡ addresses_from at test before ++ (addresses_from (at + total_size before) test middle ++ addresses_from ((at + total_size before) + total_size middle) test behind)
+addresses_from-middle at test before middle behind = addresses_from-append at test before (middle ++ behind)
+    ∙ ap (λ found. addresses_from at test before ++ found) (addresses_from-append (at + total_size before) test middle behind)
+
+pub total_size-middle : (before middle behind : ZoneMap) → total_size (before ++ (middle ++ behind)) ≡ total_size before + (total_size middle + total_size behind)
+total_size-middle before middle behind = total_size-append before (middle ++ behind) ∙ ap (λ n. total_size before + n) (total_size-append middle behind)
+
+pub list_all-middle : (p : Entry → Bool) (before middle behind : ZoneMap) → list_all p (before ++ (middle ++ behind)) ≡ (list_all p before && (list_all p middle && list_all p behind))
+list_all-middle p before middle behind = list_all-append p before (middle ++ behind) ∙ ap (λ b. list_all p before && b) (list_all-append p middle behind)
+
+-- a map in which blocks are put in place of others of the same size in all: each part is named
+pub record Exchanged (old new : ZoneMap) : Type 0 where
+  pub before : ZoneMap
+  pub left : ZoneMap
+  pub right : ZoneMap
+  pub behind : ZoneMap
+  pub was : old ≡ before ++ (left ++ behind)
+  pub is : new ≡ before ++ (right ++ behind)
+  pub as_large : total_size right ≡ total_size left
+
+module _ (old new : ZoneMap) (x : Exchanged old new) where
+  pub total_size-exchanged : total_size new ≡ total_size old
+  total_size-exchanged = ap total_size x.is ∙ total_size-middle x.before x.right x.behind ∙ ap (λ n. total_size x.before + (n + total_size x.behind)) x.as_large
+      ∙ sym (ap total_size x.was ∙ total_size-middle x.before x.left x.behind)
+
+  -- what passes in the old map, and in the new one
+  pub addresses_from-old : (at : ℕ) (test : Kind → Bool) → addresses_from at test old
+      ≡ addresses_from at test x.before ++ (addresses_from (at + total_size x.before) test x.left ++ addresses_from ((at + total_size x.before) + total_size x.left) test x.behind)
+  addresses_from-old at test = ap (addresses_from at test) x.was ∙ addresses_from-middle at test x.before x.left x.behind
+
+  pub addresses_from-new : (at : ℕ) (test : Kind → Bool) → addresses_from at test new
+      ≡ addresses_from at test x.before ++ (addresses_from (at + total_size x.before) test x.right ++ addresses_from ((at + total_size x.before) + total_size x.left) test x.behind)
+  addresses_from-new at test = ap (addresses_from at test) x.is ∙ addresses_from-middle at test x.before x.right x.behind
+      ∙ ap (λ n. addresses_from at test x.before ++ (addresses_from (at + total_size x.before) test x.right ++ addresses_from ((at + total_size x.before) + n) test x.behind)) x.as_large
+
+  -- where as much passes in the new blocks, the same passes
+  pub addresses_from-exchanged : (at : ℕ) (test : Kind → Bool) → addresses_from (at + total_size x.before) test x.right ≡ addresses_from (at + total_size x.before) test x.left
+      → addresses_from at test new ≡ addresses_from at test old
+  addresses_from-exchanged at test same = addresses_from-new at test
+      ∙ ap (λ found. addresses_from at test x.before ++ (found ++ addresses_from ((at + total_size x.before) + total_size x.left) test x.behind)) same ∙ sym (addresses_from-old at test)
+
+  -- what each block passes, where the new ones pass it
+  pub list_all-exchanged : (p : Entry → Bool) → list_all p x.right ≡ true → list_all p old ≡ true → list_all p new ≡ true
+  list_all-exchanged p right h =
+      let all = both_true (list_all p x.before) (list_all p x.left && list_all p x.behind) (sym (ap (list_all p) x.was ∙ list_all-middle p x.before x.left x.behind) ∙ h) in
+      let rest = both_true (list_all p x.left) (list_all p x.behind) all.1 in
+      ap (list_all p) x.is ∙ list_all-middle p x.before x.right x.behind ∙ true_both (list_all p x.before) _ all.0 (true_both (list_all p x.right) _ right rest.1)

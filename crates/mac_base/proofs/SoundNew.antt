@@ -1,0 +1,61 @@
+-- The heap of a new zone is sound.
+use Rattle.std.proofs.Common.{◌≡◌, ℕ, zero, suc, ◌+◌, ◌-◌, ◌%◌, ◌<◌, ◌≤◌, ◌==◌, Bool, true, false, not, ◌&&◌, ◌||◌, nat_le, nat_eq, cond, List, [], ◌∷◌, ◌++◌, refl, ap, sym, ◌∙◌, arith, IsTrue, Contains, ◌⊎◌}
+use Rattle.std.specs.List.{IsDistinct, AllByRecursion}
+use Rattle.std.proofs.lemmas.Bool.Decides.{nat_tests}
+use Rattle.std.proofs.lemmas.Map.Keys.{IsDistinct-cons}
+use Rattle.mac_base.specs.declared.block.HeadKind.{HeadKind}
+use Rattle.mac_base.specs.declared.block.HeadKind.TheVariants.{Bits24}
+use Rattle.mac_base.specs.HeadKind.{Shape, slot_count}
+use Rattle.mac_base.specs.ZoneSizes.{ZoneSizes, ArePossible, shape_of}
+use Rattle.mac_base.specs.Suits.{Suits, slots, slots_from}
+use Rattle.mac_base.specs.HandleTable.{new_table}
+use Rattle.mac_base.specs.Heap.{Heap, new_heap, new_map}
+use Rattle.mac_base.specs.Sound.{Sound}
+
+-- slots lie above a lower number, and each once
+slots_from-above : (n at x : ℕ) → x < at → AllByRecursion (λ y. nat_eq x y ≡ false) (slots_from n at ++ [])
+slots_from-above zero at x h = tt
+slots_from-above (suc n) at x h = ((let apart : nat_eq x at ≡ false = grind (arith, nat_tests) in apart), slots_from-above n (at + 4) x (omega arith))
+
+pub slots_from-once : (n at : ℕ) → IsDistinct nat_eq (slots_from n at ++ [])
+unfolding IsDistinct
+slots_from-once zero at = tt
+slots_from-once (suc n) at = (slots_from-above n (at + 4) at (omega arith), slots_from-once n (at + 4))
+
+rest_size : (size : ℕ) → size % 4 ≡ 0 → 1024 ≤ size → (((264 % 4 == 0) && nat_le 12 264) && ((((size - (52 + 264)) % 4 == 0) && nat_le 12 (size - (52 + 264))) && true)) ≡ true
+rest_size size even large = grind (arith, nat_tests)
+
+may_grow : (n : ℕ) → n % 4 ≡ 0 → (n ≡ 0) ⊎ (16 ≤ n) → ((n == 0) || ((n % 4 == 0) && nat_le 12 n)) ≡ true
+may_grow n even h = grind (arith, nat_tests)
+
+none_or_enough : (size limit : ℕ) → size ≤ limit → (size < limit → size + 16 ≤ limit) → (limit - size ≡ 0) ⊎ (16 ≤ limit - size)
+none_or_enough size limit a b = grind (arith, nat_tests)
+
+-- a zone with one kind of block header
+new_zone : (base size limit : ℕ) → let z : ZoneSizes = record { heads = Bits24; base = base; size = size; limit = limit } in ArePossible z → Sound (shape_of z) (new_heap (shape_of z) z.size)
+new_zone base size limit p =
+    let s : Shape = record { heads = Bits24; base = base; limit = limit } in
+    let whole : 52 + (264 + ((size - (52 + 264)) + 0)) ≡ size = (let large = p.large_enough in omega arith) in
+    record {
+      suits = record {
+        apart = refl;
+        sizes = rest_size size p.even_size p.large_enough;
+        handles = λ h. refl;
+        pointers = λ x. refl;
+        lengths = refl;
+        in_slots = λ h live. absurd (cc live);
+        in_order = refl;
+      };
+      within = (let large = p.large_enough in let within = p.within in omega arith);
+      growth = ap (λ n. (limit - n == 0) || (((limit - n) % 4 == 0) && nat_le 12 (limit - n))) whole
+        ∙ may_grow (limit - size) (let a = p.even_size in let b = p.even_limit in omega arith) (none_or_enough size limit p.within p.growth);
+      free = λ x. ((λ c. (c, refl)), (λ c. c.0));
+      once = slots_from-once slot_count (base + 52 + 0 + 8);
+    }
+
+-- a new zone's heap is sound
+pub sound-new : (z : ZoneSizes) → ArePossible z → Sound (shape_of z) (new_heap (shape_of z) z.size)
+sound-new z = by_heads z.heads
+  where
+    by_heads : (heads : HeadKind) → let y : ZoneSizes = record { heads = heads; base = z.base; size = z.size; limit = z.limit } in ArePossible y → Sound (shape_of y) (new_heap (shape_of y) y.size)
+    by_heads Bits24 = new_zone z.base z.size z.limit

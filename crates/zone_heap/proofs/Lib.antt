@@ -1,0 +1,6 @@
+pub mod Taking
+pub mod Tabled
+pub mod Joining
+pub mod Sizes
+pub mod SlotLists
+pub mod Told
