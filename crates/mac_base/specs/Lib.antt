@@ -3,6 +3,7 @@ pub mod HeadKind
 pub mod ZoneSizes
 pub mod ZoneMap
 pub mod HandleTable
+pub mod BlockStatus
 pub mod Suits
 pub mod Gap
 pub mod Arrangement
@@ -10,6 +11,7 @@ pub mod Request
 pub mod Serve
 pub mod Heap
 pub mod Sound
+pub mod Bytes
 pub mod ZoneState
 pub mod MemoryCall
 pub mod GrowZone

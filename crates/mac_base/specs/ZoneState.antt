@@ -1,8 +1,15 @@
 -- A zone, as the layers above it see it.
+use Rattle.std.specs.Prelude.{ℕ, List}
 use Rattle.mac_base.specs.HeadKind.{Shape}
-use Rattle.mac_base.specs.Heap.{Heap}
+use Rattle.mac_base.specs.HandleTable.{with_bytes, bytes_of}
+use Rattle.mac_base.specs.Heap.{Heap, with_table}
+use Rattle.mac_base.specs.Bytes.{overwritten}
 
 -- where the zone lies and how far it may grow, and its heap
 pub record ZoneState : Type 0 where
   pub shape : Shape
   pub heap : Heap
+
+-- the zone in which bytes are written over those of x, from the first on
+abbrev pub with_contents : ZoneState → ℕ → List ℕ → ZoneState
+with_contents z x bytes = record z { heap = with_table (with_bytes x (overwritten (bytes_of z.heap.table x) 0 bytes) z.heap.table) z.heap }

@@ -116,3 +116,16 @@ pub struct Block {
     pub length: u32,
     pub flags: Flags,
 }
+
+/// What a number is to a call that reads or writes the bytes of a block.
+#[derive(Clone, Copy, Debug, PartialEq, Eq)]
+pub enum Status {
+    /// No live handle or pointer has this number.
+    NotLive,
+    /// The number is a live handle that is empty.
+    Empty,
+    /// The block is lent.
+    Lent,
+    /// The number has a block, and it isn't lent.
+    Full,
+}

@@ -4,3 +4,5 @@ pub mod Joining
 pub mod Sizes
 pub mod SlotLists
 pub mod Told
+pub mod NewZone
+pub mod NamedBlock

@@ -1,5 +1,5 @@
 -- What the slots say, slot by slot.
-use Rattle.std.proofs.Common.{◌≡◌, ℕ, zero, suc, ◌+◌, ◌*◌, ◌<◌, Bool, true, false, cond, List, [], ◌∷◌, length, get_or, Some, None, Option, refl, ap, sym, ◌∙◌, arith, IsTrue, IsSome}
+use Rattle.std.proofs.Common.{◌≡◌, ℕ, zero, suc, ◌+◌, ◌*◌, ◌<◌, Bool, true, false, cond, List, [], ◌∷◌, length, get_or, set, Some, None, Option, refl, ap, sym, ◌∙◌, arith, IsTrue, IsSome}
 use Rattle.std.specs.Prelude.{◌==◌}
 use Rattle.std.specs.Ordering.{nat_cmp, eq_by_cmp}
 use Rattle.std.specs.FinMap.{find}
@@ -65,3 +65,24 @@ length_from-no_slot at h (slot ∷ slots) none =
     let apart : h ≡ at → ⊥ = λ is. none 0 (omega arith) (omega arith) in
     ap (λ b. cond b (slot_length slot) (length_from (at + 4) slots h)) (let e : (at == h) ≡ false = grind (arith, nat_tests) in e)
     ∙ length_from-no_slot (at + 4) h slots (λ i within is. none (suc i) (omega arith) (omega arith))
+
+-- each slot says what it said
+told_from-same : (s : Shape) (old new : ZoneMap) (before after : List ℕ) (at : ℕ) (slots : List Slot)
+    → ((x j : ℕ) (other : Slot) → j < length slots → other ≡ get_or slots j other → x ≡ at + 4 * j → live_in s new after x other ≡ live_in s old before x other)
+    → told_from s new after at slots ≡ told_from s old before at slots
+told_from-same s old new before after at [] same = refl
+told_from-same s old new before after at (first ∷ slots) same =
+    ap (λ live. live ∷ told_from s new after (at + 4) slots) (same at 0 first (omega arith) refl (omega arith))
+    ∙ ap (λ told. live_in s old before at first ∷ told) (told_from-same s old new before after (at + 4) slots (λ x j other within is at_j. same x (suc j) other (omega arith) is (omega arith)))
+
+-- one slot is written, and each other one says what it said
+pub told_from-set : (s : Shape) (old new : ZoneMap) (before after : List ℕ) (at h : ℕ) (slots : List Slot) (i : ℕ) (slot : Slot) → h ≡ at + 4 * i
+    → ((x j : ℕ) (other : Slot) → j < length slots → other ≡ get_or slots j other → x ≡ at + 4 * j → (j ≡ i → ⊥) → live_in s new after x other ≡ live_in s old before x other)
+    → told_from s new after at (set slots i slot) ≡ set (told_from s old before at slots) i (live_in s new after h slot)
+told_from-set s old new before after at h [] i slot is same = refl
+told_from-set s old new before after at h (first ∷ slots) zero slot is same =
+    (let e : at ≡ h = omega arith in ap (λ a. live_in s new after a slot ∷ told_from s new after (at + 4) slots) e)
+    ∙ ap (λ told. live_in s new after h slot ∷ told) (told_from-same s old new before after (at + 4) slots (λ x j other within is at_j. same x (suc j) other (omega arith) is (omega arith) (λ e. absurd (omega arith))))
+told_from-set s old new before after at h (first ∷ slots) (suc i) slot is same =
+    ap (λ live. live ∷ told_from s new after (at + 4) (set slots i slot)) (same at 0 first (omega arith) refl (omega arith) (λ e. absurd (omega arith)))
+    ∙ ap (λ told. live_in s old before at first ∷ told) (told_from-set s old new before after (at + 4) h slots i slot (omega arith) (λ x j other within is at_j apart. same x (suc j) other (omega arith) is (omega arith) (λ e. apart (omega arith))))

@@ -1,7 +1,7 @@
 -- What a `&mut` slice of the memory leaves there.
 use Rattle.std.specs.Prelude.{ℕ, List}
 use Rattle.std.specs.Borrow.{Lends, Array, MutBor, Fml, u8}
-use Rattle.zone_heap.specs.Bytes.{overwritten}
+use Rattle.mac_base.specs.Bytes.{overwritten}
 use Rattle.zone_heap.specs.contracts.memory.Memory.{the_row}
 
 -- the memory ends with what is written through the slice, from a place on

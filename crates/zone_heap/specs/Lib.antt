@@ -1,4 +1,3 @@
-pub mod Bytes
 pub mod Joins
 pub mod Lending
 pub mod LendingBytes

@@ -2,12 +2,13 @@
 use Rattle.std.specs.Prelude.{◌≡◌, ℕ, ◌+◌, ◌*◌, ◌≤◌, length, count_by, vec_len, vec_capacity}
 use Rattle.mac_base.specs.HeadKind.{slot_count}
 use Rattle.mac_base.specs.ZoneSizes.{shape_of}
+use Rattle.mac_base.specs.HandleTable.{bytes_of}
 use Rattle.mac_base.specs.Suits.{slots_from, slots}
 use Rattle.mac_base.specs.Heap.{Heap}
 use Rattle.mac_base.specs.Sound.{Sound}
 use Rattle.mac_base.specs.ZoneState.{ZoneState}
 use Rattle.zone_heap.specs.declared.zone.Zone.TheInside.{Inside}
-use Rattle.zone_heap.specs.Slot.{is_full}
+use Rattle.zone_heap.specs.Slot.{is_full, length_from}
 use Rattle.zone_heap.specs.Places.{first_slot, table_of}
 
 -- the heap that the fields stand for
@@ -25,6 +26,8 @@ pub record IsZone (z : Inside) : Type 0 where
   pub master : slots (shape_of z.spec) z.entries.items ≡ slots_from slot_count (first_slot (shape_of z.spec))
   pub all_slots : length z.slots.items ≡ slot_count
   pub slots_used : count_by is_full z.slots.items + vec_len z.free_slots ≡ slot_count
+  -- each block has as many bytes as its slot says
+  pub whole : (h : ℕ) → length (bytes_of (heap_of z).table h) ≡ length_from (first_slot (shape_of z.spec)) z.slots.items h
   -- the bytes are those of the whole zone at its limit
   pub all_bytes : length z.memory ≡ z.spec.limit
   -- there is room for as many blocks as fit, and for all slots

@@ -2,7 +2,7 @@
 
 ghost use Rattle.std.specs.Prelude.{◌≡◌, ◌+◌, ◌≤◌, length, replicate, IfOk};
 ghost use Rattle.std.specs.Borrow.{sem};
-ghost use Rattle.zone_heap.specs.Bytes.{part, overwritten};
+ghost use Rattle.mac_base.specs.Bytes.{part, overwritten};
 ghost use Rattle.zone_heap.specs.Lending.{LendsPart};
 
 use std::alloc::{AllocError, Global};

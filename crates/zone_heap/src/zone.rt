@@ -47,8 +47,10 @@ impl Model for Zone {
 }
 
 impl Zone {
-    ghost use Rattle.std.specs.Prelude.{◌≡◌, ◌≤◌, IfOk, IsTrue, MatchResult, Some, None};
+    ghost use Rattle.std.specs.Prelude.{◌≡◌, ◌≤◌, IfOk, IsTrue, MatchResult, Some, None, []};
+    ghost use Rattle.mac_base.specs.ZoneMap.{address_behind};
     ghost use Rattle.std.specs.Borrow.{sem};
+    ghost use Rattle.mac_base.specs.BlockStatus.{HandlesAlone};
     ghost use Rattle.mac_base.specs.HandleTable.{is_handle, bytes_of};
     ghost use Rattle.mac_base.specs.Heap.{new_heap};
     ghost use Rattle.mac_base.specs.MemoryCall.{max_size};
@@ -82,9 +84,10 @@ impl Zone {
         })
     }
 
-    /// Whether a handle is live: the address of a slot that isn't free.
+    /// Whether a handle is live: the address of a slot that isn't free. The zone has handles alone so far.
     pub fn is_live(&self, handle: Handle) -> bool
-        ensures { result ≡ is_handle self.now.heap.table handle }
+        ensures live { result ≡ is_handle self.now.heap.table handle }
+        ensures so_far { HandlesAlone self.now.heap.table }
     {
         match slot_index(first_slot(self.spec), handle) {
             Some(index) => self.slots[index].is_full(),
@@ -155,11 +158,18 @@ impl Zone {
         self.memory.bytes_mut(start, length)
     }
 
+    /// The address of the zone's first block header.
+    pub fn first_block(&self) -> u32
+        ensures { result ≡ address_behind self.now.shape [] }
+    {
+        self.spec.base() + ZONE_HEADER
+    }
+
     /// The block whose header stands at this address, if one does.
     pub fn entry(&self, at: u32) -> Option<Block>
         ensures { result ≡ report_at self.now.shape self.now.heap at }
     {
-        let mut address = self.spec.base() + ZONE_HEADER;
+        let mut address = self.first_block();
         for entry in &self.entries {
             if address == at {
                 let length = contents_length(&self.slots, first_slot(self.spec), entry.kind);
