@@ -99,7 +99,8 @@ is_kind-same (Rel h) Master is = absurd (cc is)
 is_kind-same (Rel h) (Ptr q) is = absurd (cc is)
 is_kind-same (Rel h) (Rel g) is = ap Rel (eqb-true h g is)
 
-other_kind : (k l : Kind) (q : Kind → Bool) (c : Bool) → q k ≡ not c → q l ≡ c → is_kind k l ≡ false
+-- two kinds that a test tells apart
+pub other_kind : (k l : Kind) (q : Kind → Bool) (c : Bool) → q k ≡ not c → q l ≡ c → is_kind k l ≡ false
 other_kind k l q c here there = false_from_ne_true (is_kind k l) (λ is. let same = ap q (is_kind-same k l is) in apart c (sym there ∙ sym same ∙ here))
   where
     apart : (c : Bool) → c ≡ not c → ⊥

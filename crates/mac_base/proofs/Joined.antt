@@ -1,5 +1,5 @@
 -- What joining neighbouring free blocks keeps, and that none are left.
-use Rattle.std.proofs.Common.{◌≡◌, ℕ, ◌+◌, ◌%◌, ◌≤◌, Bool, true, false, not, ◌&&◌, ◌||◌, cond, List, [], ◌∷◌, ◌++◌, refl, ap, sym, ◌∙◌, arith, IsTrue, ◌==◌, nat_le}
+use Rattle.std.proofs.Common.{◌≡◌, ℕ, ◌+◌, ◌%◌, Bool, true, false, not, ◌&&◌, cond, [], ◌∷◌, ◌++◌, refl, ap, sym, ◌∙◌, arith, IsTrue, ◌==◌, nat_le}
 use Rattle.std.specs.List.{list_all}
 use Rattle.std.proofs.lemmas.Bool.Decides.{nat_tests}
 use Rattle.mac_base.specs.declared.block.Entry.{Entry}
@@ -21,9 +21,9 @@ free_kind (Rel g) h = absurd (cc h)
 -- what a block joined to the map behind it is, where both are free, and where not
 by_joined : (P : ZoneMap → Type 0) (e f : Entry) (es : ZoneMap) → (is_free e.kind ≡ true → is_free f.kind ≡ true → P (block Free (e.size + f.size) ∷ es)) → P (e ∷ f ∷ es) → P (joined_to e (f ∷ es))
 by_joined P e f es both other = elim (is_free e.kind && is_free f.kind) as (λ b. (is_free e.kind && is_free f.kind) ≡ b → P (cond b (block Free (e.size + f.size) ∷ es) (e ∷ f ∷ es))) [
-    | true ↦ λ h. let hs = both_true (is_free e.kind) (is_free f.kind) h in both hs.0 hs.1
-    | false ↦ λ h. other
-  ] refl
+  | true ↦ λ h. let hs = both_true (is_free e.kind) (is_free f.kind) h in both hs.0 hs.1
+  | false ↦ λ h. other
+] refl
 
 total_size-joined_to : (e : Entry) (m : ZoneMap) → total_size (joined_to e m) ≡ e.size + total_size m
 total_size-joined_to e [] = refl
@@ -72,6 +72,7 @@ sum_size heads m n a b = grind (arith, nat_tests)
 pub sizes-joined : (s : Shape) (m : ZoneMap) → IsTrue (list_all (λ (e : Entry). is_block_size s e.size) m) → IsTrue (list_all (λ (e : Entry). is_block_size s e.size) (joined m))
 sizes-joined s m h = list_all-joined (λ (e : Entry). is_block_size s e.size) (λ a b. sum_size (smallest_block s.heads) a b) m h
 
+-- a block made of two free ones has no owner whose length it must have
 pub lengths-joined : (s : Shape) (t : HandleTable) (m : ZoneMap) → IsTrue (list_all (has_owners_length s t) m) → IsTrue (list_all (has_owners_length s t) (joined m))
 lengths-joined s t m h = list_all-joined (has_owners_length s t) (λ a b p q. refl) m h
 
@@ -80,6 +81,7 @@ pub starts_free-joined_to : (e : Entry) (m : ZoneMap) → starts_free (joined_to
 starts_free-joined_to e [] = refl
 starts_free-joined_to e (f ∷ es) = by_joined (λ m. starts_free m ≡ is_free e.kind) e f es (λ p q. sym p) refl
 
+-- joining leaves whether a map starts free
 pub starts_free-joined : (m : ZoneMap) → starts_free (joined m) ≡ starts_free m
 starts_free-joined [] = refl
 starts_free-joined (e ∷ es) = starts_free-joined_to e (joined es)

@@ -1,26 +1,27 @@
 -- The words on a map, where some of its blocks are put in place of others.
-use Rattle.std.proofs.Common.{◌≡◌, ℕ, ◌+◌, ◌≤◌, Bool, true, false, not, ◌&&◌, cond, List, [], ◌∷◌, ◌++◌, refl, ap, sym, ◌∙◌, append_assoc, arith}
+use Rattle.std.proofs.Common.{◌≡◌, ℕ, ◌+◌, Bool, true, false, not, ◌&&◌, cond, [], ◌∷◌, ◌++◌, refl, ap, sym, ◌∙◌, append_assoc, arith}
 use Rattle.std.specs.List.{list_all}
 use Rattle.std.proofs.lemmas.List.Folds.{list_all-append}
 use Rattle.mac_base.specs.declared.block.Entry.{Entry}
 use Rattle.mac_base.specs.declared.block.Kind.{Kind}
-use Rattle.mac_base.specs.declared.block.Kind.TheVariants.{Free}
-use Rattle.mac_base.specs.ZoneMap.{ZoneMap, block, is_free, total_size, addresses_from}
-use Rattle.mac_base.specs.Suits.{free_apart, starts_free}
+use Rattle.mac_base.specs.ZoneMap.{ZoneMap, total_size, addresses_from}
 
 -- both tests pass where their conjunction does
 pub both_true : (a b : Bool) → (a && b) ≡ true → (a ≡ true) × (b ≡ true)
 both_true true b h = (refl, h)
 both_true false b h = absurd (cc h)
 
+-- and their conjunction where both do
 pub true_both : (a b : Bool) → a ≡ true → b ≡ true → (a && b) ≡ true
 true_both true b p q = q
 true_both false b p q = absurd (cc p)
 
+-- a test that fails passes when negated
 pub not_true : (b : Bool) → b ≡ false → not b ≡ true
 not_true true h = absurd (cc h)
 not_true false h = refl
 
+-- and one that passes negated fails
 pub true_not : (b : Bool) → not b ≡ true → b ≡ false
 true_not true h = absurd (cc h)
 true_not false h = refl
@@ -43,14 +44,16 @@ pub addresses_from-skip : (at : ℕ) (test : Kind → Bool) (e : Entry) (es : Zo
 addresses_from-skip at test e es h = ap (λ b. cond b (at ∷ []) [] ++ addresses_from (at + e.size) test es) h
 
 -- what passes in a map in three parts
-pub addresses_from-middle : (at : ℕ) (test : Kind → Bool) (before middle behind : ZoneMap) → addresses_from at test (before ++ (middle ++ behind))
+addresses_from-middle : (at : ℕ) (test : Kind → Bool) (before middle behind : ZoneMap) → addresses_from at test (before ++ (middle ++ behind))
     ≡ addresses_from at test before ++ (addresses_from (at + total_size before) test middle ++ addresses_from ((at + total_size before) + total_size middle) test behind)
 addresses_from-middle at test before middle behind = addresses_from-append at test before (middle ++ behind)
     ∙ ap (λ found. addresses_from at test before ++ found) (addresses_from-append (at + total_size before) test middle behind)
 
-pub total_size-middle : (before middle behind : ZoneMap) → total_size (before ++ (middle ++ behind)) ≡ total_size before + (total_size middle + total_size behind)
+-- the size of a map in three parts
+total_size-middle : (before middle behind : ZoneMap) → total_size (before ++ (middle ++ behind)) ≡ total_size before + (total_size middle + total_size behind)
 total_size-middle before middle behind = total_size-append before (middle ++ behind) ∙ ap (λ n. total_size before + n) (total_size-append middle behind)
 
+-- what each block of a map in three parts passes
 pub list_all-middle : (p : Entry → Bool) (before middle behind : ZoneMap) → list_all p (before ++ (middle ++ behind)) ≡ (list_all p before && (list_all p middle && list_all p behind))
 list_all-middle p before middle behind = list_all-append p before (middle ++ behind) ∙ ap (λ b. list_all p before && b) (list_all-append p middle behind)
 
@@ -65,15 +68,17 @@ pub record Exchanged (old new : ZoneMap) : Type 0 where
   pub as_large : total_size right ≡ total_size left
 
 module _ (old new : ZoneMap) (x : Exchanged old new) where
+  -- the exchange keeps the sum of the sizes
   pub total_size-exchanged : total_size new ≡ total_size old
   total_size-exchanged = ap total_size x.is ∙ total_size-middle x.before x.right x.behind ∙ ap (λ n. total_size x.before + (n + total_size x.behind)) x.as_large
       ∙ sym (ap total_size x.was ∙ total_size-middle x.before x.left x.behind)
 
-  -- what passes in the old map, and in the new one
+  -- what passes in the old map
   pub addresses_from-old : (at : ℕ) (test : Kind → Bool) → addresses_from at test old
       ≡ addresses_from at test x.before ++ (addresses_from (at + total_size x.before) test x.left ++ addresses_from ((at + total_size x.before) + total_size x.left) test x.behind)
   addresses_from-old at test = ap (addresses_from at test) x.was ∙ addresses_from-middle at test x.before x.left x.behind
 
+  -- and in the new one
   pub addresses_from-new : (at : ℕ) (test : Kind → Bool) → addresses_from at test new
       ≡ addresses_from at test x.before ++ (addresses_from (at + total_size x.before) test x.right ++ addresses_from ((at + total_size x.before) + total_size x.left) test x.behind)
   addresses_from-new at test = ap (addresses_from at test) x.is ∙ addresses_from-middle at test x.before x.right x.behind

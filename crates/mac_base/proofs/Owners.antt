@@ -1,12 +1,12 @@
 -- Which blocks a number names, and what their owners want once one of them changes.
-use Rattle.std.proofs.Common.{◌≡◌, ℕ, ◌+◌, Bool, true, false, not, ◌&&◌, ◌||◌, cond, eqb, List, [], ◌∷◌, ◌++◌, length, refl, ap, sym, ◌∙◌, arith, IsTrue, map}
+use Rattle.std.proofs.Common.{◌≡◌, ℕ, ◌+◌, Bool, true, false, not, ◌||◌, cond, eqb, List, [], ◌∷◌, ◌++◌, length, refl, ap, ◌∙◌, arith, IsTrue, map}
 use Rattle.std.specs.List.{list_all}
 use Rattle.std.proofs.lemmas.Bool.Decides.{nat_tests}
 use Rattle.mac_base.specs.declared.block.Entry.{Entry}
 use Rattle.mac_base.specs.declared.block.Kind.{Kind}
 use Rattle.mac_base.specs.declared.block.Kind.TheVariants.{Free, Master, Ptr, Rel}
-use Rattle.mac_base.specs.HeadKind.{Shape, master_length}
-use Rattle.mac_base.specs.ZoneMap.{ZoneMap, is_free, is_named, addresses_from, addresses, contents_addresses, address_behind}
+use Rattle.mac_base.specs.HeadKind.{Shape}
+use Rattle.mac_base.specs.ZoneMap.{ZoneMap, is_free, is_named, addresses_from, addresses, address_behind}
 use Rattle.mac_base.specs.HandleTable.{HandleTable, live_bytes, is_full, is_pointer}
 use Rattle.mac_base.specs.Suits.{Suits, is_handle_block, is_pointer_block, has_length, has_owners_length, wanted_length}
 use Rattle.mac_base.proofs.Maps.{both_true, true_both, not_true, true_not}
@@ -23,12 +23,14 @@ not_named x Master h p = refl
 not_named x (Ptr q) h p = p
 not_named x (Rel g) h p = h
 
+-- x names the block of the handle x
 pub named_handle : (x : ℕ) (kind : Kind) → is_handle_block x kind ≡ true → is_named x kind ≡ true
 named_handle x Free h = absurd (cc h)
 named_handle x Master h = absurd (cc h)
 named_handle x (Ptr q) h = absurd (cc h)
 named_handle x (Rel g) h = h
 
+-- x names the block of the pointer x
 pub named_pointer : (x : ℕ) (kind : Kind) → is_pointer_block x kind ≡ true → is_named x kind ≡ true
 named_pointer x Free h = absurd (cc h)
 named_pointer x Master h = absurd (cc h)
@@ -48,11 +50,13 @@ none_named-from at x (e ∷ es) h p =
     let ps = nothing_passes (is_pointer_block x e.kind) at (addresses_from (at + e.size) (is_pointer_block x) es) p in
     true_both _ _ (not_true _ (not_named x e.kind hs.0 ps.0)) (none_named-from (at + e.size) x es hs.1 ps.1)
 
+-- a list without length is empty
 pub no_length : (xs : List ℕ) → length xs ≡ 0 → xs ≡ []
 no_length [] h = refl
 no_length (x ∷ xs) h = absurd (omega arith)
 
-pub no_map : (f : ℕ → ℕ) (xs : List ℕ) → map f xs ≡ [] → xs ≡ []
+-- only an empty list maps to one
+no_map : (f : ℕ → ℕ) (xs : List ℕ) → map f xs ≡ [] → xs ≡ []
 no_map f [] h = refl
 no_map f (x ∷ xs) h = absurd (cc h)
 
@@ -60,6 +64,7 @@ no_map f (x ∷ xs) h = absurd (cc h)
 pub no_handle_block : (s : Shape) (t : HandleTable) (m : ZoneMap) → Suits s t m → (x : ℕ) → is_full t x ≡ false → addresses s (is_handle_block x) m ≡ []
 no_handle_block s t m suits x h = no_length _ (suits.handles x ∙ ap (λ b. cond b 1 0) h)
 
+-- and a number that is no pointer has none as a pointer
 pub no_pointer_block : (s : Shape) (t : HandleTable) (m : ZoneMap) → Suits s t m → (x : ℕ) → is_pointer t x ≡ false → addresses s (is_pointer_block x) m ≡ []
 no_pointer_block s t m suits x h = no_map _ _ (suits.pointers x ∙ ap (λ b. cond b (x ∷ []) []) h)
 
@@ -74,6 +79,7 @@ wanted_length-agree x old new a Master h = refl
 wanted_length-agree x old new a (Ptr p) h = ap (λ o. length (live_bytes o)) (a.others p h)
 wanted_length-agree x old new a (Rel g) h = ap (λ o. length (live_bytes o)) (a.others g h)
 
+-- so whether a block has its owner's length changes only there
 pub has_owners_length-agree : (s : Shape) (x : ℕ) (old new : HandleTable) → AgreeBut x old new → (e : Entry) → is_named x e.kind ≡ false → has_owners_length s new e ≡ has_owners_length s old e
 has_owners_length-agree s x old new a e h = ap (λ n. is_free e.kind || has_length s e.size n) (wanted_length-agree x old new a e.kind h)
 
@@ -85,13 +91,14 @@ lengths-agree s x old new a (e ∷ es) none h =
     let hs = both_true (has_owners_length s old e) (list_all (has_owners_length s old) es) h in
     true_both (has_owners_length s new e) _ (has_owners_length-agree s x old new a e (true_not _ nones.0) ∙ hs.0) (lengths-agree s x old new a es nones.1 hs.1)
 
--- each word that tells two numbers apart by their blocks: the block of another is not named x
+-- the block of another handle is not named x
 pub other_handle : (x g : ℕ) → eqb g x ≡ false → (kind : Kind) → is_handle_block g kind ≡ true → is_named x kind ≡ false
 other_handle x g apart Free h = absurd (cc h)
 other_handle x g apart Master h = absurd (cc h)
 other_handle x g apart (Ptr q) h = absurd (cc h)
 other_handle x g apart (Rel f) h = grind (arith, nat_tests)
 
+-- the block of another pointer is not named x
 pub other_pointer : (x p : ℕ) → eqb p x ≡ false → (kind : Kind) → is_pointer_block p kind ≡ true → is_named x kind ≡ false
 other_pointer x p apart Free h = absurd (cc h)
 other_pointer x p apart Master h = absurd (cc h)

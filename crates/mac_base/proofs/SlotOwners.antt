@@ -1,5 +1,5 @@
 -- Where a map suits its table, no slot is a pointer, and no free block's contents begin where a live block's do.
-use Rattle.std.proofs.Common.{◌≡◌, ℕ, ◌+◌, ◌*◌, ◌<◌, ◌≤◌, ◌%◌, ◌==◌, Bool, true, false, not, ◌&&◌, ◌||◌, nat_le, nat_lt, cond, List, [], ◌∷◌, ◌++◌, map, refl, ap, sym, ◌∙◌, arith, IsTrue, Contains, subst}
+use Rattle.std.proofs.Common.{◌≡◌, ℕ, ◌+◌, ◌*◌, ◌≤◌, ◌%◌, ◌==◌, Bool, true, false, ◌&&◌, nat_le, nat_lt, cond, List, [], ◌∷◌, ◌++◌, map, refl, ap, sym, ◌∙◌, arith, IsTrue, Contains, subst}
 use Rattle.std.specs.List.{list_all}
 use Rattle.std.proofs.lemmas.List.Elements.{Contains-append_right}
 use Rattle.std.proofs.lemmas.Bool.Decides.{nat_tests}
@@ -8,12 +8,12 @@ use Rattle.mac_base.specs.declared.block.HeadKind.{HeadKind}
 use Rattle.mac_base.specs.declared.block.HeadKind.TheVariants.{Bits24}
 use Rattle.mac_base.specs.declared.block.Kind.{Kind}
 use Rattle.mac_base.specs.declared.block.Kind.TheVariants.{Free, Master, Ptr, Rel}
-use Rattle.mac_base.specs.HeadKind.{Shape, need, head_size, smallest_block, slot_count, master_length, zone_header}
-use Rattle.mac_base.specs.ZoneMap.{ZoneMap, block, is_free, is_master, total_size, address_behind, addresses, addresses_from, contents_addresses}
+use Rattle.mac_base.specs.HeadKind.{Shape, need, head_size, smallest_block, slot_count, master_length}
+use Rattle.mac_base.specs.ZoneMap.{ZoneMap, block, is_free, is_master, total_size, address_behind, addresses, addresses_from}
 use Rattle.mac_base.specs.HandleTable.{HandleTable, is_pointer, is_handle}
-use Rattle.mac_base.specs.Suits.{Suits, is_block_size, is_pointer_block, has_length, has_owners_length, wanted_length, slots}
+use Rattle.mac_base.specs.Suits.{Suits, is_block_size, is_pointer_block, has_owners_length, slots}
 use Rattle.mac_base.proofs.Maps.{both_true, true_both, addresses_from-append}
-use Rattle.mac_base.proofs.SlotPlaces.{has_room, slots_at, slot_no_contents, one_block_at, Contains-here}
+use Rattle.mac_base.proofs.SlotPlaces.{has_room, slot_no_contents, one_block_at, Contains-here}
 
 large_master : (heads : HeadKind) → head_size heads + 4 * 64 ≤ need heads master_length
 large_master Bits24 = omega arith
@@ -24,8 +24,10 @@ has_room-suits s t e size long = by_kind e.kind e.size size long
   where
     by_size : (heads : HeadKind) (n : ℕ) → ((n % 4 == 0) && nat_le (smallest_block heads) n) ≡ true → nat_lt (head_size heads) n ≡ true
     by_size Bits24 n h = grind (arith, nat_tests)
+
     by_master : (head k n more : ℕ) → head + 4 * 64 ≤ k → (nat_le k n && nat_lt n more) ≡ true → nat_le (head + 4 * 64) n ≡ true
     by_master head k n more large h = grind (arith, nat_tests)
+
     by_kind : (kind : Kind) (n : ℕ) → is_block_size s n ≡ true → has_owners_length s t (block kind n) ≡ true → has_room (head_size s.heads) slot_count (block kind n) ≡ true
     by_kind Free n size long = true_both _ true (by_size s.heads n size) refl
     by_kind Master n size long = true_both _ _ (by_size s.heads n size) (by_master (head_size s.heads) (need s.heads master_length) n _ (large_master s.heads) long)
@@ -39,11 +41,12 @@ rooms_from s t (e ∷ es) sizes lengths =
     let long = both_true (has_owners_length s t e) (list_all (has_owners_length s t) es) lengths in
     true_both (has_room (head_size s.heads) slot_count e) _ (has_room-suits s t e size.0 long.0) (rooms_from s t es size.1 long.1)
 
+-- each block of such a map has that room
 pub rooms-suits : (s : Shape) (t : HandleTable) (m : ZoneMap) → Suits s t m → list_all (has_room (head_size s.heads) slot_count) m ≡ true
 rooms-suits s t m suits = rooms_from s t m suits.sizes suits.lengths
 
 -- where the block of a pointer is
-pub address_from_contents : (f : ℕ → ℕ) (xs : List ℕ) (y : ℕ) → map f xs ≡ y ∷ [] → (x : ℕ) × Contains xs x × (f x ≡ y)
+address_from_contents : (f : ℕ → ℕ) (xs : List ℕ) (y : ℕ) → map f xs ≡ y ∷ [] → (x : ℕ) × Contains xs x × (f x ≡ y)
 address_from_contents f [] y h = absurd (cc h)
 address_from_contents f (x ∷ xs) y h = (x, Contains-here x xs, cc h)
 
@@ -65,6 +68,7 @@ free_not_master Master h = absurd (cc h)
 free_not_master (Ptr q) h = refl
 free_not_master (Rel g) h = refl
 
+-- a test that can't pass fails
 pub false_from : (b : Bool) → (b ≡ true → ⊥) → b ≡ false
 false_from true h = absurd (h refl)
 false_from false h = refl
@@ -77,7 +81,7 @@ slot_no_pointer s t m suits h slot = false_from (is_pointer t h) (λ live.
     (subst (λ a. Contains (slots s m) a) (sym there.2) slot))
 
 -- where a free block stands
-pub address-free : (s : Shape) (before behind : ZoneMap) (n : ℕ) → Contains (addresses s is_free (before ++ block Free n ∷ behind)) (address_behind s [] + total_size before)
+address-free : (s : Shape) (before behind : ZoneMap) (n : ℕ) → Contains (addresses s is_free (before ++ block Free n ∷ behind)) (address_behind s [] + total_size before)
 address-free s before behind n = subst (λ xs. Contains xs (address_behind s [] + total_size before)) (sym (addresses_from-append (address_behind s []) is_free before (block Free n ∷ behind)))
     (Contains-append_right (addresses s is_free before) _ (address_behind s [] + total_size before)
     (Contains-here (address_behind s [] + total_size before) (addresses_from ((address_behind s [] + total_size before) + n) is_free behind)))
@@ -87,7 +91,7 @@ module _ (s : Shape) (t : HandleTable) (before behind : ZoneMap) (n p : ℕ) (su
   there = omega arith
 
   -- the contents of a free block begin at no slot
-  pub free_contents_no_slot : Contains (slots s (before ++ block Free n ∷ behind)) p → ⊥
+  free_contents_no_slot : Contains (slots s (before ++ block Free n ∷ behind)) p → ⊥
   free_contents_no_slot slot = slot_no_contents (head_size s.heads) slot_count (address_behind s []) is_free free_not_master (before ++ block Free n ∷ behind) (address_behind s [] + total_size before)
       (rooms-suits s t _ suits) (address-free s before behind n) (subst (λ a. Contains (slots s (before ++ block Free n ∷ behind)) a) there slot)
 

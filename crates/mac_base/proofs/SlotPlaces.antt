@@ -1,19 +1,13 @@
 -- Where slots lie: within the contents of master blocks, so no other block's contents begin at one.
-use Rattle.std.proofs.Common.{◌≡◌, ℕ, zero, suc, ◌+◌, ◌*◌, ◌<◌, ◌≤◌, Bool, true, false, not, ◌&&◌, ◌||◌, nat_le, nat_lt, cond, List, [], ◌∷◌, ◌++◌, length, map, flat_map, refl, ap, sym, ◌∙◌, arith, IsTrue, Contains, subst, ◌⊎◌, inl, inr, get_or}
+use Rattle.std.proofs.Common.{◌≡◌, ℕ, zero, suc, ◌+◌, ◌*◌, ◌<◌, ◌≤◌, Bool, true, false, not, ◌&&◌, ◌||◌, nat_le, nat_lt, cond, List, [], ◌∷◌, ◌++◌, length, map, flat_map, refl, arith, Contains, subst, ◌⊎◌, inl, inr, get_or}
 use Rattle.std.specs.List.{list_all}
 use Rattle.std.proofs.lemmas.Bool.Decides.{nat_tests}
 use Rattle.std.proofs.lemmas.List.Elements.{Contains-append_cases}
 use Rattle.mac_base.specs.declared.block.Entry.{Entry}
-use Rattle.mac_base.specs.declared.block.HeadKind.{HeadKind}
-use Rattle.mac_base.specs.declared.block.HeadKind.TheVariants.{Bits24}
 use Rattle.mac_base.specs.declared.block.Kind.{Kind}
-use Rattle.mac_base.specs.declared.block.Kind.TheVariants.{Free, Master, Ptr, Rel}
-use Rattle.mac_base.specs.HeadKind.{Shape, need, head_size, smallest_block, slot_count, master_length, zone_header}
-use Rattle.mac_base.specs.ZoneMap.{ZoneMap, is_free, is_master, total_size, address_behind, addresses, addresses_from, contents_addresses}
-use Rattle.mac_base.specs.HandleTable.{HandleTable, is_pointer}
-use Rattle.mac_base.specs.Suits.{Suits, is_block_size, is_pointer_block, has_length, has_owners_length, slots, slots_from}
+use Rattle.mac_base.specs.ZoneMap.{ZoneMap, is_master, addresses_from}
+use Rattle.mac_base.specs.Suits.{slots_from}
 use Rattle.mac_base.proofs.Maps.{both_true}
-use Rattle.mac_base.proofs.Taken.{head-below_smallest}
 
 -- an element is the first one or among the others
 pub Contains-cons_cases : (x : ℕ) (xs : List ℕ) (y : ℕ) → Contains (x ∷ xs) y → (x ≡ y) ⊎ Contains xs y
@@ -23,12 +17,15 @@ Contains-cons_cases x xs y c = by_place c.0 c.1 c.2
     by_place zero below is = inl is
     by_place (suc k) below is = inr (k, omega arith, is)
 
+-- the first element is there
 pub Contains-here : (x : ℕ) (xs : List ℕ) → Contains (x ∷ xs) x
 Contains-here x xs = (0, omega arith, refl)
 
+-- so is each of the others
 pub Contains-later : (x : ℕ) (xs : List ℕ) (y : ℕ) → Contains xs y → Contains (x ∷ xs) y
 Contains-later x xs y c = (suc c.0, (let below = c.1 in omega arith), c.2)
 
+-- an empty list has none
 pub Contains-none : (y : ℕ) → Contains [] y → ⊥
 Contains-none y c = let below = c.1 in omega arith
 
@@ -38,12 +35,12 @@ first_or_rest false a rest x c = inr c
 first_or_rest true a rest x c = elim (Contains-cons_cases a rest x c) [ inl h ↦ inl (refl, h) | inr h ↦ inr h ]
 
 -- a slot lies at or behind the first, and its four bytes are among those of n slots
-pub slots_from-bounds : (n at h : ℕ) → Contains (slots_from n at) h → (at ≤ h) × (h + 4 ≤ at + 4 * n)
+slots_from-bounds : (n at h : ℕ) → Contains (slots_from n at) h → (at ≤ h) × (h + 4 ≤ at + 4 * n)
 slots_from-bounds zero at h c = absurd (Contains-none h c)
 slots_from-bounds (suc n) at h c = elim (Contains-cons_cases at (slots_from n (at + 4)) h c) [
-    | inl is ↦ (omega arith, omega arith)
-    | inr later ↦ let rest = slots_from-bounds n (at + 4) h later in (omega arith, omega arith)
-  ]
+  | inl is ↦ (omega arith, omega arith)
+  | inr later ↦ let rest = slots_from-bounds n (at + 4) h later in (omega arith, omega arith)
+]
 
 -- the slots of a map whose first block stands at an address, where a header has so many bytes and a master block n slots
 abbrev pub slots_at : ℕ → ℕ → ℕ → ZoneMap → List ℕ
@@ -71,15 +68,16 @@ in_first head n at e h room = by_test (is_master e.kind) refl
         let large : head + 4 * n ≤ e.size = grind (arith, nat_tests) in
         (refl, omega arith, omega arith)
 
-slot_cases : (head n at : ℕ) (e : Entry) (es : ZoneMap) (h : ℕ) → has_room head n e ≡ true → Contains (slots_at head n at (e ∷ es)) h
+-- a slot lies in the first block, a master block, or is one of the others
+pub slot_cases : (head n at : ℕ) (e : Entry) (es : ZoneMap) (h : ℕ) → has_room head n e ≡ true → Contains (slots_at head n at (e ∷ es)) h
     → ((is_master e.kind ≡ true) × (at + head ≤ h) × (h + 4 ≤ at + e.size)) ⊎ Contains (slots_at head n (at + e.size) es) h
 slot_cases head n at e es h room c = elim (Contains-append_cases _ _ h (subst (λ xs. Contains xs h) (slots_at-cons head n at e es) c)) [
-    | inl first ↦ inl (in_first head n at e h room first)
-    | inr later ↦ inr later
-  ]
+  | inl first ↦ inl (in_first head n at e h room first)
+  | inr later ↦ inr later
+]
 
 -- a slot lies behind the first header
-slots_at-above : (head n at : ℕ) (m : ZoneMap) (h : ℕ) → list_all (has_room head n) m ≡ true → Contains (slots_at head n at m) h → at + head ≤ h
+pub slots_at-above : (head n at : ℕ) (m : ZoneMap) (h : ℕ) → list_all (has_room head n) m ≡ true → Contains (slots_at head n at m) h → at + head ≤ h
 slots_at-above head n at [] h room c = absurd (Contains-none h c)
 slots_at-above head n at (e ∷ es) h room c =
     let rooms = both_true (has_room head n e) (list_all (has_room head n) es) room in
@@ -88,12 +86,13 @@ slots_at-above head n at (e ∷ es) h room c =
       | inr later ↦ let rest = slots_at-above head n (at + e.size) es h rooms.1 later in omega arith
     ]
 
-pub addresses_from-above : (at : ℕ) (test : Kind → Bool) (m : ZoneMap) (a : ℕ) → Contains (addresses_from at test m) a → at ≤ a
+-- what passes lies at the first block or behind
+addresses_from-above : (at : ℕ) (test : Kind → Bool) (m : ZoneMap) (a : ℕ) → Contains (addresses_from at test m) a → at ≤ a
 addresses_from-above at test [] a c = absurd (Contains-none a c)
 addresses_from-above at test (e ∷ es) a c = elim (first_or_rest (test e.kind) at (addresses_from (at + e.size) test es) a c) [
-    | inl first ↦ (let same = first.1 in omega arith)
-    | inr later ↦ let rest = addresses_from-above (at + e.size) test es a later in omega arith
-  ]
+  | inl first ↦ (let same = first.1 in omega arith)
+  | inr later ↦ let rest = addresses_from-above (at + e.size) test es a later in omega arith
+]
 
 some_size : (head n : ℕ) (e : Entry) → has_room head n e ≡ true → head < e.size
 some_size head n e h = grind (arith, nat_tests)

@@ -1,15 +1,13 @@
 -- The heap of a new zone is sound.
-use Rattle.std.proofs.Common.{◌≡◌, ℕ, zero, suc, ◌+◌, ◌-◌, ◌%◌, ◌<◌, ◌≤◌, ◌==◌, Bool, true, false, not, ◌&&◌, ◌||◌, nat_le, nat_eq, cond, List, [], ◌∷◌, ◌++◌, refl, ap, sym, ◌∙◌, arith, IsTrue, Contains, ◌⊎◌}
+use Rattle.std.proofs.Common.{◌≡◌, ℕ, zero, suc, ◌+◌, ◌-◌, ◌%◌, ◌<◌, ◌≤◌, ◌==◌, true, false, ◌&&◌, ◌||◌, nat_le, nat_eq, [], ◌++◌, refl, ap, ◌∙◌, arith, ◌⊎◌}
 use Rattle.std.specs.List.{IsDistinct, AllByRecursion}
 use Rattle.std.proofs.lemmas.Bool.Decides.{nat_tests}
-use Rattle.std.proofs.lemmas.Map.Keys.{IsDistinct-cons}
 use Rattle.mac_base.specs.declared.block.HeadKind.{HeadKind}
 use Rattle.mac_base.specs.declared.block.HeadKind.TheVariants.{Bits24}
 use Rattle.mac_base.specs.HeadKind.{Shape, slot_count}
 use Rattle.mac_base.specs.ZoneSizes.{ZoneSizes, ArePossible, shape_of}
-use Rattle.mac_base.specs.Suits.{Suits, slots, slots_from}
-use Rattle.mac_base.specs.HandleTable.{new_table}
-use Rattle.mac_base.specs.Heap.{Heap, new_heap, new_map}
+use Rattle.mac_base.specs.Suits.{slots_from}
+use Rattle.mac_base.specs.Heap.{new_heap}
 use Rattle.mac_base.specs.Sound.{Sound}
 
 -- slots lie above a lower number, and each once
@@ -17,7 +15,8 @@ slots_from-above : (n at x : ℕ) → x < at → AllByRecursion (λ y. nat_eq x 
 slots_from-above zero at x h = tt
 slots_from-above (suc n) at x h = ((let apart : nat_eq x at ≡ false = grind (arith, nat_tests) in apart), slots_from-above n (at + 4) x (omega arith))
 
-pub slots_from-once : (n at : ℕ) → IsDistinct nat_eq (slots_from n at ++ [])
+-- slots differ
+slots_from-once : (n at : ℕ) → IsDistinct nat_eq (slots_from n at ++ [])
 unfolding IsDistinct
 slots_from-once zero at = tt
 slots_from-once (suc n) at = (slots_from-above n (at + 4) at (omega arith), slots_from-once n (at + 4))
@@ -48,7 +47,7 @@ new_zone base size limit p =
       };
       within = (let large = p.large_enough in let within = p.within in omega arith);
       growth = ap (λ n. (limit - n == 0) || (((limit - n) % 4 == 0) && nat_le 12 (limit - n))) whole
-        ∙ may_grow (limit - size) (let a = p.even_size in let b = p.even_limit in omega arith) (none_or_enough size limit p.within p.growth);
+          ∙ may_grow (limit - size) (let a = p.even_size in let b = p.even_limit in omega arith) (none_or_enough size limit p.within p.growth);
       free = λ x. ((λ c. (c, refl)), (λ c. c.0));
       once = slots_from-once slot_count (base + 52 + 0 + 8);
     }

@@ -1,5 +1,5 @@
 -- A sound heap stays sound where a new handle takes the front slot.
-use Rattle.std.proofs.Common.{◌≡◌, ℕ, ◌+◌, ◌-◌, ◌≤◌, ◌↔◌, ◌==◌, Bool, true, false, cond, eqb, List, [], ◌∷◌, length, drop, replicate, Some, None, Option, MatchOption, refl, ap, sym, ◌∙◌, arith, IsTrue, IsFalse, Contains, subst, inl, inr, nat_eq}
+use Rattle.std.proofs.Common.{◌≡◌, ℕ, ◌+◌, ◌-◌, ◌≤◌, ◌↔◌, Bool, true, false, eqb, List, ◌∷◌, drop, Some, None, MatchOption, refl, ap, sym, ◌∙◌, arith, IsTrue, IsFalse, Contains, subst, inl, inr, nat_eq}
 use Rattle.std.specs.Prelude.{⊤}
 use Rattle.std.specs.List.{IsDistinct}
 use Rattle.std.proofs.lemmas.Bool.Decides.{nat_tests}
@@ -10,19 +10,19 @@ use Rattle.mac_base.specs.declared.block.Kind.{Kind}
 use Rattle.mac_base.specs.declared.block.Kind.TheVariants.{Rel}
 use Rattle.mac_base.specs.HeadKind.{Shape, need, zone_header}
 use Rattle.mac_base.specs.ZoneMap.{ZoneMap, total_size, is_master}
-use Rattle.mac_base.specs.HandleTable.{HandleTable, FullHandle, EmptyHandle, live_at, live_full, live_handle, live_pointer, is_full, is_handle, is_pointer, with_live, no_flags, zeros}
+use Rattle.mac_base.specs.HandleTable.{HandleTable, FullHandle, live_at, live_full, live_handle, is_full, is_handle, is_pointer, with_live, no_flags, zeros}
 use Rattle.mac_base.specs.Suits.{Suits, slots}
-use Rattle.mac_base.specs.Request.{NewBlock, NewEmpty}
+use Rattle.mac_base.specs.Request.{NewBlock}
 use Rattle.mac_base.specs.Serve.{take_lowest}
 use Rattle.mac_base.specs.Heap.{Heap, granted}
 use Rattle.mac_base.specs.Sound.{Sound, is_growth}
 use Rattle.mac_base.proofs.Placing.{TakenAt, take_lowest-parts}
 use Rattle.mac_base.proofs.Maps.{total_size-exchanged}
-use Rattle.mac_base.proofs.Tables.{AgreeBut, live_at-with_live_same, with_live_agrees, in_order-with_live, not_live, eqb_same, eqb-true-is, by_number}
+use Rattle.mac_base.proofs.Tables.{AgreeBut, live_at-with_live_same, with_live_agrees, in_order-with_live, not_live, eqb-true-is}
 use Rattle.mac_base.proofs.Taken.{taken_exchange}
 use Rattle.mac_base.proofs.SuitsTaken.{Suits-new_handle, addresses-untaken, slots-same}
 use Rattle.mac_base.proofs.SlotPlaces.{Contains-cons_cases, Contains-here, Contains-later}
-use Rattle.mac_base.proofs.SlotOwners.{slot_no_pointer, false_from}
+use Rattle.mac_base.proofs.SlotOwners.{slot_no_pointer}
 
 -- what taking gives is the map in three parts
 pub take_lowest-taken : (s : Shape) (k : ℕ) (kind : Kind) (m new : ZoneMap) → take_lowest s k kind m ≡ Some new → TakenAt s k kind m new
@@ -59,14 +59,16 @@ front_slot-taken h hs all t u once free agree live x = (
   where
     apart : Contains hs x → eqb x h ≡ false
     apart c = let here : nat_eq h x ≡ false = All-contains (λ y. nat_eq h y ≡ false) hs x (All-from_recursion (λ y. nat_eq h y ≡ false) hs (IsDistinct-head nat_eq h hs once)) c in grind (arith, nat_tests)
+
     others : h ≡ x → IsFalse (is_handle u x) → ⊥
     others same no_handle = cc (ap (is_handle u) same, live, no_handle)
+
     by_case : Contains all x × IsFalse (is_handle u x) → (b : Bool) → eqb x h ≡ b → Contains hs x
     by_case c true is = absurd (others (sym (eqb-true-is x h is)) c.1)
     by_case c false is = elim (Contains-cons_cases h hs x ((free x).1 (c.0, sym (ap live_handle (agree.others x is)) ∙ c.1))) [
-        | inl same ↦ absurd (others same c.1)
-        | inr later ↦ later
-      ]
+      | inl same ↦ absurd (others same c.1)
+      | inr later ↦ later
+    ]
 
 module _ (s : Shape) (heap : Heap) (h : ℕ) (hs : List ℕ) (sound : Sound s heap) (front : heap.free_slots ≡ h ∷ hs) where
   -- where the new map has the slots and the size of the old one, and h is now a handle
@@ -77,14 +79,15 @@ module _ (s : Shape) (heap : Heap) (h : ℕ) (hs : List ℕ) (sound : Sound s he
     within = subst (λ n. zone_header + n ≤ s.limit) (sym same_size) sound.within;
     growth = subst (λ n. IsTrue (is_growth s (s.limit - (zone_header + n)))) (sym same_size) sound.growth;
     free = subst (λ xs. (x : ℕ) → Contains xs x ↔ (Contains (slots s m) x × IsFalse (is_handle u x))) (sym rest)
-      (front_slot-taken h hs (slots s m) heap.table u once_front
-      (subst (λ all. (x : ℕ) → Contains (h ∷ hs) x ↔ (Contains all x × IsFalse (is_handle heap.table x))) (sym same_slots)
-      (subst (λ xs. (x : ℕ) → Contains xs x ↔ (Contains (slots s heap.map) x × IsFalse (is_handle heap.table x))) front sound.free)) agree live);
+        (front_slot-taken h hs (slots s m) heap.table u once_front
+        (subst (λ all. (x : ℕ) → Contains (h ∷ hs) x ↔ (Contains all x × IsFalse (is_handle heap.table x))) (sym same_slots)
+        (subst (λ xs. (x : ℕ) → Contains xs x ↔ (Contains (slots s heap.map) x × IsFalse (is_handle heap.table x))) front sound.free)) agree live);
     once = subst (IsDistinct nat_eq) (sym rest) (IsDistinct-tail nat_eq h hs once_front);
   }
     where
       rest : drop 1 heap.free_slots ≡ hs
       rest = ap (drop 1) front
+
       once_front : IsDistinct nat_eq (h ∷ hs)
       once_front = subst (IsDistinct nat_eq) front sound.once
 

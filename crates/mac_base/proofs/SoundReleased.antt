@@ -1,17 +1,15 @@
 -- A sound heap stays sound where a handle or a pointer is disposed of, and where a handle becomes empty.
-use Rattle.std.proofs.Common.{◌≡◌, ℕ, ◌+◌, ◌-◌, ◌≤◌, ◌↔◌, Bool, true, false, cond, eqb, List, [], ◌∷◌, refl, ap, sym, ◌∙◌, arith, IsTrue, IsFalse, Contains, subst, inl, inr, nat_eq}
+use Rattle.std.proofs.Common.{◌≡◌, ℕ, ◌+◌, ◌-◌, ◌≤◌, ◌↔◌, true, false, eqb, List, [], ◌∷◌, refl, ap, sym, ◌∙◌, IsTrue, IsFalse, Contains, subst, inl, inr, nat_eq}
 use Rattle.std.specs.List.{IsDistinct, AllByRecursion}
-use Rattle.std.proofs.lemmas.Bool.Decides.{nat_tests}
-use Rattle.std.proofs.lemmas.List.Elements.{All-contains_itself, recursion_from_All}
 use Rattle.std.proofs.lemmas.Map.Keys.{IsDistinct-cons}
 use Rattle.mac_base.specs.HeadKind.{Shape, zone_header}
-use Rattle.mac_base.specs.ZoneMap.{ZoneMap, total_size, released}
-use Rattle.mac_base.specs.HandleTable.{HandleTable, EmptyHandle, live_full, live_handle, live_pointer, is_full, is_handle, is_pointer, with_live, without}
+use Rattle.mac_base.specs.ZoneMap.{total_size, released}
+use Rattle.mac_base.specs.HandleTable.{HandleTable, EmptyHandle, live_full, live_handle, live_pointer, is_handle, is_pointer, with_live, without}
 use Rattle.mac_base.specs.Suits.{Suits, slots}
-use Rattle.mac_base.specs.Heap.{Heap, with_emptied}
+use Rattle.mac_base.specs.Heap.{Heap}
 use Rattle.mac_base.specs.GrowZone.{heap_released, DisposesHandle, DisposesPtr, Empties}
 use Rattle.mac_base.specs.Sound.{Sound, is_growth}
-use Rattle.mac_base.proofs.Tables.{AgreeBut, live_at-with_live_same, live_at-without_same, with_live_agrees, without_agrees, in_order-with_live, in_order-without, by_number, eqb-true-is, eqb_same, handle_no_pointer, pointer_no_handle}
+use Rattle.mac_base.proofs.Tables.{AgreeBut, live_at-with_live_same, live_at-without_same, with_live_agrees, without_agrees, in_order-with_live, in_order-without, by_number, eqb-true-is, eqb_same, pointer_no_handle}
 use Rattle.mac_base.proofs.SlotPlaces.{Contains-cons_cases, Contains-here, Contains-later}
 use Rattle.mac_base.proofs.SuitsReleased.{Suits-released, total_size-released, slots-released}
 
@@ -25,9 +23,9 @@ IsDistinct-more x xs new once = IsDistinct-cons nat_eq x xs (others xs (λ y c. 
       where
         apart : Contains xs y → nat_eq x y ≡ false
         apart c = elim (eqb x y) as (λ b. eqb x y ≡ b → nat_eq x y ≡ false) [
-            | true ↦ λ same. absurd (new (subst (λ z. Contains xs z) (sym (eqb-true-is x y same)) c))
-            | false ↦ λ other. other
-          ] refl
+          | true ↦ λ same. absurd (new (subst (λ z. Contains xs z) (sym (eqb-true-is x y same)) c))
+          | false ↦ λ other. other
+        ] refl
 
 module _ (s : Shape) (heap : Heap) (x : ℕ) (u : HandleTable) (sound : Sound s heap) (agree : AgreeBut x heap.table u) (suits : Suits s u (released x heap.map)) where
   within_released : zone_header + total_size (released x heap.map) ≤ s.limit
@@ -43,7 +41,7 @@ module _ (s : Shape) (heap : Heap) (x : ℕ) (u : HandleTable) (sound : Sound s 
     within = within_released;
     growth = growth_released;
     free = subst (λ all. (y : ℕ) → Contains heap.free_slots y ↔ (Contains all y × IsFalse (is_handle u y))) (sym (slots-released s x heap.map))
-      (λ y. ((λ c. let fact = (sound.free y).0 c in (fact.0, handles y ∙ fact.1)), (λ c. (sound.free y).1 (c.0, sym (handles y) ∙ c.1))));
+        (λ y. ((λ c. let fact = (sound.free y).0 c in (fact.0, handles y ∙ fact.1)), (λ c. (sound.free y).1 (c.0, sym (handles y) ∙ c.1))));
     once = sound.once;
   }
     where
@@ -57,15 +55,15 @@ module _ (s : Shape) (heap : Heap) (x : ℕ) (u : HandleTable) (sound : Sound s 
     within = within_released;
     growth = growth_released;
     free = subst (λ all. (y : ℕ) → Contains (x ∷ heap.free_slots) y ↔ (Contains all y × IsFalse (is_handle u y))) (sym (slots-released s x heap.map))
-      (by_number (λ y. Contains (x ∷ heap.free_slots) y ↔ (Contains (slots s heap.map) y × IsFalse (is_handle u y))) x
-      ((λ _. (sound.suits.in_slots x was, gone)), (λ _. Contains-here x heap.free_slots))
-      (λ y apart. (
-        (λ c. elim (Contains-cons_cases x heap.free_slots y c) [
-          | inl same ↦ absurd (differ y apart same)
-          | inr later ↦ (let fact = (sound.free y).0 later in (fact.0, ap live_handle (agree.others y apart) ∙ fact.1))
-        ]),
-        (λ c. Contains-later x heap.free_slots y ((sound.free y).1 (c.0, sym (ap live_handle (agree.others y apart)) ∙ c.1))),
-      )));
+        (by_number (λ y. Contains (x ∷ heap.free_slots) y ↔ (Contains (slots s heap.map) y × IsFalse (is_handle u y))) x
+        ((λ _. (sound.suits.in_slots x was, gone)), (λ _. Contains-here x heap.free_slots))
+        (λ y apart. (
+          (λ c. elim (Contains-cons_cases x heap.free_slots y c) [
+            | inl same ↦ absurd (differ y apart same)
+            | inr later ↦ (let fact = (sound.free y).0 later in (fact.0, ap live_handle (agree.others y apart) ∙ fact.1))
+          ]),
+          (λ c. Contains-later x heap.free_slots y ((sound.free y).1 (c.0, sym (ap live_handle (agree.others y apart)) ∙ c.1))),
+        )));
     once = IsDistinct-more x heap.free_slots (λ c. cc (((sound.free x).0 c).1, was)) sound.once;
   }
     where

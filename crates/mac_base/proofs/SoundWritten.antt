@@ -1,9 +1,8 @@
 -- A sound heap stays sound where only the table changes: bytes over as many bytes, other flags, an empty handle.
-use Rattle.std.proofs.Common.{◌≡◌, ℕ, ◌+◌, ◌≤◌, ◌↔◌, Bool, true, false, ◌||◌, ◌&&◌, cond, List, [], ◌∷◌, length, drop, Some, None, Option, refl, ap, sym, ◌∙◌, arith, IsTrue, IsFalse, Contains, subst}
+use Rattle.std.proofs.Common.{◌≡◌, ℕ, true, false, ◌||◌, cond, List, [], ◌∷◌, length, Some, None, Option, refl, ap, sym, ◌∙◌, IsTrue, Contains}
 use Rattle.std.specs.List.{list_all}
 use Rattle.std.specs.Ordering.{nat_cmp}
 use Rattle.std.specs.FinMap.{is_sorted}
-use Rattle.mac_base.specs.declared.block.Entry.{Entry}
 use Rattle.mac_base.specs.declared.block.Flags.{Flags}
 use Rattle.mac_base.specs.declared.block.Kind.{Kind}
 use Rattle.mac_base.specs.declared.block.Kind.TheVariants.{Free, Master, Ptr, Rel}
@@ -15,8 +14,8 @@ use Rattle.mac_base.specs.Request.{NewEmpty}
 use Rattle.mac_base.specs.Heap.{Heap, granted, with_table}
 use Rattle.mac_base.specs.Sound.{Sound}
 use Rattle.mac_base.proofs.Maps.{both_true, true_both}
-use Rattle.mac_base.proofs.Tables.{live_at-with_live_same, with_live_agrees, in_order-with_live, by_number, AgreeBut}
-use Rattle.mac_base.proofs.SoundPlaced.{IsFreeSlot, front_slot-free, sound-slot_taken}
+use Rattle.mac_base.proofs.Tables.{live_at-with_live_same, with_live_agrees, in_order-with_live, by_number}
+use Rattle.mac_base.proofs.SoundPlaced.{front_slot-free, sound-slot_taken}
 
 -- two tables have the same full handles and pointers, with as many bytes each
 pub record SameShape (old new : HandleTable) : Type 0 where
@@ -76,13 +75,14 @@ module _ (s : Shape) (heap : Heap) (x : ℕ) (l : Live) (sound : Sound s heap) (
       (in_order-with_live x l heap.table sound.suits.in_order)
 
 -- what has a block keeps what it is when its bytes change
-record Refilled (bytes : List ℕ) (o : Option Live) : Type 0 where
-  full : live_full (Some (refilled bytes o)) ≡ live_full o
-  pointer : live_pointer (Some (refilled bytes o)) ≡ live_pointer o
-  handle : live_handle (Some (refilled bytes o)) ≡ live_handle o
-  holds : live_bytes (Some (refilled bytes o)) ≡ bytes
+pub record Refilled (bytes : List ℕ) (o : Option Live) : Type 0 where
+  pub full : live_full (Some (refilled bytes o)) ≡ live_full o
+  pub pointer : live_pointer (Some (refilled bytes o)) ≡ live_pointer o
+  pub handle : live_handle (Some (refilled bytes o)) ≡ live_handle o
+  pub holds : live_bytes (Some (refilled bytes o)) ≡ bytes
 
-refilled_block : (bytes : List ℕ) (o : Option Live) → (live_full o || live_pointer o) ≡ true → Refilled bytes o
+-- a handle with a block, or a pointer, does
+pub refilled_block : (bytes : List ℕ) (o : Option Live) → (live_full o || live_pointer o) ≡ true → Refilled bytes o
 refilled_block bytes None h = absurd (cc h)
 refilled_block bytes (Some EmptyHandle) h = absurd (cc h)
 refilled_block bytes (Some (FullHandle flags old)) h = record { full = refl; pointer = refl; handle = refl; holds = refl }

@@ -1,27 +1,27 @@
 -- A map suits its table once the lowest free block is taken for a new handle or pointer.
-use Rattle.std.proofs.Common.{◌≡◌, ℕ, ◌+◌, Bool, true, false, not, cond, eqb, List, [], ◌∷◌, ◌++◌, length, map, flat_map, Some, refl, ap, sym, ◌∙◌, arith, IsTrue, Contains, subst}
+use Rattle.std.proofs.Common.{◌≡◌, ℕ, ◌+◌, Bool, true, false, not, cond, List, [], ◌∷◌, ◌++◌, length, map, flat_map, Some, refl, ap, sym, ◌∙◌, arith, IsTrue, Contains, subst}
 use Rattle.std.specs.List.{list_all}
 use Rattle.std.specs.Ordering.{nat_cmp}
 use Rattle.std.specs.FinMap.{is_sorted}
-use Rattle.std.proofs.lemmas.Bool.Decides.{nat_tests}
 use Rattle.mac_base.specs.declared.block.Entry.{Entry}
 use Rattle.mac_base.specs.declared.block.Flags.{Flags}
 use Rattle.mac_base.specs.declared.block.Kind.{Kind}
-use Rattle.mac_base.specs.declared.block.Kind.TheVariants.{Free, Master, Ptr, Rel}
+use Rattle.mac_base.specs.declared.block.Kind.TheVariants.{Free, Ptr, Rel}
 use Rattle.mac_base.specs.HeadKind.{Shape, need, head_size, slot_count}
 use Rattle.mac_base.specs.ZoneMap.{ZoneMap, block, is_free, is_master, total_size, address_behind, addresses, addresses_from, contents_addresses}
-use Rattle.mac_base.specs.HandleTable.{HandleTable, Live, FullHandle, Pointer, live_at, live_bytes, live_full, live_handle, live_pointer, is_full, is_handle, is_pointer, with_live, bytes_of}
+use Rattle.mac_base.specs.HandleTable.{HandleTable, FullHandle, Pointer, live_at, live_bytes, live_full, live_handle, live_pointer, is_full, is_handle, is_pointer}
 use Rattle.mac_base.specs.Suits.{Suits, free_apart, starts_free, is_block_size, is_handle_block, is_pointer_block, has_owners_length, slots, slots_from, wanted_length}
 use Rattle.mac_base.proofs.Placing.{TakenAt}
-use Rattle.mac_base.proofs.Maps.{Exchanged, both_true, true_not, addresses_from-exchanged, addresses_from-new, addresses_from-old, addresses_from-skip, list_all-exchanged}
-use Rattle.mac_base.proofs.Tables.{AgreeBut, live_at-with_live, live_at-with_live_same, with_live_agrees, in_order-with_live, by_number, eqb_same, eqb_swap}
-use Rattle.mac_base.proofs.Owners.{none_named, lengths-agree, no_handle_block, no_pointer_block, none_named-suits}
-use Rattle.mac_base.proofs.Taken.{need-is_size, free_apart-behind, free_apart-replaced, free_apart-taken, starts_free-taken, taken_exchange, addresses_from-taken, sizes-taken, lengths-taken}
+use Rattle.mac_base.proofs.Maps.{both_true, true_not, addresses_from-exchanged, addresses_from-new, addresses_from-old, addresses_from-skip, list_all-exchanged}
+use Rattle.mac_base.proofs.Tables.{AgreeBut, by_number, eqb_same, eqb_swap}
+use Rattle.mac_base.proofs.Owners.{lengths-agree, no_handle_block, no_pointer_block, none_named-suits}
+use Rattle.mac_base.proofs.Taken.{need-is_size, free_apart-behind, free_apart-replaced, free_apart-taken, taken_exchange, addresses_from-taken, sizes-taken, lengths-taken}
 
 -- the slots are where the master blocks are
 pub slots-same : (s : Shape) (old new : ZoneMap) → addresses s is_master new ≡ addresses s is_master old → slots s new ≡ slots s old
 slots-same s old new same = ap (λ found. flat_map (slots_from slot_count) (map (λ a. a + head_size s.heads) found)) same
 
+-- the contents are where the blocks are
 pub contents-same : (s : Shape) (test : Kind → Bool) (old new : ZoneMap) → addresses s test new ≡ addresses s test old → contents_addresses s test new ≡ contents_addresses s test old
 contents-same s test old new same = ap (map (λ a. a + head_size s.heads)) same
 
@@ -47,7 +47,7 @@ module _ (s : Shape) (k : ℕ) (kind : Kind) (old new : ZoneMap) (t : TakenAt s 
       ∙ ap (λ found. found ++ []) (addresses_from-taken s k kind t.size (address_behind s [] + total_size t.before) test free ∙ ap (λ b. cond b ((address_behind s [] + total_size t.before) ∷ []) []) passes)
 
   -- no two neighbours are free
-  pub free_apart-kept : is_free kind ≡ false → IsTrue (free_apart old) → IsTrue (free_apart new)
+  free_apart-kept : is_free kind ≡ false → IsTrue (free_apart old) → IsTrue (free_apart new)
   free_apart-kept used h =
       let apart : IsTrue (free_apart (t.before ++ (block Free t.size ∷ t.behind))) = sym (ap free_apart t.was) ∙ h in
       let here = free_apart-behind t.before (block Free t.size ∷ t.behind) apart in
@@ -55,11 +55,12 @@ module _ (s : Shape) (k : ℕ) (kind : Kind) (old new : ZoneMap) (t : TakenAt s 
     where
       ends : (m : ZoneMap) → IsTrue (free_apart (block Free t.size ∷ m)) → starts_free m ≡ false
       ends m h = true_not _ (both_true (not (starts_free m)) (free_apart m) h).0
+
       tail : (m : ZoneMap) → IsTrue (free_apart (block Free t.size ∷ m)) → IsTrue (free_apart m)
       tail m h = (both_true (not (starts_free m)) (free_apart m) h).1
 
   -- each size is possible
-  pub sizes-kept : is_block_size s k ≡ true → IsTrue (list_all (λ (e : Entry). is_block_size s e.size) old) → IsTrue (list_all (λ (e : Entry). is_block_size s e.size) new)
+  sizes-kept : is_block_size s k ≡ true → IsTrue (list_all (λ (e : Entry). is_block_size s e.size) old) → IsTrue (list_all (λ (e : Entry). is_block_size s e.size) new)
   sizes-kept size h = list_all-exchanged old new (taken_exchange s k kind old new t) (λ (e : Entry). is_block_size s e.size) (sizes-taken s k kind t.size size (here old h t.was) t.fits) h
     where
       here : (m : ZoneMap) → IsTrue (list_all (λ (e : Entry). is_block_size s e.size) m) → m ≡ t.before ++ block Free t.size ∷ t.behind → is_block_size s t.size ≡ true
@@ -95,15 +96,15 @@ Suits-new_handle s n h old new t u at suits agree not_full no_pointer slot flags
   apart = free_apart-kept s (need s.heads n) (Rel h) old new at refl suits.apart;
   sizes = sizes-kept s (need s.heads n) (Rel h) old new at (need-is_size s n) suits.sizes;
   handles = by_number (λ g. length (addresses s (is_handle_block g) new) ≡ cond (is_full u g) 1 0) h
-    (ap length (addresses-taken s (need s.heads n) (Rel h) old new at (is_handle_block h) refl (eqb_same h) (no_handle_block s t old suits h not_full)) ∙ sym (ap (λ o. cond (live_full o) 1 0) has))
-    (λ g apart. handles-other s n h (Rel h) old new t u at suits agree not_full no_pointer g (eqb_swap h g ∙ apart) (ap live_full (agree.others g apart)));
+      (ap length (addresses-taken s (need s.heads n) (Rel h) old new at (is_handle_block h) refl (eqb_same h) (no_handle_block s t old suits h not_full)) ∙ sym (ap (λ o. cond (live_full o) 1 0) has))
+      (λ g apart. handles-other s n h (Rel h) old new t u at suits agree not_full no_pointer g (eqb_swap h g ∙ apart) (ap live_full (agree.others g apart)));
   pointers = by_number (λ p. contents_addresses s (is_pointer_block p) new ≡ cond (is_pointer u p) (p ∷ []) []) h
-    (pointers-other s n h (Rel h) old new t u at suits agree not_full no_pointer h refl (ap live_pointer has ∙ sym no_pointer))
-    (λ p apart. pointers-other s n h (Rel h) old new t u at suits agree not_full no_pointer p refl (ap live_pointer (agree.others p apart)));
+      (pointers-other s n h (Rel h) old new t u at suits agree not_full no_pointer h refl (ap live_pointer has ∙ sym no_pointer))
+      (λ p apart. pointers-other s n h (Rel h) old new t u at suits agree not_full no_pointer p refl (ap live_pointer (agree.others p apart)));
   lengths = lengths-new s n h (Rel h) old new t u at suits agree not_full no_pointer (ap (λ o. length (live_bytes o)) has ∙ long);
   in_slots = by_number (λ g. IsTrue (is_handle u g) → Contains (slots s new) g) h
-    (λ _. subst (λ xs. Contains xs h) (sym (slots-new s n h (Rel h) old new t u at suits agree not_full no_pointer refl)) slot)
-    (λ g apart live. subst (λ xs. Contains xs g) (sym (slots-new s n h (Rel h) old new t u at suits agree not_full no_pointer refl)) (suits.in_slots g (sym (ap live_handle (agree.others g apart)) ∙ live)));
+      (λ _. subst (λ xs. Contains xs h) (sym (slots-new s n h (Rel h) old new t u at suits agree not_full no_pointer refl)) slot)
+      (λ g apart live. subst (λ xs. Contains xs g) (sym (slots-new s n h (Rel h) old new t u at suits agree not_full no_pointer refl)) (suits.in_slots g (sym (ap live_handle (agree.others g apart)) ∙ live)));
   in_order = rise;
 }
 
@@ -115,20 +116,21 @@ Suits-new_pointer s n p old new t u at suits agree not_full no_pointer bytes has
   apart = free_apart-kept s (need s.heads n) (Ptr p) old new at refl suits.apart;
   sizes = sizes-kept s (need s.heads n) (Ptr p) old new at (need-is_size s n) suits.sizes;
   handles = by_number (λ g. length (addresses s (is_handle_block g) new) ≡ cond (is_full u g) 1 0) p
-    (handles-other s n p (Ptr p) old new t u at suits agree not_full no_pointer p refl (ap live_full has ∙ sym not_full))
-    (λ g apart. handles-other s n p (Ptr p) old new t u at suits agree not_full no_pointer g refl (ap live_full (agree.others g apart)));
+      (handles-other s n p (Ptr p) old new t u at suits agree not_full no_pointer p refl (ap live_full has ∙ sym not_full))
+      (λ g apart. handles-other s n p (Ptr p) old new t u at suits agree not_full no_pointer g refl (ap live_full (agree.others g apart)));
   pointers = by_number (λ q. contents_addresses s (is_pointer_block q) new ≡ cond (is_pointer u q) (q ∷ []) []) p
-    (contents_taken ∙ sym (ap (λ o. cond (live_pointer o) (p ∷ []) []) has))
-    (λ q apart. pointers-other s n p (Ptr p) old new t u at suits agree not_full no_pointer q (eqb_swap p q ∙ apart) (ap live_pointer (agree.others q apart)));
+      (contents_taken ∙ sym (ap (λ o. cond (live_pointer o) (p ∷ []) []) has))
+      (λ q apart. pointers-other s n p (Ptr p) old new t u at suits agree not_full no_pointer q (eqb_swap p q ∙ apart) (ap live_pointer (agree.others q apart)));
   lengths = lengths-new s n p (Ptr p) old new t u at suits agree not_full no_pointer (ap (λ o. length (live_bytes o)) has ∙ long);
   in_slots = by_number (λ g. IsTrue (is_handle u g) → Contains (slots s new) g) p
-    (λ live. absurd (cc (sym (ap live_handle has) ∙ live)))
-    (λ g apart live. subst (λ xs. Contains xs g) (sym (slots-new s n p (Ptr p) old new t u at suits agree not_full no_pointer refl)) (suits.in_slots g (sym (ap live_handle (agree.others g apart)) ∙ live)));
+      (λ live. absurd (cc (sym (ap live_handle has) ∙ live)))
+      (λ g apart live. subst (λ xs. Contains xs g) (sym (slots-new s n p (Ptr p) old new t u at suits agree not_full no_pointer refl)) (suits.in_slots g (sym (ap live_handle (agree.others g apart)) ∙ live)));
   in_order = rise;
 }
   where
     there : (address_behind s [] + total_size at.before) + head_size s.heads ≡ p
     there = omega arith
+
     contents_taken : contents_addresses s (is_pointer_block p) new ≡ p ∷ []
     contents_taken = ap (map (λ a. a + head_size s.heads)) (addresses-taken s (need s.heads n) (Ptr p) old new at (is_pointer_block p) refl (eqb_same p) (no_pointer_block s t old suits p no_pointer))
         ∙ ap (λ a. a ∷ []) there

@@ -1,24 +1,25 @@
 -- What the table has at each number once one of them is given, changed or taken out.
-use Rattle.std.proofs.Common.{◌≡◌, ℕ, Bool, true, false, not, cond, T, eqb, List, length, Some, None, Option, refl, ap, sym, ◌∙◌, subst, arith, IsTrue}
+use Rattle.std.proofs.Common.{◌≡◌, ℕ, Bool, true, false, not, cond, T, eqb, Some, None, Option, refl, ap, sym, ◌∙◌, subst, arith, IsTrue}
 use Rattle.std.specs.Ordering.{nat_cmp, eq_by_cmp}
 use Rattle.std.specs.declared.cmp.Ordering.TheVariants.{Equal}
 use Rattle.std.specs.Cmp.{nat_cmp_total}
-use Rattle.std.specs.FinMap.{find, put}
 use Rattle.std.specs.FinMap.Entries.{find-put, find-where_key, is_sorted, is_sorted-put, is_sorted-where_key}
 use Rattle.std.proofs.lemmas.Bool.Decides.{nat_tests}
-use Rattle.mac_base.specs.declared.block.Flags.{Flags}
-use Rattle.mac_base.specs.HandleTable.{HandleTable, Live, EmptyHandle, FullHandle, Pointer, live_at, with_live, without, bytes_of, live_bytes, live_full, live_handle, live_pointer, is_full, is_handle, is_pointer, with_bytes, with_flags, refilled, flags_of}
+use Rattle.mac_base.specs.HandleTable.{HandleTable, Live, EmptyHandle, FullHandle, Pointer, live_at, with_live, without, live_full, live_handle, live_pointer, is_full, is_handle, is_pointer}
 
 -- the two tests of numbers are one
 same_test : (a b : ℕ) → eq_by_cmp nat_cmp b a ≡ eqb b a
 same_test a b = grind (arith, nat_tests)
 
+-- a number equals itself
 pub eqb_same : (a : ℕ) → eqb a a ≡ true
 eqb_same a = grind (arith, nat_tests)
 
+-- numbers that test as equal are one
 pub eqb-true-is : (a b : ℕ) → eqb a b ≡ true → a ≡ b
 eqb-true-is a b h = grind (arith, nat_tests)
 
+-- the test of two numbers goes both ways
 pub eqb_swap : (a b : ℕ) → eqb a b ≡ eqb b a
 eqb_swap a b = grind (arith, nat_tests)
 
@@ -48,6 +49,7 @@ true_of false h = absurd h
 pub in_order-with_live : (x : ℕ) (l : Live) (t : HandleTable) → IsTrue (is_sorted nat_cmp t.live) → IsTrue (is_sorted nat_cmp (with_live x l t).live)
 in_order-with_live x l t h = true_of _ (is_sorted-put nat_cmp nat_cmp_total x l t.live (tested _ h))
 
+-- and they rise without one of them
 pub in_order-without : (x : ℕ) (t : HandleTable) → IsTrue (is_sorted nat_cmp t.live) → IsTrue (is_sorted nat_cmp (without x t).live)
 in_order-without x t h = true_of _ (is_sorted-where_key nat_cmp (λ k. not (eqb k x)) t.live (tested _ h))
 
@@ -55,9 +57,11 @@ in_order-without x t h = true_of _ (is_sorted-where_key nat_cmp (λ k. not (eqb 
 pub record AgreeBut (x : ℕ) (old new : HandleTable) : Type 0 where
   pub others : (y : ℕ) → eqb y x ≡ false → live_at new y ≡ live_at old y
 
+-- a table that was given x agrees with the old one but at x
 pub with_live_agrees : (x : ℕ) (l : Live) (t : HandleTable) → AgreeBut x t (with_live x l t)
 with_live_agrees x l t = record { others = λ y h. live_at-with_live x l t y ∙ ap (λ b. cond b (Some l) (live_at t y)) h }
 
+-- so does a table without x
 pub without_agrees : (x : ℕ) (t : HandleTable) → AgreeBut x t (without x t)
 without_agrees x t = record { others = λ y h. live_at-without x t y ∙ ap (λ b. cond b None (live_at t y)) h }
 
@@ -65,6 +69,7 @@ without_agrees x t = record { others = λ y h. live_at-without x t y ∙ ap (λ 
 pub live_at-with_live_same : (x : ℕ) (l : Live) (t : HandleTable) → live_at (with_live x l t) x ≡ Some l
 live_at-with_live_same x l t = live_at-with_live x l t x ∙ ap (λ b. cond b (Some l) (live_at t x)) (eqb_same x)
 
+-- x has nothing once it is taken out
 pub live_at-without_same : (x : ℕ) (t : HandleTable) → live_at (without x t) x ≡ None
 live_at-without_same x t = live_at-without x t x ∙ ap (λ b. cond b None (live_at t x)) (eqb_same x)
 
@@ -92,6 +97,7 @@ handle_no_pointer t x = by_case (live_at t x)
     by_case (Some (FullHandle flags bytes)) h = refl
     by_case (Some (Pointer bytes)) h = absurd (cc h)
 
+-- a pointer is no handle
 pub pointer_no_handle : (t : HandleTable) (x : ℕ) → is_pointer t x ≡ true → (is_handle t x ≡ false) × (is_full t x ≡ false)
 pointer_no_handle t x = by_case (live_at t x)
   where

@@ -1,14 +1,14 @@
 -- The runs of a request in which nothing moves: for a new handle, and where there is no room or no slot.
-use Rattle.std.proofs.Common.{◌≡◌, ℕ, ◌≤◌, Bool, true, false, ◌&&◌, ◌||◌, cond, List, [], ◌∷◌, ◌++◌, Some, None, Option, option_map, refl, ap, sym, ◌∙◌, arith, IsTrue, IsFalse, Contains, subst, inl, inr}
+use Rattle.std.proofs.Common.{◌≡◌, ℕ, Bool, true, false, cond, List, [], ◌∷◌, ◌++◌, Some, None, Option, option_map, refl, ap, sym, ◌∙◌, Contains, subst, inl, inr}
 use Rattle.std.specs.List.{list_all}
 use Rattle.mac_base.specs.declared.block.Entry.{Entry}
 use Rattle.mac_base.specs.declared.block.Kind.{Kind}
-use Rattle.mac_base.specs.declared.block.Kind.TheVariants.{Rel, Ptr}
+use Rattle.mac_base.specs.declared.block.Kind.TheVariants.{Rel}
 use Rattle.mac_base.specs.HeadKind.{Shape, need}
 use Rattle.mac_base.specs.ZoneMap.{ZoneMap, has_free}
 use Rattle.mac_base.specs.HandleTable.{is_handle}
 use Rattle.mac_base.specs.Suits.{slots}
-use Rattle.mac_base.specs.Request.{Request, NewBlock, NewEmpty, NewPointer, NewMaster, Reserve, Replace}
+use Rattle.mac_base.specs.Request.{NewBlock, NewEmpty, NewMaster}
 use Rattle.mac_base.specs.Serve.{taken, take_lowest}
 use Rattle.mac_base.specs.Heap.{Heap, granted, every_slot_live}
 use Rattle.mac_base.specs.Sound.{Sound}
@@ -58,6 +58,7 @@ pub every_slot_live-none : (s : Shape) (heap : Heap) → Sound s heap → heap.f
 every_slot_live-none s heap sound none = list_all-from_contains (is_handle heap.table) (slots s heap.map) (λ x slot.
     true_from (is_handle heap.table x) (λ dead. Contains-none x (subst (λ xs. Contains xs x) none ((sound.free x).1 (slot, dead)))))
 
+-- where one is free, not every slot is live
 pub every_slot_live-some : (s : Shape) (heap : Heap) (h : ℕ) (hs : List ℕ) → Sound s heap → heap.free_slots ≡ h ∷ hs → every_slot_live s heap ≡ false
 every_slot_live-some s heap h hs sound front =
     let slot = front_slot-free s heap h hs sound front in
@@ -83,10 +84,11 @@ unmoved-new_empty s heap protected allowed h hs sound front =
 pub unmoved-no_room : (s : Shape) (heap : Heap) (protected : List ℕ) (allowed h n : ℕ) → take_lowest s (need s.heads n) (Rel h) heap.map ≡ None → UnmovedRun s protected (NewBlock n) allowed heap [] None heap
 unmoved-no_room s heap protected allowed h n none = (refl, same_heap heap, inr (λ x. take_lowest-none s (need s.heads n) (Rel h) (Rel x) heap.map none))
 
--- the runs that find no slot
+-- a new handle finds no slot
 pub unmoved-no_slot : (s : Shape) (heap : Heap) (protected : List ℕ) (allowed n : ℕ) → Sound s heap → heap.free_slots ≡ [] → UnmovedRun s protected (NewBlock n) allowed heap [] None heap
 unmoved-no_slot s heap protected allowed n sound none = (refl, same_heap heap, inl (every_slot_live-none s heap sound none))
 
+-- a new empty handle finds no slot
 pub unmoved-no_slot_empty : (s : Shape) (heap : Heap) (protected : List ℕ) (allowed : ℕ) → Sound s heap → heap.free_slots ≡ [] → UnmovedRun s protected NewEmpty allowed heap [] None heap
 unmoved-no_slot_empty s heap protected allowed sound none = (refl, same_heap heap, inl (every_slot_live-none s heap sound none))
 

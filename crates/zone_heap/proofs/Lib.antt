@@ -6,3 +6,4 @@ pub mod SlotLists
 pub mod Told
 pub mod NewZone
 pub mod NamedBlock
+pub mod HandlePlace

@@ -89,3 +89,15 @@ total_size-apart [] i j e lower within here = absurd (omega arith)
 total_size-apart (f ∷ es) i zero e lower within here = absurd (omega arith)
 total_size-apart (f ∷ es) zero (suc j) e lower within here = let same : e.size ≡ f.size = ap (λ (e : Entry). e.size) here in omega arith
 total_size-apart (f ∷ es) (suc i) (suc j) e lower within here = let rest = total_size-apart es i j e (omega arith) (omega arith) here in omega arith
+
+-- a block that is there is the same by each default
+get_or-same : (m : ZoneMap) (i : ℕ) (d e : Entry) → i < length m → get_or m i d ≡ get_or m i e
+get_or-same [] i d e within = absurd (omega arith)
+get_or-same (f ∷ es) zero d e within = refl
+get_or-same (f ∷ es) (suc i) d e within = get_or-same es i d e (omega arith)
+
+-- the block that a search finds
+pub FirstAt-found : (x : ℕ) (m : ZoneMap) (i : ℕ) → position (λ (e : Entry). is_named x e.kind) m ≡ Some i → FirstAt x m i (get_or m i (block Free 0))
+FirstAt-found x m i found =
+    let h = position-Some (λ (e : Entry). is_named x e.kind) m i (block Free 0) found in
+    FirstAt-position x m i (get_or m i (block Free 0)) found (get_or-same m i (block Free 0) (get_or m i (block Free 0)) h.0)

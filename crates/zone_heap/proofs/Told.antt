@@ -1,12 +1,13 @@
 -- What the slots say, slot by slot.
-use Rattle.std.proofs.Common.{◌≡◌, ℕ, zero, suc, ◌+◌, ◌*◌, ◌<◌, Bool, true, false, cond, List, [], ◌∷◌, length, get_or, set, Some, None, Option, refl, ap, sym, ◌∙◌, arith, IsTrue, IsSome}
+use Rattle.std.proofs.Common.{◌≡◌, ℕ, zero, suc, ◌+◌, ◌*◌, ◌<◌, Bool, true, false, cond, List, [], ◌∷◌, length, get_or, set, Some, None, Option, refl, ap, sym, ◌∙◌, arith, subst}
 use Rattle.std.specs.Prelude.{◌==◌}
 use Rattle.std.specs.Ordering.{nat_cmp, eq_by_cmp}
 use Rattle.std.specs.FinMap.{find}
 use Rattle.std.proofs.lemmas.Bool.Decides.{nat_tests}
 use Rattle.mac_base.specs.HeadKind.{Shape}
 use Rattle.mac_base.specs.ZoneMap.{ZoneMap}
-use Rattle.mac_base.specs.HandleTable.{HandleTable, Live, live_at, live_handle, is_handle}
+use Rattle.mac_base.specs.HandleTable.{HandleTable, Live, live_at, live_handle, live_pointer, live_full, is_handle}
+use Rattle.mac_base.specs.BlockStatus.{HandlesAlone}
 use Rattle.zone_heap.specs.declared.slots.Slot.{Slot}
 use Rattle.zone_heap.specs.declared.slots.Slot.TheVariants as slot
 use Rattle.zone_heap.specs.Slot.{is_full, slot_length, length_from}
@@ -86,3 +87,32 @@ told_from-set s old new before after at h (first ∷ slots) zero slot is same =
 told_from-set s old new before after at h (first ∷ slots) (suc i) slot is same =
     ap (λ live. live ∷ told_from s new after (at + 4) (set slots i slot)) (same at 0 first (omega arith) refl (omega arith) (λ e. absurd (omega arith)))
     ∙ ap (λ told. live_in s old before at first ∷ told) (told_from-set s old new before after (at + 4) h slots i slot (omega arith) (λ x j other within is at_j apart. same x (suc j) other (omega arith) is (omega arith) (λ e. apart (omega arith))))
+
+-- each slot is no pointer, and a live one has a block
+pointer-in : (s : Shape) (m : ZoneMap) (bytes : List ℕ) (h : ℕ) (slot : Slot) → live_pointer (live_in s m bytes h slot) ≡ false
+pointer-in s m bytes h slot.Free = refl
+pointer-in s m bytes h (slot.Full length) = refl
+
+full-in : (s : Shape) (m : ZoneMap) (bytes : List ℕ) (h : ℕ) (slot : Slot) → live_full (live_in s m bytes h slot) ≡ live_handle (live_in s m bytes h slot)
+full-in s m bytes h slot.Free = refl
+full-in s m bytes h (slot.Full length) = refl
+
+-- what holds of what every slot says, and of nothing, holds of what the table has at each number
+by_slot : (P : Option Live → Type 0) → P None → (at : ℕ) (told : List (Option Live)) → ((i : ℕ) → i < length told → P (get_or told i None)) → (x : ℕ) → P (find nat_cmp x (listed at told))
+by_slot P nothing at [] all x = nothing
+by_slot P nothing at (None ∷ told) all x = by_slot P nothing (at + 4) told (λ i within. all (suc i) (omega arith)) x
+by_slot P nothing at (Some live ∷ told) all x = elim (eq_by_cmp nat_cmp x at) as (λ b. P (cond b (Some live) (find nat_cmp x (listed (at + 4) told)))) [
+      | true ↦ all 0 (omega arith)
+      | false ↦ by_slot P nothing (at + 4) told (λ i within. all (suc i) (omega arith)) x
+    ]
+
+-- the table has handles alone, and each has a block
+pub handles_alone : (s : Shape) (m : ZoneMap) (bytes : List ℕ) (slots : List Slot) → HandlesAlone (table_of s m bytes slots)
+handles_alone s m bytes slots = record {
+  full = λ h live. by_slot (λ l. live_handle l ≡ true → live_full l ≡ true) (λ e. absurd (cc e)) (first_slot s) _ (λ i within e. at_slot (λ l. live_handle l ≡ true → live_full l ≡ true) i within (λ slot e. full-in s m bytes (first_slot s + 4 * i) slot ∙ e) e) h live;
+  no_pointer = λ p. by_slot (λ l. live_pointer l ≡ false) refl (first_slot s) _ (λ i within. at_slot (λ l. live_pointer l ≡ false) i within (λ slot. pointer-in s m bytes (first_slot s + 4 * i) slot)) p;
+  unlent = refl;
+}
+  where
+    at_slot : (P : Option Live → Type 0) (i : ℕ) → i < length (told_from s m bytes (first_slot s) slots) → ((slot : Slot) → P (live_in s m bytes (first_slot s + 4 * i) slot)) → P (get_or (told_from s m bytes (first_slot s) slots) i None)
+    at_slot P i within each = subst P (sym (told_from-get s m bytes (first_slot s) (first_slot s + 4 * i) slots i slot.Free (omega (arith, length-told_from s m bytes (first_slot s) slots)) refl)) (each (get_or slots i slot.Free))

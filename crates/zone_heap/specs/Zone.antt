@@ -1,7 +1,7 @@
 -- What the fields of a zone mean, and what they keep true.
 use Rattle.std.specs.Prelude.{◌≡◌, ℕ, ◌+◌, ◌*◌, ◌≤◌, length, count_by, vec_len, vec_capacity}
 use Rattle.mac_base.specs.HeadKind.{slot_count}
-use Rattle.mac_base.specs.ZoneSizes.{shape_of}
+use Rattle.mac_base.specs.ZoneSizes.{shape_of, ArePossible}
 use Rattle.mac_base.specs.HandleTable.{bytes_of}
 use Rattle.mac_base.specs.Suits.{slots_from, slots}
 use Rattle.mac_base.specs.Heap.{Heap}
@@ -21,6 +21,7 @@ zone_of z = record { shape = shape_of z.spec; heap = heap_of z }
 
 -- the fields stand for a sound heap, and no list has to grow any more
 pub record IsZone (z : Inside) : Type 0 where
+  pub possible : ArePossible z.spec
   pub sound : Sound (shape_of z.spec) (heap_of z)
   -- one master block stands in front, and its slots are those of the zone
   pub master : slots (shape_of z.spec) z.entries.items ≡ slots_from slot_count (first_slot (shape_of z.spec))

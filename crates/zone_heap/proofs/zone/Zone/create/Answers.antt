@@ -35,6 +35,7 @@ free c = c.in_ok-new_slots.ensures.slots ∙ ap (slots_from slot_count) c.first_
 
 pub invariant_of-result : goal.invariant_of-result
 invariant_of-result c = record {
+  possible = c.size.ensures.possible;
   sound = subst (Sound (shape_of c.args.spec)) (sym (heap-new (shape_of c.args.spec) c.args.spec.size slot_count _ c.in_ok-create.field-0 _ _ (entries c) (all_free c) (free c))) (sound-new c.args.spec c.size.ensures.possible);
   master = ap (slots (shape_of c.args.spec)) (entries c) ∙ slots-new_map (shape_of c.args.spec) c.args.spec.size;
   all_slots = ap length (all_free c) ∙ length-replicate slot_count slot.Free;

@@ -1,0 +1,32 @@
+//! Bytes behind a raw pointer.
+
+ghost use Rattle.std.specs.Prelude.{◌≡◌, ℕ, ◌^◌, ◌<◌, List, length, true};
+ghost use denote.RawPtr.{Ptr, ◌+ₚ◌};
+ghost use Rattle.raw_region.specs.Span.{Span, is_here, are_loans};
+ghost use Rattle.raw_region.specs.Ownership.{owned, shown};
+
+use std::marker::Model;
+
+mod lends;
+mod moves;
+
+/// `len` bytes from `at` on, of which those in the ranges `lent` are someone else's. They lie `from` bytes behind
+/// `home`, where the first byte of their region is.
+pub(crate) struct Cells {
+    pub(crate) at: *mut u8,
+    pub(crate) len: usize,
+    pub ghost home: { Ptr },
+    pub ghost from: { ℕ },
+    pub ghost bytes: { List ℕ },
+    pub ghost lent: { List Span },
+    ghost placed: { at ≡ home +ₚ from },
+    ghost counted: { len ≡ length bytes },
+    ghost loans: { are_loans lent len ≡ true },
+    ghost small: { len < 2 ^ 63 },
+}
+
+impl Model for Cells {
+    ghost also_owns = { λ c. owned c.at (is_here c.lent) c.bytes };
+
+    ghost also_shares = { λ c _ κ. shown c.at (is_here c.lent) c.bytes κ };
+}

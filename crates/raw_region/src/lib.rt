@@ -1,0 +1,16 @@
+//! Raw memory behind a safe surface: a region is one run of bytes, of which ranges can be lent out and given back.
+//!
+//! A contract sees a region as the list of its bytes beside the list of the ranges that are lent. Offsets and lengths
+//! are in bytes, and an offset counts from the region's first byte.
+#![tactic(auto)]
+
+mod cells;
+mod loan;
+mod memory;
+mod region;
+
+pub use loan::Lent;
+pub use region::Region;
+
+#[cfg(test)]
+mod tests;

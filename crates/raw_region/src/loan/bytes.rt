@@ -1,0 +1,33 @@
+//! The bytes of a loan.
+
+ghost use Rattle.std.specs.Prelude.{◌≡◌, length};
+ghost use Rattle.std.specs.Borrow.{sem};
+ghost use Rattle.raw_region.specs.Lending.{LendsLoan};
+
+use super::Lent;
+
+impl Lent {
+    /// How many bytes were lent.
+    pub fn len(&self) -> usize
+        ensures { result ≡ length self.now.bytes }
+    {
+        self.cells.len()
+    }
+
+    /// The bytes.
+    pub fn bytes(&self) -> &[u8]
+        ensures { result.now ≡ self.now.bytes }
+    {
+        let n = self.cells.len();
+        self.cells.bytes(0, n)
+    }
+
+    /// The bytes, to be written. What is written stands in the region once the range is given back.
+    pub fn bytes_mut(&mut self) -> &mut [u8]
+        ensures* writes_back { sem 𝓛 (LendsLoan self.entry result) }
+        ensures value { result.now ≡ self.old.bytes }
+    {
+        let n = self.cells.len();
+        self.cells.bytes_mut(0, n)
+    }
+}

@@ -1,0 +1,70 @@
+//! A region of bytes.
+
+ghost use Rattle.std.specs.Prelude.{◌≡◌, ◌^◌, ◌<◌, [], replicate, IfOk};
+
+use crate::cells::Cells;
+use crate::memory::{Lease, Room};
+use mac_base::error::HostFull;
+use std::alloc::Global;
+use std::marker::Model;
+
+mod access;
+mod blocks;
+mod loans;
+
+/// One run of bytes, of which ranges can be lent out. A contract sees its name, the bytes by offset and the ranges that
+/// are lent. Which bytes a call reads or writes, and that none of them is lent, is up to the caller: no call tests it
+/// when it runs. After `create` no call takes memory of the host.
+pub struct Region {
+    cells: Cells,
+    lease: Lease<Global>,
+    alloc: Global,
+}
+
+impl Model for Region {
+    ghost use Rattle.std.specs.Prelude.{◌≡◌};
+    ghost use Rattle.raw_region.specs.State.{State};
+
+    ghost Value = { State };
+
+    ghost view = { λ r. record { name = r.cells.home; bytes = r.cells.bytes; lent = r.cells.lent } };
+
+    ghost invariant = { λ r. (r.cells.from ≡ 0) × (r.lease.alloc ≡ r.alloc) × (r.lease.at ≡ r.cells.at)
+        × (r.lease.len ≡ r.cells.len) };
+}
+
+impl Region {
+    /// A region of `len` bytes, all zero, of which none is lent. The only error is that the host has no memory.
+    pub fn create(alloc: Global, len: usize) -> Result<Region, HostFull>
+        requires { len < 2 ^ 63 }
+        ensures { IfOk result (λ r. (r.bytes ≡ replicate len 0) × (r.lent ≡ [])) }
+    {
+        match Room::new(&alloc, len) {
+            Some((mut room, lease)) => {
+                for i in 0..len {
+                    room.put(i);
+                }
+                Ok(Region {
+                    cells: room.filled(),
+                    lease,
+                    alloc,
+                })
+            }
+            None => Err(HostFull),
+        }
+    }
+}
+
+impl Drop for Region {
+    /// A region ends only when nothing of it is lent.
+    fn drop(self)
+        requires nothing_lent { self.lent ≡ [] }
+    {
+        let Region {
+            cells,
+            lease,
+            alloc,
+        } = self;
+        cells.free(lease, &alloc);
+    }
+}
