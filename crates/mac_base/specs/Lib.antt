@@ -11,7 +11,6 @@ pub mod Request
 pub mod Serve
 pub mod Heap
 pub mod Sound
-pub mod Bytes
 pub mod ZoneState
 pub mod MemoryCall
 pub mod GrowZone

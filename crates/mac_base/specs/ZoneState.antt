@@ -1,15 +1,18 @@
 -- A zone, as the layers above it see it.
-use Rattle.std.specs.Prelude.{ℕ, List}
+use Rattle.std.specs.Prelude.{ℕ, List, ◌++◌, length, take, drop}
 use Rattle.mac_base.specs.HeadKind.{Shape}
 use Rattle.mac_base.specs.HandleTable.{with_bytes, bytes_of}
 use Rattle.mac_base.specs.Heap.{Heap, with_table}
-use Rattle.mac_base.specs.Bytes.{overwritten}
 
 -- where the zone lies and how far it may grow, and its heap
 pub record ZoneState : Type 0 where
   pub shape : Shape
   pub heap : Heap
 
+-- bytes with others written over the first of them. There are as many as before
+abbrev pub overwritten : List ℕ → List ℕ → List ℕ
+overwritten old others = take (length old) others ++ drop (length others) old
+
 -- the zone in which bytes are written over those of x, from the first on
 abbrev pub with_contents : ZoneState → ℕ → List ℕ → ZoneState
-with_contents z x bytes = record z { heap = with_table (with_bytes x (overwritten (bytes_of z.heap.table x) 0 bytes) z.heap.table) z.heap }
+with_contents z x bytes = record z { heap = with_table (with_bytes x (overwritten (bytes_of z.heap.table x) bytes) z.heap.table) z.heap }

@@ -32,6 +32,7 @@ impl MemoryManager {
     ghost use Rattle.mac_base.specs.MemoryCall.{NewHandle, DisposeHandle};
     ghost use Rattle.mac_base.specs.MemoryStep.{StepBy};
     ghost use Rattle.mac_base.specs.Reply.{number_reply, done_reply, report_at};
+    ghost use Rattle.mac_base.specs.Sound.{Sound};
     ghost use Rattle.mac_base.specs.ZoneSizes.{shape_of};
     ghost use Rattle.mac_base.specs.ZoneMap.{address_behind};
     ghost use Rattle.mem_calls.specs.Lending.{LendsContents};
@@ -104,9 +105,10 @@ impl MemoryManager {
         self.zone.bytes_mut(Handle::new(block))
     }
 
-    /// The address of the zone's first block header.
+    /// The address of the zone's first block header. What the zone shows is a sound heap.
     pub fn first_block(&self) -> u32
-        ensures { result ≡ address_behind self.now.shape [] }
+        ensures address { result ≡ address_behind self.now.shape [] }
+        ensures sound { Sound self.now.shape self.now.heap }
     {
         self.zone.first_block()
     }

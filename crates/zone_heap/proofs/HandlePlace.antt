@@ -13,7 +13,7 @@ use Rattle.mac_base.specs.HandleTable.{HandleTable, is_handle, is_full, bytes_of
 use Rattle.mac_base.specs.Suits.{Suits, is_handle_block, slots_from, slots}
 use Rattle.mac_base.specs.Heap.{Heap}
 use Rattle.mac_base.specs.Sound.{Sound}
-use Rattle.mac_base.specs.Bytes.{part}
+use Rattle.raw_region.specs.Bytes.{part}
 use Rattle.mac_base.proofs.Owners.{named_handle}
 use Rattle.zone_heap.specs.declared.slots.Slot.{Slot}
 use Rattle.zone_heap.specs.declared.slots.Slot.TheVariants as slot

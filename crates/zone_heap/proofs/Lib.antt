@@ -7,3 +7,7 @@ pub mod Told
 pub mod NewZone
 pub mod NamedBlock
 pub mod HandlePlace
+pub mod KeptBytes
+pub mod Releasing
+pub mod Entries
+pub mod PlacingBlock

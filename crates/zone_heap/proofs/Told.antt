@@ -102,9 +102,9 @@ by_slot : (P : Option Live → Type 0) → P None → (at : ℕ) (told : List (O
 by_slot P nothing at [] all x = nothing
 by_slot P nothing at (None ∷ told) all x = by_slot P nothing (at + 4) told (λ i within. all (suc i) (omega arith)) x
 by_slot P nothing at (Some live ∷ told) all x = elim (eq_by_cmp nat_cmp x at) as (λ b. P (cond b (Some live) (find nat_cmp x (listed (at + 4) told)))) [
-      | true ↦ all 0 (omega arith)
-      | false ↦ by_slot P nothing (at + 4) told (λ i within. all (suc i) (omega arith)) x
-    ]
+  | true ↦ all 0 (omega arith)
+  | false ↦ by_slot P nothing (at + 4) told (λ i within. all (suc i) (omega arith)) x
+]
 
 -- the table has handles alone, and each has a block
 pub handles_alone : (s : Shape) (m : ZoneMap) (bytes : List ℕ) (slots : List Slot) → HandlesAlone (table_of s m bytes slots)

@@ -54,6 +54,7 @@ impl Zone {
     ghost use Rattle.mac_base.specs.HandleTable.{is_handle, bytes_of};
     ghost use Rattle.mac_base.specs.Heap.{new_heap};
     ghost use Rattle.mac_base.specs.MemoryCall.{max_size};
+    ghost use Rattle.mac_base.specs.Sound.{Sound};
     ghost use Rattle.mac_base.specs.GrowZone.{heap_released, DisposesHandle};
     ghost use Rattle.mac_base.specs.ZoneSizes.{shape_of};
     ghost use Rattle.zone_heap.specs.Placed.{placed_lowest};
@@ -158,9 +159,10 @@ impl Zone {
         self.memory.bytes_mut(start, length)
     }
 
-    /// The address of the zone's first block header.
+    /// The address of the zone's first block header. What the zone shows is a sound heap.
     pub fn first_block(&self) -> u32
-        ensures { result ≡ address_behind self.now.shape [] }
+        ensures address { result ≡ address_behind self.now.shape [] }
+        ensures sound { Sound self.now.shape self.now.heap }
     {
         self.spec.base() + ZONE_HEADER
     }

@@ -6,7 +6,7 @@ use Rattle.mac_base.specs.ZoneMap.{is_named, total_size, contents_of}
 use Rattle.mac_base.specs.ZoneSizes.{shape_of}
 use Rattle.mac_base.specs.ZoneState.{ZoneState}
 use Rattle.mac_base.specs.HandleTable.{is_handle, bytes_of}
-use Rattle.mac_base.specs.Bytes.{part}
+use Rattle.raw_region.specs.Bytes.{part}
 use Rattle.zone_heap.specs.Slot.{slot_length}
 use Rattle.zone_heap.specs.Places.{first_slot}
 use Rattle.zone_heap.specs.Zone.{heap_of}
