@@ -1,17 +1,17 @@
 -- What the arrangements of a list of blocks keep: the used blocks, the bytes, the free bytes.
-use Rattle.std.proofs.Common.{◌≡◌, ℕ, ◌+◌, ◌≤◌, Bool, true, false, not, cond, List, [], ◌∷◌, ◌++◌, length, refl, ap, sym, ◌∙◌, subst, inl, inr, append_assoc, append-nil, arith, eqb}
-use Rattle.std.specs.Prelude.{◌&&◌, ◌||◌, ◌⊎◌, ◌==◌, filter, IsTrue, IsFalse, if◌then◌else◌}
-use Rattle.std.specs.List.{list_all, list_any}
-use Rattle.std.proofs.lemmas.Bool.{and_from, and_parts, and_left, or_left, or_right, not-true, eqb-true, or_cases, true_from_ne_false}
+use Rattle.std.proofs.Common.{◌≡◌, ℕ, ◌+◌, Bool, true, false, not, cond, [], ◌∷◌, ◌++◌, refl, ap, sym, ◌∙◌, inl, inr, append-nil, arith}
+use Rattle.std.specs.Prelude.{◌&&◌, ◌||◌, ◌⊎◌, ◌==◌, IsTrue}
+use Rattle.std.specs.List.{list_all}
+use Rattle.std.proofs.lemmas.Bool.{and_from, and_parts, not-true, eqb-true}
 use Rattle.std.proofs.lemmas.List.Folds.{list_all-append}
 use Rattle.std.proofs.lemmas.List.Elements.{filter-append}
 use Rattle.mac_base.specs.declared.block.Entry.{Entry}
 use Rattle.mac_base.specs.declared.block.Kind.{Kind}
 use Rattle.mac_base.specs.declared.block.Kind.TheVariants.{Free, Master, Ptr, Rel}
-use Rattle.mac_base.specs.ZoneMap.{ZoneMap, block, free_block, is_free, is_kind, is_named, total_size, free_size, free_bytes, sizes}
+use Rattle.mac_base.specs.ZoneMap.{ZoneMap, block, free_block, is_free, is_kind, is_named, total_size, free_bytes, sizes}
 use Rattle.mac_base.specs.Suits.{free_apart, starts_free}
 use Rattle.mac_base.specs.Gap.{has_named}
-use Rattle.mac_base.specs.Arrangement.{used_blocks, down, up, put_behind, open_at, high}
+use Rattle.mac_base.specs.Arrangement.{used_blocks, down, up}
 use Rattle.mac_base.proofs.GapAppend.{total_size-append, free_bytes-append, sizes-append}
 
 -- a free block's kind
@@ -43,9 +43,9 @@ all_used blocks = list_all (λ (e : Entry). not (is_free e.kind)) blocks
 pub used_blocks-all_used : (b : ZoneMap) → all_used (used_blocks b) ≡ true
 used_blocks-all_used [] = refl
 used_blocks-all_used (e ∷ es) = elim (is_free e.kind) as (λ b. is_free e.kind ≡ b → all_used (cond (not b) (e ∷ used_blocks es) (used_blocks es)) ≡ true) [
-      | true ↦ λ free. used_blocks-all_used es
-      | false ↦ λ used. and_from _ _ (ap not used) (used_blocks-all_used es)
-    ] refl
+  | true ↦ λ free. used_blocks-all_used es
+  | false ↦ λ used. and_from _ _ (ap not used) (used_blocks-all_used es)
+] refl
 
 -- blocks that are all in use
 pub used_blocks-same : (b : ZoneMap) → all_used b ≡ true → used_blocks b ≡ b
@@ -57,25 +57,25 @@ used_blocks-same (e ∷ es) h = let parts = and_parts _ _ h in
 pub list_all-used : (p : Entry → Bool) (b : ZoneMap) → list_all p b ≡ true → list_all p (used_blocks b) ≡ true
 list_all-used p [] h = refl
 list_all-used p (e ∷ es) h = let parts = and_parts _ _ h in elim (is_free e.kind) as (λ b. list_all p (cond (not b) (e ∷ used_blocks es) (used_blocks es)) ≡ true) [
-      | true ↦ list_all-used p es parts.1
-      | false ↦ and_from _ _ parts.0 (list_all-used p es parts.1)
-    ]
+  | true ↦ list_all-used p es parts.1
+  | false ↦ and_from _ _ parts.0 (list_all-used p es parts.1)
+]
 
 -- a block that is named is in use
 pub has_named-used : (x : ℕ) (b : ZoneMap) → has_named x (used_blocks b) ≡ has_named x b
 has_named-used x [] = refl
 has_named-used x (e ∷ es) = elim (is_free e.kind) as (λ b. is_free e.kind ≡ b → has_named x (cond (not b) (e ∷ used_blocks es) (used_blocks es)) ≡ has_named x (e ∷ es)) [
-      | true ↦ λ free. has_named-used x es ∙ ap (λ k. is_named x k || has_named x es) (sym (free_is e.kind free))
-      | false ↦ λ used. ap (λ b. is_named x e.kind || b) (has_named-used x es)
-    ] refl
+  | true ↦ λ free. has_named-used x es ∙ ap (λ k. is_named x k || has_named x es) (sym (free_is e.kind free))
+  | false ↦ λ used. ap (λ b. is_named x e.kind || b) (has_named-used x es)
+] refl
 
 -- the sizes of the blocks that pass a test which no free block passes
 pub sizes-used : (test : Kind → Bool) (b : ZoneMap) → test Free ≡ false → sizes test (used_blocks b) ≡ sizes test b
 sizes-used test [] h = refl
 sizes-used test (e ∷ es) h = elim (is_free e.kind) as (λ b. is_free e.kind ≡ b → sizes test (cond (not b) (e ∷ used_blocks es) (used_blocks es)) ≡ sizes test (e ∷ es)) [
-      | true ↦ λ free. sizes-used test es h ∙ sym (ap (λ b. cond b (e.size ∷ []) [] ++ sizes test es) (ap test (free_is e.kind free) ∙ h))
-      | false ↦ λ used. ap (λ ns. cond (test e.kind) (e.size ∷ []) [] ++ ns) (sizes-used test es h)
-    ] refl
+  | true ↦ λ free. sizes-used test es h ∙ sym (ap (λ b. cond b (e.size ∷ []) [] ++ sizes test es) (ap test (free_is e.kind free) ∙ h))
+  | false ↦ λ used. ap (λ ns. cond (test e.kind) (e.size ∷ []) [] ++ ns) (sizes-used test es h)
+] refl
 
 -- the bytes are those in use and those that are free
 pub total_size-used : (b : ZoneMap) → total_size b ≡ total_size (used_blocks b) + free_bytes b
@@ -91,28 +91,32 @@ pub free_bytes-all_used : (b : ZoneMap) → all_used b ≡ true → free_bytes b
 free_bytes-all_used [] h = refl
 free_bytes-all_used (e ∷ es) h = let parts = and_parts _ _ h in ap (λ b. cond b e.size 0 + free_bytes es) (not-true _ parts.0) ∙ let rest = free_bytes-all_used es parts.1 in omega arith
 
--- what one free block, or none, makes of the rest
+-- one free block of n bytes, or none where n is 0, has n bytes
 pub total_size-free_block : (n : ℕ) → total_size (free_block n) ≡ n
 total_size-free_block n = elim (n == 0) as (λ b. (n == 0) ≡ b → total_size (cond b [] (block Free n ∷ [])) ≡ n) [
-      | true ↦ λ none. let e = eqb-true n 0 none in omega arith
-      | false ↦ λ some. omega arith
-    ] refl
+  | true ↦ λ none. let e = eqb-true n 0 none in omega arith
+  | false ↦ λ some. omega arith
+] refl
 
+-- they are free
 pub free_bytes-free_block : (n : ℕ) → free_bytes (free_block n) ≡ n
 free_bytes-free_block n = elim (n == 0) as (λ b. (n == 0) ≡ b → free_bytes (cond b [] (block Free n ∷ [])) ≡ n) [
-      | true ↦ λ none. let e = eqb-true n 0 none in omega arith
-      | false ↦ λ some. omega arith
-    ] refl
+  | true ↦ λ none. let e = eqb-true n 0 none in omega arith
+  | false ↦ λ some. omega arith
+] refl
 
+-- it passes no test that a free block fails
 pub sizes-free_block : (test : Kind → Bool) (n : ℕ) → test Free ≡ false → sizes test (free_block n) ≡ []
 sizes-free_block test n h = elim (n == 0) as (λ b. sizes test (cond b [] (block Free n ∷ [])) ≡ []) [
-      | true ↦ refl
-      | false ↦ ap (λ b. cond b (n ∷ []) [] ++ []) h
-    ]
+  | true ↦ refl
+  | false ↦ ap (λ b. cond b (n ∷ []) [] ++ []) h
+]
 
+-- it is not in use
 pub used_blocks-free_block : (n : ℕ) → used_blocks (free_block n) ≡ []
 used_blocks-free_block n = elim (n == 0) as (λ b. used_blocks (cond b [] (block Free n ∷ [])) ≡ []) [ true ↦ refl | false ↦ refl ]
 
+-- what holds of a free block of n bytes holds of it
 pub list_all-free_block : (p : Entry → Bool) (n : ℕ) → (n ≡ 0) ⊎ (p (block Free n) ≡ true) → list_all p (free_block n) ≡ true
 list_all-free_block p n (inl none) = ap (λ n. list_all p (free_block n)) none
 list_all-free_block p n (inr holds) = elim (n == 0) as (λ b. list_all p (cond b [] (block Free n ∷ [])) ≡ true) [ true ↦ refl | false ↦ and_from _ _ holds refl ]
@@ -134,9 +138,9 @@ starts_free-all_used (e ∷ es) h = not-true _ (and_parts _ _ h).0
 -- a free block before others that begin with none
 pub free_apart-free_block : (n : ℕ) (c : ZoneMap) → starts_free c ≡ false → free_apart (free_block n ++ c) ≡ free_apart c
 free_apart-free_block n c h = elim (n == 0) as (λ b. free_apart (cond b [] (block Free n ∷ []) ++ c) ≡ free_apart c) [
-      | true ↦ refl
-      | false ↦ ap (λ b. not b && free_apart c) h
-    ]
+  | true ↦ refl
+  | false ↦ ap (λ b. not b && free_apart c) h
+]
 
 free_apart-all_used : (b : ZoneMap) → all_used b ≡ true → free_apart b ≡ true
 free_apart-all_used b h = ap free_apart (sym (append-nil b)) ∙ free_apart-behind_used b [] h

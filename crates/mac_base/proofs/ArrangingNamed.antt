@@ -1,34 +1,34 @@
 -- The arrangements by a block that is named: open at it, and it high.
-use Rattle.std.proofs.Common.{◌≡◌, ℕ, ◌+◌, Bool, true, false, not, cond, List, [], ◌∷◌, ◌++◌, refl, ap, sym, ◌∙◌, subst, inl, inr, append_assoc, append-nil, arith, eqb}
-use Rattle.std.specs.Prelude.{◌&&◌, ◌||◌, ◌⊎◌, ◌==◌, filter, IsTrue, if◌then◌else◌}
-use Rattle.std.specs.List.{list_all, list_any}
-use Rattle.std.proofs.lemmas.Bool.{and_from, and_parts, not-true, not_from_false, eqb-true, false_from_ne_true, true≢false, false≢true}
+use Rattle.std.proofs.Common.{◌≡◌, ℕ, ◌+◌, Bool, true, false, not, cond, List, [], ◌∷◌, ◌++◌, refl, ap, sym, ◌∙◌, append_assoc, append-nil, arith}
+use Rattle.std.specs.Prelude.{◌||◌, filter, if◌then◌else◌}
+use Rattle.std.specs.List.{list_all}
+use Rattle.std.proofs.lemmas.Bool.{and_from, and_parts, eqb-true, false_from_ne_true, true≢false, false≢true}
 use Rattle.std.proofs.lemmas.List.Folds.{list_all-append}
 use Rattle.std.proofs.lemmas.List.Elements.{filter-append}
 use Rattle.mac_base.specs.declared.block.Entry.{Entry}
 use Rattle.mac_base.specs.declared.block.Kind.{Kind}
 use Rattle.mac_base.specs.declared.block.Kind.TheVariants.{Free, Master, Ptr, Rel}
-use Rattle.mac_base.specs.ZoneMap.{ZoneMap, block, free_block, is_free, is_master, is_kind, is_named, total_size, free_size, free_bytes, sizes}
-use Rattle.mac_base.specs.Suits.{free_apart, starts_free}
+use Rattle.mac_base.specs.ZoneMap.{ZoneMap, free_block, is_free, is_kind, is_named, total_size, free_size, free_bytes, sizes}
+use Rattle.mac_base.specs.Suits.{free_apart}
 use Rattle.mac_base.specs.Gap.{has_named}
 use Rattle.mac_base.specs.Arrangement.{used_blocks, put_behind, open_at, high}
 use Rattle.mac_base.proofs.GapAppend.{total_size-append, free_bytes-append, sizes-append}
-use Rattle.mac_base.proofs.Arranging.{free_is, named-used, is_kind-free, all_used, used_blocks-all_used, used_blocks-same, list_all-used, has_named-used, sizes-used, total_size-used, free_bytes-all_used, total_size-free_block, free_bytes-free_block, sizes-free_block, used_blocks-free_block, list_all-free_block, free_apart-behind_used, starts_free-all_used, free_apart-free_block, free_apart-around, IsArrangement}
+use Rattle.mac_base.proofs.Arranging.{free_is, named-used, is_kind-free, all_used, used_blocks-all_used, used_blocks-same, list_all-used, has_named-used, sizes-used, total_size-used, free_bytes-all_used, total_size-free_block, free_bytes-free_block, sizes-free_block, used_blocks-free_block, list_all-free_block, free_apart-behind_used, free_apart-around, IsArrangement}
 
 -- what is put behind the first block that x names, where x names one
 total_size-put_behind : (x : ℕ) (f b : ZoneMap) → has_named x b ≡ true → total_size (put_behind x f b) ≡ total_size f + total_size b
 total_size-put_behind x f [] h = absurd (cc h)
 total_size-put_behind x f (e ∷ es) h = elim (is_named x e.kind) as (λ b. (b || has_named x es) ≡ true → total_size (cond b (e ∷ (f ++ es)) (e ∷ put_behind x f es)) ≡ total_size f + (e.size + total_size es)) [
-      | true ↦ λ here. let all = total_size-append f es in omega arith
-      | false ↦ λ behind. let rest = total_size-put_behind x f es behind in omega arith
-    ] h
+  | true ↦ λ here. let all = total_size-append f es in omega arith
+  | false ↦ λ behind. let rest = total_size-put_behind x f es behind in omega arith
+] h
 
 free_bytes-put_behind : (x : ℕ) (f b : ZoneMap) → has_named x b ≡ true → free_bytes (put_behind x f b) ≡ free_bytes f + free_bytes b
 free_bytes-put_behind x f [] h = absurd (cc h)
 free_bytes-put_behind x f (e ∷ es) h = elim (is_named x e.kind) as (λ b. (b || has_named x es) ≡ true → free_bytes (cond b (e ∷ (f ++ es)) (e ∷ put_behind x f es)) ≡ free_bytes f + (free_size e + free_bytes es)) [
-      | true ↦ λ here. let all = free_bytes-append f es in omega arith
-      | false ↦ λ behind. let rest = free_bytes-put_behind x f es behind in omega arith
-    ] h
+  | true ↦ λ here. let all = free_bytes-append f es in omega arith
+  | false ↦ λ behind. let rest = free_bytes-put_behind x f es behind in omega arith
+] h
 
 sizes-put_behind : (test : Kind → Bool) (x : ℕ) (f b : ZoneMap) → sizes test f ≡ [] → sizes test (put_behind x f b) ≡ sizes test b
 sizes-put_behind test x f [] h = refl
@@ -41,9 +41,9 @@ sizes-put_behind test x f (e ∷ es) h = let first : List ℕ = if test e.kind t
 list_all-put_behind : (p : Entry → Bool) (x : ℕ) (f b : ZoneMap) → list_all p f ≡ true → list_all p b ≡ true → list_all p (put_behind x f b) ≡ true
 list_all-put_behind p x f [] hf hb = refl
 list_all-put_behind p x f (e ∷ es) hf hb = let parts = and_parts _ _ hb in elim (is_named x e.kind) as (λ b. list_all p (cond b (e ∷ (f ++ es)) (e ∷ put_behind x f es)) ≡ true) [
-      | true ↦ and_from _ _ parts.0 (list_all-append p f es ∙ and_from _ _ hf parts.1)
-      | false ↦ and_from _ _ parts.0 (list_all-put_behind p x f es hf parts.1)
-    ]
+  | true ↦ and_from _ _ parts.0 (list_all-append p f es ∙ and_from _ _ hf parts.1)
+  | false ↦ and_from _ _ parts.0 (list_all-put_behind p x f es hf parts.1)
+]
 
 used_blocks-put_behind : (x : ℕ) (f b : ZoneMap) → used_blocks f ≡ [] → used_blocks (put_behind x f b) ≡ used_blocks b
 used_blocks-put_behind x f [] h = refl
@@ -56,9 +56,9 @@ used_blocks-put_behind x f (e ∷ es) h =
 free_apart-put_behind : (x n : ℕ) (b : ZoneMap) → all_used b ≡ true → free_apart (put_behind x (free_block n) b) ≡ true
 free_apart-put_behind x n [] h = refl
 free_apart-put_behind x n (e ∷ es) h = let parts = and_parts _ _ h in elim (is_named x e.kind) as (λ b. free_apart (cond b (e ∷ (free_block n ++ es)) (e ∷ put_behind x (free_block n) es)) ≡ true) [
-      | true ↦ free_apart-around (e ∷ []) es n (and_from _ _ parts.0 refl) parts.1
-      | false ↦ free_apart-behind_used (e ∷ []) (put_behind x (free_block n) es) (and_from _ _ parts.0 refl) ∙ free_apart-put_behind x n es parts.1
-    ]
+  | true ↦ free_apart-around (e ∷ []) es n (and_from _ _ parts.0 refl) parts.1
+  | false ↦ free_apart-behind_used (e ∷ []) (put_behind x (free_block n) es) (and_from _ _ parts.0 refl) ∙ free_apart-put_behind x n es parts.1
+]
 
 -- open at a block keeps the blocks in use, in order
 pub used_blocks-open_at : (h : ℕ) (b : ZoneMap) → used_blocks (open_at h b) ≡ used_blocks b
@@ -128,9 +128,9 @@ sizes-filter_none k q (e ∷ es) h =
 list_all-filter : (p q : Entry → Bool) (b : ZoneMap) → list_all p b ≡ true → list_all p (filter q b) ≡ true
 list_all-filter p q [] h = refl
 list_all-filter p q (e ∷ es) h = let parts = and_parts _ _ h in elim (q e) as (λ c. list_all p (cond c (e ∷ filter q es) (filter q es)) ≡ true) [
-      | true ↦ and_from _ _ parts.0 (list_all-filter p q es parts.1)
-      | false ↦ list_all-filter p q es parts.1
-    ]
+  | true ↦ and_from _ _ parts.0 (list_all-filter p q es parts.1)
+  | false ↦ list_all-filter p q es parts.1
+]
 
 total_size-filter : (q : Entry → Bool) (b : ZoneMap) → total_size (filter (λ e. not (q e)) b) + total_size (filter q b) ≡ total_size b
 total_size-filter q [] = refl
@@ -143,9 +143,9 @@ total_size-filter q (e ∷ es) = let rest = total_size-filter q es in
 all_used-named : (h : ℕ) (b : ZoneMap) → all_used (filter (λ (e : Entry). is_named h e.kind) b) ≡ true
 all_used-named h [] = refl
 all_used-named h (e ∷ es) = elim (is_named h e.kind) as (λ c. is_named h e.kind ≡ c → all_used (cond c (e ∷ filter (λ (e : Entry). is_named h e.kind) es) (filter (λ (e : Entry). is_named h e.kind) es)) ≡ true) [
-      | true ↦ λ named. and_from _ _ (ap not (named-used h e.kind named)) (all_used-named h es)
-      | false ↦ λ other. all_used-named h es
-    ] refl
+  | true ↦ λ named. and_from _ _ (ap not (named-used h e.kind named)) (all_used-named h es)
+  | false ↦ λ other. all_used-named h es
+] refl
 
 named-used_blocks : (h : ℕ) (b : ZoneMap) → filter (λ (e : Entry). is_named h e.kind) (used_blocks b) ≡ filter (λ (e : Entry). is_named h e.kind) b
 named-used_blocks h [] = refl
@@ -164,10 +164,10 @@ those_of h b = filter (λ (e : Entry). is_named h e.kind) b
 
 sizes-high : (k : Kind) (h : ℕ) (b : ZoneMap) → is_free k ≡ false → sizes (is_kind k) (others_of h b) ++ sizes (is_kind k) (those_of h b) ≡ sizes (is_kind k) b
 sizes-high k h b used = elim (is_named h k) as (λ c. is_named h k ≡ c → sizes (is_kind k) (others_of h b) ++ sizes (is_kind k) (those_of h b) ≡ sizes (is_kind k) b) [
-      | true ↦ λ named. ap (λ ns. ns ++ sizes (is_kind k) (those_of h b)) (sizes-filter_none k (λ l. not (is_named h l)) (used_blocks b) (ap not named)) ∙ sizes-filter_all k (is_named h) b named
-      | false ↦ λ other. ap (λ ns. sizes (is_kind k) (others_of h b) ++ ns) (sizes-filter_none k (is_named h) b other) ∙ append-nil _
-          ∙ sizes-filter_all k (λ l. not (is_named h l)) (used_blocks b) (ap not other) ∙ sizes-used (is_kind k) b (is_kind-free k used)
-    ] refl
+  | true ↦ λ named. ap (λ ns. ns ++ sizes (is_kind k) (those_of h b)) (sizes-filter_none k (λ l. not (is_named h l)) (used_blocks b) (ap not named)) ∙ sizes-filter_all k (is_named h) b named
+  | false ↦ λ other. ap (λ ns. sizes (is_kind k) (others_of h b) ++ ns) (sizes-filter_none k (is_named h) b other) ∙ append-nil _
+      ∙ sizes-filter_all k (λ l. not (is_named h l)) (used_blocks b) (ap not other) ∙ sizes-used (is_kind k) b (is_kind-free k used)
+] refl
 
 -- high is an arrangement
 pub high-IsArrangement : (h : ℕ) (b : ZoneMap) → IsArrangement b (high h b)

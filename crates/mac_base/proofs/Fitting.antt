@@ -1,21 +1,20 @@
 -- A request for a new block or a reservation is served exactly where it fits.
-use Rattle.std.proofs.Common.{◌≡◌, ℕ, ◌+◌, ◌*◌, ◌/◌, ◌-◌, ◌<◌, ◌≤◌, max, Bool, true, false, not, cond, List, [], ◌∷◌, ◌++◌, refl, ap, sym, ◌∙◌, subst, inl, inr, append-nil, append_assoc, arith, Some, None, Option}
-use Rattle.std.specs.Prelude.{◌&&◌, ◌||◌, ◌⊎◌, ◌==◌, IsTrue, nat_le, map, find, is_some, option_map, option_and_then}
+use Rattle.std.proofs.Common.{◌≡◌, ℕ, ◌<◌, ◌≤◌, Bool, true, false, cond, [], ◌∷◌, ◌++◌, refl, ap, sym, ◌∙◌, inl, inr, arith, Some, None, Option}
+use Rattle.std.specs.Prelude.{◌||◌, ◌⊎◌, ◌==◌, nat_le, is_some, option_map, option_and_then}
 use Rattle.std.specs.Option.{option_or}
-use Rattle.std.specs.List.{list_all, list_any}
-use Rattle.std.proofs.lemmas.Bool.{and_from, and_parts, or_left, or_right, or_cases, leb-true, le-leb, eqb-true, true≢false, false≢true, false_from_ne_true, cases_Bool}
+use Rattle.std.specs.List.{list_any}
+use Rattle.std.proofs.lemmas.Bool.{or_left, or_right, or_cases, le-leb, eqb-true}
 use Rattle.std.proofs.lemmas.List.Folds.{list_any-append}
-use Rattle.mac_base.specs.declared.block.Entry.{Entry}
 use Rattle.mac_base.specs.declared.block.HeadKind.{HeadKind}
 use Rattle.mac_base.specs.declared.block.HeadKind.TheVariants.{Bits24}
 use Rattle.mac_base.specs.declared.block.Kind.{Kind}
 use Rattle.mac_base.specs.declared.block.Kind.TheVariants.{Free, Master, Ptr, Rel}
-use Rattle.mac_base.specs.HeadKind.{Shape, need, smallest_block}
+use Rattle.mac_base.specs.HeadKind.{Shape, need}
 use Rattle.mac_base.specs.ZoneMap.{ZoneMap, block, free_block, has_free, free_bytes, released}
 use Rattle.mac_base.specs.HandleTable.{HandleTable}
 use Rattle.mac_base.specs.Gap.{Gap, gaps, filled, room, lowest_gap, some_gap_has}
 use Rattle.mac_base.specs.Arrangement.{used_blocks, down, up}
-use Rattle.mac_base.specs.Request.{Request, NewBlock, NewEmpty, NewPointer, NewMaster, Reserve, Resize, Replace, size_needed, length_asked, fits}
+use Rattle.mac_base.specs.Request.{Request, NewBlock, NewEmpty, NewPointer, NewMaster, Reserve, Replace, size_needed, length_asked, fits}
 use Rattle.mac_base.specs.Serve.{taken, take_lowest, placed_relocatable, placed_fixed, reserved, begins_free, cleared, contents_at_gap, gives, serve}
 use Rattle.mac_base.proofs.GapParts.{lowest_gap-is}
 use Rattle.mac_base.proofs.GapRoom.{is_some-find, some_gap_has-free}
@@ -41,16 +40,16 @@ size_needed-positive s r = positive s.heads (length_asked r)
 pub is_some-take_lowest : (s : Shape) (k : ℕ) (kind : Kind) (m : ZoneMap) → is_some (take_lowest s k kind m) ≡ list_any (has_free k) m
 is_some-take_lowest s k kind [] = refl
 is_some-take_lowest s k kind (e ∷ es) = elim (has_free k e) as (λ c. is_some (cond c (Some (taken s k kind e.size ++ es)) (option_map (λ m. e ∷ m) (take_lowest s k kind es))) ≡ (c || list_any (has_free k) es)) [
-      | true ↦ refl
-      | false ↦ is_some-map (λ m. e ∷ m) (take_lowest s k kind es) ∙ is_some-take_lowest s k kind es
-    ]
+  | true ↦ refl
+  | false ↦ is_some-map (λ m. e ∷ m) (take_lowest s k kind es) ∙ is_some-take_lowest s k kind es
+]
 
 -- one free block of n bytes, where n is not 0
 pub free_block-some : (n : ℕ) → 0 < n → free_block n ≡ block Free n ∷ []
 free_block-some n h = elim (n == 0) as (λ c. (n == 0) ≡ c → cond c [] (block Free n ∷ []) ≡ block Free n ∷ []) [
-      | true ↦ λ none. let e = eqb-true n 0 none in absurd (omega arith)
-      | false ↦ λ some. refl
-    ] refl
+  | true ↦ λ none. let e = eqb-true n 0 none in absurd (omega arith)
+  | false ↦ λ some. refl
+] refl
 
 -- blocks with room for k bytes, arranged down, have a free block of as many
 pub has_free-down : (k : ℕ) (b : ZoneMap) → 0 < k → k ≤ free_bytes b → list_any (has_free k) (down b) ≡ true
@@ -61,9 +60,9 @@ has_free-down k b some fits =
 -- and cleared they begin with one
 pub begins_free-cleared : (k : ℕ) (b : ZoneMap) → 0 < k → k ≤ free_bytes b → begins_free k (cleared k b) ≡ true
 begins_free-cleared k b some fits = elim (begins_free k b) as (λ c. begins_free k b ≡ c → begins_free k (cond c b (up b)) ≡ true) [
-      | true ↦ λ begins. begins
-      | false ↦ λ not_so. ap (λ f. begins_free k (f ++ used_blocks b)) (free_block-some (free_bytes b) (omega arith)) ∙ le-leb k (free_bytes b) fits
-    ] refl
+  | true ↦ λ begins. begins
+  | false ↦ λ not_so. ap (λ f. begins_free k (f ++ used_blocks b)) (free_block-some (free_bytes b) (omega arith)) ∙ le-leb k (free_bytes b) fits
+] refl
 
 -- what begins with a free block of k bytes has one
 pub has_free-begins : (k : ℕ) (b : ZoneMap) → begins_free k b ≡ true → list_any (has_free k) b ≡ true
@@ -98,6 +97,7 @@ is_some-placed_relocatable s t k kind m some =
   where
     in_gap : Gap → Option ZoneMap
     in_gap g = option_map (filled g) (take_lowest s k kind (down g.blocks))
+
     by_place : (list_any (has_free k) m ≡ true) ⊎ (some_gap_has k (gaps t m) ≡ true) → some_gap_has k (gaps t m) ≡ true
     by_place (inl free) = some_gap_has-free t k m free
     by_place (inr has) = has

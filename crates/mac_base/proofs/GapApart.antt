@@ -1,27 +1,27 @@
 -- Free blocks stay apart, and sizes possible, where the blocks of a gap are arranged.
-use Rattle.std.proofs.Common.{◌≡◌, ℕ, ◌+◌, ◌%◌, ◌≤◌, Bool, true, false, not, cond, List, [], ◌∷◌, ◌++◌, length, refl, ap, sym, ◌∙◌, subst, inl, inr, append-nil, append_assoc, arith, ⊎_elim}
-use Rattle.std.specs.Prelude.{◌&&◌, ◌⊎◌, ◌==◌, IsTrue, nat_le}
+use Rattle.std.proofs.Common.{◌≡◌, ℕ, ◌+◌, Bool, true, false, not, cond, [], ◌∷◌, ◌++◌, refl, ap, sym, ◌∙◌, subst, inl, inr, arith}
+use Rattle.std.specs.Prelude.{◌&&◌, ◌⊎◌}
 use Rattle.std.specs.List.{list_all}
-use Rattle.std.proofs.lemmas.Bool.{and_from, and_parts, and_left, and_right, not-true, cases_Bool}
+use Rattle.std.proofs.lemmas.Bool.{and_from, and_parts, and_left, and_right}
 use Rattle.std.proofs.lemmas.Bool.Decides.{nat_tests}
 use Rattle.std.proofs.lemmas.List.Folds.{list_all-append}
 use Rattle.mac_base.specs.declared.block.Entry.{Entry}
-use Rattle.mac_base.specs.HeadKind.{Shape, smallest_block}
-use Rattle.mac_base.specs.ZoneMap.{ZoneMap, block, is_free, free_size, free_bytes}
-use Rattle.mac_base.specs.declared.block.Kind.TheVariants.{Free}
+use Rattle.mac_base.specs.HeadKind.{Shape}
+use Rattle.mac_base.specs.ZoneMap.{ZoneMap, is_free, free_bytes}
 use Rattle.mac_base.specs.HandleTable.{HandleTable}
 use Rattle.mac_base.specs.Suits.{free_apart, starts_free, is_block_size}
-use Rattle.mac_base.specs.Gap.{Gap, filled, is_fixed}
+use Rattle.mac_base.specs.Gap.{Gap, filled}
 use Rattle.mac_base.proofs.GapParts.{IsGap, starts_fixed, ends_fixed}
 use Rattle.mac_base.proofs.Arranging.{IsArrangement}
 use Rattle.mac_base.proofs.Rearranging.{fixed-used}
 
--- free blocks are apart in the front and in the back of a list in which they are
+-- free blocks are apart in the front of a list in which they are
 pub free_apart-front : (a b : ZoneMap) → free_apart (a ++ b) ≡ true → free_apart a ≡ true
 free_apart-front [] b h = refl
 free_apart-front (e ∷ []) b h = and_from (not (is_free e.kind && false)) true (ap not (and_right (is_free e.kind) false refl)) refl
 free_apart-front (e ∷ f ∷ es) b h = let parts = and_parts _ _ h in and_from _ _ parts.0 (free_apart-front (f ∷ es) b parts.1)
 
+-- and in the back of it
 pub free_apart-back : (a b : ZoneMap) → free_apart (a ++ b) ≡ true → free_apart b ≡ true
 free_apart-back [] b h = h
 free_apart-back (e ∷ es) b h = free_apart-back es b (and_parts _ _ h).1

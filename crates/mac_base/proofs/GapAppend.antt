@@ -1,13 +1,11 @@
 -- What is counted and listed of blocks, over two lists of blocks one behind the other.
-use Rattle.std.proofs.Common.{◌≡◌, ℕ, suc, ◌+◌, Bool, true, false, not, cond, List, [], ◌∷◌, ◌++◌, length, refl, ap, sym, ◌∙◌, add_assoc, append_assoc, append-nil, arith}
-use Rattle.std.specs.Prelude.{◌&&◌, ◌||◌, map, filter, IsTrue, IsFalse, if◌then◌else◌}
-use Rattle.std.specs.List.{list_all, list_any}
+use Rattle.std.proofs.Common.{◌≡◌, ℕ, suc, ◌+◌, Bool, true, false, not, cond, List, [], ◌∷◌, ◌++◌, length, refl, ap, sym, ◌∙◌, add_assoc, append_assoc, arith}
+use Rattle.std.specs.Prelude.{IsTrue, if◌then◌else◌}
+use Rattle.std.specs.List.{list_all}
 use Rattle.std.proofs.lemmas.Bool.{and_parts, not-true}
 use Rattle.mac_base.specs.declared.block.Entry.{Entry}
 use Rattle.mac_base.specs.declared.block.Kind.{Kind}
-use Rattle.mac_base.specs.HeadKind.{Shape, zone_header}
-use Rattle.mac_base.specs.ZoneMap.{ZoneMap, block, is_free, total_size, free_size, free_bytes, address_behind, addresses_from, addresses, sizes}
-use Rattle.mac_base.specs.Suits.{free_apart, starts_free}
+use Rattle.mac_base.specs.ZoneMap.{ZoneMap, total_size, free_bytes, addresses_from, sizes}
 
 -- the bytes of two lists of blocks
 pub total_size-append : (a b : ZoneMap) → total_size (a ++ b) ≡ total_size a + total_size b

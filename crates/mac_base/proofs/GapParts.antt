@@ -1,13 +1,13 @@
 -- What each gap of a map is: a run of blocks that may move, between blocks that may not.
-use Rattle.std.proofs.Common.{◌≡◌, ℕ, ◌+◌, ◌≤◌, Bool, true, false, not, cond, List, [], ◌∷◌, ◌++◌, length, refl, ap, sym, ◌∙◌, subst, inl, inr, append_assoc, arith}
-use Rattle.std.specs.Prelude.{◌&&◌, ◌||◌, ◌⊎◌, map, find, IsTrue, IsFalse, Option, Some, None, MatchOption, ⊤, nat_le, is_some}
-use Rattle.std.specs.List.{list_all, list_any, All}
-use Rattle.std.proofs.lemmas.List.Elements.{All-nil, All-cons, All-map, All-weaker, All-head, All-tail}
-use Rattle.std.proofs.lemmas.Bool.{and_from, or_left, or_right, leb-true}
+use Rattle.std.proofs.Common.{◌≡◌, ℕ, ◌≤◌, Bool, true, false, not, cond, List, [], ◌∷◌, ◌++◌, refl, ap, sym, ◌∙◌, subst, inl, inr}
+use Rattle.std.specs.Prelude.{Contains, ◌⊎◌, map, find, IsTrue, Some, nat_le}
+use Rattle.std.specs.List.{list_all, All}
+use Rattle.std.proofs.lemmas.List.Elements.{All-contains, All-nil, All-cons, All-map, All-weaker, All-head, All-tail}
+use Rattle.std.proofs.lemmas.Bool.{and_from, leb-true}
 use Rattle.mac_base.specs.declared.block.Entry.{Entry}
 use Rattle.mac_base.specs.HandleTable.{HandleTable}
 use Rattle.mac_base.specs.ZoneMap.{ZoneMap}
-use Rattle.mac_base.specs.Gap.{Gap, gaps, gaps_with, further, filled, is_fixed, room, lowest_gap, own_gap, gap_behind, has_named, ends_with, some_gap_has}
+use Rattle.mac_base.specs.Gap.{Gap, gaps, gaps_with, further, filled, is_fixed, room, lowest_gap, own_gap, gap_behind, has_named, ends_with}
 
 -- whether all these blocks may move
 abbrev pub all_move : HandleTable → ZoneMap → Bool
@@ -131,3 +131,7 @@ own_gap-is t m x g found = found_passes (IsGap t m) (λ g. has_named x g.blocks)
 -- the gap right behind the block of x is a gap, and lies there
 pub gap_behind-is : (t : HandleTable) (m : ZoneMap) (x : ℕ) (g : Gap) → gap_behind x (gaps t m) ≡ Some g → IsGap t m g × (ends_with x g.before ≡ true)
 gap_behind-is t m x g found = found_passes (IsGap t m) (λ g. ends_with x g.before) (gaps t m) g (gaps-IsGap t m) found
+
+-- a gap among the gaps of a map
+pub gap-IsGap : (t : HandleTable) (m : ZoneMap) (g : Gap) → Contains (gaps t m) g → IsGap t m g
+gap-IsGap t m g there = All-contains (IsGap t m) (gaps t m) g (gaps-IsGap t m) there

@@ -1,19 +1,14 @@
 -- Where a gap with room, or with a block, is found.
-use Rattle.std.proofs.Common.{◌≡◌, ℕ, ◌+◌, ◌<◌, ◌≤◌, Bool, true, false, not, cond, List, [], ◌∷◌, ◌++◌, refl, ap, sym, ◌∙◌, subst, inl, inr, append-nil, append_assoc, arith, Some, None, Option}
-use Rattle.std.specs.Prelude.{◌&&◌, ◌||◌, ◌⊎◌, ◌==◌, IsTrue, nat_le, map, find, is_some, option_map, option_and_then}
-use Rattle.std.specs.Option.{option_or}
-use Rattle.std.specs.List.{list_all, list_any}
-use Rattle.std.proofs.lemmas.Bool.{and_from, and_parts, or_left, or_right, or_cases, or_from, leb-true, le-leb, eqb-true, not-true, true≢false, false≢true, true_from_ne_false, false_from_ne_true, cases_Bool}
-use Rattle.std.proofs.lemmas.Bool.Decides.{nat_tests}
+use Rattle.std.proofs.Common.{◌≡◌, ℕ, ◌+◌, Bool, true, false, not, cond, List, [], ◌∷◌, ◌++◌, refl, ap, sym, ◌∙◌, inl, inr, append_assoc, arith, Some}
+use Rattle.std.specs.Prelude.{◌||◌, ◌⊎◌, nat_le, map, find, is_some}
+use Rattle.std.specs.List.{list_any}
+use Rattle.std.proofs.lemmas.Bool.{and_parts, or_left, or_right, or_cases, leb-true, le-leb, not-true, true≢false}
 use Rattle.mac_base.specs.declared.block.Entry.{Entry}
-use Rattle.mac_base.specs.declared.block.Kind.{Kind}
-use Rattle.mac_base.specs.declared.block.Kind.TheVariants.{Free, Master, Ptr, Rel}
-use Rattle.mac_base.specs.ZoneMap.{ZoneMap, block, free_block, is_free, is_named, has_free, free_size, free_bytes}
+use Rattle.mac_base.specs.ZoneMap.{ZoneMap, is_free, is_named, has_free, free_size, free_bytes}
 use Rattle.mac_base.specs.HandleTable.{HandleTable}
-use Rattle.mac_base.specs.Gap.{Gap, gaps, gaps_with, further, filled, is_fixed, room, lowest_gap, own_gap, gap_behind, has_named, ends_with, some_gap_has}
+use Rattle.mac_base.specs.Gap.{Gap, gaps, further, is_fixed, room, gap_behind, ends_with, some_gap_has}
 use Rattle.mac_base.proofs.GapParts.{all_move, starts_fixed, ends_fixed, IsGap, first_gap, later_gaps, gaps-first, first_gap-before, first_gap-IsGap}
 use Rattle.mac_base.proofs.Arranging.{free_is}
-use Rattle.mac_base.proofs.Rearranging.{fixed-used}
 
 -- one is found where one passes
 pub is_some-find : (test : Gap → Bool) (gs : List Gap) → is_some (find test gs) ≡ list_any test gs
@@ -46,10 +41,12 @@ gap_of_block p t (e ∷ es) moves h =
     behind : is_fixed t e.kind ≡ true → (p e ≡ true) ⊎ (list_any p es ≡ true) → (list_any p es ≡ true → list_any (λ (g : Gap). list_any p g.blocks) (gaps t es) ≡ true) → list_any (λ (g : Gap). list_any p g.blocks) (gaps t es) ≡ true
     behind fixed (inl passes) rest = absurd (true≢false (sym fixed ∙ moves e passes))
     behind fixed (inr there) rest = rest there
+
     above : (list_any p (first_gap t es).blocks ≡ true) ⊎ (list_any (λ (g : Gap). list_any p g.blocks) (later_gaps t es) ≡ true)
         → (p e || list_any p (first_gap t es).blocks || list_any (λ (g : Gap). list_any p g.blocks) (map (further e) (later_gaps t es))) ≡ true
     above (inl first) = or_left (p e || list_any p (first_gap t es).blocks) _ (or_right _ _ first)
     above (inr later) = or_right (p e || list_any p (first_gap t es).blocks) _ (list_any-further (λ (g : Gap). list_any p g.blocks) e (later_gaps t es) (λ g h. h) later)
+
     here : (p e ≡ true) ⊎ (list_any p es ≡ true) → (list_any p es ≡ true → (list_any p (first_gap t es).blocks || list_any (λ (g : Gap). list_any p g.blocks) (later_gaps t es)) ≡ true)
         → (p e || list_any p (first_gap t es).blocks || list_any (λ (g : Gap). list_any p g.blocks) (map (further e) (later_gaps t es))) ≡ true
     here (inl passes) rest = or_left (p e || list_any p (first_gap t es).blocks) _ (or_left _ _ passes)

@@ -5,6 +5,7 @@ pub mod Arranging
 pub mod ArrangingNamed
 pub mod Fitting
 pub mod FittingResize
+pub mod FreshNumbers
 pub mod GapApart
 pub mod GapAppend
 pub mod GapParts
@@ -14,6 +15,7 @@ pub mod JoinedBlocks
 pub mod Maps
 pub mod MoreSteps
 pub mod NamedPlace
+pub mod OpenedGap
 pub mod Owners
 pub mod PlacedParts
 pub mod RearrangedSuits
@@ -23,8 +25,10 @@ pub mod Refusals
 pub mod ReleasedBlocks
 pub mod Resized
 pub mod ResizedBlocks
+pub mod ServedBase
 pub mod ServedMaster
 pub mod ServedPlaces
+pub mod ServedRequests
 pub mod ServedResize
 pub mod SlotBounds
 pub mod SlotOwners

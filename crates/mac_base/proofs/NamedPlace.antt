@@ -1,15 +1,13 @@
 -- Where the one block stands that a number names, in a map and in a gap.
-use Rattle.std.proofs.Common.{◌≡◌, ℕ, zero, suc, ◌+◌, ◌<◌, ◌≤◌, Bool, true, false, not, cond, List, [], ◌∷◌, ◌++◌, length, refl, ap, sym, ◌∙◌, subst, inl, inr, append-nil, append_assoc, arith, Some, None, Option, sum}
-use Rattle.std.specs.Prelude.{◌&&◌, ◌||◌, ◌⊎◌, ◌==◌, IsTrue, filter, if◌then◌else◌}
-use Rattle.std.specs.List.{list_all, list_any}
-use Rattle.std.proofs.lemmas.Bool.{and_from, and_parts, or_left, or_right, or_cases, not-true}
+use Rattle.std.proofs.Common.{◌≡◌, ℕ, ◌+◌, true, false, not, cond, List, [], ◌∷◌, ◌++◌, refl, ap, sym, ◌∙◌, append-nil, append_assoc, arith, sum}
+use Rattle.std.specs.Prelude.{◌||◌}
 use Rattle.std.proofs.lemmas.List.Elements.{filter-append}
 use Rattle.mac_base.specs.declared.block.Entry.{Entry}
 use Rattle.mac_base.specs.declared.block.Kind.{Kind}
 use Rattle.mac_base.specs.ZoneMap.{ZoneMap, block, free_block, is_free, is_named, free_bytes, sizes}
 use Rattle.mac_base.specs.HandleTable.{HandleTable}
-use Rattle.mac_base.specs.Gap.{Gap, filled, has_named, ends_with}
-use Rattle.mac_base.specs.Arrangement.{used_blocks, put_behind, open_at, up}
+use Rattle.mac_base.specs.Gap.{Gap, has_named, ends_with}
+use Rattle.mac_base.specs.Arrangement.{used_blocks, put_behind, open_at}
 use Rattle.mac_base.specs.Request.{size_of}
 use Rattle.mac_base.proofs.GapAppend.{sizes-append}
 use Rattle.mac_base.proofs.GapParts.{IsGap}
@@ -56,13 +54,14 @@ pub record FirstNamed (x : ℕ) (m : ZoneMap) : Type 0 where
   pub named : is_named x block.kind ≡ true
   pub none_front : sizes (is_named x) front ≡ []
 
+-- where x names a block, there is a first one
 pub first_named : (x : ℕ) (m : ZoneMap) → has_named x m ≡ true → FirstNamed x m
 first_named x [] h = absurd (cc h)
 first_named x (e ∷ es) h = elim (is_named x e.kind) as (λ c. is_named x e.kind ≡ c → (c || has_named x es) ≡ true → FirstNamed x (e ∷ es)) [
-      | true ↦ λ here _. record { front = []; block = e; back = es; was = refl; named = here; none_front = refl }
-      | false ↦ λ other there. let rest = first_named x es there in
-          record { front = e ∷ rest.front; block = rest.block; back = rest.back; was = ap (λ m. e ∷ m) rest.was; named = rest.named; none_front = ap (λ c. cond c (e.size ∷ []) [] ++ sizes (is_named x) rest.front) other ∙ rest.none_front }
-    ] refl h
+  | true ↦ λ here _. record { front = []; block = e; back = es; was = refl; named = here; none_front = refl }
+  | false ↦ λ other there. let rest = first_named x es there in
+      record { front = e ∷ rest.front; block = rest.block; back = rest.back; was = ap (λ m. e ∷ m) rest.was; named = rest.named; none_front = ap (λ c. cond c (e.size ∷ []) [] ++ sizes (is_named x) rest.front) other ∙ rest.none_front }
+] refl h
 
 -- what is put behind the first block of x stands right behind it
 pub put_behind-at : (x : ℕ) (f a : ZoneMap) (e : Entry) (c : ZoneMap) → sizes (is_named x) a ≡ [] → is_named x e.kind ≡ true → put_behind x f (a ++ e ∷ c) ≡ a ++ e ∷ (f ++ c)
@@ -98,7 +97,7 @@ pub own_gap-parts : (t : HandleTable) (m : ZoneMap) (g : Gap) (x n : ℕ) → Is
 own_gap-parts t m g x n i has once =
     let first = first_named x g.blocks has in
     let whole = At-from x m n (g.before ++ first.front) first.block (first.back ++ g.behind) once
-        (i.parts ∙ ap (λ b. g.before ++ b ++ g.behind) first.was ∙ ap (λ b. b ++ g.behind) (sym (append_assoc g.before first.front (first.block ∷ first.back))) ∙ append_assoc (g.before ++ first.front) (first.block ∷ first.back) g.behind) first.named in
+    (i.parts ∙ ap (λ b. g.before ++ b ++ g.behind) first.was ∙ ap (λ b. b ++ g.behind) (sym (append_assoc g.before first.front (first.block ∷ first.back))) ∙ append_assoc (g.before ++ first.front) (first.block ∷ first.back) g.behind) first.named in
     let fronts = nil-append (sizes (is_named x) g.before) (sizes (is_named x) first.front) (sym (sizes-append (is_named x) g.before first.front) ∙ whole.none_front) in
     let backs = nil-append (sizes (is_named x) first.back) (sizes (is_named x) g.behind) (sym (sizes-append (is_named x) first.back g.behind) ∙ whole.none_back) in
     let one = sym (sizes_around x first.front first.block first.back first.named) ∙ ap (sizes (is_named x)) (sym first.was) in

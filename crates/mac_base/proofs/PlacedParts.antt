@@ -1,40 +1,38 @@
 -- What a request for a new block took, and where: from the results of placing to their parts.
-use Rattle.std.proofs.Common.{◌≡◌, ℕ, ◌+◌, ◌-◌, ◌<◌, ◌≤◌, max, Bool, true, false, not, cond, List, [], ◌∷◌, ◌++◌, refl, ap, sym, ◌∙◌, subst, inl, inr, append-nil, append_assoc, arith, Some, None, Option}
-use Rattle.std.specs.Prelude.{◌&&◌, ◌||◌, ◌⊎◌, IsTrue, nat_le, MatchOption, ⊤, is_some, option_map, option_and_then}
+use Rattle.std.proofs.Common.{◌≡◌, ℕ, ◌<◌, ◌≤◌, max, Bool, true, false, cond, [], ◌∷◌, ◌++◌, refl, ap, sym, ◌∙◌, subst, inl, inr, append-nil, append_assoc, arith, Some, None, Option}
+use Rattle.std.specs.Prelude.{◌&&◌, ◌||◌, ◌⊎◌, nat_le, MatchOption, ⊤, option_map, option_and_then}
 use Rattle.std.specs.Option.{option_or}
-use Rattle.std.specs.List.{list_all, list_any}
-use Rattle.std.proofs.lemmas.Bool.{and_from, and_parts, or_left, or_right, leb-true, le-leb, true≢false, false≢true}
+use Rattle.std.specs.List.{list_any}
 use Rattle.std.proofs.lemmas.Bool.Decides.{nat_tests}
-use Rattle.mac_base.specs.declared.block.Entry.{Entry}
 use Rattle.mac_base.specs.declared.block.Kind.{Kind}
-use Rattle.mac_base.specs.declared.block.Kind.TheVariants.{Free, Master, Ptr, Rel}
+use Rattle.mac_base.specs.declared.block.Kind.TheVariants.{Free}
 use Rattle.mac_base.specs.HeadKind.{Shape}
 use Rattle.mac_base.specs.ZoneMap.{ZoneMap, Rearranged, block, free_block, is_free, is_named, has_free, free_size, free_bytes, largest_free, released, sizes}
 use Rattle.mac_base.specs.HandleTable.{HandleTable}
 use Rattle.mac_base.specs.Suits.{free_apart}
-use Rattle.mac_base.specs.Gap.{Gap, gaps, filled, is_fixed, room, lowest_gap}
+use Rattle.mac_base.specs.Gap.{Gap, filled, is_fixed}
 use Rattle.mac_base.specs.Arrangement.{used_blocks, down, up}
-use Rattle.mac_base.specs.Serve.{taken, take_lowest, placed_relocatable, placed_fixed, reserved, begins_free, cleared, contents_at_gap}
-use Rattle.mac_base.specs.RequestRun.{stays_for}
+use Rattle.mac_base.specs.Serve.{taken, take_lowest, begins_free, cleared}
 use Rattle.mac_base.proofs.GapAppend.{sizes-append}
-use Rattle.mac_base.proofs.GapParts.{IsGap, all_move, lowest_gap-is}
-use Rattle.mac_base.proofs.Arranging.{IsArrangement, down-IsArrangement, up-IsArrangement, sizes-used, sizes-free_block}
-use Rattle.mac_base.proofs.Rearranging.{Rearranged-refl, Rearranged-weaker, fixed-used, gap-Rearranged, all_move-arranged}
+use Rattle.mac_base.proofs.GapParts.{IsGap, all_move}
+use Rattle.mac_base.proofs.Arranging.{up-IsArrangement, sizes-used, sizes-free_block}
+use Rattle.mac_base.proofs.Rearranging.{Rearranged-refl, gap-Rearranged, all_move-arranged}
 use Rattle.mac_base.proofs.GapApart.{free_apart-arranged}
 use Rattle.mac_base.proofs.NamedPlace.{nil-append}
-use Rattle.mac_base.proofs.Fitting.{is_some-take_lowest}
 use Rattle.mac_base.proofs.ReleasedBlocks.{released-taken}
 use Rattle.mac_base.proofs.Placing.{TakenAt, take_lowest-parts}
 
--- where a value comes from
+-- where the value comes from that a function gives
 pub option_map-Some : {A B : Type 0} (f : A → B) (o : Option A) (b : B) → option_map f o ≡ Some b → (a : A) × (o ≡ Some a) × (f a ≡ b)
 option_map-Some f None b h = absurd (cc h)
 option_map-Some f (Some a) b h = (a, refl, cc h)
 
+-- the same of a function that may give none
 pub option_and_then-Some : {A B : Type 0} (f : A → Option B) (o : Option A) (b : B) → option_and_then f o ≡ Some b → (a : A) × (o ≡ Some a) × (f a ≡ Some b)
 option_and_then-Some f None b h = absurd (cc h)
 option_and_then-Some f (Some a) b h = (a, refl, h)
 
+-- the same of the first of two
 pub option_or-Some : {A : Type 0} (o p : Option A) (a : A) → option_or o p ≡ Some a → (o ≡ Some a) ⊎ ((o ≡ None) × (p ≡ Some a))
 option_or-Some None p a h = inr (refl, h)
 option_or-Some (Some b) p a h = inl h
@@ -54,9 +52,11 @@ sizes-gap_none test t m g i none =
     let inner = nil-append (sizes test g.before) (sizes test g.blocks) (sym (sizes-append test g.before g.blocks) ∙ outer.0) in
     (inner.0, inner.1, outer.1)
 
+-- down keeps the sizes of the blocks that pass a test which no free block passes
 pub sizes-down : (test : Kind → Bool) (b : ZoneMap) → test Free ≡ false → sizes test (down b) ≡ sizes test b
 sizes-down test b h = sizes-append test (used_blocks b) (free_block (free_bytes b)) ∙ ap (λ ns. sizes test (used_blocks b) ++ ns) (sizes-free_block test (free_bytes b) h) ∙ append-nil _ ∙ sizes-used test b h
 
+-- and so does up
 pub sizes-up : (test : Kind → Bool) (b : ZoneMap) → test Free ≡ false → sizes test (up b) ≡ sizes test b
 sizes-up test b h = sizes-append test (free_block (free_bytes b)) (used_blocks b) ∙ ap (λ ns. ns ++ sizes test (used_blocks b)) (sizes-free_block test (free_bytes b) h) ∙ sizes-used test b h
 
@@ -64,17 +64,20 @@ sizes-up test b h = sizes-append test (free_block (free_bytes b)) (used_blocks b
 pub cleared-is : (P : ZoneMap → Type 0) (k : ℕ) (b : ZoneMap) → P b → P (up b) → P (cleared k b)
 cleared-is P k b same moved = elim (begins_free k b) as (λ c. P (cond c b (up b))) [ true ↦ same | false ↦ moved ]
 
+-- and so does clearing
 pub sizes-cleared : (test : Kind → Bool) (k : ℕ) (b : ZoneMap) → test Free ≡ false → sizes test (cleared k b) ≡ sizes test b
 sizes-cleared test k b h = cleared-is (λ c. sizes test c ≡ sizes test b) k b refl (sizes-up test b h)
 
+-- blocks that may move still may once they are cleared
 pub all_move-cleared : (t : HandleTable) (k : ℕ) (b : ZoneMap) → all_move t b ≡ true → all_move t (cleared k b) ≡ true
 all_move-cleared t k b moves = cleared-is (λ c. all_move t c ≡ true) k b moves (all_move-arranged t b (up b) (up-IsArrangement b) moves)
 
--- to clear a gap is a rearrangement, and keeps free blocks apart
+-- to clear a gap is a rearrangement of the map
 pub cleared-Rearranged : (s : Shape) (t : HandleTable) (k : ℕ) (m : ZoneMap) (g : Gap) → IsGap t m g → Rearranged s (is_fixed t) m (filled g (cleared k g.blocks))
 cleared-Rearranged s t k m g i =
     cleared-is (λ b. Rearranged s (is_fixed t) m (filled g b)) k g.blocks (subst (Rearranged s (is_fixed t) m) i.parts (Rearranged-refl s (is_fixed t) m)) (gap-Rearranged s t m g (up g.blocks) i (up-IsArrangement g.blocks))
 
+-- and keeps free blocks apart
 pub free_apart-cleared : (t : HandleTable) (k : ℕ) (m : ZoneMap) (g : Gap) → IsGap t m g → free_apart m ≡ true → free_apart (filled g (cleared k g.blocks)) ≡ true
 free_apart-cleared t k m g i apart = cleared-is (λ b. free_apart (filled g b) ≡ true) k g.blocks (ap free_apart (sym i.parts) ∙ apart) (free_apart-arranged t m g (up g.blocks) i (up-IsArrangement g.blocks) apart)
 
@@ -88,8 +91,10 @@ largest_free-has k (e ∷ es) some = larger k (free_size e) (largest_free es) �
   where
     larger : (k a b : ℕ) → nat_le k (max a b) ≡ (nat_le k a || nat_le k b)
     larger k a b = grind (arith, nat_tests)
+
     none : (k : ℕ) → 0 < k → nat_le k 0 ≡ false
     none k some = grind (arith, nat_tests)
+
     here : nat_le k (free_size e) ≡ has_free k e
     here = elim (is_free e.kind) as (λ c. nat_le k (cond c e.size 0) ≡ (c && nat_le k e.size)) [ true ↦ refl | false ↦ none k some ]
 
@@ -102,6 +107,7 @@ pub record TakenInGap (s : Shape) (k : ℕ) (kind : Kind) (g : Gap) (old new : Z
   pub is : filled g new ≡ front ++ (taken s k kind size ++ back)
   pub fits : k ≤ size
 
+-- a taking in a gap is one in the map
 pub taken_in_gap : (s : Shape) (k : ℕ) (kind : Kind) (g : Gap) (old new : ZoneMap) → TakenAt s k kind old new → TakenInGap s k kind g old new
 taken_in_gap s k kind g old new p =
     record {
@@ -120,11 +126,13 @@ released-parts s k n x kind a b m new named fits was is none apart =
     let parts = nil-append (sizes (is_named x) a) (sizes (is_named x) b) (sym (sizes-append (is_named x) a (block Free n ∷ b)) ∙ ap (sizes (is_named x)) (sym was) ∙ none) in
     ap (released x) is ∙ released-taken s k n x kind a b m named fits was parts.0 parts.1 apart
 
+-- so of a block taken from the lowest free one
 pub released-take_lowest : (s : Shape) (k x : ℕ) (kind : Kind) (m new : ZoneMap) → take_lowest s k kind m ≡ Some new → is_named x kind ≡ true → sizes (is_named x) m ≡ [] → free_apart m ≡ true → released x new ≡ m
 released-take_lowest s k x kind m new found named none apart =
     let p = taken-parts s k kind m new found in
     released-parts s k p.size x kind p.before p.behind m new named p.fits p.was p.is none apart
 
+-- and of one taken in a gap
 pub released-taken_in_gap : (s : Shape) (t : HandleTable) (k x : ℕ) (kind : Kind) (m : ZoneMap) (g : Gap) (old new : ZoneMap) → IsGap t m g → take_lowest s k kind old ≡ Some new → is_named x kind ≡ true → sizes (is_named x) m ≡ [] → sizes (is_named x) old ≡ []
     → free_apart (filled g old) ≡ true → released x (filled g new) ≡ filled g old
 released-taken_in_gap s t k x kind m g old new i found named none none_old apart =

@@ -1,29 +1,28 @@
 -- A rearrangement of a map that suits a table suits it.
-use Rattle.std.proofs.Common.{◌≡◌, ℕ, ◌+◌, ◌-◌, ◌≤◌, Bool, true, false, not, cond, List, [], ◌∷◌, ◌++◌, length, refl, ap, sym, ◌∙◌, subst, inl, inr, arith, eqb}
-use Rattle.std.specs.Prelude.{◌&&◌, ◌||◌, ◌⊎◌, ◌==◌, ◌↔◌, map, IsTrue, IsFalse, Contains, flat_map, if◌then◌else◌}
+use Rattle.std.proofs.Common.{◌≡◌, ℕ, ◌+◌, ◌-◌, Bool, true, false, cond, [], ◌∷◌, ◌++◌, length, refl, ap, sym, ◌∙◌, subst, inl, inr, arith}
+use Rattle.std.specs.Prelude.{◌||◌, ◌⊎◌, ◌↔◌, map, IsFalse, Contains, flat_map}
 use Rattle.std.specs.List.{list_all}
-use Rattle.std.proofs.lemmas.Bool.{and_from, and_parts, or_left, or_right, or_parts, or_cases, false≢true, true≢false, cases_Bool}
+use Rattle.std.proofs.lemmas.Bool.{and_from, and_parts, or_left, or_right, or_cases, false≢true, cases_Bool}
 use Rattle.std.proofs.lemmas.Bool.Decides.{nat_tests}
 use Rattle.std.proofs.lemmas.List.Folds.{list_all-append}
 use Rattle.mac_base.specs.declared.block.Entry.{Entry}
 use Rattle.mac_base.specs.declared.block.Kind.{Kind}
 use Rattle.mac_base.specs.declared.block.Kind.TheVariants.{Free, Master, Ptr, Rel}
 use Rattle.mac_base.specs.HeadKind.{Shape, zone_header, head_size, slot_count}
-use Rattle.mac_base.specs.ZoneMap.{ZoneMap, Rearranged, is_free, is_master, is_kind, total_size, sizes, addresses, address_behind, addresses_from, contents_addresses}
-use Rattle.mac_base.specs.HandleTable.{HandleTable, is_full, is_handle}
-use Rattle.mac_base.specs.Suits.{Suits, free_apart, is_block_size, is_handle_block, is_pointer_block, has_length, has_owners_length, wanted_length, slots, slots_from}
+use Rattle.mac_base.specs.ZoneMap.{ZoneMap, Rearranged, is_free, is_kind, sizes, address_behind, contents_addresses}
+use Rattle.mac_base.specs.HandleTable.{HandleTable, is_handle}
+use Rattle.mac_base.specs.Suits.{Suits, free_apart, is_handle_block, is_pointer_block, has_length, wanted_length, slots, slots_from}
 use Rattle.mac_base.specs.Gap.{Gap, filled, is_fixed}
-use Rattle.mac_base.specs.Arrangement.{down}
 use Rattle.mac_base.specs.Heap.{Heap, with_map}
 use Rattle.mac_base.specs.Sound.{Sound, is_growth}
 use Rattle.mac_base.proofs.GapAppend.{same_test, length-addresses_from}
 use Rattle.mac_base.proofs.GapParts.{IsGap}
-use Rattle.mac_base.proofs.Arranging.{IsArrangement, is_kind-free}
+use Rattle.mac_base.proofs.Arranging.{IsArrangement}
 use Rattle.mac_base.proofs.ArrangingNamed.{is_kind-same}
 use Rattle.mac_base.proofs.GapApart.{sizes_possible, free_apart-arranged, sizes_possible-arranged}
 use Rattle.mac_base.proofs.Rearranging.{gap-Rearranged}
 
--- the handle's own blocks, and the pointer's, are those of its kind
+-- a handle's own blocks are those of its kind
 pub handle_block-kind : (h : ℕ) → is_handle_block h ≡ is_kind (Rel h)
 handle_block-kind h = same_test (at h)
   where
@@ -33,6 +32,7 @@ handle_block-kind h = same_test (at h)
     at h (Ptr p) = refl
     at h (Rel g) = grind (arith, nat_tests)
 
+-- and so are a pointer's
 pub pointer_block-kind : (p : ℕ) → is_pointer_block p ≡ is_kind (Ptr p)
 pointer_block-kind p = same_test (at p)
   where
@@ -84,9 +84,9 @@ used_pass-rearranged p s stays old new r h = used_pass-from_sizes p new (λ k us
 pub slots-rearranged : (s : Shape) (stays : Kind → Bool) (old new : ZoneMap) → stays Master ≡ true → Rearranged s stays old new → slots s new ≡ slots s old
 slots-rearranged s stays old new fixed r = ap (λ at. flat_map (slots_from slot_count) (map (λ a. a + head_size s.heads) at)) (r.same_places Master fixed)
 
--- A rearrangement in which fixed blocks stay, free blocks are apart and sizes are possible suits the table that the map suited.
-pub Suits-rearranged : (s : Shape) (t : HandleTable) (old new : ZoneMap) → Rearranged s (is_fixed t) old new → free_apart new ≡ true → sizes_possible s new ≡ true → Suits s t old → Suits s t new
-Suits-rearranged s t old new r apart possible suits =
+-- A rearrangement in which fixed blocks stay, free blocks are apart and sizes are possible suits a table that the map suited. Which blocks are fixed may be by another table.
+pub Suits-rearranged : (s : Shape) (t u : HandleTable) (old new : ZoneMap) → Rearranged s (is_fixed t) old new → free_apart new ≡ true → sizes_possible s new ≡ true → Suits s u old → Suits s u new
+Suits-rearranged s t u old new r apart possible suits =
     record {
       apart = apart;
       sizes = possible;
@@ -94,29 +94,29 @@ Suits-rearranged s t old new r apart possible suits =
           ∙ ap (λ test. length (sizes test old)) (sym (handle_block-kind h)) ∙ sym (length-addresses_from (address_behind s []) (is_handle_block h) old) ∙ suits.handles h;
       pointers = λ p. ap (λ test. contents_addresses s test new) (pointer_block-kind p) ∙ ap (map (λ at. at + head_size s.heads)) (r.same_places (Ptr p) refl)
           ∙ ap (λ test. contents_addresses s test old) (sym (pointer_block-kind p)) ∙ suits.pointers p;
-      lengths = used_pass-rearranged (λ k n. has_length s n (wanted_length t k)) s (is_fixed t) old new r suits.lengths;
+      lengths = used_pass-rearranged (λ k n. has_length s n (wanted_length u k)) s (is_fixed t) old new r suits.lengths;
       in_slots = λ h live. subst (λ ss. Contains ss h) (sym (slots-rearranged s (is_fixed t) old new refl r)) (suits.in_slots h live);
       in_order = suits.in_order;
     }
 
 -- and the heap stays sound
-pub Sound-rearranged : (s : Shape) (heap : Heap) (new : ZoneMap) → Rearranged s (is_fixed heap.table) heap.map new → free_apart new ≡ true → sizes_possible s new ≡ true → Sound s heap → Sound s (with_map new heap)
-Sound-rearranged s heap new r apart possible sound =
+pub Sound-rearranged : (s : Shape) (t : HandleTable) (heap : Heap) (new : ZoneMap) → Rearranged s (is_fixed t) heap.map new → free_apart new ≡ true → sizes_possible s new ≡ true → Sound s heap → Sound s (with_map new heap)
+Sound-rearranged s t heap new r apart possible sound =
     record {
-      suits = Suits-rearranged s heap.table heap.map new r apart possible sound.suits;
+      suits = Suits-rearranged s t heap.table heap.map new r apart possible sound.suits;
       within = let same = r.same_total in let within = sound.within in omega arith;
       growth = ap (λ n. is_growth s (s.limit - (zone_header + n))) r.same_total ∙ sound.growth;
-      free = λ x. subst (λ ss. Contains heap.free_slots x ↔ (Contains ss x × IsFalse (is_handle heap.table x))) (sym (slots-rearranged s (is_fixed heap.table) heap.map new refl r)) (sound.free x);
+      free = λ x. subst (λ ss. Contains heap.free_slots x ↔ (Contains ss x × IsFalse (is_handle heap.table x))) (sym (slots-rearranged s (is_fixed t) heap.map new refl r)) (sound.free x);
       once = sound.once;
     }
 
--- an arrangement of a gap suits the table that the map suited
-pub Suits-arranged : (s : Shape) (t : HandleTable) (m : ZoneMap) (g : Gap) (b : ZoneMap) → IsGap t m g → IsArrangement g.blocks b → Suits s t m → Suits s t (filled g b)
-Suits-arranged s t m g b i a suits =
-    Suits-rearranged s t m (filled g b) (gap-Rearranged s t m g b i a) (free_apart-arranged t m g b i a suits.apart) (sizes_possible-arranged s t m g b i a suits.sizes) suits
+-- an arrangement of a gap suits a table that the map suited
+pub Suits-arranged : (s : Shape) (t u : HandleTable) (m : ZoneMap) (g : Gap) (b : ZoneMap) → IsGap t m g → IsArrangement g.blocks b → Suits s u m → Suits s u (filled g b)
+Suits-arranged s t u m g b i a suits =
+    Suits-rearranged s t u m (filled g b) (gap-Rearranged s t m g b i a) (free_apart-arranged t m g b i a suits.apart) (sizes_possible-arranged s t m g b i a suits.sizes) suits
 
 -- and leaves a sound heap
-pub Sound-arranged : (s : Shape) (heap : Heap) (g : Gap) (b : ZoneMap) → IsGap heap.table heap.map g → IsArrangement g.blocks b → Sound s heap → Sound s (with_map (filled g b) heap)
-Sound-arranged s heap g b i a sound =
+pub Sound-arranged : (s : Shape) (t : HandleTable) (heap : Heap) (g : Gap) (b : ZoneMap) → IsGap t heap.map g → IsArrangement g.blocks b → Sound s heap → Sound s (with_map (filled g b) heap)
+Sound-arranged s t heap g b i a sound =
     let suits = sound.suits in
-    Sound-rearranged s heap (filled g b) (gap-Rearranged s heap.table heap.map g b i a) (free_apart-arranged heap.table heap.map g b i a suits.apart) (sizes_possible-arranged s heap.table heap.map g b i a suits.sizes) sound
+    Sound-rearranged s t heap (filled g b) (gap-Rearranged s t heap.map g b i a) (free_apart-arranged t heap.map g b i a suits.apart) (sizes_possible-arranged s t heap.map g b i a suits.sizes) sound

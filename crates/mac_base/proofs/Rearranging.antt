@@ -1,22 +1,18 @@
 -- Rearrangements of a zone map: one after another, and by an arrangement of a gap.
-use Rattle.std.proofs.Common.{◌≡◌, ℕ, ◌+◌, Bool, true, false, not, cond, List, [], ◌∷◌, ◌++◌, length, refl, ap, sym, ◌∙◌, subst, inl, inr, append-nil, append_assoc, arith, Some, None, Option}
-use Rattle.std.specs.Prelude.{◌&&◌, IsTrue, IsFalse, nat_le}
+use Rattle.std.proofs.Common.{◌≡◌, ℕ, ◌+◌, Bool, true, false, not, [], ◌∷◌, ◌++◌, refl, ap, sym, ◌∙◌, subst, inr, append-nil, arith}
 use Rattle.std.specs.List.{list_all}
-use Rattle.std.specs.Option.{option_map_or}
 use Rattle.std.proofs.lemmas.Bool.{and_from, and_parts, not-true, false_from_ne_true, true≢false}
 use Rattle.mac_base.specs.declared.block.Entry.{Entry}
 use Rattle.mac_base.specs.declared.block.Kind.{Kind}
 use Rattle.mac_base.specs.declared.block.Kind.TheVariants.{Free, Master, Ptr, Rel}
 use Rattle.mac_base.specs.HeadKind.{Shape}
-use Rattle.mac_base.specs.ZoneMap.{ZoneMap, Rearranged, is_free, is_kind, total_size, sizes, address_behind, addresses_from, largest_free}
+use Rattle.mac_base.specs.ZoneMap.{ZoneMap, Rearranged, is_free, is_kind, total_size, sizes, address_behind, addresses_from}
 use Rattle.mac_base.specs.HandleTable.{HandleTable}
-use Rattle.mac_base.specs.Gap.{Gap, gaps, filled, is_fixed, lowest_gap, own_gap}
-use Rattle.mac_base.specs.Arrangement.{down, up, open_at, high}
-use Rattle.mac_base.specs.ExactStep.{all_down_behind, all_down, compacted, moved_high}
+use Rattle.mac_base.specs.Gap.{Gap, filled, is_fixed}
 use Rattle.mac_base.proofs.GapAppend.{total_size-append, sizes-append, addresses_from-append, addresses_from-none}
-use Rattle.mac_base.proofs.GapParts.{all_move, IsGap, lowest_gap-is, own_gap-is}
-use Rattle.mac_base.proofs.Arranging.{IsArrangement, down-IsArrangement}
-use Rattle.mac_base.proofs.ArrangingNamed.{is_kind-same, high-IsArrangement}
+use Rattle.mac_base.proofs.GapParts.{all_move, IsGap}
+use Rattle.mac_base.proofs.Arranging.{IsArrangement}
+use Rattle.mac_base.proofs.ArrangingNamed.{is_kind-same}
 
 -- a map is a rearrangement of itself
 pub Rearranged-refl : (s : Shape) (stays : Kind → Bool) (m : ZoneMap) → Rearranged s stays m m

@@ -1,24 +1,22 @@
 -- A block that stays is placed at the start of a gap; a master block, by its address.
-use Rattle.std.proofs.Common.{◌≡◌, ℕ, ◌+◌, ◌-◌, ◌<◌, ◌≤◌, Bool, true, false, not, cond, List, [], ◌∷◌, ◌++◌, length, refl, ap, sym, ◌∙◌, subst, inl, inr, append_assoc, add_assoc, arith, Some, None, Option, eqb, zero, suc, get_or}
-use Rattle.std.specs.Prelude.{◌&&◌, ◌==◌, IsTrue, Contains, nat_le, nat_lt, map, option_map, if◌then◌else◌}
-use Rattle.std.specs.List.{list_all}
-use Rattle.std.proofs.lemmas.Bool.{and_from, and_parts, leb-true, ne_eqb, eq-eqb, true≢false, false≢true}
+use Rattle.std.proofs.Common.{◌≡◌, ℕ, ◌+◌, ◌-◌, ◌<◌, ◌≤◌, Bool, true, false, cond, List, [], ◌∷◌, ◌++◌, length, refl, ap, sym, ◌∙◌, subst, append_assoc, add_assoc, arith, Some, zero, suc, get_or}
+use Rattle.std.specs.Prelude.{◌==◌, Contains, nat_lt, map, option_map, if◌then◌else◌}
+use Rattle.std.proofs.lemmas.Bool.{and_parts, ne_eqb, eq-eqb}
 use Rattle.std.proofs.lemmas.Bool.Decides.{nat_tests}
-use Rattle.std.proofs.lemmas.List.{map-append}
-use Rattle.std.proofs.lemmas.List.Elements.{Contains-append_left, Contains-append_right}
+use Rattle.std.proofs.lemmas.List.Elements.{Contains-append_right}
 use Rattle.std.proofs.lemmas.List.Folds.{list_all-append}
 use Rattle.mac_base.specs.declared.block.Entry.{Entry}
 use Rattle.mac_base.specs.declared.block.HeadKind.{HeadKind}
 use Rattle.mac_base.specs.declared.block.HeadKind.TheVariants.{Bits24}
 use Rattle.mac_base.specs.declared.block.Kind.{Kind}
-use Rattle.mac_base.specs.declared.block.Kind.TheVariants.{Free, Master, Ptr, Rel}
-use Rattle.mac_base.specs.HeadKind.{Shape, zone_header, head_size, smallest_block}
-use Rattle.mac_base.specs.ZoneMap.{ZoneMap, Rearranged, block, is_free, is_master, has_free, joined, freed_at, released_at, total_size, address_behind, addresses_from, addresses, contents_addresses}
+use Rattle.mac_base.specs.declared.block.Kind.TheVariants.{Free, Master}
+use Rattle.mac_base.specs.HeadKind.{Shape, head_size, smallest_block}
+use Rattle.mac_base.specs.ZoneMap.{ZoneMap, Rearranged, block, is_master, joined, freed_at, released_at, total_size, address_behind, addresses_from, contents_addresses}
 use Rattle.mac_base.specs.HandleTable.{HandleTable}
 use Rattle.mac_base.specs.Suits.{free_apart, is_block_size}
 use Rattle.mac_base.specs.Gap.{Gap, filled, is_fixed, room}
-use Rattle.mac_base.specs.Request.{Request, NewMaster, size_needed}
-use Rattle.mac_base.specs.Serve.{taken, take_lowest, begins_free, cleared, contents_at_gap, placed_fixed, serve}
+use Rattle.mac_base.specs.Request.{NewMaster, size_needed}
+use Rattle.mac_base.specs.Serve.{taken, take_lowest, begins_free, cleared, placed_fixed, serve}
 use Rattle.mac_base.specs.RequestRun.{MapServed}
 use Rattle.mac_base.proofs.GapAppend.{addresses_from-append}
 use Rattle.mac_base.proofs.GapParts.{IsGap}
@@ -27,7 +25,7 @@ use Rattle.mac_base.proofs.Fitting.{begins_free-cleared, size_needed-positive}
 use Rattle.mac_base.proofs.JoinedBlocks.{joined-apart, joined-front, joined-two}
 use Rattle.mac_base.proofs.Placing.{has_free-is}
 use Rattle.mac_base.proofs.PlacedParts.{cleared-Rearranged, free_apart-cleared}
-use Rattle.mac_base.proofs.ServedPlaces.{PlacedFixed, placed_fixed-parts}
+use Rattle.mac_base.proofs.ServedPlaces.{placed_fixed-parts}
 
 -- what is taken where the first block is free and has k bytes
 pub record TakenFirst (s : Shape) (k : ℕ) (kind : Kind) (old new : ZoneMap) : Type 0 where
@@ -37,6 +35,7 @@ pub record TakenFirst (s : Shape) (k : ℕ) (kind : Kind) (old new : ZoneMap) : 
   pub is : new ≡ taken s k kind size ++ back
   pub fits : k ≤ size
 
+-- where the first block has them, it is the one that is taken
 pub taken_first : (s : Shape) (k : ℕ) (kind : Kind) (old new : ZoneMap) → begins_free k old ≡ true → take_lowest s k kind old ≡ Some new → TakenFirst s k kind old new
 taken_first s k kind [] new begins h = absurd (cc begins)
 taken_first s k kind (e ∷ es) new begins h =
@@ -56,6 +55,7 @@ pub record PlacedFirst (s : Shape) (t : HandleTable) (k : ℕ) (kind : ℕ → K
   pub is : new ≡ gap.before ++ (taken s k (kind x) size ++ back)
   pub fits : k ≤ size
 
+-- what was placed has those parts
 pub placed_first : (s : Shape) (t : HandleTable) (k : ℕ) (kind : ℕ → Kind) (m : ZoneMap) (x : ℕ) (new : ZoneMap) → 0 < k → placed_fixed s t k kind m ≡ Some (x, new) → PlacedFirst s t k kind m x new
 placed_first s t k kind m x new some h =
     let p = placed_fixed-parts s t k kind m x new h in
@@ -86,7 +86,8 @@ freed_at-above at x (e ∷ es) h = ap (λ c. cond c (block Free e.size) e ∷ fr
 smallest-positive : (heads : HeadKind) → 0 < smallest_block heads
 smallest-positive Bits24 = omega arith
 
-size-positive : (s : Shape) (n : ℕ) → is_block_size s n ≡ true → 0 < n
+-- a possible size is not 0
+pub size-positive : (s : Shape) (n : ℕ) → is_block_size s n ≡ true → 0 < n
 size-positive s n h = let some = smallest-positive s.heads in grind (arith, nat_tests)
 
 -- and so do blocks below it
@@ -112,9 +113,9 @@ joined-freed_taken s k n x at kind b same some fits =
 
 taken_head : (s : Shape) (k n : ℕ) (b : ZoneMap) (at : ℕ) → Contains (addresses_from at is_master (taken s k Master n ++ b)) at
 taken_head s k n b at = elim (nat_lt (n - k) (smallest_block s.heads)) as (λ c. Contains (addresses_from at is_master (cond c (block Master n ∷ []) (block Master k ∷ block Free (n - k) ∷ []) ++ b)) at) [
-      | true ↦ (0, omega arith, refl)
-      | false ↦ (0, omega arith, refl)
-    ]
+  | true ↦ (0, omega arith, refl)
+  | false ↦ (0, omega arith, refl)
+]
 
 Contains-map : (f : ℕ → ℕ) (ns : List ℕ) (n : ℕ) → Contains ns n → Contains (map f ns) (f n)
 Contains-map f [] n h = absurd (omega (arith, h.1))
@@ -147,7 +148,7 @@ contents-placed s t k m x new p =
     let rest : List ℕ = addresses_from there is_master (taken s k Master p.size ++ p.back) in
     subst (Contains (contents_addresses s is_master new)) at
     (subst (λ ns. Contains (map (λ at. at + head_size s.heads) ns) (there + head_size s.heads)) (sym (ap (addresses_from start is_master) p.is ∙ addresses_from-append start is_master g.before (taken s k Master p.size ++ p.back)))
-      (Contains-map (λ at. at + head_size s.heads) (addresses_from start is_master g.before ++ rest) there (Contains-append_right (addresses_from start is_master g.before) rest there (taken_head s k p.size p.back there))))
+    (Contains-map (λ at. at + head_size s.heads) (addresses_from start is_master g.before ++ rest) there (Contains-append_right (addresses_from start is_master g.before) rest there (taken_head s k p.size p.back there))))
 
 -- a master block
 pub served-NewMaster : (s : Shape) (t : HandleTable) (slot : ℕ) (m : ZoneMap) (x : ℕ) (new : ZoneMap) → free_apart m ≡ true → sizes_possible s m ≡ true → serve s t slot m NewMaster ≡ Some (x, new) → MapServed s t (size_needed s NewMaster) NewMaster x m new

@@ -1,17 +1,17 @@
 -- A request for a new block or a reservation, served exactly, is one that the map may be served by.
-use Rattle.std.proofs.Common.{◌≡◌, ℕ, ◌+◌, ◌<◌, ◌≤◌, Bool, true, false, not, cond, List, [], ◌∷◌, ◌++◌, refl, ap, sym, ◌∙◌, subst, inl, inr, arith, Some, None, Option, eqb, ⊎_elim}
-use Rattle.std.specs.Prelude.{◌&&◌, ◌||◌, ◌⊎◌, IsTrue, nat_le, is_some, option_map, option_and_then}
-use Rattle.std.specs.List.{list_all, list_any}
-use Rattle.std.proofs.lemmas.Bool.{eq-eqb, true≢false, false≢true}
+use Rattle.std.proofs.Common.{◌≡◌, ℕ, ◌<◌, ◌≤◌, true, false, not, cond, [], refl, ap, sym, ◌∙◌, subst, inl, inr, Some, None, eqb}
+use Rattle.std.specs.Prelude.{◌⊎◌, IsTrue, nat_le, is_some, option_map, option_and_then}
+use Rattle.std.specs.List.{list_any}
+use Rattle.std.proofs.lemmas.Bool.{eq-eqb}
 use Rattle.mac_base.specs.declared.block.Kind.{Kind}
-use Rattle.mac_base.specs.declared.block.Kind.TheVariants.{Free, Master, Ptr, Rel}
+use Rattle.mac_base.specs.declared.block.Kind.TheVariants.{Ptr, Rel}
 use Rattle.mac_base.specs.HeadKind.{Shape}
-use Rattle.mac_base.specs.ZoneMap.{ZoneMap, Rearranged, is_free, is_named, has_free, largest_free, released, sizes}
+use Rattle.mac_base.specs.ZoneMap.{ZoneMap, Rearranged, is_free, is_named, largest_free, released, sizes}
 use Rattle.mac_base.specs.HandleTable.{HandleTable}
 use Rattle.mac_base.specs.Suits.{free_apart}
 use Rattle.mac_base.specs.Gap.{Gap, gaps, filled, is_fixed, room, lowest_gap}
 use Rattle.mac_base.specs.Arrangement.{down}
-use Rattle.mac_base.specs.Request.{Request, NewBlock, NewEmpty, NewPointer, NewMaster, Reserve, Resize, Replace, size_needed}
+use Rattle.mac_base.specs.Request.{NewBlock, NewEmpty, NewPointer, Reserve, Replace, size_needed}
 use Rattle.mac_base.specs.Serve.{take_lowest, placed_relocatable, placed_fixed, reserved, begins_free, cleared, contents_at_gap, gives, serve}
 use Rattle.mac_base.specs.RequestRun.{stays_for, MapServed}
 use Rattle.mac_base.proofs.GapParts.{IsGap, lowest_gap-is}
@@ -37,6 +37,7 @@ reserved-Served s t k m new some h =
     subst (λ new. Rearranged s (is_fixed t) m new × IsTrue (list_any (λ (g : Gap). begins_free k g.blocks) (gaps t new))) found.2
     (cleared-Rearranged s t k m g i, gap_among (λ (g : Gap). begins_free k g.blocks) t (filled g (cleared k g.blocks)) (record g { blocks = cleared k g.blocks }) (gap_filled t m g (cleared k g.blocks) i (all_move-cleared t k g.blocks i.moves)) (begins_free-cleared k g.blocks some low.1))
 
+-- a reservation, served exactly, is served as it may be
 pub served-Reserve : (s : Shape) (t : HandleTable) (slot : ℕ) (m : ZoneMap) (n x : ℕ) (new : ZoneMap) → serve s t slot m (Reserve n) ≡ Some (x, new) → MapServed s t (size_needed s (Reserve n)) (Reserve n) x m new
 served-Reserve s t slot m n x new h =
     let found = option_map-Some (gives 0) (reserved t (size_needed s (Reserve n)) m) (x, new) h in
@@ -53,6 +54,7 @@ placed_relocatable-Rearranged s t k x kind m new some named none apart h = by_pl
   where
     none_free : take_lowest s k kind m ≡ None → nat_le k (largest_free m) ≡ false
     none_free missed = largest_free-has k m some ∙ sym (is_some-take_lowest s k kind m) ∙ ap is_some missed
+
     by_place : (take_lowest s k kind m ≡ Some new) ⊎ ((take_lowest s k kind m ≡ None) × (option_and_then (λ (g : Gap). option_map (filled g) (take_lowest s k kind (down g.blocks))) (lowest_gap k (gaps t m)) ≡ Some new))
         → Rearranged s (stays_for t k m) m (released x new)
     by_place (inl free) = subst (Rearranged s (stays_for t k m) m) (sym (released-take_lowest s k x kind m new free named none apart)) (Rearranged-refl s (stays_for t k m) m)
@@ -65,7 +67,7 @@ placed_relocatable-Rearranged s t k x kind m new some named none apart h = by_pl
         let same = released-taken_in_gap s t k x kind m g (down g.blocks) taken.0 i taken.1 named none (sizes-down (is_named x) g.blocks refl ∙ parts.1) (free_apart-arranged t m g (down g.blocks) i (down-IsArrangement g.blocks) apart) in
         subst (Rearranged s (stays_for t k m) m) (sym same ∙ ap (released x) taken.2)
         (Rearranged-weaker s (is_fixed t) (stays_for t k m) m (filled g (down g.blocks)) (λ kind stays. sym (ap (λ c. cond c (not (is_free kind)) (is_fixed t kind)) (none_free gap.0)) ∙ stays)
-          (gap-Rearranged s t m g (down g.blocks) i (down-IsArrangement g.blocks)))
+        (gap-Rearranged s t m g (down g.blocks) i (down-IsArrangement g.blocks)))
 
 -- and so fixed blocks stay
 pub placed_relocatable-fixed : (s : Shape) (t : HandleTable) (k x : ℕ) (kind : Kind) (m new : ZoneMap) → 0 < k → is_named x kind ≡ true → sizes (is_named x) m ≡ [] → free_apart m ≡ true
@@ -105,6 +107,7 @@ pub record PlacedFixed (s : Shape) (t : HandleTable) (k : ℕ) (kind : ℕ → K
   pub taken : take_lowest s k (kind x) (cleared k gap.blocks) ≡ Some blocks
   pub is : filled gap blocks ≡ new
 
+-- and what was placed has them
 pub placed_fixed-parts : (s : Shape) (t : HandleTable) (k : ℕ) (kind : ℕ → Kind) (m : ZoneMap) (x : ℕ) (new : ZoneMap) → placed_fixed s t k kind m ≡ Some (x, new) → PlacedFixed s t k kind m x new
 placed_fixed-parts s t k kind m x new h =
     let found = option_and_then-Some (λ (g : Gap). option_map (λ blocks. (contents_at_gap s g, filled g blocks)) (take_lowest s k (kind (contents_at_gap s g)) (cleared k g.blocks))) (lowest_gap k (gaps t m)) (x, new) h in

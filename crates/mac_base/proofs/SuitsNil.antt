@@ -1,13 +1,13 @@
 -- Where a map suits a table, no block is of the number nil, and none of a number that isn't live.
-use Rattle.std.proofs.Common.{◌≡◌, ℕ, zero, suc, ◌+◌, ◌<◌, ◌≤◌, Bool, true, false, not, cond, List, [], ◌∷◌, ◌++◌, length, refl, ap, sym, ◌∙◌, subst, inl, inr, arith, Some, None, Option, get_or}
-use Rattle.std.specs.Prelude.{◌&&◌, ◌⊎◌, IsTrue, Contains, map, flat_map, nat_lt}
+use Rattle.std.proofs.Common.{◌≡◌, ℕ, zero, suc, ◌+◌, ◌<◌, Bool, true, false, cond, List, [], ◌∷◌, ◌++◌, length, refl, ap, sym, ◌∙◌, inl, inr, arith, Some, None, Option, get_or}
+use Rattle.std.specs.Prelude.{◌⊎◌, Contains, map, flat_map, nat_lt}
 use Rattle.std.specs.List.{list_all}
 use Rattle.std.proofs.lemmas.Bool.{and_from, and_parts, lt-ltb, ltb-true, true≢false, false≢true, cases_Bool, false_from_ne_true}
 use Rattle.std.proofs.lemmas.List.{nil_from_length}
 use Rattle.std.proofs.lemmas.List.Folds.{list_all-append}
 use Rattle.mac_base.specs.declared.block.Kind.{Kind}
-use Rattle.mac_base.specs.HeadKind.{Shape, zone_header, head_size, slot_count}
-use Rattle.mac_base.specs.ZoneMap.{ZoneMap, is_named, is_master, sizes, address_behind, addresses_from, addresses, contents_addresses}
+use Rattle.mac_base.specs.HeadKind.{Shape, head_size, slot_count}
+use Rattle.mac_base.specs.ZoneMap.{ZoneMap, is_named, is_master, sizes, address_behind, addresses_from, contents_addresses}
 use Rattle.mac_base.specs.HandleTable.{HandleTable, Live, EmptyHandle, FullHandle, Pointer, live_at, live_full, live_handle, live_pointer, is_full, is_handle, is_pointer}
 use Rattle.mac_base.specs.Suits.{Suits, slots_from, slots, is_pointer_block}
 use Rattle.mac_base.proofs.SuitsNamed.{length-sizes_of}
@@ -26,9 +26,9 @@ positive-contains (n ∷ ns) x h c = let parts = and_parts (nat_lt 0 n) (all_pos
 positive-addresses : (at head : ℕ) (test : Kind → Bool) (m : ZoneMap) → 0 < at → all_positive (map (λ at. at + head) (addresses_from at test m)) ≡ true
 positive-addresses at head test [] h = refl
 positive-addresses at head test (e ∷ es) h = elim (test e.kind) as (λ c. all_positive (map (λ at. at + head) (cond c (at ∷ []) [] ++ addresses_from (at + e.size) test es)) ≡ true) [
-      | true ↦ and_from (nat_lt 0 (at + head)) (all_positive (map (λ at. at + head) (addresses_from (at + e.size) test es))) (lt-ltb 0 (at + head) (omega arith)) (positive-addresses (at + e.size) head test es (omega arith))
-      | false ↦ positive-addresses (at + e.size) head test es (omega arith)
-    ]
+  | true ↦ and_from (nat_lt 0 (at + head)) (all_positive (map (λ at. at + head) (addresses_from (at + e.size) test es))) (lt-ltb 0 (at + head) (omega arith)) (positive-addresses (at + e.size) head test es (omega arith))
+  | false ↦ positive-addresses (at + e.size) head test es (omega arith)
+]
 
 positive-contents : (s : Shape) (test : Kind → Bool) (m : ZoneMap) → all_positive (contents_addresses s test m) ≡ true
 positive-contents s test m = positive-addresses (address_behind s []) (head_size s.heads) test m (omega arith)

@@ -1,5 +1,5 @@
 -- What a walk over the blocks reports of them.
-use Rattle.std.proofs.Common.{◌≡◌, ℕ, zero, suc, ◌+◌, ◌<◌, Bool, true, false, cond, List, [], ◌∷◌, length, get_or, drop, Some, Option, refl, ap, sym, ◌∙◌, arith}
+use Rattle.std.proofs.Common.{◌≡◌, ℕ, zero, suc, ◌+◌, ◌<◌, Bool, true, false, cond, List, [], ◌∷◌, length, get_or, drop, Some, refl, ap, sym, ◌∙◌, arith}
 use Rattle.std.specs.Prelude.{find, ◌==◌}
 use Rattle.std.specs.Ordering.{nat_cmp, eq_by_cmp}
 use Rattle.std.specs.FinMap as map
@@ -10,7 +10,7 @@ use Rattle.mac_base.specs.declared.block.Kind.{Kind}
 use Rattle.mac_base.specs.declared.block.Kind.TheVariants.{Free, Master, Ptr, Rel}
 use Rattle.mac_base.specs.HeadKind.{Shape}
 use Rattle.mac_base.specs.ZoneMap.{ZoneMap, addresses_from, address_behind}
-use Rattle.mac_base.specs.HandleTable.{HandleTable, Live, live_pointer, live_flags, is_pointer, flags_of, no_flags, bytes_of}
+use Rattle.mac_base.specs.HandleTable.{HandleTable, live_flags, is_pointer, no_flags, bytes_of}
 use Rattle.mac_base.specs.Suits.{Suits, is_pointer_block, wanted_length}
 use Rattle.mac_base.specs.Reply.{block_flags, reports_from}
 use Rattle.mac_base.proofs.Owners.{nothing_passes, no_pointer_block}
@@ -20,36 +20,20 @@ use Rattle.zone_heap.specs.declared.slots.Slot.TheVariants as slot
 use Rattle.zone_heap.specs.Slot.{length_from, owners_length}
 use Rattle.zone_heap.specs.Places.{first_slot, live_in, told_from, listed, table_of}
 
--- slots say nothing of pointers, and nothing of flags
-record IsPlain (o : Option Live) : Type 0 where
-  pub no_pointer : live_pointer o ≡ false
-  pub no_flag : live_flags o ≡ no_flags
+-- no slot says anything of flags
+flags-listed : (s : Shape) (m : ZoneMap) (bytes : List ℕ) (at x : ℕ) (slots : List Slot) → live_flags (map.find nat_cmp x (listed at (told_from s m bytes at slots))) ≡ no_flags
+flags-listed s m bytes at x [] = refl
+flags-listed s m bytes at x (slot.Free ∷ slots) = flags-listed s m bytes (at + 4) x slots
+flags-listed s m bytes at x (slot.Full n ∷ slots) =
+    elim (eq_by_cmp nat_cmp x at) as (λ b. live_flags (cond b (live_in s m bytes at (slot.Full n)) (map.find nat_cmp x (listed (at + 4) (told_from s m bytes (at + 4) slots)))) ≡ no_flags)
+    [ true ↦ refl | false ↦ flags-listed s m bytes (at + 4) x slots ]
 
-plain-listed : (s : Shape) (m : ZoneMap) (bytes : List ℕ) (at x : ℕ) (slots : List Slot) → IsPlain (map.find nat_cmp x (listed at (told_from s m bytes at slots)))
-plain-listed s m bytes at x [] = record { no_pointer = refl; no_flag = refl }
-plain-listed s m bytes at x (slot.Free ∷ slots) = plain-listed s m bytes (at + 4) x slots
-plain-listed s m bytes at x (slot.Full n ∷ slots) = by_test (eq_by_cmp nat_cmp x at) (live_in s m bytes at (slot.Full n)) (record { no_pointer = refl; no_flag = refl }) (plain-listed s m bytes (at + 4) x slots)
-  where
-    by_test : (b : Bool) (here : Option Live) → IsPlain here → IsPlain (map.find nat_cmp x (listed (at + 4) (told_from s m bytes (at + 4) slots)))
-        → IsPlain (cond b here (map.find nat_cmp x (listed (at + 4) (told_from s m bytes (at + 4) slots))))
-    by_test true here plain rest = plain
-    by_test false here plain rest = rest
-
-module _ (s : Shape) (m : ZoneMap) (bytes : List ℕ) (slots : List Slot) where
-  -- no number is a pointer of the table
-  pub is_pointer-table_of : (x : ℕ) → is_pointer (table_of s m bytes slots) x ≡ false
-  is_pointer-table_of x = (plain-listed s m bytes (first_slot s) x slots).no_pointer
-
-  -- and none has flags there
-  flags_of-table_of : (x : ℕ) → flags_of (table_of s m bytes slots) x ≡ no_flags
-  flags_of-table_of x = (plain-listed s m bytes (first_slot s) x slots).no_flag
-
-  -- so no block has flags
-  pub block_flags-table_of : (kind : Kind) → block_flags (table_of s m bytes slots) kind ≡ no_flags
-  block_flags-table_of Free = refl
-  block_flags-table_of Master = refl
-  block_flags-table_of (Ptr p) = refl
-  block_flags-table_of (Rel h) = flags_of-table_of h
+-- so no block has flags
+pub block_flags-table_of : (s : Shape) (m : ZoneMap) (bytes : List ℕ) (slots : List Slot) (kind : Kind) → block_flags (table_of s m bytes slots) kind ≡ no_flags
+block_flags-table_of s m bytes slots Free = refl
+block_flags-table_of s m bytes slots Master = refl
+block_flags-table_of s m bytes slots (Ptr p) = refl
+block_flags-table_of s m bytes slots (Rel h) = flags-listed s m bytes (first_slot s) h slots
 
 -- where no block passes a test, the one at a place doesn't
 addresses_from-nothing : (at : ℕ) (test : Kind → Bool) (m : ZoneMap) (i : ℕ) (e : Entry) → addresses_from at test m ≡ [] → i < length m → e ≡ get_or m i e → test e.kind ≡ false

@@ -8,6 +8,8 @@ pub mod NewZone
 pub mod NamedBlock
 pub mod HandlePlace
 pub mod KeptBytes
-pub mod Releasing
-pub mod Entries
 pub mod PlacingBlock
+pub mod WritingBlock
+pub mod Releasing
+pub mod ReleasingHeap
+pub mod Entries

@@ -1,34 +1,17 @@
--- A handle is disposed of: where its block is, and what the zone map becomes.
-use Rattle.std.proofs.Common.{◌≡◌, ℕ, zero, suc, ◌+◌, ◌<◌, Bool, true, false, not, cond, [], ◌∷◌, ◌++◌, length, get_or, set, Some, refl, ap, sym, ◌∙◌, arith, IsSome}
+-- A handle is disposed of: what the zone map becomes.
+use Rattle.std.proofs.Common.{◌≡◌, ℕ, zero, suc, ◌+◌, true, false, not, cond, [], ◌∷◌, ◌++◌, length, get_or, set, Some, refl, ap, sym, ◌∙◌, arith}
 use Rattle.std.specs.Prelude.{position}
-use Rattle.std.specs.List.{position_or_len}
-use Rattle.std.proofs.lemmas.Bool.Decides.{nat_tests}
-use Rattle.std.proofs.lemmas.List.Quantifiers.{position-Some}
 use Rattle.mac_base.specs.declared.block.Entry.{Entry}
 use Rattle.mac_base.specs.declared.block.Kind.{Kind}
 use Rattle.mac_base.specs.declared.block.Kind.TheVariants.{Free, Master, Ptr, Rel}
 use Rattle.mac_base.specs.HeadKind.{Shape}
-use Rattle.mac_base.specs.ZoneMap.{ZoneMap, block, is_named, addresses_from, address_behind, addresses, joined, released}
-use Rattle.mac_base.specs.HandleTable.{HandleTable, is_full as full_in, is_pointer}
+use Rattle.mac_base.specs.ZoneMap.{ZoneMap, block, is_named, addresses_from, address_behind, joined, released}
+use Rattle.mac_base.specs.HandleTable.{HandleTable, is_full, is_pointer}
 use Rattle.mac_base.specs.Suits.{Suits, is_handle_block, is_pointer_block}
 use Rattle.mac_base.proofs.Maps.{both_true, true_not}
-use Rattle.mac_base.proofs.Owners.{none_named, named_handle, nothing_passes, no_length, none_named-from, no_pointer_block}
-use Rattle.mac_base.proofs.SuitsReleased.{freed, none_passes}
-use Rattle.zone_heap.proofs.NamedBlock.{FirstAt, FirstAt-position}
-
--- where a handle has a block, a search for its name finds one
-position-named : (at h : ℕ) (m : ZoneMap) → 0 < length (addresses_from at (is_handle_block h) m) → position_or_len (λ (e : Entry). is_named h e.kind) m < length m
-position-named at h [] some = absurd (omega arith)
-position-named at h (e ∷ es) some = by_test (is_named h e.kind) refl (position-named (at + e.size) h es)
-  where
-    by_test : (b : Bool) → is_named h e.kind ≡ b → (0 < length (addresses_from (at + e.size) (is_handle_block h) es) → position_or_len (λ (e : Entry). is_named h e.kind) es < length es)
-        → cond (not b) (1 + position_or_len (λ (e : Entry). is_named h e.kind) es) 0 < suc (length es)
-    by_test true is rest = omega arith
-    by_test false is rest =
-        let other : is_handle_block h e.kind ≡ false = none_passes (is_handle_block h e.kind) (λ same. cc (named_handle h e.kind same, is)) in
-        let skip : addresses_from at (is_handle_block h) (e ∷ es) ≡ addresses_from (at + e.size) (is_handle_block h) es = ap (λ b. cond b (at ∷ []) [] ++ addresses_from (at + e.size) (is_handle_block h) es) other in
-        let below = rest (let same = ap length skip in omega arith) in
-        omega arith
+use Rattle.mac_base.proofs.Owners.{none_named, nothing_passes, no_length, none_named-from, no_pointer_block}
+use Rattle.mac_base.proofs.SuitsReleased.{freed}
+use Rattle.zone_heap.proofs.NamedBlock.{FirstAt, FirstAt-found}
 
 -- what names no block frees none
 freed-none : (h : ℕ) (m : ZoneMap) → none_named h m ≡ true → freed h m ≡ m
@@ -43,6 +26,13 @@ handle_block-named h Free named other = absurd (cc named)
 handle_block-named h Master named other = absurd (cc named)
 handle_block-named h (Ptr p) named other = absurd (cc (named, other))
 handle_block-named h (Rel g) named other = named
+
+-- and a block that is not named is none
+no_handle_block-unnamed : (h : ℕ) (kind : Kind) → is_named h kind ≡ false → is_handle_block h kind ≡ false
+no_handle_block-unnamed h Free other = refl
+no_handle_block-unnamed h Master other = refl
+no_handle_block-unnamed h (Ptr p) other = refl
+no_handle_block-unnamed h (Rel g) other = other
 
 -- a handle that has one block frees the one at its place
 freed-first_from : (at h : ℕ) (m : ZoneMap) (i : ℕ) (e : Entry) → FirstAt h m i e → length (addresses_from at (is_handle_block h) m) ≡ 1 → addresses_from at (is_pointer_block h) m ≡ [] → freed h m ≡ set m i (block Free e.size)
@@ -59,39 +49,15 @@ freed-first_from at h (f ∷ es) zero e first one none =
 freed-first_from at h (f ∷ es) (suc i) e first one none =
     let other : is_named h f.kind ≡ false = first.before 0 (omega arith) in
     let pointers = nothing_passes (is_pointer_block h f.kind) at (addresses_from (at + f.size) (is_pointer_block h) es) none in
-    let no_handle : is_handle_block h f.kind ≡ false = none_passes (is_handle_block h f.kind) (λ same. cc (named_handle h f.kind same, other)) in
+    let no_handle : is_handle_block h f.kind ≡ false = no_handle_block-unnamed h f.kind other in
     let skip : addresses_from at (is_handle_block h) (f ∷ es) ≡ addresses_from (at + f.size) (is_handle_block h) es = ap (λ b. cond b (at ∷ []) [] ++ addresses_from (at + f.size) (is_handle_block h) es) no_handle in
     let behind : FirstAt h es i e = record { within = omega (arith, first.within); here = first.here; named = first.named; before = λ j below. first.before (suc j) (omega arith) } in
     ap (λ b. cond b (block Free f.size) f ∷ freed h es) other
     ∙ ap (λ es. f ∷ es) (freed-first_from (at + f.size) h es i e behind (sym (ap length skip) ∙ one) pointers.1)
 
-module _ (s : Shape) (t : HandleTable) (m : ZoneMap) (h : ℕ) (suits : Suits s t m) (full : full_in t h ≡ true) where
-  one_block : length (addresses s (is_handle_block h) m) ≡ 1
-  one_block = suits.handles h ∙ ap (λ b. cond b 1 0) full
-
-  -- a full handle has a block
-  pub position-full : position_or_len (λ (e : Entry). is_named h e.kind) m < length m
-  position-full = position-named (address_behind s []) h m (let one = one_block in omega arith)
-
-  -- and to release it is to free the block at its place, and to join it
-  released-first : (i : ℕ) (e : Entry) → is_pointer t h ≡ false → FirstAt h m i e → released h m ≡ joined (set m i (block Free e.size))
-  released-first i e no_pointer first = ap joined (freed-first_from (address_behind s []) h m i e first one_block (no_pointer_block s t m suits h no_pointer))
-
--- where a search over all blocks finds one, it says its place
-pub IsSome-position : (p : Entry → Bool) (m : ZoneMap) → position_or_len p m < length m → IsSome (position p m)
-IsSome-position p m below = grind (arith, nat_tests)
-
--- an element read is the same whatever the default is
-get_or-again : (m : ZoneMap) (i : ℕ) (d : Entry) → i < length m → get_or m i d ≡ get_or m i (get_or m i d)
-get_or-again [] i d within = absurd (omega arith)
-get_or-again (e ∷ es) zero d within = refl
-get_or-again (e ∷ es) (suc i) d within = get_or-again es i d (omega arith)
-
 -- to free the block that a search finds, and to join it, is to release the handle
-pub released-found : (s : Shape) (t : HandleTable) (m new : ZoneMap) (h at : ℕ) → Suits s t m → full_in t h ≡ true → is_pointer t h ≡ false → position (λ (e : Entry). is_named h e.kind) m ≡ Some at
+pub released-found : (s : Shape) (t : HandleTable) (m new : ZoneMap) (h at : ℕ) → Suits s t m → is_full t h ≡ true → is_pointer t h ≡ false → position (λ (e : Entry). is_named h e.kind) m ≡ Some at
     → ((d : Entry) → new ≡ joined (set m at (block Free (get_or m at d).size))) → new ≡ released h m
 released-found s t m new h at suits full no_pointer found freed =
-    let d : Entry = block Free 0 in
-    let within : at < length m = (position-Some (λ (e : Entry). is_named h e.kind) m at d found).0 in
-    let first = FirstAt-position h m at (get_or m at d) found (get_or-again m at d within) in
-    freed d ∙ sym (released-first s t m h suits full at (get_or m at d) no_pointer first)
+    freed (block Free 0)
+    ∙ sym (ap joined (freed-first_from (address_behind s []) h m at (get_or m at (block Free 0)) (FirstAt-found h m at found) (suits.handles h ∙ ap (λ b. cond b 1 0) full) (no_pointer_block s t m suits h no_pointer)))

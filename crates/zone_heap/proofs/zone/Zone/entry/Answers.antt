@@ -9,7 +9,8 @@ use Rattle.mac_base.specs.Reply.{block_flags, reports_from}
 use Rattle.zone_heap.specs.Slot.{owners_length}
 use Rattle.zone_heap.specs.Places.{first_slot}
 use Rattle.zone_heap.specs.Zone.{heap_of}
-use Rattle.zone_heap.proofs.Entries.{find-here, wanted_length-owners, is_pointer-table_of, block_flags-table_of}
+use Rattle.zone_heap.proofs.Told.{handles_alone}
+use Rattle.zone_heap.proofs.Entries.{find-here, wanted_length-owners, block_flags-table_of}
 use Rattle.zone_heap.proofs.zone.Zone.entry.Goals as goal
 
 pub returns-then-address-at : goal.returns-then-address-at
@@ -22,7 +23,7 @@ returns-then-address-at c =
     let blocks : c.deref-entry-items.result.now ≡ m = c.deref-entry-items.ensures.value in
     let within : c.loop-entry.entry-index < length m = omega (arith, ap length blocks) in
     let here : e ≡ get_or m c.loop-entry.entry-index e = c.entry-item.is ∙ ap (λ m. get_or m c.loop-entry.entry-index e) blocks in
-    let wanted = wanted_length-owners s t m slots (first_slot s) c.self.invariant.sound.suits (is_pointer-table_of s m c.self.inside.memory slots) c.self.invariant.whole c.loop-entry.entry-index e within here in
+    let wanted = wanted_length-owners s t m slots (first_slot s) c.self.invariant.sound.suits (handles_alone s m c.self.inside.memory slots).no_pointer c.self.invariant.whole c.loop-entry.entry-index e within here in
     let long : c.contents_length-length.result ≡ wanted_length c.args.self.now.heap.table e.kind =
     c.contents_length-length.ensures ∙ ap (λ slots. owners_length slots c.first_slot.result e.kind) c.deref.ensures.value ∙ ap (λ first. owners_length slots first e.kind) c.first_slot.ensures
     ∙ sym wanted ∙ ap (λ (z : ZoneState). wanted_length z.heap.table e.kind) c.self.view_is in
