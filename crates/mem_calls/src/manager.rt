@@ -5,7 +5,7 @@ use mac_base::size::MAX_SIZE;
 use mac_base::zone_spec::ZoneSpec;
 use std::alloc::Global;
 use std::marker::Model;
-use zone_heap::Zone;
+use zone_heap::{NoRoom, Zone};
 
 /// The Memory Manager with its zone. Contracts see the zone's shape and its heap. No call takes host memory after
 /// `create`.
@@ -57,7 +57,10 @@ impl MemoryManager {
         if size > MAX_SIZE {
             return Err(OsErr::ParamErr);
         }
-        self.zone.place_rel(size).map_err(|_| OsErr::MemFullErr)
+        match self.zone.place_rel(size) {
+            Ok(handle) => Ok(handle),
+            Err(NoRoom) => Err(OsErr::MemFullErr),
+        }
     }
 
     /// DisposeHandle: the handle's block is free and its slot is the next to be given. nilHandleErr where the handle

@@ -1,6 +1,6 @@
 -- Where a live handle's slot and block stand.
 use Rattle.std.proofs.Common.{◌≡◌, ℕ, zero, suc, ◌+◌, ◌-◌, ◌*◌, ◌<◌, ◌≤◌, Bool, true, false, not, cond, List, [], ◌∷◌, ◌++◌, length, get_or, take, drop, Some, None, Option, refl, ap, sym, ◌∙◌, arith, subst, IsSome, IsTrue, Contains, max}
-use Rattle.std.specs.Prelude.{position, nat_lt, if◌then◌else◌, IfNone}
+use Rattle.std.specs.Prelude.{position, nat_lt, ◌||◌, if◌then◌else◌, IfNone}
 use Rattle.std.specs.List.{prefix_len}
 use Rattle.std.proofs.lemmas.Bool.Decides.{nat_tests}
 use Rattle.mac_base.specs.declared.block.Entry.{Entry}
@@ -9,7 +9,9 @@ use Rattle.mac_base.specs.declared.block.HeadKind.TheVariants.{Bits24}
 use Rattle.mac_base.specs.HeadKind.{Shape, need, head_size, zone_header, slot_count}
 use Rattle.mac_base.specs.ZoneMap.{ZoneMap, is_named, total_size, addresses_from, addresses, address_behind, contents_of}
 use Rattle.mac_base.specs.ZoneSizes.{shape_of}
-use Rattle.mac_base.specs.HandleTable.{HandleTable, is_handle, is_full, bytes_of, live_bytes}
+use Rattle.mac_base.specs.HandleTable.{HandleTable, is_handle, is_full, is_pointer, is_lent, bytes_of, live_bytes}
+use Rattle.mac_base.specs.BlockStatus.{status_of}
+use Rattle.mac_base.specs.declared.block.Status.TheVariants.{NotLive, Empty, Lent, Full}
 use Rattle.mac_base.specs.Suits.{Suits, is_handle_block, slots_from, slots}
 use Rattle.mac_base.specs.Heap.{Heap}
 use Rattle.mac_base.specs.Sound.{Sound}
@@ -45,6 +47,15 @@ slot-place n at h is = record { index = is.0; within = omega (arith, long-slots_
 -- a live handle is one of the zone's slots
 pub live-slot : (z : Inside) → IsZone z → (h : ℕ) → is_handle (heap_of z).table h ≡ true → IsSlot slot_count (first_slot (shape_of z.spec)) h
 live-slot z zone h live = slot-place slot_count (first_slot (shape_of z.spec)) h (subst (λ (xs : List ℕ). Contains xs h) zone.master (zone.sound.suits.in_slots h live))
+
+-- a number with a block is a live handle: no pointer is live
+pub full-live : (z : Inside) (h : ℕ) → status_of (heap_of z).table h ≡ Full → is_handle (heap_of z).table h ≡ true
+full-live z h full = by_tests (is_handle (heap_of z).table h) (is_pointer (heap_of z).table h) refl ((handles_alone (shape_of z.spec) z.entries.items z.memory z.slots.items).no_pointer h) full
+  where
+    by_tests : (b p : Bool) → is_handle (heap_of z).table h ≡ b → p ≡ false → cond (b || p) (cond (is_full (heap_of z).table h || p) (cond (is_lent (heap_of z).table h) Lent Full) Empty) NotLive ≡ Full → is_handle (heap_of z).table h ≡ true
+    by_tests true p is none full = is
+    by_tests false true is none full = absurd (cc none)
+    by_tests false false is none full = absurd (cc full)
 
 -- so a search for it is not in vain
 pub found-slot : (first h : ℕ) (found : Option ℕ) → IsSlot slot_count first h → IfNone found ((i : ℕ) → i < slot_count → h ≡ first + 4 * i → ⊥) → IsSome found

@@ -9,7 +9,7 @@ ghost use Rattle.zone_heap.specs.Places.{first_slot};
 use crate::blocks::{first_fit, free_at, place_of, take_first_fit, total_size};
 use crate::memory::Memory;
 use crate::slots::{Slot, contents_length, new_slots, slot_index};
-use mac_base::block::{Block, Entry, Flags, Kind};
+use mac_base::block::{Block, Entry, Flags, Kind, Status};
 use mac_base::error::HostFull;
 use mac_base::handle::Handle;
 use mac_base::size::{MASTER_LENGTH, SLOT_COUNT, ZONE_HEADER, need};
@@ -50,7 +50,7 @@ impl Zone {
     ghost use Rattle.std.specs.Prelude.{◌≡◌, ◌≤◌, IfOk, IsTrue, MatchResult, Some, None, []};
     ghost use Rattle.mac_base.specs.ZoneMap.{address_behind};
     ghost use Rattle.std.specs.Borrow.{sem};
-    ghost use Rattle.mac_base.specs.BlockStatus.{HandlesAlone};
+    ghost use Rattle.mac_base.specs.BlockStatus.{HandlesAlone, status_of};
     ghost use Rattle.mac_base.specs.HandleTable.{is_handle, bytes_of};
     ghost use Rattle.mac_base.specs.Heap.{new_heap};
     ghost use Rattle.mac_base.specs.MemoryCall.{max_size};
@@ -100,7 +100,8 @@ impl Zone {
     /// exactly where no free block has room or no slot is free, and then nothing has changed.
     pub fn place_rel(&mut self, length: u32) -> Result<Handle, NoRoom>
         requires { length ≤ max_size }
-        ensures { MatchResult result
+        ensures sound { Sound self.old.shape self.old.heap }
+        ensures placed { MatchResult result
             (λ handle. (placed_lowest self.old.shape length self.old.heap ≡ Some (handle, self.new.heap)) × (self.new.shape ≡ self.old.shape))
             (λ _. (placed_lowest self.old.shape length self.old.heap ≡ None) × (self.new ≡ self.old)) }
     {
@@ -134,9 +135,9 @@ impl Zone {
         self.free_slots.insert(0, handle).unwrap();
     }
 
-    /// The bytes of a live handle.
+    /// The bytes of a handle that has a block.
     pub fn bytes(&self, handle: Handle) -> &[u8]
-        requires { IsTrue (is_handle self.now.heap.table handle) }
+        requires { status_of self.now.heap.table handle ≡ Status.Full }
         ensures { result.now ≡ bytes_of self.now.heap.table handle }
     {
         let index = slot_index(first_slot(self.spec), handle).unwrap();
@@ -146,9 +147,9 @@ impl Zone {
             .bytes(start, self.slots[index].length() as usize)
     }
 
-    /// The bytes of a live handle, to be written.
+    /// The bytes of a handle that has a block, to be written.
     pub fn bytes_mut(&mut self, handle: Handle) -> &mut [u8]
-        requires live { IsTrue (is_handle self.old.heap.table handle) }
+        requires full { status_of self.old.heap.table handle ≡ Status.Full }
         ensures* writes_back { sem 𝓛 (LendsBytes self.entry handle result) }
         ensures value { result.now ≡ bytes_of self.old.heap.table handle }
     {

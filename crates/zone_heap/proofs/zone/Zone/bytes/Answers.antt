@@ -5,23 +5,25 @@ use Rattle.mac_base.specs.HeadKind.{Shape, zone_header, head_size, slot_count}
 use Rattle.mac_base.specs.ZoneMap.{is_named, total_size, contents_of}
 use Rattle.mac_base.specs.ZoneSizes.{shape_of}
 use Rattle.mac_base.specs.ZoneState.{ZoneState}
+use Rattle.mac_base.specs.BlockStatus.{status_of}
+use Rattle.mac_base.specs.declared.block.Status.TheVariants.{Full}
 use Rattle.mac_base.specs.HandleTable.{is_handle, bytes_of}
 use Rattle.raw_region.specs.Bytes.{part}
 use Rattle.zone_heap.specs.Slot.{slot_length}
 use Rattle.zone_heap.specs.Places.{first_slot}
 use Rattle.zone_heap.specs.Zone.{heap_of}
 use Rattle.zone_heap.proofs.NamedBlock.{FirstAt-found}
-use Rattle.zone_heap.proofs.HandlePlace.{IsSlot, Contents, live-slot, found-slot, live-block, contents-at, bytes_of-slot, length-bytes_of}
+use Rattle.zone_heap.proofs.HandlePlace.{full-live, IsSlot, Contents, live-slot, found-slot, live-block, contents-at, bytes_of-slot, length-bytes_of}
 use Rattle.zone_heap.proofs.zone.Zone.bytes.Goals as goal
 
 pub unwrap-index-requires : goal.unwrap-index-requires
 unwrap-index-requires c =
-    let live : is_handle (heap_of c.self.inside).table c.args.handle ≡ true = subst (λ (z : ZoneState). is_handle z.heap.table c.args.handle ≡ true) (sym c.self.view_is) c.requires in
+    let live : is_handle (heap_of c.self.inside).table c.args.handle ≡ true = full-live c.self.inside c.args.handle (subst (λ (z : ZoneState). status_of z.heap.table c.args.handle ≡ Full) (sym c.self.view_is) c.requires) in
     found-slot _ c.args.handle c.slot_index.result (subst (λ first. IsSlot slot_count first c.args.handle) (sym c.first_slot.ensures) (live-slot c.self.inside c.self.invariant c.args.handle live)) c.slot_index.ensures.none
 
 pub unwrap-at-requires : goal.unwrap-at-requires
 unwrap-at-requires c =
-    let live : is_handle (heap_of c.self.inside).table c.args.handle ≡ true = subst (λ (z : ZoneState). is_handle z.heap.table c.args.handle ≡ true) (sym c.self.view_is) c.requires in
+    let live : is_handle (heap_of c.self.inside).table c.args.handle ≡ true = full-live c.self.inside c.args.handle (subst (λ (z : ZoneState). status_of z.heap.table c.args.handle ≡ Full) (sym c.self.view_is) c.requires) in
     live-block c.self.inside c.self.invariant c.args.handle live c.place_of.result (c.place_of.ensures ∙ ap (position (λ (e : Entry). is_named c.args.handle e.kind)) c.deref.ensures.value)
 
 pub contents_start-start-requires-clause-fits : goal.contents_start-start-requires-clause-fits

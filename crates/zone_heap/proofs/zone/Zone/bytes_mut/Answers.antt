@@ -6,6 +6,8 @@ use Rattle.mac_base.specs.ZoneMap.{block, is_named, total_size, contents_of}
 use Rattle.mac_base.specs.declared.block.Kind.TheVariants.{Free}
 use Rattle.mac_base.specs.ZoneSizes.{shape_of}
 use Rattle.mac_base.specs.ZoneState.{ZoneState, with_contents}
+use Rattle.mac_base.specs.BlockStatus.{status_of}
+use Rattle.mac_base.specs.declared.block.Status.TheVariants.{Full}
 use Rattle.mac_base.specs.HandleTable.{is_handle, bytes_of}
 use Rattle.raw_region.specs.Bytes.{part}
 use Rattle.zone_heap.specs.Slot.{slot_length}
@@ -14,17 +16,17 @@ use Rattle.zone_heap.specs.Zone.{heap_of}
 use Rattle.zone_heap.proofs.NamedBlock.{FirstAt-found}
 use Rattle.zone_heap.proofs.WritingBlock.{WritesIn, writes-from, heap-written, bytes-before, sound-bytes, whole-written}
 use Rattle.raw_region.specs.Bytes.{length-written}
-use Rattle.zone_heap.proofs.HandlePlace.{IsSlot, Contents, live-slot, found-slot, live-block, contents-at, bytes_of-slot, length-bytes_of}
+use Rattle.zone_heap.proofs.HandlePlace.{full-live, IsSlot, Contents, live-slot, found-slot, live-block, contents-at, bytes_of-slot, length-bytes_of}
 use Rattle.zone_heap.proofs.zone.Zone.bytes_mut.Goals as goal
 
 pub unwrap-index-requires : goal.unwrap-index-requires
 unwrap-index-requires c =
-    let live : is_handle (heap_of c.self.inside).table c.args.handle ≡ true = subst (λ (z : ZoneState). is_handle z.heap.table c.args.handle ≡ true) (sym c.self.view_is) c.requires.live in
+    let live : is_handle (heap_of c.self.inside).table c.args.handle ≡ true = full-live c.self.inside c.args.handle (subst (λ (z : ZoneState). status_of z.heap.table c.args.handle ≡ Full) (sym c.self.view_is) c.requires.full) in
     found-slot _ c.args.handle c.slot_index.result (subst (λ first. IsSlot slot_count first c.args.handle) (sym c.first_slot.ensures) (live-slot c.self.inside c.self.invariant c.args.handle live)) c.slot_index.ensures.none
 
 pub unwrap-at-requires : goal.unwrap-at-requires
 unwrap-at-requires c =
-    let live : is_handle (heap_of c.self.inside).table c.args.handle ≡ true = subst (λ (z : ZoneState). is_handle z.heap.table c.args.handle ≡ true) (sym c.self.view_is) c.requires.live in
+    let live : is_handle (heap_of c.self.inside).table c.args.handle ≡ true = full-live c.self.inside c.args.handle (subst (λ (z : ZoneState). status_of z.heap.table c.args.handle ≡ Full) (sym c.self.view_is) c.requires.full) in
     live-block c.self.inside c.self.invariant c.args.handle live c.place_of.result (c.place_of.ensures ∙ ap (position (λ (e : Entry). is_named c.args.handle e.kind)) c.deref.ensures.value)
 
 pub contents_start-start-requires-clause-fits : goal.contents_start-start-requires-clause-fits
@@ -35,7 +37,7 @@ writes : (c : goal.After-bytes_mut) → WritesIn c.self.inside c.args.handle c.u
 writes c =
     let found = rw c.unwrap-index.ensures at c.slot_index.ensures.found in
     writes-from c.self.inside c.self.invariant c.args.handle c.unwrap-index.result c.unwrap-at.result c.contents_start-start.result c.length-length.result c.index.result.now
-    (subst (λ (z : ZoneState). is_handle z.heap.table c.args.handle ≡ true) (sym c.self.view_is) c.requires.live)
+    (full-live c.self.inside c.args.handle (subst (λ (z : ZoneState). status_of z.heap.table c.args.handle ≡ Full) (sym c.self.view_is) c.requires.full))
     (omega (arith, found.0, c.self.invariant.all_slots))
     (found.1 ∙ ap (λ first. first + 4 * c.unwrap-index.result) c.first_slot.ensures)
     (sym (c.place_of.ensures ∙ ap (position (λ (e : Entry). is_named c.args.handle e.kind)) c.deref.ensures.value) ∙ c.unwrap-at.ensures)
@@ -46,7 +48,7 @@ pub bytes_mut-requires : goal.bytes_mut-requires
 bytes_mut-requires c =
     let found = rw c.unwrap-index.ensures at c.slot_index.ensures.found in
     let w = writes-from c.self.inside c.self.invariant c.args.handle c.unwrap-index.result c.unwrap-at.result c.contents_start-start.result c.length-length.result c.index.result.now
-    (subst (λ (z : ZoneState). is_handle z.heap.table c.args.handle ≡ true) (sym c.self.view_is) c.requires.live)
+    (full-live c.self.inside c.args.handle (subst (λ (z : ZoneState). status_of z.heap.table c.args.handle ≡ Full) (sym c.self.view_is) c.requires.full))
     (omega (arith, found.0, c.self.invariant.all_slots))
     (found.1 ∙ ap (λ first. first + 4 * c.unwrap-index.result) c.first_slot.ensures)
     (sym (c.place_of.ensures ∙ ap (position (λ (e : Entry). is_named c.args.handle e.kind)) c.deref.ensures.value) ∙ c.unwrap-at.ensures)
@@ -74,7 +76,7 @@ pub returns : goal.returns
 returns c =
     let found = rw c.unwrap-index.ensures at c.slot_index.ensures.found in
     let w = writes-from c.self.inside c.self.invariant c.args.handle c.unwrap-index.result c.unwrap-at.result c.contents_start-start.result c.length-length.result c.index.result.now
-    (subst (λ (z : ZoneState). is_handle z.heap.table c.args.handle ≡ true) (sym c.self.view_is) c.requires.live)
+    (full-live c.self.inside c.args.handle (subst (λ (z : ZoneState). status_of z.heap.table c.args.handle ≡ Full) (sym c.self.view_is) c.requires.full))
     (omega (arith, found.0, c.self.invariant.all_slots))
     (found.1 ∙ ap (λ first. first + 4 * c.unwrap-index.result) c.first_slot.ensures)
     (sym (c.place_of.ensures ∙ ap (position (λ (e : Entry). is_named c.args.handle e.kind)) c.deref.ensures.value) ∙ c.unwrap-at.ensures)

@@ -17,8 +17,8 @@ use Rattle.zone_heap.proofs.HandlePlace.{IsSlot, found-slot}
 use Rattle.zone_heap.proofs.PlacingBlock.{Places, places-from, front-slot, twelve-each, placed-inside, placed_lowest-none, sound-fields, master-placed, used-placed, whole-placed, heap-placed, placed_lowest-is}
 use Rattle.zone_heap.proofs.zone.Zone.place_rel.Goals as goal
 
-pub returns-in_default : goal.returns-in_default
-returns-in_default c = (
+pub returns-in_default-clause-placed : goal.returns-in_default-clause-placed
+returns-in_default-clause-placed c = (
   rw (← c.self.view_is) (placed_lowest-none c.self.inside c.args.length c.need-needed.result c.need-needed.ensures (ap (position (has_free c.need-needed.result)) (sym c.deref.ensures.value) ∙ sym c.first_fit.ensures ∙ c.in_default.is)),
   refl,
 )
@@ -87,8 +87,8 @@ invariant_of-self c =
       slot_room = omega (arith, c.remove.ensures.capacity, c.self.invariant.slot_room);
     }
 
-pub returns : goal.returns
-returns c =
+pub returns-clause-placed : goal.returns-clause-placed
+returns-clause-placed c =
     let z = c.self.inside in let n = c.args.length in let h = c.in-Some-copied.handle in let i = c.unwrap-index.result in let place = c.in-Some.at in let start = c.contents_start-start.result in
     let hs = drop 1 z.free_slots.items in let m = c.take_first_fit.new.entries.items in
     (

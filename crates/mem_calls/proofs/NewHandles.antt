@@ -1,0 +1,66 @@
+-- NewHandle by the lowest free block is a step.
+use Rattle.std.proofs.Common.{◌≡◌, ℕ, ◌≤◌, Bool, true, false, cond, List, [], ◌∷◌, Some, None, Option, Ok, Err, refl, ap, sym, ◌∙◌, subst, arith}
+use Rattle.std.specs.Prelude.{option_map, slice_index, nat_le}
+use Rattle.std.specs.Option.{option_or}
+use Rattle.std.proofs.lemmas.Bool.Decides.{nat_tests}
+use Rattle.mac_base.specs.declared.error.OsErr.TheVariants.{ParamErr, MemFullErr}
+use Rattle.mac_base.specs.declared.block.Kind.TheVariants.{Rel}
+use Rattle.mac_base.specs.HeadKind.{Shape, need}
+use Rattle.mac_base.specs.ZoneMap.{ZoneMap}
+use Rattle.mac_base.specs.Heap.{Heap, front_slot, granted}
+use Rattle.mac_base.specs.Request.{NewBlock}
+use Rattle.mac_base.specs.Serve.{take_lowest}
+use Rattle.mac_base.specs.Sound.{Sound}
+use Rattle.mac_base.specs.MemoryCall.{NewHandle, refusal, max_size, unless_passed}
+use Rattle.mac_base.specs.Reply.{Number, Refused}
+use Rattle.mac_base.specs.MemoryStep.{StepBy}
+use Rattle.mac_base.specs.FirstRuns.{UnmovedRun}
+use Rattle.mac_base.specs.ExactStep.{has_none}
+use Rattle.mac_base.proofs.Steps.{step-NewHandle, step-NewHandle_no_slot, step-NewHandle_no_room}
+use Rattle.zone_heap.specs.Placed.{placed_lowest}
+
+-- the handle and the heap that a map gives
+abbrev placed_in : Heap → ℕ → ZoneMap → ℕ × Heap
+placed_in old n m = (front_slot old, granted (NewBlock n) (front_slot old) m old)
+
+-- what is placed, by the free slots and the map that is found
+abbrev placed_by : Heap → ℕ → List ℕ → Option ZoneMap → Option (ℕ × Heap)
+placed_by old n free found = cond (has_none free) None (option_map (placed_in old n) found)
+
+-- the front slot stands in front
+front_is : (old : Heap) (x : ℕ) (xs : List ℕ) → old.free_slots ≡ x ∷ xs → old.free_slots ≡ front_slot old ∷ xs
+front_is old x xs front = front ∙ ap (λ y. y ∷ xs) (sym (ap (λ (free : List ℕ). slice_index free 0) front))
+
+-- what is placed is what the call gives
+pub step-placed : (s : Shape) (old new : Heap) (n h : ℕ) → Sound s old → refusal s old (NewHandle n) ≡ None → placed_lowest s n old ≡ Some (h, new) → StepBy UnmovedRun s old (NewHandle n) [] (Number h) new
+step-placed s old new n h sound passed is = by_slots old.free_slots refl
+  where
+    by_slots : (free : List ℕ) → old.free_slots ≡ free → StepBy UnmovedRun s old (NewHandle n) [] (Number h) new
+    by_slots [] front = absurd (cc (sym is ∙ ap (λ free. placed_by old n free (take_lowest s (need s.heads n) (Rel (front_slot old)) old.map)) front))
+    by_slots (x ∷ xs) front = by_map (take_lowest s (need s.heads n) (Rel (front_slot old)) old.map) refl
+      where
+        by_map : (o : Option ZoneMap) → take_lowest s (need s.heads n) (Rel (front_slot old)) old.map ≡ o → StepBy UnmovedRun s old (NewHandle n) [] (Number h) new
+        by_map None missed = absurd (cc (sym is ∙ ap (λ free. placed_by old n free (take_lowest s (need s.heads n) (Rel (front_slot old)) old.map)) front ∙ ap (placed_by old n (x ∷ xs)) missed))
+        by_map (Some m) found =
+            let given : Some (placed_in old n m) ≡ Some (h, new) = sym (ap (λ free. placed_by old n free (take_lowest s (need s.heads n) (Rel (front_slot old)) old.map)) front ∙ ap (placed_by old n (x ∷ xs)) found) ∙ is in
+            subst (λ (p : ℕ × Heap). StepBy UnmovedRun s old (NewHandle n) [] (Number p.0) p.1) (some_is (placed_in old n m) (h, new) given)
+            (step-NewHandle s old (front_slot old) xs n m sound passed (front_is old x xs front) found)
+          where
+            some_is : (a b : ℕ × Heap) → Some a ≡ Some b → a ≡ b
+            some_is a b e = cc
+
+-- where nothing is placed the call has no room
+pub step-not_placed : (s : Shape) (old : Heap) (n : ℕ) → Sound s old → refusal s old (NewHandle n) ≡ None → placed_lowest s n old ≡ None → StepBy UnmovedRun s old (NewHandle n) [] (Refused MemFullErr) old
+step-not_placed s old n sound passed none = by_slots old.free_slots refl
+  where
+    by_slots : (free : List ℕ) → old.free_slots ≡ free → StepBy UnmovedRun s old (NewHandle n) [] (Refused MemFullErr) old
+    by_slots [] front = step-NewHandle_no_slot s old n sound passed front
+    by_slots (x ∷ xs) front = by_map (take_lowest s (need s.heads n) (Rel (front_slot old)) old.map) refl
+      where
+        by_map : (o : Option ZoneMap) → take_lowest s (need s.heads n) (Rel (front_slot old)) old.map ≡ o → StepBy UnmovedRun s old (NewHandle n) [] (Refused MemFullErr) old
+        by_map None missed = step-NewHandle_no_room s old (front_slot old) n passed missed
+        by_map (Some m) found = absurd (cc (sym none ∙ ap (λ free. placed_by old n free (take_lowest s (need s.heads n) (Rel (front_slot old)) old.map)) front ∙ ap (placed_by old n (x ∷ xs)) found))
+
+-- a possible size is not refused
+pub refusal-NewHandle : (s : Shape) (old : Heap) (n : ℕ) → n ≤ max_size → refusal s old (NewHandle n) ≡ None
+refusal-NewHandle s old n small = ap (λ b. option_or (unless_passed ParamErr b) None) (let e : nat_le n max_size ≡ true = grind (arith, nat_tests) in e)
