@@ -23,7 +23,7 @@ impl Model for MemoryManager {
 }
 
 impl MemoryManager {
-    ghost use Rattle.std.specs.Prelude.{◌≡◌, IfOk, IsTrue, []};
+    ghost use Rattle.std.specs.Prelude.{◌≡◌, ◌+◌, ◌≤◌, IfOk, IsTrue, []};
     ghost use Rattle.std.specs.Borrow.{sem};
     ghost use Rattle.mac_base.specs.BlockStatus.{status_of};
     ghost use Rattle.mac_base.specs.FirstRuns.{UnmovedRun};
@@ -108,10 +108,12 @@ impl MemoryManager {
         self.zone.bytes_mut(Handle::new(block))
     }
 
-    /// The address of the zone's first block header. What the zone shows is a sound heap.
+    /// The address of the zone's first block header. What the zone shows is a sound heap, and its addresses have 24
+    /// bits.
     pub fn first_block(&self) -> u32
         ensures address { result ≡ address_behind self.now.shape [] }
         ensures sound { Sound self.now.shape self.now.heap }
+        ensures reach { self.now.shape.base + self.now.shape.limit ≤ 0x100_0000 }
     {
         self.zone.first_block()
     }

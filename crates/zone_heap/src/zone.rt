@@ -47,7 +47,7 @@ impl Model for Zone {
 }
 
 impl Zone {
-    ghost use Rattle.std.specs.Prelude.{◌≡◌, ◌≤◌, IfOk, IsTrue, MatchResult, Some, None, []};
+    ghost use Rattle.std.specs.Prelude.{◌≡◌, ◌+◌, ◌≤◌, IfOk, IsTrue, MatchResult, Some, None, []};
     ghost use Rattle.mac_base.specs.ZoneMap.{address_behind};
     ghost use Rattle.std.specs.Borrow.{sem};
     ghost use Rattle.mac_base.specs.BlockStatus.{HandlesAlone, status_of};
@@ -160,10 +160,12 @@ impl Zone {
         self.memory.bytes_mut(start, length)
     }
 
-    /// The address of the zone's first block header. What the zone shows is a sound heap.
+    /// The address of the zone's first block header. What the zone shows is a sound heap, and its addresses have 24
+    /// bits.
     pub fn first_block(&self) -> u32
         ensures address { result ≡ address_behind self.now.shape [] }
         ensures sound { Sound self.now.shape self.now.heap }
+        ensures reach { self.now.shape.base + self.now.shape.limit ≤ 0x100_0000 }
     {
         self.spec.base() + ZONE_HEADER
     }
