@@ -1,5 +1,5 @@
 -- What a number is to the calls that read and write bytes, and which blocks there are so far.
-use Rattle.std.specs.Prelude.{◌≡◌, ℕ, ◌||◌, IsTrue, IsFalse, List, [], if◌then◌else◌}
+use Rattle.std.specs.Prelude.{◌≡◌, ℕ, ◌||◌, IsTrue, IsFalse, [], if◌then◌else◌}
 use Rattle.mac_base.specs.declared.block.Status.{Status}
 use Rattle.mac_base.specs.declared.block.Status.TheVariants.{NotLive, Empty, Lent, Full}
 use Rattle.mac_base.specs.HandleTable.{HandleTable, is_handle, is_pointer, is_full, is_lent}

@@ -1,5 +1,5 @@
 -- Where a live handle's slot and block stand.
-use Rattle.std.proofs.Common.{◌≡◌, ℕ, zero, suc, ◌+◌, ◌-◌, ◌*◌, ◌<◌, ◌≤◌, Bool, true, false, not, cond, List, [], ◌∷◌, ◌++◌, length, get_or, take, drop, Some, None, Option, refl, ap, sym, ◌∙◌, arith, subst, IsSome, IsTrue, Contains, max}
+use Rattle.std.proofs.Common.{◌≡◌, ℕ, zero, suc, ◌+◌, ◌-◌, ◌*◌, ◌<◌, ◌≤◌, Bool, true, false, not, cond, List, [], ◌∷◌, ◌++◌, length, get_or, take, Some, None, Option, refl, ap, sym, ◌∙◌, arith, subst, IsSome, Contains}
 use Rattle.std.specs.Prelude.{position, nat_lt, ◌||◌, if◌then◌else◌, IfNone}
 use Rattle.std.specs.List.{prefix_len}
 use Rattle.std.proofs.lemmas.Bool.Decides.{nat_tests}
@@ -7,24 +7,22 @@ use Rattle.mac_base.specs.declared.block.Entry.{Entry}
 use Rattle.mac_base.specs.declared.block.HeadKind.{HeadKind}
 use Rattle.mac_base.specs.declared.block.HeadKind.TheVariants.{Bits24}
 use Rattle.mac_base.specs.HeadKind.{Shape, need, head_size, zone_header, slot_count}
-use Rattle.mac_base.specs.ZoneMap.{ZoneMap, is_named, total_size, addresses_from, addresses, address_behind, contents_of}
+use Rattle.mac_base.specs.ZoneMap.{ZoneMap, is_named, total_size, addresses_from, address_behind, contents_of}
 use Rattle.mac_base.specs.ZoneSizes.{shape_of}
-use Rattle.mac_base.specs.HandleTable.{HandleTable, is_handle, is_full, is_pointer, is_lent, bytes_of, live_bytes}
+use Rattle.mac_base.specs.HandleTable.{is_handle, is_full, is_pointer, is_lent, bytes_of, live_bytes}
 use Rattle.mac_base.specs.BlockStatus.{status_of}
 use Rattle.mac_base.specs.declared.block.Status.TheVariants.{NotLive, Empty, Lent, Full}
-use Rattle.mac_base.specs.Suits.{Suits, is_handle_block, slots_from, slots}
-use Rattle.mac_base.specs.Heap.{Heap}
-use Rattle.mac_base.specs.Sound.{Sound}
+use Rattle.mac_base.specs.Suits.{is_handle_block, slots_from, slots}
 use Rattle.raw_region.specs.Bytes.{part}
 use Rattle.mac_base.proofs.Owners.{named_handle}
 use Rattle.zone_heap.specs.declared.slots.Slot.{Slot}
 use Rattle.zone_heap.specs.declared.slots.Slot.TheVariants as slot
 use Rattle.zone_heap.specs.declared.zone.Zone.TheInside.{Inside}
-use Rattle.zone_heap.specs.Slot.{slot_length, length_from}
+use Rattle.zone_heap.specs.Slot.{slot_length}
 use Rattle.zone_heap.specs.Places.{first_slot, live_in, table_of}
 use Rattle.zone_heap.specs.Zone.{IsZone, heap_of}
 use Rattle.zone_heap.proofs.Told.{live_at-slot, length_from-slot, handles_alone}
-use Rattle.zone_heap.proofs.NamedBlock.{FirstAt, FirstAt-position, contents_of-first, size-needed, total_size-at}
+use Rattle.zone_heap.proofs.NamedBlock.{FirstAt, contents_of-first, size-needed, total_size-at}
 
 get-slots_from : (n at k d : ℕ) → k < length (slots_from n at) → get_or (slots_from n at) k d ≡ at + 4 * k
 get-slots_from zero at k d within = absurd (omega arith)

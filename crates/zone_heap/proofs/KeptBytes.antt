@@ -1,14 +1,13 @@
 -- Bytes written in one block leave those of all others.
-use Rattle.std.proofs.Common.{◌≡◌, ℕ, zero, suc, ◌+◌, ◌-◌, ◌*◌, ◌<◌, ◌≤◌, Bool, true, false, List, [], ◌∷◌, ◌++◌, length, get_or, take, drop, Some, None, Option, refl, ap, sym, ◌∙◌, arith, subst, inl, inr, IsSome}
+use Rattle.std.proofs.Common.{◌≡◌, ℕ, zero, suc, ◌+◌, ◌-◌, ◌*◌, ◌<◌, ◌≤◌, true, false, List, [], ◌∷◌, length, get_or, take, Some, None, Option, refl, ap, sym, ◌∙◌, arith, subst, inl, inr, IsSome}
 use Rattle.std.specs.Prelude.{position, ◌⊎◌}
-use Rattle.std.proofs.lemmas.Bool.Decides.{nat_tests}
 use Rattle.mac_base.specs.declared.block.Entry.{Entry}
 use Rattle.mac_base.specs.declared.block.Kind.TheVariants.{Free}
-use Rattle.mac_base.specs.HeadKind.{Shape, head_size, zone_header, need}
+use Rattle.mac_base.specs.HeadKind.{head_size, zone_header}
 use Rattle.mac_base.specs.ZoneMap.{ZoneMap, block, is_named, total_size, contents_of}
 use Rattle.mac_base.specs.ZoneSizes.{shape_of}
 use Rattle.mac_base.specs.HandleTable.{is_handle, bytes_of, FullHandle, no_flags}
-use Rattle.raw_region.specs.Bytes.{part, written}
+use Rattle.raw_region.specs.Bytes.{written}
 use Rattle.raw_region.proofs.Laws.{part-written-apart}
 use Rattle.zone_heap.specs.declared.slots.Slot.{Slot}
 use Rattle.zone_heap.specs.declared.slots.Slot.TheVariants as slot
@@ -77,6 +76,7 @@ apart z place at n x other e f range ext unnamed = by_order (nat_cases place oth
         get_same [] i d e within = absurd (omega arith)
         get_same (g ∷ es) zero d e within = refl
         get_same (g ∷ es) (suc i) d e within = get_same es i d e (omega arith)
+
     by_order : (place < other) ⊎ ((place ≡ other) ⊎ (other < place)) → (contents_of (shape_of z.spec) x z.entries.items - z.spec.base + length (bytes_of (heap_of z).table x) ≤ at) ⊎ (at + n ≤ contents_of (shape_of z.spec) x z.entries.items - z.spec.base)
     by_order (inl less) = let before = total_size-apart z.entries.items place other e less (omega (arith, ext.at.within)) range.here in inr (omega (arith, before, range.high, ext.low))
     by_order (inr (inl same)) = absurd (cc (sym (ap (λ (e : Entry). is_named x e.kind) (one_block same) ∙ ext.at.named), unnamed))

@@ -1,7 +1,7 @@
 -- The first block that a number names, by its place in the list of blocks.
-use Rattle.std.proofs.Common.{◌≡◌, ℕ, zero, suc, ◌+◌, ◌<◌, ◌≤◌, Bool, true, false, cond, List, [], ◌∷◌, ◌++◌, length, get_or, set, take, map, Some, None, refl, ap, sym, ◌∙◌, arith, IsTrue}
-use Rattle.std.specs.Prelude.{position, ◌||◌, ◌==◌}
-use Rattle.std.specs.List.{list_all, prefix_len}
+use Rattle.std.proofs.Common.{◌≡◌, ℕ, zero, suc, ◌+◌, ◌<◌, ◌≤◌, Bool, true, false, cond, [], ◌∷◌, ◌++◌, length, get_or, take, map, Some, refl, ap, sym, ◌∙◌, arith, IsTrue}
+use Rattle.std.specs.Prelude.{position}
+use Rattle.std.specs.List.{list_all}
 use Rattle.std.proofs.lemmas.List.Quantifiers.{position-Some}
 use Rattle.std.proofs.lemmas.Bool.Decides.{nat_tests}
 use Rattle.mac_base.specs.declared.block.Entry.{Entry}
@@ -10,7 +10,7 @@ use Rattle.mac_base.specs.declared.block.Kind.TheVariants.{Free, Master, Ptr, Re
 use Rattle.mac_base.specs.HeadKind.{Shape, need, head_size, zone_header}
 use Rattle.mac_base.specs.ZoneMap.{ZoneMap, block, is_named, total_size, addresses_from, contents_of, address_behind}
 use Rattle.mac_base.specs.HandleTable.{HandleTable, bytes_of}
-use Rattle.mac_base.specs.Suits.{Suits, is_handle_block, is_pointer_block, wanted_length, has_length, has_owners_length}
+use Rattle.mac_base.specs.Suits.{Suits, wanted_length, has_length, has_owners_length}
 
 -- x names the block at this place, and none before it
 pub record FirstAt (x : ℕ) (m : ZoneMap) (i : ℕ) (e : Entry) : Type 0 where

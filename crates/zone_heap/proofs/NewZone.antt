@@ -1,14 +1,14 @@
 -- The fields of a new zone.
-use Rattle.std.proofs.Common.{◌≡◌, ℕ, zero, suc, ◌+◌, ◌-◌, List, [], ◌∷◌, ◌++◌, replicate, length, true, false, cond, refl, ap, sym, ◌∙◌, arith, None, Option, append-nil}
+use Rattle.std.proofs.Common.{◌≡◌, ℕ, zero, suc, ◌+◌, ◌-◌, List, [], ◌∷◌, replicate, true, false, cond, refl, ap, sym, ◌∙◌, arith, None, append-nil}
 use Rattle.std.specs.Prelude.{count_by, ◌==◌}
 use Rattle.mac_base.specs.declared.block.HeadKind.{HeadKind}
 use Rattle.mac_base.specs.declared.block.HeadKind.TheVariants.{Bits24}
 use Rattle.mac_base.specs.declared.block.Kind.TheVariants.{Free, Master}
 use Rattle.mac_base.specs.HeadKind.{Shape, need, zone_header, head_size, slot_count, master_length}
 use Rattle.mac_base.specs.ZoneMap.{ZoneMap, block}
-use Rattle.mac_base.specs.HandleTable.{HandleTable, Live, new_table}
+use Rattle.mac_base.specs.HandleTable.{new_table}
 use Rattle.mac_base.specs.Suits.{slots, slots_from}
-use Rattle.mac_base.specs.Heap.{Heap, new_map, new_heap}
+use Rattle.mac_base.specs.Heap.{new_map, new_heap}
 use Rattle.zone_heap.specs.declared.slots.Slot.{Slot}
 use Rattle.zone_heap.specs.declared.slots.Slot.TheVariants as slot
 use Rattle.zone_heap.specs.Slot.{is_full, length_from}

@@ -1,6 +1,6 @@
 -- A new handle in the lowest free block: the fields after it stand for the heap after it.
-use Rattle.std.proofs.Common.{◌≡◌, ℕ, zero, suc, ◌+◌, ◌-◌, ◌*◌, ◌<◌, ◌≤◌, Bool, true, false, not, cond, eqb, List, [], ◌∷◌, ◌++◌, length, get_or, set, take, drop, map, replicate, Some, None, Option, refl, ap, sym, ◌∙◌, arith, subst, inl, inr, IsTrue, Contains}
-use Rattle.std.specs.Prelude.{position, ◌⊎◌, count_by, slice_get, option_map, ◌==◌}
+use Rattle.std.proofs.Common.{◌≡◌, ℕ, zero, suc, ◌+◌, ◌-◌, ◌*◌, ◌<◌, ◌≤◌, Bool, true, false, not, cond, eqb, List, [], ◌∷◌, ◌++◌, length, get_or, set, take, drop, map, Some, None, Option, refl, ap, sym, ◌∙◌, arith, subst, IsTrue, Contains}
+use Rattle.std.specs.Prelude.{position, count_by, slice_get, option_map, ◌==◌}
 use Rattle.std.specs.List.{list_all}
 use Rattle.std.proofs.lemmas.Bool.Decides.{nat_tests}
 use Rattle.std.proofs.lemmas.List.{length-replicate, get_or-set_same}
@@ -11,23 +11,23 @@ use Rattle.mac_base.specs.declared.block.Entry.{Entry}
 use Rattle.mac_base.specs.declared.block.HeadKind.{HeadKind}
 use Rattle.mac_base.specs.declared.block.HeadKind.TheVariants.{Bits24}
 use Rattle.mac_base.specs.declared.block.Kind.TheVariants.{Free, Rel}
-use Rattle.mac_base.specs.HeadKind.{Shape, need, head_size, zone_header, smallest_block, slot_count}
-use Rattle.mac_base.specs.ZoneMap.{ZoneMap, block, is_free, is_named, is_master, has_free, total_size, addresses, addresses_from, contents_of, address_behind}
+use Rattle.mac_base.specs.HeadKind.{Shape, need, head_size, zone_header, slot_count}
+use Rattle.mac_base.specs.ZoneMap.{ZoneMap, block, is_named, is_master, has_free, total_size, addresses, addresses_from, contents_of, address_behind}
 use Rattle.mac_base.specs.ZoneSizes.{shape_of}
-use Rattle.mac_base.specs.HandleTable.{HandleTable, Live, FullHandle, no_flags, zeros, with_live, is_handle, bytes_of, live_at, live_bytes}
-use Rattle.mac_base.specs.Suits.{Suits, slots, is_block_size}
+use Rattle.mac_base.specs.HandleTable.{HandleTable, FullHandle, no_flags, zeros, with_live, bytes_of, live_at, live_bytes}
+use Rattle.mac_base.specs.Suits.{slots, is_block_size}
 use Rattle.mac_base.specs.Serve.{take_lowest}
 use Rattle.mac_base.specs.Request.{NewBlock}
 use Rattle.mac_base.specs.Heap.{Heap, front_slot, granted}
 use Rattle.mac_base.specs.ExactStep.{has_none}
 use Rattle.mac_base.specs.Sound.{Sound}
-use Rattle.mac_base.proofs.Placing.{TakenAt, has_free-is}
+use Rattle.mac_base.proofs.Placing.{has_free-is}
 use Rattle.mac_base.proofs.Maps.{both_true, true_not}
 use Rattle.mac_base.proofs.Owners.{none_named, none_named-suits}
 use Rattle.mac_base.proofs.Tables.{live_at-with_live, live_at-with_live_same, by_number, eqb_same, eqb-true-is}
 use Rattle.mac_base.proofs.SlotOwners.{false_from}
 use Rattle.mac_base.proofs.SuitsTaken.{slots-same, addresses-untaken, addresses-taken}
-use Rattle.mac_base.proofs.SoundPlaced.{take_lowest-taken, IsFreeSlot, front_slot-free, sound-placed}
+use Rattle.mac_base.proofs.SoundPlaced.{IsFreeSlot, front_slot-free, sound-placed}
 use Rattle.mac_base.proofs.SoundPointer.{TakenLowest, take_lowest-lowest, lowest_before-position}
 use Rattle.raw_region.specs.Bytes.{part, written}
 use Rattle.raw_region.proofs.Laws.{part-written}
@@ -226,8 +226,8 @@ module _ (z : Inside) (zone : IsZone z) (n h i place start : ℕ) (hs : List ℕ
       ∙ sym (length_from-slot (first_slot (shape_of z.spec)) h (set z.slots.items i (slot.Full n)) i slot.Free (let same = length-set z.slots.items i (slot.Full n) in omega (arith, p.within)) p.is
       ∙ ap slot_length (get_or-set_same z.slots.items i (slot.Full n) slot.Free p.within)))
       (λ x apart.
-          ap (λ o. length (live_bytes o)) (live_at-with_live h (FullHandle no_flags (zeros n)) (heap_of z).table x ∙ ap (λ b. cond b (Some (FullHandle no_flags (zeros n))) (live_at (heap_of z).table x)) apart)
-          ∙ zone.whole x ∙ sym (length_from-set_other (first_slot (shape_of z.spec)) x z.slots.items i (slot.Full n) (λ same. cc (sym (ap (λ y. eqb y h) (same ∙ sym p.is)) ∙ apart, eqb_same h))))
+      ap (λ o. length (live_bytes o)) (live_at-with_live h (FullHandle no_flags (zeros n)) (heap_of z).table x ∙ ap (λ b. cond b (Some (FullHandle no_flags (zeros n))) (live_at (heap_of z).table x)) apart)
+      ∙ zone.whole x ∙ sym (length_from-set_other (first_slot (shape_of z.spec)) x z.slots.items i (slot.Full n) (λ same. cc (sym (ap (λ y. eqb y h) (same ∙ sym p.is)) ∙ apart, eqb_same h))))
       x
 
   -- that is what is placed

@@ -1,12 +1,12 @@
 -- What the slots say, slot by slot.
-use Rattle.std.proofs.Common.{◌≡◌, ℕ, zero, suc, ◌+◌, ◌*◌, ◌<◌, Bool, true, false, cond, List, [], ◌∷◌, length, get_or, set, Some, None, Option, refl, ap, sym, ◌∙◌, arith, subst}
+use Rattle.std.proofs.Common.{◌≡◌, ℕ, zero, suc, ◌+◌, ◌*◌, ◌<◌, true, false, cond, List, [], ◌∷◌, length, get_or, set, Some, None, Option, refl, ap, sym, ◌∙◌, arith, subst}
 use Rattle.std.specs.Prelude.{◌==◌}
 use Rattle.std.specs.Ordering.{nat_cmp, eq_by_cmp}
 use Rattle.std.specs.FinMap.{find}
 use Rattle.std.proofs.lemmas.Bool.Decides.{nat_tests}
 use Rattle.mac_base.specs.HeadKind.{Shape}
 use Rattle.mac_base.specs.ZoneMap.{ZoneMap}
-use Rattle.mac_base.specs.HandleTable.{HandleTable, Live, live_at, live_handle, live_pointer, live_full, is_handle}
+use Rattle.mac_base.specs.HandleTable.{Live, live_at, live_handle, live_pointer, live_full, is_handle}
 use Rattle.mac_base.specs.BlockStatus.{HandlesAlone}
 use Rattle.zone_heap.specs.declared.slots.Slot.{Slot}
 use Rattle.zone_heap.specs.declared.slots.Slot.TheVariants as slot

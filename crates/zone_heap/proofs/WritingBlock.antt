@@ -1,5 +1,5 @@
 -- Bytes written in the block of a live handle: the fields after it stand for the heap after it.
-use Rattle.std.proofs.Common.{◌≡◌, ℕ, zero, suc, ◌+◌, ◌-◌, ◌*◌, ◌<◌, ◌≤◌, Bool, true, false, cond, eqb, List, [], ◌∷◌, ◌++◌, length, get_or, set, take, drop, Some, None, Option, refl, ap, sym, ◌∙◌, arith, subst, min, length-append, length-drop}
+use Rattle.std.proofs.Common.{◌≡◌, ℕ, zero, suc, ◌+◌, ◌-◌, ◌*◌, ◌<◌, ◌≤◌, true, false, cond, eqb, List, [], ◌∷◌, ◌++◌, length, get_or, set, take, drop, Some, refl, ap, sym, ◌∙◌, arith, subst, length-append, length-drop}
 use Rattle.std.specs.Prelude.{◌||◌, position}
 use Rattle.std.proofs.lemmas.Bool.Decides.{nat_tests}
 use Rattle.std.proofs.lemmas.List.{length-take, set-get_or}
@@ -10,10 +10,10 @@ use Rattle.mac_base.specs.HeadKind.{head_size, zone_header}
 use Rattle.mac_base.specs.ZoneMap.{block, is_named, total_size, contents_of}
 use Rattle.mac_base.specs.ZoneSizes.{shape_of}
 use Rattle.mac_base.specs.ZoneState.{overwritten}
-use Rattle.mac_base.specs.HandleTable.{HandleTable, Live, FullHandle, no_flags, with_live, with_bytes, refilled, live_at, live_bytes, is_handle, is_pointer, bytes_of}
-use Rattle.mac_base.specs.Heap.{Heap, with_table}
+use Rattle.mac_base.specs.HandleTable.{HandleTable, FullHandle, no_flags, with_live, with_bytes, refilled, live_at, live_bytes, is_handle, is_pointer, bytes_of}
+use Rattle.mac_base.specs.Heap.{with_table}
 use Rattle.mac_base.specs.Sound.{Sound}
-use Rattle.mac_base.proofs.Tables.{live_at-with_live, live_at-with_live_same, by_number, eqb_same, eqb-true-is}
+use Rattle.mac_base.proofs.Tables.{live_at-with_live, live_at-with_live_same, by_number, eqb-true-is}
 use Rattle.mac_base.proofs.SlotOwners.{false_from}
 use Rattle.mac_base.proofs.SoundWritten.{sound-written}
 use Rattle.raw_region.specs.Bytes.{part, written}
@@ -146,7 +146,7 @@ module _ (z : Inside) (zone : IsZone z) (x i place start n : ℕ) (e : Entry) (p
       ∙ ap (λ o. length (live_bytes (Some (refilled (overwritten (bytes_of (heap_of z).table x) ws) o)))) was
       ∙ length-overwritten (bytes_of (heap_of z).table x) ws ∙ zone.whole x)
       (λ y apart.
-          ap (λ o. length (live_bytes o)) (live_at-with_live x (refilled (overwritten (bytes_of (heap_of z).table x) ws) (live_at (heap_of z).table x)) (heap_of z).table y
-          ∙ ap (λ b. cond b (Some (refilled (overwritten (bytes_of (heap_of z).table x) ws) (live_at (heap_of z).table x))) (live_at (heap_of z).table y)) apart)
-          ∙ zone.whole y)
+      ap (λ o. length (live_bytes o)) (live_at-with_live x (refilled (overwritten (bytes_of (heap_of z).table x) ws) (live_at (heap_of z).table x)) (heap_of z).table y
+      ∙ ap (λ b. cond b (Some (refilled (overwritten (bytes_of (heap_of z).table x) ws) (live_at (heap_of z).table x))) (live_at (heap_of z).table y)) apart)
+      ∙ zone.whole y)
       y

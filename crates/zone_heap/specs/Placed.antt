@@ -1,5 +1,5 @@
 -- A new handle where nothing moves.
-use Rattle.std.specs.Prelude.{ℕ, Option, Some, None, if◌then◌else◌, option_map}
+use Rattle.std.specs.Prelude.{ℕ, Option, None, if◌then◌else◌, option_map}
 use Rattle.mac_base.specs.declared.block.Kind.TheVariants.{Rel}
 use Rattle.mac_base.specs.HeadKind.{Shape, need}
 use Rattle.mac_base.specs.Heap.{Heap, front_slot, granted}

@@ -1,5 +1,4 @@
-use Rattle.std.proofs.Common.{◌≡◌, ◌+◌, ◌<◌, ◌≤◌, arith, take, length, sym, get_or}
-use Rattle.mac_base.specs.ZoneMap.{total_size}
+use Rattle.std.proofs.Common.{◌+◌, arith}
 use Rattle.zone_heap.proofs.Sizes.{total_size-take, total_size-take_le}
 use Rattle.zone_heap.proofs.blocks.total_size.Goals as goal
 

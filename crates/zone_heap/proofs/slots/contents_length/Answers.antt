@@ -1,4 +1,4 @@
-use Rattle.std.proofs.Common.{◌≡◌, ◌<◌, ◌∙◌, arith, sym, ap, length}
+use Rattle.std.proofs.Common.{◌<◌, ◌∙◌, arith, sym, ap, length}
 use Rattle.zone_heap.specs.Slot.{owners_length}
 use Rattle.zone_heap.proofs.Told.{length_from-slot, length_from-no_slot}
 use Rattle.zone_heap.proofs.slots.contents_length.Goals as goal

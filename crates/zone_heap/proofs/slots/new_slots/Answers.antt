@@ -1,5 +1,4 @@
-use Rattle.std.proofs.Common.{◌≡◌, ◌≤◌, ◌+◌, ◌*◌, ◌++◌, [], ◌∷◌, ◌∙◌, arith, ap, sym}
-use Rattle.mac_base.specs.Suits.{slots_from}
+use Rattle.std.proofs.Common.{◌++◌, [], ◌∷◌, ◌∙◌, arith, ap, sym}
 use Rattle.zone_heap.proofs.SlotLists.{slots_from-push}
 use Rattle.zone_heap.proofs.slots.new_slots.Goals as goal
 

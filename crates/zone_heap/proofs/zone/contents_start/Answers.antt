@@ -1,5 +1,4 @@
-use Rattle.std.proofs.Common.{◌≤◌, arith, take}
-use Rattle.mac_base.specs.ZoneMap.{total_size}
+use Rattle.std.proofs.Common.{arith}
 use Rattle.zone_heap.proofs.Sizes.{total_size-take_le, head_size-small}
 use Rattle.zone_heap.proofs.zone.contents_start.Goals as goal
 

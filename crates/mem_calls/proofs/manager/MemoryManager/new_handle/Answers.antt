@@ -1,8 +1,8 @@
-use Rattle.std.proofs.Common.{◌≡◌, ◌≤◌, ◌∙◌, arith, sym, ap, subst, [], None}
+use Rattle.std.proofs.Common.{◌≤◌, arith, sym, subst, []}
 use Rattle.mac_base.specs.FirstRuns.{UnmovedRun}
-use Rattle.mac_base.specs.MemoryCall.{NewHandle, max_size, refusal}
+use Rattle.mac_base.specs.MemoryCall.{NewHandle, max_size}
 use Rattle.mac_base.specs.MemoryStep.{StepBy}
-use Rattle.mac_base.specs.Reply.{number_reply, Refused}
+use Rattle.mac_base.specs.Reply.{Refused}
 use Rattle.mac_base.specs.declared.error.OsErr.TheVariants.{MemFullErr}
 use Rattle.mac_base.specs.ZoneState.{ZoneState}
 use Rattle.mem_calls.proofs.NewHandles.{step-placed, step-not_placed, refusal-NewHandle}

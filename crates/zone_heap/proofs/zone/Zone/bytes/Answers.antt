@@ -1,7 +1,7 @@
-use Rattle.std.proofs.Common.{◌≡◌, ◌<◌, ◌≤◌, ◌+◌, ◌-◌, ◌*◌, ◌∙◌, arith, sym, ap, subst, length, take, true, Some}
+use Rattle.std.proofs.Common.{◌≡◌, ◌<◌, ◌+◌, ◌-◌, ◌*◌, ◌∙◌, arith, sym, ap, subst, length, take, true, Some}
 use Rattle.std.specs.Prelude.{position}
 use Rattle.mac_base.specs.declared.block.Entry.{Entry}
-use Rattle.mac_base.specs.HeadKind.{Shape, zone_header, head_size, slot_count}
+use Rattle.mac_base.specs.HeadKind.{zone_header, head_size, slot_count}
 use Rattle.mac_base.specs.ZoneMap.{is_named, total_size, contents_of}
 use Rattle.mac_base.specs.ZoneSizes.{shape_of}
 use Rattle.mac_base.specs.ZoneState.{ZoneState}

@@ -1,22 +1,19 @@
-use Rattle.std.proofs.Common.{◌≡◌, ◌<◌, ◌≤◌, ◌+◌, ◌-◌, ◌*◌, ◌∙◌, arith, refl, sym, ap, subst, get_or, length, take, true, Some, []}
+use Rattle.std.proofs.Common.{◌≡◌, ◌+◌, ◌*◌, ◌∙◌, arith, refl, sym, ap, subst, get_or, take, true, []}
 use Rattle.std.specs.Prelude.{position}
 use Rattle.mac_base.specs.declared.block.Entry.{Entry}
-use Rattle.mac_base.specs.HeadKind.{Shape, zone_header, head_size, slot_count}
-use Rattle.mac_base.specs.ZoneMap.{block, is_named, total_size, contents_of}
+use Rattle.mac_base.specs.HeadKind.{zone_header, head_size, slot_count}
+use Rattle.mac_base.specs.ZoneMap.{block, is_named, total_size}
 use Rattle.mac_base.specs.declared.block.Kind.TheVariants.{Free}
 use Rattle.mac_base.specs.ZoneSizes.{shape_of}
 use Rattle.mac_base.specs.ZoneState.{ZoneState, with_contents}
 use Rattle.mac_base.specs.BlockStatus.{status_of}
 use Rattle.mac_base.specs.declared.block.Status.TheVariants.{Full}
 use Rattle.mac_base.specs.HandleTable.{is_handle, bytes_of}
-use Rattle.raw_region.specs.Bytes.{part}
 use Rattle.zone_heap.specs.Slot.{slot_length}
-use Rattle.zone_heap.specs.Places.{first_slot}
 use Rattle.zone_heap.specs.Zone.{heap_of}
-use Rattle.zone_heap.proofs.NamedBlock.{FirstAt-found}
 use Rattle.zone_heap.proofs.WritingBlock.{WritesIn, writes-from, heap-written, bytes-before, sound-bytes, whole-written}
 use Rattle.raw_region.specs.Bytes.{length-written}
-use Rattle.zone_heap.proofs.HandlePlace.{full-live, IsSlot, Contents, live-slot, found-slot, live-block, contents-at, bytes_of-slot, length-bytes_of}
+use Rattle.zone_heap.proofs.HandlePlace.{full-live, IsSlot, live-slot, found-slot, live-block}
 use Rattle.zone_heap.proofs.zone.Zone.bytes_mut.Goals as goal
 
 pub unwrap-index-requires : goal.unwrap-index-requires
@@ -81,12 +78,14 @@ returns c =
     (found.1 ∙ ap (λ first. first + 4 * c.unwrap-index.result) c.first_slot.ensures)
     (sym (c.place_of.ensures ∙ ap (position (λ (e : Entry). is_named c.args.handle e.kind)) c.deref.ensures.value) ∙ c.unwrap-at.ensures)
     (c.contents_start-start.ensures ∙ ap (λ entries. zone_header + total_size (take c.unwrap-at.result entries) + head_size c.self.inside.spec.heads) c.deref-2.ensures.value)
-    (c.length-length.ensures ∙ ap slot_length c.index.ensures) in
-    (
-      (refl, λ ws.
-          ap (λ heap. record { shape = shape_of c.self.inside.spec; heap = heap })
-          (heap-written c.self.inside c.self.invariant c.args.handle c.unwrap-index.result c.unwrap-at.result c.contents_start-start.result c.length-length.result _ w ws)
-          ∙ ap (λ (z : ZoneState). with_contents z c.args.handle ws) c.self.view_is),
+    (c.length-length.ensures ∙ ap slot_length c.index.ensures) in (
+      (
+        refl,
+        λ ws.
+            ap (λ heap. record { shape = shape_of c.self.inside.spec; heap = heap })
+            (heap-written c.self.inside c.self.invariant c.args.handle c.unwrap-index.result c.unwrap-at.result c.contents_start-start.result c.length-length.result _ w ws)
+            ∙ ap (λ (z : ZoneState). with_contents z c.args.handle ws) c.self.view_is,
+      ),
       record {
         writes_back = tt;
         value = c.bytes_mut.ensures.value

@@ -1,19 +1,18 @@
-use Rattle.std.proofs.Common.{◌≡◌, ◌+◌, ◌-◌, [], ◌∷◌, ◌++◌, ◌∙◌, arith, sym, ap, subst, length, replicate}
+use Rattle.std.proofs.Common.{◌≡◌, ◌-◌, [], ◌∷◌, ◌++◌, ◌∙◌, arith, sym, ap, subst, length, replicate}
 use Rattle.std.specs.Prelude.{count_by}
 use Rattle.std.proofs.lemmas.List.{length-replicate}
 use Rattle.mac_base.specs.declared.block.Kind.TheVariants.{Free, Master}
-use Rattle.mac_base.specs.HeadKind.{slot_count, zone_header}
-use Rattle.mac_base.specs.ZoneMap.{ZoneMap, block}
+use Rattle.mac_base.specs.HeadKind.{slot_count}
+use Rattle.mac_base.specs.ZoneMap.{block}
 use Rattle.mac_base.specs.ZoneSizes.{shape_of}
 use Rattle.mac_base.specs.Suits.{slots, slots_from}
-use Rattle.mac_base.specs.Heap.{Heap, new_map, new_heap}
+use Rattle.mac_base.specs.Heap.{Heap, new_map}
 use Rattle.mac_base.specs.HandleTable.{bytes_of}
 use Rattle.mac_base.specs.Sound.{Sound}
 use Rattle.mac_base.proofs.SoundNew.{sound-new}
 use Rattle.zone_heap.specs.declared.slots.Slot.TheVariants as slot
 use Rattle.zone_heap.specs.Slot.{is_full, length_from}
 use Rattle.zone_heap.specs.Places.{first_slot}
-use Rattle.zone_heap.specs.Zone.{IsZone, heap_of}
 use Rattle.zone_heap.proofs.SlotLists.{length-slots_from}
 use Rattle.zone_heap.proofs.NewZone.{new_map-is, slots-new_map, heap-new, count_by-free, length_from-free}
 use Rattle.zone_heap.proofs.zone.Zone.create.Goals as goal

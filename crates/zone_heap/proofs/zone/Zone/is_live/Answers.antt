@@ -1,6 +1,5 @@
 use Rattle.std.proofs.Common.{◌≡◌, ◌<◌, ◌+◌, ◌*◌, ◌∙◌, arith, sym, ap, length}
 use Rattle.mac_base.specs.ZoneSizes.{shape_of}
-use Rattle.mac_base.specs.HandleTable.{is_handle}
 use Rattle.zone_heap.specs.Slot.{is_full}
 use Rattle.zone_heap.specs.Places.{first_slot}
 use Rattle.zone_heap.proofs.Told.{is_handle-slot, is_handle-no_slot, handles_alone}

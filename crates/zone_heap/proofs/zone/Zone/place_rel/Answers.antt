@@ -1,7 +1,7 @@
-use Rattle.std.proofs.Common.{◌≡◌, ℕ, ◌<◌, ◌≤◌, ◌+◌, ◌-◌, ◌*◌, ◌∙◌, [], ◌∷◌, List, arith, sym, ap, subst, length, get_or, take, drop, refl, true, Some, None, Option, Contains, set}
+use Rattle.std.proofs.Common.{◌≡◌, ℕ, ◌+◌, ◌*◌, ◌∙◌, List, arith, sym, ap, subst, length, take, drop, refl, Some, set}
 use Rattle.std.specs.Prelude.{position, slice_get}
 use Rattle.std.proofs.Math.ListN.{length-set}
-use Rattle.mac_base.specs.HeadKind.{Shape, need, zone_header, head_size, slot_count}
+use Rattle.mac_base.specs.HeadKind.{zone_header, head_size, slot_count}
 use Rattle.mac_base.specs.ZoneMap.{ZoneMap, has_free, total_size}
 use Rattle.mac_base.specs.ZoneSizes.{shape_of}
 use Rattle.mac_base.specs.ZoneState.{ZoneState}
@@ -11,8 +11,7 @@ use Rattle.mac_base.specs.Sound.{Sound}
 use Rattle.raw_region.specs.Bytes.{written, length-written}
 use Rattle.zone_heap.specs.declared.slots.Slot.TheVariants as slot
 use Rattle.zone_heap.specs.declared.zone.Zone.TheInside.{Inside}
-use Rattle.zone_heap.specs.Places.{first_slot, table_of}
-use Rattle.zone_heap.specs.Zone.{IsZone, heap_of}
+use Rattle.zone_heap.specs.Places.{table_of}
 use Rattle.zone_heap.proofs.HandlePlace.{IsSlot, found-slot}
 use Rattle.zone_heap.proofs.PlacingBlock.{Places, places-from, front-slot, twelve-each, placed-inside, placed_lowest-none, sound-fields, master-placed, used-placed, whole-placed, heap-placed, placed_lowest-is}
 use Rattle.zone_heap.proofs.zone.Zone.place_rel.Goals as goal
@@ -90,8 +89,7 @@ invariant_of-self c =
 pub returns-clause-placed : goal.returns-clause-placed
 returns-clause-placed c =
     let z = c.self.inside in let n = c.args.length in let h = c.in-Some-copied.handle in let i = c.unwrap-index.result in let place = c.in-Some.at in let start = c.contents_start-start.result in
-    let hs = drop 1 z.free_slots.items in let m = c.take_first_fit.new.entries.items in
-    (
+    let hs = drop 1 z.free_slots.items in let m = c.take_first_fit.new.entries.items in (
       rw (← c.self.view_is) (placed_lowest-is z c.self.invariant n h i place start hs m (places c) ∙ ap (λ heap. Some (h, heap)) (sym (heap-placed z c.self.invariant n h i place start hs m (places c)) ∙ sym (heap c))),
       ap (λ (z : ZoneState). z.shape) c.self.view_is,
     )
