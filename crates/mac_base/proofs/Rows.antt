@@ -1,6 +1,6 @@
 -- Worked examples on small maps, computed.
 use Rattle.std.proofs.Common.{◌≡◌, refl, ℕ, List, [], ◌∷◌, ◌++◌, Some, None, replicate}
-use Rattle.mac_base.specs.declared.error.OsErr.TheVariants.{ParamErr, MemFullErr, NilHandleErr, MemWzErr, MemBcErr, MemLockedErr}
+use Rattle.mac_base.specs.declared.error.OsErr.TheVariants.{ParamErr, MemFullErr, NilHandleErr, MemWzErr, MemPurErr, MemBcErr, MemLockedErr}
 use Rattle.mac_base.specs.declared.block.HeadKind.TheVariants.{Bits24}
 use Rattle.mac_base.specs.declared.block.Kind.TheVariants.{Free, Master, Ptr, Rel}
 use Rattle.mac_base.specs.HeadKind.{Shape, slot_count}
@@ -8,7 +8,7 @@ use Rattle.mac_base.specs.ZoneMap.{block}
 use Rattle.mac_base.specs.HandleTable.{new_table, no_flags}
 use Rattle.mac_base.specs.Suits.{slots_from}
 use Rattle.mac_base.specs.Heap.{Heap, new_heap}
-use Rattle.mac_base.specs.MemoryCall.{MemoryCall, NewHandle, NewPtr, ReserveMem, CompactMem, PurgeMem, NewEmptyHandle, MoreMasters, MaxMem, PurgeSpace, MaxBlock, FreeMem, MaxApplZone, DisposeHandle, GetHandleSize, HandToHand, HLock, HPurge, MoveHHi, HLockHi, Deref, DisposePtr, RecoverHandle, SetHandleSize, SetPtrSize, ReallocateHandle, PtrToHand, HandAndHand, PtrToXHand, PtrAndHand, Peek, Poke, BlockMove, ZoneMap as WalkZone}
+use Rattle.mac_base.specs.MemoryCall.{MemoryCall, NewHandle, NewPtr, ReserveMem, CompactMem, PurgeMem, NewEmptyHandle, MoreMasters, MaxMem, PurgeSpace, MaxBlock, FreeMem, MaxApplZone, DisposeHandle, EmptyHandle, GetHandleSize, HandToHand, HLock, HPurge, HGetState, HSetState, MoveHHi, HLockHi, Deref, DisposePtr, GetPtrSize, RecoverHandle, SetHandleSize, SetPtrSize, ReallocateHandle, PtrToHand, HandAndHand, PtrToXHand, PtrAndHand, Peek, Poke, BlockMove, ZoneMap as WalkZone}
 use Rattle.mac_base.specs.GrowZone.{Answer, DisposesHandle, Empties}
 use Rattle.mac_base.specs.Reply.{Refused, Done, Number, TwoNumbers, Bytes, Blocks}
 use Rattle.mac_base.specs.ExactStep.{exact_step, heap_after, replies_to}
@@ -188,3 +188,41 @@ answer_emptied = refl
 answer_emptied_sizes : replies_to zone (exact_step zone (record { calls = Empties h1 ∷ DisposesHandle h2 ∷ []; value = 7 } ∷ []) (heap_after zone fresh (NewHandle 2000 ∷ NewHandle 1000 ∷ [])) (SetHandleSize h2 3500)).heap
     (GetHandleSize h1 ∷ GetHandleSize h2 ∷ []) ≡ Refused NilHandleErr ∷ Number 3500 ∷ []
 answer_emptied_sizes = refl
+
+-- bytes written and shown, and refusals in their order
+poked : replies_to zone fresh (NewHandle 4 ∷ Poke h1 0 (0 ∷ 255 ∷ []) ∷ Peek h1 0 3 ∷ Poke h1 3 (97 ∷ 98 ∷ []) ∷ DisposeHandle h1 ∷ Peek h1 0 1 ∷ Peek 0 0 1 ∷ [])
+    ≡ Number h1 ∷ Done ∷ Bytes (0 ∷ 255 ∷ 0 ∷ []) ∷ Refused ParamErr ∷ Done ∷ Refused MemWzErr ∷ Refused NilHandleErr ∷ []
+poked = refl
+
+-- flags, and an empty handle, which has none
+flagged : replies_to zone fresh (NewHandle 100 ∷ HLock h1 ∷ HPurge h1 ∷ HGetState h1 ∷ HSetState h1 64 ∷ HGetState h1 ∷ HSetState h1 256 ∷ EmptyHandle h1 ∷ GetHandleSize h1 ∷ HLock h1 ∷ EmptyHandle h1 ∷ [])
+    ≡ Number h1 ∷ Done ∷ Done ∷ Number 192 ∷ Done ∷ Number 64 ∷ Refused ParamErr ∷ Done ∷ Refused NilHandleErr ∷ Refused NilHandleErr ∷ Done ∷ []
+flagged = refl
+
+-- sizes of handles and pointers
+sized : replies_to zone fresh (NewPtr 20 ∷ GetPtrSize p1 ∷ NewHandle 10 ∷ SetHandleSize h1 30 ∷ GetHandleSize h1 ∷ Peek h1 8 4 ∷ SetPtrSize p1 8 ∷ DisposePtr h1 ∷ DisposePtr p1 ∷ DisposePtr p1 ∷ [])
+    ≡ Number p1 ∷ Number 20 ∷ Number h1 ∷ Done ∷ Number 30 ∷ Bytes (0 ∷ 0 ∷ 0 ∷ 0 ∷ []) ∷ Done ∷ Refused MemWzErr ∷ Done ∷ Refused MemWzErr ∷ []
+sized = refl
+
+nothing_purged : replies_to zone fresh (PurgeMem 3781 ∷ []) ≡ Refused MemFullErr ∷ []
+nothing_purged = refl
+
+-- a range that ends behind the block, calls on a locked handle, the largest size and one above it
+bounds : replies_to zone fresh (NewHandle 100 ∷ Peek h1 90 20 ∷ HLock h1 ∷ EmptyHandle h1 ∷ ReallocateHandle h1 4 ∷ NewHandle 8388608 ∷ NewHandle 8388609 ∷ [])
+    ≡ Number h1 ∷ Refused ParamErr ∷ Done ∷ Refused MemPurErr ∷ Refused MemPurErr ∷ Refused MemFullErr ∷ Refused ParamErr ∷ []
+bounds = refl
+
+-- where the zone is full the map stays as it is
+full_zone_stays : (heap_after zone fresh (NewHandle 3773 ∷ [])).map ≡ fresh.map
+full_zone_stays = refl
+
+-- a handle that could not grow keeps its bytes, and one that need not be purged too
+kept_after_answers : replies_to zone (exact_step zone two_answers (heap_after zone fresh (NewHandle 3000 ∷ [])) (SetHandleSize h1 3800)).heap (GetHandleSize h1 ∷ []) ≡ Number 3000 ∷ []
+kept_after_answers = refl
+
+kept_by_growth : replies_to zone (new_heap zone 1024) (NewHandle 500 ∷ HPurge h1 ∷ NewHandle 1000 ∷ GetHandleSize h1 ∷ []) ≡ Number h1 ∷ Done ∷ Number h2 ∷ Number 500 ∷ []
+kept_by_growth = refl
+
+-- the master block that no room was left behind for stands in front, and all blocks above it
+master_block_first : (heap_after zone fresh (sixty_three ++ NewHandle 2752 ∷ NewHandle 0 ∷ NewEmptyHandle ∷ [])).free_slots ≡ slots_from 63 0x0010_0148
+master_block_first = refl

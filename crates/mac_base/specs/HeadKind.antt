@@ -15,10 +15,11 @@ smallest_block Bits24 = 12
 abbrev pub zone_header : ℕ
 zone_header = 52
 
--- the master pointers of a master block, and its logical size
+-- the master pointers of a master block
 abbrev pub slot_count : ℕ
 slot_count = 64
 
+-- the bytes of a master block's contents: four for each slot
 abbrev pub master_length : ℕ
 master_length = 256
 

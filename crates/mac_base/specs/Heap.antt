@@ -34,10 +34,11 @@ with_emptied heap h = record heap { table = emptied h heap.table; map = released
 abbrev pub with_all_emptied : List ℕ → Heap → Heap
 with_all_emptied hs heap = fold with_emptied heap hs
 
--- the heap with another table, or another map
+-- the heap with another table
 abbrev pub with_table : HandleTable → Heap → Heap
 with_table t heap = record heap { table = t }
 
+-- the heap with another map
 abbrev pub with_map : ZoneMap → Heap → Heap
 with_map m heap = record heap { map = m }
 

@@ -10,10 +10,12 @@ use Rattle.mac_base.specs.HeadKind.{Shape, need, smallest_block, slot_count, mas
 use Rattle.mac_base.specs.ZoneMap.{ZoneMap, is_free, is_master, addresses, contents_addresses}
 use Rattle.mac_base.specs.HandleTable.{HandleTable, bytes_of, is_full, is_handle, is_pointer}
 
+-- whether this is the block of the handle h
 abbrev pub is_handle_block : ℕ → Kind → Bool
 is_handle_block h (Rel g) = g == h
 is_handle_block h _ = false
 
+-- whether this is the block of the pointer p
 abbrev pub is_pointer_block : ℕ → Kind → Bool
 is_pointer_block p (Ptr q) = q == p
 is_pointer_block p _ = false
