@@ -9,6 +9,10 @@ use Rattle.raw_region.proofs.Lists.{written_is, part_long}
 pub length-part : (xs : List ℕ) (at n : ℕ) → at + n ≤ length xs → length (part xs at n) ≡ n
 length-part = part_long
 
+-- how long bytes are that are a part
+pub length-is_part : (ys xs : List ℕ) (at n : ℕ) → ys ≡ part xs at n → at + n ≤ length xs → length ys ≡ n
+length-is_part ys xs at n e fits = ap length e ∙ length-part xs at n fits
+
 -- a part of a part
 pub part-part : (xs : List ℕ) (at n k m : ℕ) → k + m ≤ n → part (part xs at n) k m ≡ part xs (at + k) m
 part-part xs at n k m fits =

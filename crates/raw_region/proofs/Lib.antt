@@ -1,8 +1,10 @@
 pub mod Carves
 pub mod Free
 pub mod Freed
+pub mod Indexes
 pub mod Laws
 pub mod Lists
+pub mod Loans
 pub mod Maps
 pub mod Moved
 pub mod Moves

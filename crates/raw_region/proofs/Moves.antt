@@ -1,28 +1,10 @@
 -- What moves of many bytes do to the list.
-use Rattle.std.proofs.Common.{◌≡◌, ℕ, zero, suc, ◌+◌, ◌-◌, ◌≤◌, ◌<◌, ◌⊎◌, List, [], ◌∷◌, ◌++◌, length, take, drop, slice_index, refl, sym, ap, ◌∙◌, inl, inr, ⊎_elim, arith, le_of_suc-le-suc, not-suc-le-zero, drop-drop, take-take, append_assoc}
+use Rattle.std.proofs.Common.{◌≡◌, ℕ, ◌+◌, ◌-◌, ◌≤◌, ◌⊎◌, List, ◌++◌, length, take, drop, sym, ap, ◌∙◌, inl, inr, ⊎_elim, arith, drop-drop, take-take, append_assoc}
 use Rattle.std.proofs.lemmas.List.{drop-take}
 use Rattle.raw_region.specs.Bytes.{part, written, length-written}
 use Rattle.core.specs.List.{copy_within}
 use Rattle.raw_region.proofs.Lists.{written_is, rewritten}
 use Rattle.raw_region.proofs.Laws.{length-part, part-part, part-written-apart, written-written}
-
--- a byte outside what was written
-low : (xs : List ℕ) (at : ℕ) (ws : List ℕ) (k : ℕ) → k < at → slice_index (written xs at ws) k ≡ slice_index xs k
-low [] at ws k l = refl
-low (x ∷ xs) zero ws k l = absurd (not-suc-le-zero l)
-low (x ∷ xs) (suc at) ws zero l = refl
-low (x ∷ xs) (suc at) ws (suc k) l = low xs at ws k (le_of_suc-le-suc l)
-
-high : (xs : List ℕ) (at : ℕ) (ws : List ℕ) (k : ℕ) → at + length ws ≤ k → slice_index (written xs at ws) k ≡ slice_index xs k
-high [] at ws k l = refl
-high (x ∷ xs) zero [] k l = refl
-high (x ∷ xs) zero (w ∷ ws) zero l = let l' : 0 + suc (length ws) ≤ 0 = l in absurd (not-suc-le-zero {n = 0} (omega arith))
-high (x ∷ xs) zero (w ∷ ws) (suc k) l = let l' : 0 + suc (length ws) ≤ suc k = l in high xs 0 ws k (omega arith)
-high (x ∷ xs) (suc at) ws zero l = let l' : suc at + length ws ≤ 0 = l in absurd (not-suc-le-zero {n = 0} (omega arith))
-high (x ∷ xs) (suc at) ws (suc k) l = let l' : suc at + length ws ≤ suc k = l in high xs at ws k (omega arith)
-
-pub index-written-apart : (xs : List ℕ) (at : ℕ) (ws : List ℕ) (k : ℕ) → (k < at) ⊎ (at + length ws ≤ k) → slice_index (written xs at ws) k ≡ slice_index xs k
-index-written-apart xs at ws k off = ⊎_elim (low xs at ws k) (high xs at ws k) off
 
 -- a range that is copied to one apart is written again where it stands
 pub copied_back : (xs : List ℕ) (from to n : ℕ) → from + n ≤ length xs → to + n ≤ length xs → (from + n ≤ to) ⊎ (to + n ≤ from)

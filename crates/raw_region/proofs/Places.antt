@@ -98,10 +98,11 @@ is_same : (s t : Span) → same_span s t ≡ true → t ≡ s
 is_same s t e = λ i. (eqb-true t.0 s.0 (left (t.0 == s.0) (t.1 == s.1) e) i, eqb-true t.1 s.1 (right (t.0 == s.0) (t.1 == s.1) e) i)
 
 -- without s: by whether the head is it
-head_case : {X : Type 0} (s t : Span) (ss : List Span) → (t ≡ s → without s (t ∷ ss) ≡ ss → X) → (same_span s t ≡ false → without s (t ∷ ss) ≡ t ∷ without s ss → X) → X
+pub head_case : {X : Type 0} (s t : Span) (ss : List Span) → (t ≡ s → without s (t ∷ ss) ≡ ss → X) → (same_span s t ≡ false → without s (t ∷ ss) ≡ t ∷ without s ss → X) → X
 head_case s t ss one other = by_case (same_span s t) (λ e. one (is_same s t e) (ap (λ (b : Bool). if b then ss else t ∷ without s ss) e)) (λ e. other e (ap (λ (b : Bool). if b then ss else t ∷ without s ss) e))
 
-is_other : (s t : Span) → same_span s t ≡ false → t ≡ s → ⊥
+-- a range that isn't the same is another
+pub is_other : (s t : Span) → same_span s t ≡ false → t ≡ s → ⊥
 is_other s t e q = true≢false (sym (both (eq-eqb t.0 s.0 (ap (λ (x : Span). x.0) q)) (eq-eqb t.1 s.1 (ap (λ (x : Span). x.1) q))) ∙ e)
 
 listed_in : (s t : Span) (ss : List Span) → same_span s t ≡ false → IsListed (t ∷ ss) s → IsListed ss s
@@ -112,7 +113,8 @@ pub listed_apart : (ss : List Span) (s : Span) (at n : ℕ) → AllApart ss at n
 listed_apart [] s at n free listed = absurd listed
 listed_apart (t ∷ ss) s at n free listed = ⊎_elim (λ q. subst (λ (x : Span). IsApart x at n) q free.0) (λ l. listed_apart ss s at n free.1 l) listed
 
-free_without : (ss : List Span) (s : Span) (at n : ℕ) → AllApart ss at n → AllApart (without s ss) at n
+-- a range that is free stays so when one comes back
+pub free_without : (ss : List Span) (s : Span) (at n : ℕ) → AllApart ss at n → AllApart (without s ss) at n
 free_without [] s at n free = tt
 free_without (t ∷ ss) s at n free = head_case s t ss (λ q e. subst (λ (l : List Span). AllApart l at n) (sym e) free.1) (λ d e. subst (λ (l : List Span). AllApart l at n) (sym e) (free.0, free_without ss s at n free.1))
 

@@ -19,20 +19,24 @@ impl Region {
     }
 
     /// The `n` bytes from `at` on. They are inside the region, and none is lent.
+    #[tactic(auto, using(crate::proofs::Rules::lengths))]
     pub fn bytes(&self, at: usize, n: usize) -> &[u8]
         requires inside { at + n ≤ length self.now.bytes }
         requires free { IsFree self.now.lent at n }
-        ensures { result.now ≡ part self.now.bytes at n }
+        ensures value { result.now ≡ part self.now.bytes at n }
+        ensures len { length result.now ≡ n }
     {
         self.cells.bytes(at, n)
     }
 
     /// The `n` bytes from `at` on, to be written. They are inside the region, and none is lent.
+    #[tactic(auto, using(crate::proofs::Rules::lengths))]
     pub fn bytes_mut(&mut self, at: usize, n: usize) -> &mut [u8]
         requires inside { at + n ≤ length self.old.bytes }
         requires free { IsFree self.old.lent at n }
         ensures* writes_back { sem 𝓛 (LendsBytes self.entry at n result) }
         ensures value { result.now ≡ part self.old.bytes at n }
+        ensures len { length result.now ≡ n }
     {
         self.cells.bytes_mut(at, n)
     }

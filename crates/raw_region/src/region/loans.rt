@@ -11,6 +11,7 @@ use crate::loan::Lent;
 impl Region {
     /// Lends the `n` bytes from `at` on: they leave the region, and who has the loan reads and writes them. The range is
     /// inside the region, and no byte of it is lent.
+    #[tactic(auto, using(crate::proofs::Rules::lengths))]
     pub fn lend(&mut self, at: usize, n: usize) -> Lent
         requires inside { at + n ≤ length self.old.bytes }
         requires free { IsFree self.old.lent at n }
@@ -20,6 +21,7 @@ impl Region {
         ensures loan_name { result.name ≡ self.old.name }
         ensures loan_offset { result.at ≡ at }
         ensures loan_bytes { result.bytes ≡ part self.old.bytes at n }
+        ensures loan_len { length result.bytes ≡ n }
 
         // Byte by byte: what the region no longer has is just what the loan has.
         ensures left { (k : ℕ) → byte_at self.new k ≡ (if covers (at, n) k then None else byte_at self.old k) }
