@@ -1,8 +1,10 @@
-//! One call, one reply.
+//! The toolbox over one zone: one call, one reply.
 #![tactic(auto)]
 
 mod call;
 mod reply;
+mod toolbox;
 
 pub use call::Call;
 pub use reply::{BlockKind, BlockLine, BlockLines, Reply, Results};
+pub use toolbox::Toolbox;

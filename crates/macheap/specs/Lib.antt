@@ -1,0 +1,4 @@
+pub mod Counted
+pub mod End
+pub mod Line
+pub mod Run

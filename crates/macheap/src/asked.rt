@@ -1,0 +1,104 @@
+//! The words of the command line.
+
+use clap::error::ErrorKind;
+use clap::{Arg, ArgAction, Command};
+use mac_base::zone_spec::{BadSpec, ZoneSpec};
+use std::alloc::{AllocError, Global};
+use std::convert::AsStr;
+use thiserror::Error;
+
+/// The size of a zone where `--zone` doesn't give one, in bytes.
+pub const DEFAULT_ZONE: u32 = 4096;
+
+/// The address at which a zone begins where `--base` doesn't give one.
+pub const DEFAULT_BASE: u32 = 0x10_0000;
+
+/// What the words ask for.
+#[derive(Debug, Drop)]
+pub enum Asked {
+    /// To run the script of standard input on such a zone.
+    Run(ZoneSpec),
+    /// To show this help text, and to run nothing.
+    Help(clap::Error),
+}
+
+/// Why the words ask for nothing.
+#[derive(Debug, Drop, Error)]
+pub enum NotAsked {
+    /// A word is no option, an option stands twice or has no value.
+    #[error("{0}")]
+    Words(clap::Error),
+    /// An option's value is no number.
+    #[error("error: --{0} takes decimal digits for a number up to 4294967295; see 'macheap --help'")]
+    NoNumber(&'static str),
+    /// There is no zone of these sizes.
+    #[error("error: {0}; give other numbers with --zone and --base, see 'macheap --help'")]
+    Spec(BadSpec),
+    /// The host has no memory for the words.
+    #[error("error: the host has no memory")]
+    HostFull,
+}
+
+impl From<clap::Error> for NotAsked {
+    fn from(error: clap::Error) -> NotAsked {
+        NotAsked::Words(error)
+    }
+}
+
+impl From<AllocError> for NotAsked {
+    fn from(_: AllocError) -> NotAsked {
+        NotAsked::HostFull
+    }
+}
+
+/// The command line's options.
+fn command<'a>(alloc: Global) -> Result<Command<'a>, AllocError> {
+    let zone = Arg::new(alloc, "zone")
+        .long("zone")
+        .value_name("N")
+        .action(ArgAction::Set)
+        .help("The zone's size in bytes, a multiple of 4 from 1024 to 1048576 (default 4096)");
+    let base = Arg::new(alloc, "base")
+        .long("base")
+        .value_name("N")
+        .action(ArgAction::Set)
+        .help("The address of its first byte, a multiple of 4 from 4096 on (default 1048576)");
+    Command::new(alloc, "macheap")
+        .about("Runs the script of standard input on a new heap zone, and writes each call's reply")
+        .arg(zone)?
+        .arg(base)
+}
+
+/// What the words ask for, of which the first is the program's name.
+pub fn asked_by<S: AsStr>(alloc: Global, words: &[S]) -> Result<Asked, NotAsked> {
+    let matches = match command(alloc)?.try_get_matches_from(words) {
+        Ok(matches) => matches,
+        Err(error) => return not_matched(error),
+    };
+    let zone = number("zone", matches.get_str("zone"), DEFAULT_ZONE)?;
+    let base = number("base", matches.get_str("base"), DEFAULT_BASE)?;
+    match ZoneSpec::new(base, zone, zone) {
+        Ok(spec) => Ok(Asked::Run(spec)),
+        Err(fault) => Err(NotAsked::Spec(fault)),
+    }
+}
+
+/// What it means that the words don't match the options.
+fn not_matched(error: clap::Error) -> Result<Asked, NotAsked> {
+    match error.kind() {
+        ErrorKind::DisplayHelp => Ok(Asked::Help(error)),
+        ErrorKind::OutOfMemory => Err(NotAsked::HostFull),
+        _ => Err(NotAsked::Words(error)),
+    }
+}
+
+/// The number that an option's value gives in decimal digits, or this one where the option doesn't stand there.
+fn number(option: &'static str, value: Option<&str>, default: u32) -> Result<u32, NotAsked> {
+    let Some(text) = value else {
+        return Ok(default);
+    };
+    if !text.bytes().all(|byte| byte.is_ascii_digit()) {
+        return Err(NotAsked::NoNumber(option));
+    }
+    text.parse::<u32>().map_err(|_| NotAsked::NoNumber(option))
+}

@@ -1,0 +1,54 @@
+-- Which tokens make a call.
+use Rattle.std.proofs.Common.{◌≡◌, ◌≢◌, ℕ, List, ◌∷◌, ◌++◌, Option, Some, None, sym, subst, ◌∙◌}
+use Rattle.std.specs.Prelude.{IfNone}
+use Rattle.std.specs.Borrow.{Bor}
+use Rattle.std.specs.Option.{option_copied}
+use Rattle.script_lang.specs.declared.call.CallName.{CallName}
+use Rattle.script_lang.specs.declared.line.CallLine.{CallLine}
+use Rattle.script_lang.specs.declared.line.Operand.{Operand}
+use Rattle.script_lang.specs.Tokens.{Token, Equals, Word}
+use Rattle.script_lang.specs.Calls.{signature}
+use Rattle.script_lang.specs.Operands.{AreOperands}
+use Rattle.script_lang.specs.Script.{assignment, AssignsNothing, HasNoFirstWord, IsCall}
+use Rattle.script_lang.proofs.CallNames.{one_call}
+use Rattle.script_lang.proofs.OneOperand.{operands_no_equals}
+
+-- the tokens are the assignment of a name, or none, and then these; and without a name they don't begin with one
+pub record Parted (tokens : List Token) (name : Option (Bor (List ℕ))) (rest : List Token) : Type 0 where
+  pub parts : tokens ≡ assignment (option_copied name) ++ rest
+  pub none : IfNone name (AssignsNothing tokens)
+
+-- behind the assignment stand the call's name and its operands
+behind_by : (names : List (List ℕ)) (tokens rest : List Token) (o : Option (Bor (List ℕ))) (x : CallLine) → Parted tokens o rest → (p : List Token) → AreOperands names (signature x.call).operands p x.operands → (a : Option (List ℕ)) → tokens ≡ assignment a ++ Word (signature x.call).name ∷ p → rest ≡ Word (signature x.call).name ∷ p
+behind_by names tokens rest None x parted p are None e = sym parted.parts ∙ e
+behind_by names tokens rest None x parted p are (Some a) e = absurd (parted.none a (Word (signature x.call).name ∷ p) e)
+behind_by names tokens rest (Some o) x parted p are None e =
+    let same : Word o.now ∷ Equals ∷ rest ≡ Word (signature x.call).name ∷ p = sym parted.parts ∙ e in
+    let begins : p ≡ Equals ∷ rest = cc in
+    absurd (operands_no_equals names (signature x.call).operands rest x.operands (subst (λ (t : List Token). AreOperands names (signature x.call).operands t x.operands) begins are))
+behind_by names tokens rest (Some o) x parted p are (Some a) e =
+    let same : Word o.now ∷ Equals ∷ rest ≡ Word a ∷ Equals ∷ Word (signature x.call).name ∷ p = sym parted.parts ∙ e in
+    cc
+
+behind : (names : List (List ℕ)) (tokens rest : List Token) (o : Option (Bor (List ℕ))) (x : CallLine) → Parted tokens o rest → (p : IsCall names tokens x) → rest ≡ Word (signature x.call).name ∷ p.0
+behind names tokens rest o x parted p = behind_by names tokens rest o x parted p.0 p.3 x.assigned p.1
+
+-- tokens without a word behind the assignment make no call
+pub no_word : (names : List (List ℕ)) (tokens rest : List Token) (o : Option (Bor (List ℕ))) → Parted tokens o rest → HasNoFirstWord rest → (x : CallLine) → ¬ IsCall names tokens x
+no_word names tokens rest o parted none x p = none (signature x.call).name p.0 (behind names tokens rest o x parted p)
+
+-- the word is the call's name, and behind it stand the operands
+name_and_operands : (names : List (List ℕ)) (tokens others : List Token) (word : List ℕ) (o : Option (Bor (List ℕ))) (x : CallLine) → Parted tokens o (Word word ∷ others) → (p : IsCall names tokens x) → ((signature x.call).name ≡ word) × (p.0 ≡ others)
+name_and_operands names tokens others word o x parted p =
+    let same : Word word ∷ others ≡ Word (signature x.call).name ∷ p.0 = behind names tokens (Word word ∷ others) o x parted p in (cc, cc)
+
+-- a word that is no call's name makes no call
+pub no_name : (names : List (List ℕ)) (tokens others : List Token) (word : List ℕ) (o : Option (Bor (List ℕ))) → Parted tokens o (Word word ∷ others) → ((call : CallName) → (signature call).name ≢ word) → (x : CallLine) → ¬ IsCall names tokens x
+no_name names tokens others word o parted none x p = none x.call (name_and_operands names tokens others word o x parted p).0
+
+-- tokens that are no operands of the call make no call
+pub no_operands : (names : List (List ℕ)) (tokens others : List Token) (call : CallName) (o : Option (Bor (List ℕ))) → Parted tokens o (Word (signature call).name ∷ others) → ((xs : List Operand) → ¬ AreOperands names (signature call).operands others xs) → (x : CallLine) → ¬ IsCall names tokens x
+no_operands names tokens others call o parted none x p =
+    let same = name_and_operands names tokens others (signature call).name o x parted p in
+    let this : x.call ≡ call = one_call x.call call same.0 in
+    none x.operands (subst (λ (c : CallName). AreOperands names (signature c).operands others x.operands) this (subst (λ (t : List Token). AreOperands names (signature x.call).operands t x.operands) same.1 p.3))

@@ -1,0 +1,21 @@
+pub mod Lists
+pub mod Fronts
+pub mod ByteTests
+pub mod FrontParts
+pub mod TokenAgain
+pub mod TokenFound
+pub mod TokenLaws
+pub mod Numerals
+pub mod Digits
+pub mod Named
+pub mod Lines
+pub mod Reading
+pub mod OperandLaws
+pub mod StatementLaws
+pub mod ScriptLaws
+pub mod OneOperand
+pub mod CallNames
+pub mod CallLines
+pub mod OneScript
+pub mod OneFault
+mod Rows

@@ -1,0 +1,101 @@
+//! The calls that a script can make, and how each is written.
+
+ghost use Rattle.std.specs.Prelude.{◌≡◌, ◌≢◌, true, false, IfSome, IfNone};
+ghost use Rattle.script_lang.specs.declared.call.CallName.{CallName};
+ghost use Rattle.script_lang.specs.Calls as calls;
+
+/// The calls that a script can make, by the names that a script gives them.
+#[derive(Clone, Copy, Debug, PartialEq, Eq)]
+pub enum CallName {
+    NewHandle,
+    DisposeHandle,
+    Poke,
+    Peek,
+    ZoneMap,
+}
+
+/// All calls.
+const ALL_CALLS: [CallName; 5] = [
+    CallName::NewHandle,
+    CallName::DisposeHandle,
+    CallName::Poke,
+    CallName::Peek,
+    CallName::ZoneMap,
+];
+
+/// How an operand is written.
+#[derive(Clone, Copy, Debug, PartialEq, Eq)]
+pub enum OperandKind {
+    /// A number, or the name of a variable: a size, an offset, a handle, an address.
+    Number,
+    /// Any bytes, in quotes.
+    Bytes,
+}
+
+/// How a call is written.
+#[derive(Clone, Copy, Debug)]
+pub struct Signature {
+    /// The call's name, in ASCII.
+    pub name: &'static [u8],
+    /// The kinds of its operands, in order.
+    pub operands: &'static [OperandKind],
+    /// Whether a line may assign the call's first result, which is a number, a handle or an address then.
+    pub is_assignable: bool,
+}
+
+/// A call whose first result may be assigned.
+fn gives(name: &'static [u8], operands: &'static [OperandKind]) -> Signature
+    ensures name { result.name.now ≡ name.now }
+    ensures operands { result.operands.now ≡ operands.now }
+    ensures is_assignable { result.is_assignable ≡ true }
+{
+    Signature {
+        name,
+        operands,
+        is_assignable: true,
+    }
+}
+
+/// A call that gives nothing that may be assigned.
+fn does(name: &'static [u8], operands: &'static [OperandKind]) -> Signature
+    ensures name { result.name.now ≡ name.now }
+    ensures operands { result.operands.now ≡ operands.now }
+    ensures is_assignable { result.is_assignable ≡ false }
+{
+    Signature {
+        name,
+        operands,
+        is_assignable: false,
+    }
+}
+
+impl CallName {
+    /// How a script writes the call: the table of calls.
+    pub fn signature(self) -> Signature
+        ensures name { result.name.now ≡ (calls.signature self).name }
+        ensures operands { result.operands.now ≡ (calls.signature self).operands }
+        ensures is_assignable { result.is_assignable ≡ (calls.signature self).is_assignable }
+    {
+        use OperandKind::{Bytes, Number};
+        match self {
+            CallName::NewHandle => gives(b"NewHandle", &[Number]),
+            CallName::DisposeHandle => does(b"DisposeHandle", &[Number]),
+            CallName::Poke => does(b"Poke", &[Number, Number, Bytes]),
+            CallName::Peek => does(b"Peek", &[Number, Number, Number]),
+            CallName::ZoneMap => gives(b"ZoneMap", &[]),
+        }
+    }
+
+    /// The call of this name.
+    pub fn named(word: &[u8]) -> Option<CallName>
+        ensures found { IfSome result (λ call. (calls.signature call).name ≡ word.now) }
+        ensures none { IfNone result ((call : CallName) → (calls.signature call).name ≢ word.now) }
+    {
+        for call in ALL_CALLS {
+            if call.signature().name == word {
+                return Some(call);
+            }
+        }
+        None
+    }
+}

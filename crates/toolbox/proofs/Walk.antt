@@ -1,0 +1,160 @@
+-- A walk over the blocks of a zone, from header to header.
+use Rattle.std.specs.Prelude.{find, nat_le, ◌==◌}
+use Rattle.std.specs.List.{list_all}
+use Rattle.std.proofs.Common.{◌≡◌, ℕ, ◌+◌, ◌%◌, ◌<◌, ◌≤◌, true, false, cond, List, [], ◌∷◌, ◌++◌, map, refl, sym, ap, subst, ◌∙◌, Some, None, arith, add_assoc, append_assoc}
+use Rattle.std.proofs.lemmas.Bool.{and_parts, leb-true, ne_eqb}
+use Rattle.std.proofs.lemmas.List.{append-nil, map-append}
+use Rattle.mac_base.proofs.Tables.{eqb_same}
+use Rattle.mac_base.specs.declared.block.Block.{Block}
+use Rattle.mac_base.specs.declared.block.Entry.{Entry}
+use Rattle.mac_base.specs.declared.block.HeadKind.{HeadKind}
+use Rattle.mac_base.specs.declared.block.HeadKind.TheVariants.{Bits24}
+use Rattle.mac_base.specs.HandleTable.{HandleTable}
+use Rattle.mac_base.specs.HeadKind.{Shape, smallest_block}
+use Rattle.mac_base.specs.Heap.{Heap}
+use Rattle.mac_base.specs.Reply.{reports_from, report_at, block_flags}
+use Rattle.mac_base.specs.Sound.{Sound}
+use Rattle.mac_base.specs.Suits.{is_block_size, wanted_length}
+use Rattle.mac_base.specs.ZoneMap.{ZoneMap, address_behind, total_size}
+use Rattle.toolbox.specs.declared.reply.BlockLine.{BlockLine}
+use Rattle.toolbox.specs.Told.{line_of}
+
+-- each block has at least one byte
+AllPositive : ZoneMap → Type 0
+AllPositive [] = Unit {0}
+AllPositive (e ∷ es) = (0 < e.size) × AllPositive es
+
+-- what a walk reports of a block at an address
+abbrev report : HandleTable → ℕ → Entry → Block
+report t at e = record { address = at; entry = e; length = wanted_length t e.kind; flags = block_flags t e.kind }
+
+-- a possible size is above 0
+size-positive : (heads : HeadKind) (n : ℕ) → nat_le (smallest_block heads) n ≡ true → 0 < n
+size-positive Bits24 n holds = let fact : 12 ≤ n = leb-true 12 n holds in omega arith
+
+AllPositive-sizes : (s : Shape) (m : ZoneMap) → list_all (λ (e : Entry). is_block_size s e.size) m ≡ true → AllPositive m
+unfolding AllPositive
+AllPositive-sizes s [] sized = tt
+AllPositive-sizes s (e ∷ es) sized =
+    let parts = and_parts (is_block_size s e.size) (list_all (λ (e : Entry). is_block_size s e.size) es) sized in
+    (size-positive s.heads e.size (and_parts (e.size % 4 == 0) (nat_le (smallest_block s.heads) e.size) parts.0).1, AllPositive-sizes s es parts.1)
+
+-- the block behind others is found at the address behind them
+find-behind : (t : HandleTable) (start at : ℕ) (before rest : ZoneMap) → AllPositive before → at ≡ start + total_size before
+    → find (λ (b : Block). b.address == at) (reports_from t start (before ++ rest)) ≡ find (λ (b : Block). b.address == at) (reports_from t at rest)
+unfolding AllPositive
+find-behind t start at [] rest positive is = ap (λ n. find (λ (b : Block). b.address == at) (reports_from t n rest)) (omega arith)
+find-behind t start at (e ∷ before) rest positive is =
+    let other : (start == at) ≡ false = ne_eqb start at (λ same. omega arith) in
+    ap (λ b. cond b (Some (report t start e)) (find (λ (b : Block). b.address == at) (reports_from t (start + e.size) (before ++ rest)))) other
+    ∙ find-behind t (start + e.size) at before rest positive.1 (is ∙ sym (add_assoc start e.size (total_size before)))
+
+-- the first block is found at its address
+find-first : (t : HandleTable) (at : ℕ) (e : Entry) (es : ZoneMap) → find (λ (b : Block). b.address == at) (reports_from t at (e ∷ es)) ≡ Some (report t at e)
+find-first t at e es = ap (λ b. cond b (Some (report t at e)) (find (λ (b : Block). b.address == at) (reports_from t (at + e.size) es))) (eqb_same at)
+
+-- where none is found at the first block's address, there is no block
+none_left : (t : HandleTable) (at : ℕ) (rest : ZoneMap) → find (λ (b : Block). b.address == at) (reports_from t at rest) ≡ None → rest ≡ []
+none_left t at [] none = refl
+none_left t at (e ∷ es) none = let both : Some (report t at e) ≡ None = sym (find-first t at e es) ∙ none in absurd (cc)
+
+-- the block found there is the first one
+pub record IsFirst (t : HandleTable) (at : ℕ) (rest : ZoneMap) (block : Block) : Type 0 where
+  pub others : ZoneMap
+  pub parts : rest ≡ block.entry ∷ others
+  pub is : block ≡ report t at block.entry
+
+first_left : (t : HandleTable) (at : ℕ) (rest : ZoneMap) (block : Block) → find (λ (b : Block). b.address == at) (reports_from t at rest) ≡ Some block → IsFirst t at rest block
+first_left t at [] block found = absurd (cc)
+first_left t at (e ∷ es) block found =
+    let both : Some (report t at e) ≡ Some block = sym (find-first t at e es) ∙ found in
+    let is : report t at e ≡ block = cc in
+    let P : Block → Type 0 = λ b. IsFirst t at (e ∷ es) b in
+    subst P is (record { others = es; parts = refl; is = refl })
+
+-- one more block at the end
+reports_from-push : (t : HandleTable) (start : ℕ) (before : ZoneMap) (e : Entry) → reports_from t start (before ++ e ∷ []) ≡ reports_from t start before ++ report t (start + total_size before) e ∷ []
+reports_from-push t start [] e = ap (λ n. report t n e ∷ []) (omega arith)
+reports_from-push t start (f ∷ before) e =
+    ap (λ (rest : List Block). report t start f ∷ rest)
+    (reports_from-push t (start + f.size) before e ∙ ap (λ n. reports_from t (start + f.size) before ++ report t n e ∷ []) (add_assoc start f.size (total_size before)))
+
+total_size-append : (a b : ZoneMap) → total_size (a ++ b) ≡ total_size a + total_size b
+total_size-append [] b = omega arith
+total_size-append (e ∷ es) b = ap (λ n. e.size + n) (total_size-append es b) ∙ sym (add_assoc e.size (total_size es) (total_size b))
+
+AllPositive-front : (a b : ZoneMap) → AllPositive (a ++ b) → AllPositive a
+unfolding AllPositive
+AllPositive-front [] b positive = tt
+AllPositive-front (e ∷ es) b positive = (positive.0, AllPositive-front es b positive.1)
+
+AllPositive-behind : (a b : ZoneMap) → AllPositive (a ++ b) → AllPositive b
+unfolding AllPositive
+AllPositive-behind [] b positive = positive
+AllPositive-behind (e ∷ es) b positive = AllPositive-behind es b positive.1
+
+-- A walk has come to an address: these are the lines of the blocks before it.
+pub record HasWalked (s : Shape) (heap : Heap) (at : ℕ) (lines : List BlockLine) : Type 0 where
+  pub before : ZoneMap
+  pub rest : ZoneMap
+  pub parts : heap.map ≡ before ++ rest
+  pub here : at ≡ address_behind s before
+  pub shown : lines ≡ map line_of (reports_from heap.table (address_behind s []) before)
+
+pub HasWalked-start : (s : Shape) (heap : Heap) (at : ℕ) (lines : List BlockLine) → at ≡ address_behind s [] → lines ≡ [] → HasWalked s heap at lines
+HasWalked-start s heap at lines here none = record { before = []; rest = heap.map; parts = refl; here = here; shown = none }
+
+sized : (s : Shape) (heap : Heap) → Sound s heap → AllPositive heap.map
+sized s heap sound = AllPositive-sizes s heap.map sound.suits.sizes
+
+-- the block at the address is the first of those that are left
+report_at-left : (s : Shape) (heap : Heap) (at : ℕ) (lines : List BlockLine) (walk : HasWalked s heap at lines) → Sound s heap → report_at s heap at ≡ find (λ (b : Block). b.address == at) (reports_from heap.table at walk.rest)
+report_at-left s heap at lines walk sound =
+    let positive : AllPositive (walk.before ++ walk.rest) = let P : ZoneMap → Type 0 = λ m. AllPositive m in subst P walk.parts (sized s heap sound) in
+    ap (λ m. find (λ (b : Block). b.address == at) (reports_from heap.table (address_behind s []) m)) walk.parts
+    ∙ find-behind heap.table (address_behind s []) at walk.before walk.rest (AllPositive-front walk.before walk.rest positive) (walk.here ∙ omega arith)
+
+-- where no block stands at the address, the lines are those of all blocks
+pub HasWalked-end : (s : Shape) (heap : Heap) (at : ℕ) (lines : List BlockLine) → HasWalked s heap at lines → Sound s heap → report_at s heap at ≡ None → lines ≡ map line_of (reports_from heap.table (address_behind s []) heap.map)
+HasWalked-end s heap at lines walk sound none =
+    let over : walk.rest ≡ [] = none_left heap.table at walk.rest (sym (report_at-left s heap at lines walk sound) ∙ none) in
+    let all : walk.before ≡ heap.map = sym (append-nil walk.before) ∙ ap (λ (m : ZoneMap). walk.before ++ m) (sym over) ∙ sym walk.parts in
+    walk.shown ∙ ap (λ m. map line_of (reports_from heap.table (address_behind s []) m)) all
+
+-- the block at the address, if there is one
+pub found_first : (s : Shape) (heap : Heap) (at : ℕ) (lines : List BlockLine) (walk : HasWalked s heap at lines) (block : Block) → Sound s heap → report_at s heap at ≡ Some block → IsFirst heap.table at walk.rest block
+found_first s heap at lines walk block sound found = first_left heap.table at walk.rest block (sym (report_at-left s heap at lines walk sound) ∙ found)
+
+-- a block on the walk has a size, and the zone ends behind it
+pub record EndsBehind (s : Shape) (heap : Heap) (at size : ℕ) : Type 0 where
+  pub positive : 0 < size
+  pub behind : at + size ≤ address_behind s heap.map
+
+pub block_ends : (s : Shape) (heap : Heap) (at : ℕ) (lines : List BlockLine) (block : Block) → HasWalked s heap at lines → Sound s heap → report_at s heap at ≡ Some block → EndsBehind s heap at block.entry.size
+unfolding AllPositive
+block_ends s heap at lines block walk sound found =
+    let first = found_first s heap at lines walk block sound found in
+    let parts : heap.map ≡ walk.before ++ (block.entry ∷ first.others) = walk.parts ∙ ap (λ (m : ZoneMap). walk.before ++ m) first.parts in
+    let P : ZoneMap → Type 0 = λ m. AllPositive m in
+    let positive : AllPositive (block.entry ∷ first.others) = AllPositive-behind walk.before (block.entry ∷ first.others) (subst P parts (sized s heap sound)) in
+    let total : total_size heap.map ≡ total_size walk.before + (block.entry.size + total_size first.others) = ap total_size parts ∙ total_size-append walk.before (block.entry ∷ first.others) in
+    let here : at ≡ address_behind s walk.before = walk.here in
+    record { positive = positive.0; behind = omega arith }
+
+-- a walk goes on by one block
+pub HasWalked-step : (s : Shape) (heap : Heap) (at : ℕ) (lines : List BlockLine) (block : Block) → HasWalked s heap at lines → Sound s heap → report_at s heap at ≡ Some block → HasWalked s heap (at + block.entry.size) (lines ++ line_of block ∷ [])
+HasWalked-step s heap at lines block walk sound found =
+    let first = found_first s heap at lines walk block sound found in
+    let parts : heap.map ≡ walk.before ++ (block.entry ∷ first.others) = walk.parts ∙ ap (λ (m : ZoneMap). walk.before ++ m) first.parts in
+    let more : total_size (walk.before ++ block.entry ∷ []) ≡ total_size walk.before + (block.entry.size + 0) = total_size-append walk.before (block.entry ∷ []) in
+    let here : at ≡ address_behind s walk.before = walk.here in
+    let line : line_of block ≡ line_of (report heap.table (address_behind s [] + total_size walk.before) block.entry) = ap line_of (first.is ∙ ap (λ n. report heap.table n block.entry) (omega arith)) in
+    record {
+      before = walk.before ++ block.entry ∷ [];
+      rest = first.others;
+      parts = parts ∙ sym (append_assoc walk.before (block.entry ∷ []) first.others);
+      here = omega arith;
+      shown = ap (λ (front : List BlockLine). front ++ line_of block ∷ []) walk.shown
+          ∙ ap (λ (l : BlockLine). map line_of (reports_from heap.table (address_behind s []) walk.before) ++ l ∷ []) line
+          ∙ sym (ap (λ (bs : List Block). map line_of bs) (reports_from-push heap.table (address_behind s []) walk.before block.entry) ∙ map-append line_of (reports_from heap.table (address_behind s []) walk.before) _);
+    }
