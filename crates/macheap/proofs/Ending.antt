@@ -1,5 +1,5 @@
 -- How the parts of a run make its end.
-use Rattle.std.proofs.Common.{◌≡◌, ℕ, zero, suc, ◌+◌, ◌<◌, ◌≤◌, List, [], ◌∷◌, ◌++◌, Option, Some, None, take, length, get_or, refl, sym, ap, subst, ◌∙◌, append_assoc, ◌⊎◌, inl, inr, arith}
+use Rattle.std.proofs.Common.{◌≡◌, ℕ, ◌+◌, ◌<◌, ◌≤◌, List, [], ◌∷◌, ◌++◌, Option, Some, None, take, length, get_or, refl, sym, ap, subst, ◌∙◌, append_assoc, ◌⊎◌, inl, inr}
 use Rattle.std.specs.Prelude.{IfSome}
 use Rattle.std.specs.List.{concat}
 use Rattle.std.proofs.lemmas.List.{append-nil, take_more, take_all}
@@ -10,7 +10,7 @@ use Rattle.macheap.specs.declared.end.RunEnd.{RunEnd}
 use Rattle.macheap.specs.declared.end.RunEnd.TheVariants.{Finished, ScriptFault, NoMemory, ReadFault, WriteFault}
 use Rattle.macheap.specs.declared.machine.Machine.{Machine}
 use Rattle.macheap.specs.Line.{LineDoes}
-use Rattle.macheap.specs.Run.{IsRun, PrintsAll, PrintsSome, IsFront, MayWrite, replies, fault, no_memory, Ends, FaultEnds, NoMemoryEnds}
+use Rattle.macheap.specs.Run.{IsRun, PrintsAll, PrintsSome, IsFront, replies, fault, no_memory, Ends, FaultEnds, NoMemoryEnds}
 
 -- what holds of the text that was read holds of the input
 pub with_input : (known : Option (List ℕ)) (text : List ℕ) (P : List ℕ → Type 0) → IfSome known (λ input. (text ≡ input) × (length input ≤ max_script)) → P text → IfSome known P

@@ -4,7 +4,7 @@ use Rattle.std.specs.List.{list_any}
 use Rattle.std.specs.Map.{lookup}
 use Rattle.std.specs.Str.{bytes_eq}
 use Rattle.script_lang.specs.declared.call.CallName.{CallName}
-use Rattle.script_lang.specs.declared.call.CallName.TheVariants as name
+use Rattle.script_lang.specs.declared.call.CallName.TheVariants as call_name
 use Rattle.script_lang.specs.declared.line.Operand.{Operand}
 use Rattle.script_lang.specs.declared.line.Operand.TheVariants.{Number, Variable, Bytes}
 use Rattle.script_lang.specs.declared.line.CallLine.{CallLine}
@@ -66,11 +66,11 @@ memory_call call.ZoneMap = ZoneMap
 
 -- the call of this name with these operands
 abbrev pub call_with : Variables → CallName → List Operand → MemoryCall
-call_with variables name.NewHandle operands = NewHandle (number_at variables operands 0)
-call_with variables name.DisposeHandle operands = DisposeHandle (number_at variables operands 0)
-call_with variables name.Poke operands = Poke (number_at variables operands 0) (number_at variables operands 1) (bytes_at operands 2)
-call_with variables name.Peek operands = Peek (number_at variables operands 0) (number_at variables operands 1) (number_at variables operands 2)
-call_with variables name.ZoneMap operands = ZoneMap
+call_with variables call_name.NewHandle operands = NewHandle (number_at variables operands 0)
+call_with variables call_name.DisposeHandle operands = DisposeHandle (number_at variables operands 0)
+call_with variables call_name.Poke operands = Poke (number_at variables operands 0) (number_at variables operands 1) (bytes_at operands 2)
+call_with variables call_name.Peek operands = Peek (number_at variables operands 0) (number_at variables operands 1) (number_at variables operands 2)
+call_with variables call_name.ZoneMap operands = ZoneMap
 
 -- the call that a line makes, with the values that its operands have
 abbrev pub call_of : Variables → CallLine → MemoryCall

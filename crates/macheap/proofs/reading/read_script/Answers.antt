@@ -1,4 +1,4 @@
-use Rattle.std.proofs.Common.{◌≡◌, ◌<◌, length, take, refl, arith, ap}
+use Rattle.std.proofs.Common.{◌<◌, length, take, refl, arith}
 use Rattle.macheap.proofs.Known.{read_all}
 use Rattle.macheap.proofs.reading.read_script.Goals as goal
 

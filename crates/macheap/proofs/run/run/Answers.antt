@@ -1,6 +1,5 @@
-use Rattle.std.proofs.Common.{◌≡◌, ℕ, ◌+◌, List, [], ◌∷◌, ◌++◌, take, length, get_or, refl, sym, inl, inr, ◌∙◌, ap, arith}
+use Rattle.std.proofs.Common.{◌≡◌, ◌+◌, [], ◌∷◌, ◌++◌, refl, inl, inr, ◌∙◌, arith}
 use Rattle.std.specs.List.{concat}
-use Rattle.script_lang.specs.declared.line.Line.{Line}
 use Rattle.script_lang.specs.Script.{IsScript, IsFaultAt}
 use Rattle.macheap.specs.Line.{start_of}
 use Rattle.macheap.specs.Run.{IsFront}
@@ -34,3 +33,52 @@ pub returns-in_default-clause-ends : goal.returns-in_default-clause-ends
 returns-in_default-clause-ends g c =
     let f = c.tell_no_memory-in_default.ensures.ends in
     (f.0, f.1, for_all (g.R.Read.remaining c.args.reader.now.inner) _ (λ input. no_memory_ends (start_of c.args.spec) input [] _ f.0 (inl refl) f.2))
+
+pub loop-line-init : goal.loop-line-init
+loop-line-init g c = ([], Appends-none _, c.in-Ok-create.ensures, omega arith)
+
+pub returns-in_default-run_line-clause-ends : goal.returns-in_default-run_line-clause-ends
+returns-in_default-run_line-clause-ends g c =
+    let f = c.tell_no_memory-in_default-run_line.ensures.ends in
+    let i = c.loop-line.invariant in
+    let is : IsScript c.in-Ok.text.items c.deref-line-items.result.now = rw (c.deref-line-items.ensures.value, ← c.deref.ensures.value) c.in-Ok-parse_script.ensures.script in (
+      concat i.0 ++ f.0,
+      Appends-then _ _ _ _ _ i.1 f.1,
+      with_input (g.R.Read.remaining c.args.reader.now.inner) c.in-Ok.text.items _ c.in-Ok.ensures.text
+          (no_memory_ends (start_of c.args.spec) c.in-Ok.text.items (concat i.0) _ f.0 (inr (record { lines = _; script = is; count = c.loop-line.line-index; texts = i.0; last = _; run = i.2; front = refl })) f.2),
+    )
+
+pub returns-in_default-run_line-clause-write_fault : goal.returns-in_default-run_line-clause-write_fault
+returns-in_default-run_line-clause-write_fault g c = λ fault. Rose-later _ _ _ c.loop-line.invariant.3 (c.tell_no_memory-in_default-run_line.ensures.cause fault)
+
+pub returns-then-not-write_whole-clause-ends : goal.returns-then-not-write_whole-clause-ends
+returns-then-not-write_whole-clause-ends g c =
+    let w = c.if-not-write_whole.ensures.written in
+    let i = c.loop-line.invariant in
+    let is : IsScript c.in-Ok.text.items c.deref-line-items.result.now = rw (c.deref-line-items.ensures.value, ← c.deref.ensures.value) c.in-Ok-parse_script.ensures.script in
+    let run = IsRun-step (start_of c.args.spec) c.deref-line-items.result.now c.loop-line.line-index i.0 c.loop-line.machine c.line-item.result c.in-Ok-run_line.text.items c.run_line.new.self c.loop-line-test.true c.line-item.is i.2 c.in-Ok-run_line.ensures in
+    let front : IsFront w.0 c.in-Ok-run_line.text.items = rw (← c.deref-in-loop-line.ensures.value) w.2 in (
+      concat i.0 ++ w.0,
+      Appends-then _ _ _ _ _ i.1 w.1,
+      with_input (g.R.Read.remaining c.args.reader.now.inner) c.in-Ok.text.items _ c.in-Ok.ensures.text
+          (front_ends (start_of c.args.spec) c.in-Ok.text.items c.deref-line-items.result.now (c.loop-line.line-index + 1) i.0 c.run_line.new.self c.in-Ok-run_line.text.items w.0 is run front),
+    )
+
+pub loop-line-preserved : goal.loop-line-preserved
+loop-line-preserved g c =
+    let w = c.if-not-write_whole.ensures.written in
+    let i = c.loop-line.invariant in
+    let later = c.if-not-write_whole.ensures.later in
+    let whole : w.0 ≡ c.in-Ok-run_line.text.items = w.2 ∙ c.deref-in-loop-line.ensures.value in
+    let run = IsRun-step (start_of c.args.spec) c.deref-line-items.result.now c.loop-line.line-index i.0 c.loop-line.machine c.line-item.result c.in-Ok-run_line.text.items c.run_line.new.self c.loop-line-test.true c.line-item.is i.2 c.in-Ok-run_line.ensures in
+    (i.0 ++ c.in-Ok-run_line.text.items ∷ [], rw (concat-push, ← whole) (Appends-then _ _ _ _ _ i.1 w.1), run, omega arith)
+
+pub returns-clause-ends : goal.returns-clause-ends
+returns-clause-ends g c =
+    let i = c.loop-line.invariant in
+    let is : IsScript c.in-Ok.text.items c.deref-line-items.result.now = rw (c.deref-line-items.ensures.value, ← c.deref.ensures.value) c.in-Ok-parse_script.ensures.script in (
+      concat i.0,
+      i.1,
+      with_input (g.R.Read.remaining c.args.reader.now.inner) c.in-Ok.text.items _ c.in-Ok.ensures.text
+          (all_printed (start_of c.args.spec) c.in-Ok.text.items c.deref-line-items.result.now i.0 c.loop-line.machine is c.loop-line.line-index c.loop-line-test.false i.2),
+    )

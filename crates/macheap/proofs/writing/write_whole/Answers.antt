@@ -1,4 +1,4 @@
-use Rattle.std.proofs.Common.{◌≡◌, ◌++◌, ◌≤◌, take, drop, length, ◌∙◌, arith}
+use Rattle.std.proofs.Common.{◌++◌, take, ◌∙◌, arith}
 use Rattle.macheap.proofs.Known.{Appends-then, front_and_rest}
 use Rattle.macheap.proofs.writing.write_whole.Goals as goal
 

@@ -1,0 +1,33 @@
+#!/usr/bin/env python3
+"""Writes a script of so many lines: make_script.py KIND LINES.
+
+A script has at most 1,048,576 bytes, so 65,536 lines have 16 bytes each at most. KIND is
+
+  handles   NewHandle 0 and DisposeHandle in turn
+  bytes     a Poke of one byte and a Peek of 100 bytes in turn
+  pokes     a Poke of 100 bytes and a Peek of them in turn (for 16,384 lines at most)
+  comments  seven comments and blank lines, and then a Peek of 4 bytes
+"""
+import sys
+
+TURNS = {
+    "handles": ([], ["h = NewHandle 0", "DisposeHandle h"]),
+    "bytes": (["h = NewHandle 100"], ['Poke h 99 "x"', "Peek h 0 100"]),
+    "pokes": (["h = NewHandle 100"], ['Poke h 0 "' + "x" * 100 + '"', "Peek h 0 100"]),
+    "comments": (
+        ["h = NewHandle 4"],
+        ["# a comment", "", "   # and one", "\t", "# and another", "", "", "Peek h 0 4"],
+    ),
+}
+
+
+def main():
+    kind, count = sys.argv[1], int(sys.argv[2])
+    first, turn = TURNS[kind]
+    lines = first + [turn[i % len(turn)] for i in range(count - len(first))]
+    text = "".join(line + "\n" for line in lines)
+    assert len(text) <= 1_048_576, "the script is too long"
+    sys.stdout.write(text)
+
+
+main()
