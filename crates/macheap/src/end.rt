@@ -19,7 +19,9 @@ pub enum RunEnd {
 }
 
 /// The exit status of a run that ended so.
-pub fn status(end: RunEnd) -> u8 {
+pub fn status(end: RunEnd) -> u8
+    ensures { result ≡ status_of end }
+{
     match end {
         RunEnd::Finished => 0,
         RunEnd::NoMemory | RunEnd::ReadFault | RunEnd::WriteFault => 1,

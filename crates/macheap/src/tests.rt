@@ -8,16 +8,18 @@ use std::io;
 use std::io::{ErrorKind, Read, Write};
 use std::test::Fail;
 
-/// A reader of bytes that gives at most `piece` of them in a read, and fails at the end if it is to.
+/// A reader of bytes that gives at most `piece` of them in a read, and fails at the end if it is to. It counts its reads.
 #[derive(Drop)]
 struct Pieces<'a> {
     rest: &'a [u8],
     piece: usize,
     fails: bool,
+    reads: usize,
 }
 
 impl Read for Pieces<'_> {
     fn read(&mut self, buf: &mut [u8]) -> io::Result<usize> {
+        self.reads += 1;
         let count = self.rest.len().min(self.piece).min(buf.len());
         if count == 0 && self.fails {
             return Err(io::Error::from(ErrorKind::Other));
@@ -163,6 +165,7 @@ fn failures_end_a_run(rt: HostRuntime) -> Result<(), Fail> {
             rest: script,
             piece: read,
             fails: reader_fails,
+            reads: 0,
         });
         let mut writer = Counted::new(Paper {
             text: Vec::new(rt.alloc()),
@@ -176,6 +179,77 @@ fn failures_end_a_run(rt: HostRuntime) -> Result<(), Fail> {
         assert_eq!(rt; writer.inner.text.as_slice(), &whole.as_bytes()[..count]);
         assert_eq!(rt; reader.failures > 0, end == RunEnd::ReadFault);
         assert_eq!(rt; writer.failures > 0, end == RunEnd::WriteFault);
+    }
+    Ok(())
+}
+
+/// A script, and what it prints.
+const MAPPED: (&str, &str) = (
+    "h = NewHandle 100\nZoneMap",
+    "1 NewHandle $0010003C 0\n2 ZoneMap 3 0\n  $00100034 264 master\n  $0010013C 108 rel $0010003C 100 ---\n  $001001A8 3672 free\n",
+);
+
+#[test]
+fn each_byte_may_be_the_last_that_is_written(rt: HostRuntime) -> Result<(), Fail> {
+    let (script, output) = MAPPED;
+    let spec = ZoneSpec::new(0x10_0000, 4096, 4096)?;
+    for cut in 0..2 * output.len() {
+        let room = cut / 2;
+        let mut reader = Counted::new(script.as_bytes());
+        let mut writer = Counted::new(Paper {
+            text: Vec::new(rt.alloc()),
+            piece: output.len(),
+            room,
+            fails: cut % 2 == 0,
+        });
+        let end = run(rt.alloc(), &mut reader, &mut writer, spec);
+        assert_eq!(rt; end, RunEnd::WriteFault, "{room}");
+        assert_eq!(rt; writer.inner.text.as_slice(), &output.as_bytes()[..room]);
+        assert_eq!(rt; (reader.failures, writer.failures), (0, 1));
+    }
+    Ok(())
+}
+
+#[test]
+fn each_byte_may_be_the_last_that_is_read(rt: HostRuntime) -> Result<(), Fail> {
+    let (script, _) = MAPPED;
+    let spec = ZoneSpec::new(0x10_0000, 4096, 4096)?;
+    for count in 0..script.len() + 1 {
+        let mut reader = Counted::new(Pieces {
+            rest: &script.as_bytes()[..count],
+            piece: script.len(),
+            fails: true,
+            reads: 0,
+        });
+        let mut writer = Counted::new(Vec::new(rt.alloc()));
+        let end = run(rt.alloc(), &mut reader, &mut writer, spec);
+        assert_eq!(rt; end, RunEnd::ReadFault, "{count}");
+        assert_eq!(rt; writer.inner.len(), 0);
+        assert_eq!(rt; (reader.failures, writer.failures), (1, 0));
+    }
+    Ok(())
+}
+
+#[test]
+fn reads_are_no_more_than_the_bytes_and_two(rt: HostRuntime) -> Result<(), Fail> {
+    let spec = ZoneSpec::new(0x10_0000, 4096, 4096)?;
+    let script = vec![in rt.alloc(); b'#'; 1_048_580]?;
+    let rows: [(usize, RunEnd); 3] = [
+        (1_048_576, RunEnd::Finished),
+        (1_048_577, RunEnd::ScriptFault(0)),
+        (1_048_580, RunEnd::ScriptFault(0)),
+    ];
+    for (length, want) in rows {
+        let mut reader = Counted::new(Pieces {
+            rest: &script[..length],
+            piece: 1,
+            fails: false,
+            reads: 0,
+        });
+        let mut writer = Counted::new(Vec::new(rt.alloc()));
+        let end = run(rt.alloc(), &mut reader, &mut writer, spec);
+        assert_eq!(rt; end, want, "{length}");
+        assert!(rt; reader.inner.reads <= 1_048_578, "{length}");
     }
     Ok(())
 }
