@@ -1,6 +1,7 @@
 //! What stays from one line of a script to the next.
 
 ghost use Rattle.std.specs.Prelude.{◌≡◌, IfOk, OnOk};
+ghost use Rattle.macheap.specs.Line.{start_of, assigned, CallDoes, LineDoes};
 
 use mac_base::error::HostFull;
 use mac_base::zone_spec::ZoneSpec;
@@ -17,8 +18,6 @@ pub struct Machine {
 }
 
 impl Machine {
-    ghost use Rattle.macheap.specs.Line.{start_of, CallDoes, LineDoes};
-
     /// A toolbox over a new zone, and no variables.
     pub fn create(alloc: Global, spec: ZoneSpec) -> Result<Machine, HostFull>
         ensures { IfOk result (λ machine. machine ≡ start_of spec) }
@@ -50,8 +49,6 @@ impl Machine {
         render(alloc, number, line, &reply)
     }
 }
-
-ghost use Rattle.macheap.specs.Line.{assigned};
 
 /// Gives a value to the variable that a line assigns, if it assigns one.
 fn assign(variables: &mut Vars, name: &Option<Name>, value: u32) -> Result<(), HostFull>

@@ -31,8 +31,10 @@ impl From<AllocError> for ReadEnd {
 
 /// All that the reader gives, in at most two reads more than a script may have bytes.
 pub fn read_script<R: Read>(alloc: Global, reader: &mut Counted<R>) -> Result<Vec<u8>, ReadEnd>
-    ensures text { IfOk result (λ text. IfSome (R.remaining reader.old.inner) (λ input. (text.items ≡ input) × (length input ≤ max_script))) }
-    ensures long { IsErrOf result ReadEnd.TooLong → IfSome (R.remaining reader.old.inner) (λ input. max_script < length input) }
+    ensures text { IfOk result (λ text. IfSome (R.remaining reader.old.inner)
+        (λ input. (text.items ≡ input) × (length input ≤ max_script))) }
+    ensures long { IsErrOf result ReadEnd.TooLong
+        → IfSome (R.remaining reader.old.inner) (λ input. max_script < length input) }
     ensures fault { IsErrOf result ReadEnd.Fault → Rose reader.old.failures reader.new.failures }
 {
     let mut text = Vec::new(alloc);

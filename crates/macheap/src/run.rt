@@ -56,7 +56,8 @@ pub fn run<R: Read, W: Write>(
 
 /// Writes which line is the first that is none.
 fn tell_fault<W: Write>(alloc: Global, writer: &mut Counted<W>, line: u32) -> RunEnd
-    ensures ends { (written : List ℕ) × Appends (W.contents writer.old.inner) (W.contents writer.new.inner) written × FaultEnds line result written }
+    ensures ends { (written : List ℕ) × Appends (W.contents writer.old.inner) (W.contents writer.new.inner) written
+        × FaultEnds line result written }
     ensures later { writer.old.failures ≤ writer.new.failures }
     ensures reader { result ≢ RunEnd.ReadFault }
     ensures cause { result ≡ RunEnd.WriteFault → Rose writer.old.failures writer.new.failures }
@@ -73,7 +74,8 @@ fn tell_fault<W: Write>(alloc: Global, writer: &mut Counted<W>, line: u32) -> Ru
 
 /// Writes that the host has no memory.
 fn tell_no_memory<W: Write>(writer: &mut Counted<W>) -> RunEnd
-    ensures ends { (written : List ℕ) × Appends (W.contents writer.old.inner) (W.contents writer.new.inner) written × NoMemoryEnds result written }
+    ensures ends { (written : List ℕ) × Appends (W.contents writer.old.inner) (W.contents writer.new.inner) written
+        × NoMemoryEnds result written }
     ensures later { writer.old.failures ≤ writer.new.failures }
     ensures reader { result ≢ RunEnd.ReadFault }
     ensures cause { result ≡ RunEnd.WriteFault → Rose writer.old.failures writer.new.failures }

@@ -19,7 +19,7 @@ struct Pieces<'a> {
 
 impl Read for Pieces<'_> {
     fn read(&mut self, buf: &mut [u8]) -> io::Result<usize> {
-        self.reads += 1;
+        self.reads = self.reads.saturating_add(1);
         let count = self.rest.len().min(self.piece).min(buf.len());
         if count == 0 && self.fails {
             return Err(io::Error::from(ErrorKind::Other));
@@ -189,32 +189,52 @@ const MAPPED: (&str, &str) = (
     "1 NewHandle $0010003C 0\n2 ZoneMap 3 0\n  $00100034 264 master\n  $0010013C 108 rel $0010003C 100 ---\n  $001001A8 3672 free\n",
 );
 
-#[test]
-fn each_byte_may_be_the_last_that_is_written(rt: HostRuntime) -> Result<(), Fail> {
+/// How a run of that script ends on paper that has room for so many bytes and then fails or takes nothing, and what it
+/// has written.
+fn written_on(alloc: Global, room: usize, fails: bool) -> Result<(RunEnd, Vec<u8>), Fail> {
     let (script, output) = MAPPED;
     let spec = ZoneSpec::new(0x10_0000, 4096, 4096)?;
-    for cut in 0..2 * output.len() {
-        let room = cut / 2;
-        let mut reader = Counted::new(script.as_bytes());
-        let mut writer = Counted::new(Paper {
-            text: Vec::new(rt.alloc()),
-            piece: output.len(),
-            room,
-            fails: cut % 2 == 0,
-        });
-        let end = run(rt.alloc(), &mut reader, &mut writer, spec);
+    let mut reader = Counted::new(script.as_bytes());
+    let mut writer = Counted::new(Paper {
+        text: Vec::new(alloc),
+        piece: output.len(),
+        room,
+        fails,
+    });
+    let end = run(alloc, &mut reader, &mut writer, spec);
+    Ok((end, writer.inner.text))
+}
+
+#[test]
+fn each_byte_may_be_the_last_before_writing_fails(rt: HostRuntime) -> Result<(), Fail> {
+    let (_, output) = MAPPED;
+    for room in 0..output.len() {
+        let count = room.min(output.len());
+        let (end, text) = written_on(rt.alloc(), room, true)?;
         assert_eq!(rt; end, RunEnd::WriteFault, "{room}");
-        assert_eq!(rt; writer.inner.text.as_slice(), &output.as_bytes()[..room]);
-        assert_eq!(rt; (reader.failures, writer.failures), (0, 1));
+        assert_eq!(rt; text.as_slice(), &output.as_bytes()[..count], "{room}");
     }
     Ok(())
 }
 
 #[test]
-fn each_byte_may_be_the_last_that_is_read(rt: HostRuntime) -> Result<(), Fail> {
+fn each_byte_may_be_the_last_that_is_taken(rt: HostRuntime) -> Result<(), Fail> {
+    let (_, output) = MAPPED;
+    for room in 0..output.len() {
+        let count = room.min(output.len());
+        let (end, text) = written_on(rt.alloc(), room, false)?;
+        assert_eq!(rt; end, RunEnd::WriteFault, "{room}");
+        assert_eq!(rt; text.as_slice(), &output.as_bytes()[..count], "{room}");
+    }
+    Ok(())
+}
+
+#[test]
+fn each_byte_may_be_the_last_before_reading_fails(rt: HostRuntime) -> Result<(), Fail> {
     let (script, _) = MAPPED;
     let spec = ZoneSpec::new(0x10_0000, 4096, 4096)?;
-    for count in 0..script.len() + 1 {
+    for given in 0..=script.len() {
+        let count = given.min(script.len());
         let mut reader = Counted::new(Pieces {
             rest: &script.as_bytes()[..count],
             piece: script.len(),
@@ -223,9 +243,9 @@ fn each_byte_may_be_the_last_that_is_read(rt: HostRuntime) -> Result<(), Fail> {
         });
         let mut writer = Counted::new(Vec::new(rt.alloc()));
         let end = run(rt.alloc(), &mut reader, &mut writer, spec);
-        assert_eq!(rt; end, RunEnd::ReadFault, "{count}");
-        assert_eq!(rt; writer.inner.len(), 0);
-        assert_eq!(rt; (reader.failures, writer.failures), (1, 0));
+        assert_eq!(rt; end, RunEnd::ReadFault, "{given}");
+        assert_eq!(rt; writer.inner.len(), 0, "{given}");
+        assert_eq!(rt; reader.failures, 1, "{given}");
     }
     Ok(())
 }
@@ -240,8 +260,9 @@ fn reads_are_no_more_than_the_bytes_and_two(rt: HostRuntime) -> Result<(), Fail>
         (1_048_580, RunEnd::ScriptFault(0)),
     ];
     for (length, want) in rows {
+        let count = length.min(script.len());
         let mut reader = Counted::new(Pieces {
-            rest: &script[..length],
+            rest: &script[..count],
             piece: 1,
             fails: false,
             reads: 0,
@@ -260,20 +281,28 @@ enum Meaning {
     Run(ZoneSpec),
     Help,
     Words,
-    NoNumber(&'static str),
+    NoNumber,
     Spec(BadSpec),
     HostFull,
 }
 
-fn meaning_of(alloc: Global, words: &[&str]) -> Meaning {
-    match asked_by(alloc, words) {
-        Ok(Asked::Run(spec)) => Meaning::Run(spec),
-        Ok(Asked::Help(_)) => Meaning::Help,
-        Err(NotAsked::Words(_)) => Meaning::Words,
-        Err(NotAsked::NoNumber(option)) => Meaning::NoNumber(option),
+fn meaning_of_asked(asked: Asked) -> Meaning {
+    match asked {
+        Asked::Run(spec) => Meaning::Run(spec),
+        Asked::Help(_) => Meaning::Help,
+    }
+}
+
+/// What the words of a line ask for.
+fn meaning_of(alloc: Global, line: &str) -> Result<Meaning, Fail> {
+    let words: Vec<&str> = line.split_whitespace().collect(alloc)?;
+    Ok(match asked_by(alloc, words.as_slice()) {
+        Ok(asked) => meaning_of_asked(asked),
+        Err(NotAsked::Words(_error)) => Meaning::Words,
+        Err(NotAsked::NoNumber(_option)) => Meaning::NoNumber,
         Err(NotAsked::Spec(fault)) => Meaning::Spec(fault),
         Err(NotAsked::HostFull) => Meaning::HostFull,
-    }
+    })
 }
 
 #[test]
@@ -282,74 +311,59 @@ fn words_are_read(rt: HostRuntime) -> Result<(), Fail> {
     let large = ZoneSpec::new(1_048_576, 8192, 8192)?;
     let low = ZoneSpec::new(4096, 4096, 4096)?;
     let last = ZoneSpec::new(15_728_640, 1_048_576, 1_048_576)?;
-    let rows: [(&[&str], Meaning); 28] = [
-        (&["macheap"], Meaning::Run(usual)),
-        (&["macheap", "--zone", "8192"], Meaning::Run(large)),
-        (&["macheap", "--zone=8192"], Meaning::Run(large)),
-        (&["macheap", "--base", "0004096"], Meaning::Run(low)),
+    let rows: [(&str, Meaning); 28] = [
+        ("macheap", Meaning::Run(usual)),
+        ("macheap --zone 8192", Meaning::Run(large)),
+        ("macheap --zone=8192", Meaning::Run(large)),
+        ("macheap --base 0004096", Meaning::Run(low)),
+        ("macheap --base=4096 --zone 4096", Meaning::Run(low)),
+        ("macheap --zone 1048576 --base 15728640", Meaning::Run(last)),
+        ("macheap --help", Meaning::Help),
+        ("macheap -h", Meaning::Help),
+        ("macheap --zone", Meaning::Words),
+        ("macheap --zone 4096 --zone 4096", Meaning::Words),
+        ("macheap --base=4096 --base=4096", Meaning::Words),
+        ("macheap --limit 4096", Meaning::Words),
+        ("macheap --zone -4096", Meaning::Words),
+        ("macheap --fork a", Meaning::Words),
+        ("macheap script", Meaning::Words),
+        ("macheap -z 4096", Meaning::Words),
+        ("macheap --zone=-4096", Meaning::NoNumber),
+        ("macheap --zone +4096", Meaning::NoNumber),
+        ("macheap --zone $1000", Meaning::NoNumber),
+        ("macheap --base=", Meaning::NoNumber),
+        ("macheap --base 4294967296", Meaning::NoNumber),
         (
-            &["macheap", "--base=4096", "--zone", "4096"],
-            Meaning::Run(low),
-        ),
-        (
-            &["macheap", "--zone", "1048576", "--base", "15728640"],
-            Meaning::Run(last),
-        ),
-        (&["macheap", "--help"], Meaning::Help),
-        (&["macheap", "-h"], Meaning::Help),
-        (&["macheap", "--zone"], Meaning::Words),
-        (
-            &["macheap", "--zone", "4096", "--zone", "4096"],
-            Meaning::Words,
-        ),
-        (&["macheap", "--base=4096", "--base=4096"], Meaning::Words),
-        (&["macheap", "--limit", "4096"], Meaning::Words),
-        (&["macheap", "--zone", "-4096"], Meaning::Words),
-        (&["macheap", "--fork", "a"], Meaning::Words),
-        (&["macheap", "script"], Meaning::Words),
-        (&["macheap", "-z", "4096"], Meaning::Words),
-        (&["macheap", "--zone=-4096"], Meaning::NoNumber("zone")),
-        (&["macheap", "--zone", "+4096"], Meaning::NoNumber("zone")),
-        (&["macheap", "--zone", "$1000"], Meaning::NoNumber("zone")),
-        (&["macheap", "--base="], Meaning::NoNumber("base")),
-        (
-            &["macheap", "--base", "4294967296"],
-            Meaning::NoNumber("base"),
-        ),
-        (
-            &["macheap", "--zone", "1022"],
+            "macheap --zone 1022",
             Meaning::Spec(BadSpec::UnevenSize(1022)),
         ),
         (
-            &["macheap", "--zone", "1020"],
+            "macheap --zone 1020",
             Meaning::Spec(BadSpec::SmallSize(1020)),
         ),
         (
-            &["macheap", "--zone", "1048580"],
+            "macheap --zone 1048580",
             Meaning::Spec(BadSpec::LargeLimit(1_048_580)),
         ),
+        ("macheap --base 4092", Meaning::Spec(BadSpec::LowBase(4092))),
         (
-            &["macheap", "--base", "4092"],
-            Meaning::Spec(BadSpec::LowBase(4092)),
-        ),
-        (
-            &["macheap", "--base", "4098"],
+            "macheap --base 4098",
             Meaning::Spec(BadSpec::UnevenBase(4098)),
         ),
         (
-            &["macheap", "--base", "16773120"],
+            "macheap --base 16773120",
             Meaning::Run(ZoneSpec::new(16_773_120, 4096, 4096)?),
         ),
         (
-            &["macheap", "--base", "16773124"],
+            "macheap --base 16773124",
             Meaning::Spec(BadSpec::HighEnd {
                 base: 16_773_124,
                 limit: 4096,
             }),
         ),
     ];
-    for (words, want) in rows {
-        assert_eq!(rt; meaning_of(rt.alloc(), words), want, "{words:?}");
+    for (line, want) in rows {
+        assert_eq!(rt; meaning_of(rt.alloc(), line)?, want, "{line}");
     }
     Ok(())
 }

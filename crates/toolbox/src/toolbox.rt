@@ -131,7 +131,8 @@ impl Toolbox {
 
     /// The lines of the zone's blocks, lowest first: each header stands behind the block before it.
     fn block_lines(&self) -> Result<Vec<BlockLine>, HostFull>
-        ensures { IfOk result (λ lines. lines.items ≡ map line_of (reports_from self.now.heap.table (address_behind self.now.shape []) self.now.heap.map)) }
+        ensures { IfOk result (λ lines. lines.items
+            ≡ map line_of (reports_from self.now.heap.table (address_behind self.now.shape []) self.now.heap.map)) }
     {
         let mut lines = Vec::new(self.alloc);
         let mut at = self.memory.first_block();
