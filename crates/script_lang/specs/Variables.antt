@@ -9,8 +9,6 @@ use Rattle.script_lang.specs.declared.line.Operand.{Operand}
 use Rattle.script_lang.specs.declared.line.Operand.TheVariants.{Number, Variable, Bytes}
 use Rattle.script_lang.specs.declared.line.CallLine.{CallLine}
 use Rattle.mac_base.specs.MemoryCall.{MemoryCall, NewHandle, DisposeHandle, Poke, Peek, ZoneMap}
-use Rattle.toolbox.specs.declared.call.Call.{Call}
-use Rattle.toolbox.specs.declared.call.Call.TheVariants as call
 
 -- whether a word is one of the names
 abbrev pub is_named : List (List ℕ) → List ℕ → Bool
@@ -55,14 +53,6 @@ bytes_in other = []
 -- the bytes of the operand at a place
 abbrev pub bytes_at : List Operand → ℕ → List ℕ
 bytes_at operands place = bytes_in (slice_get operands place)
-
--- a call of the toolbox, apart from where its bytes lie in memory
-abbrev pub memory_call : Call → MemoryCall
-memory_call (call.NewHandle size) = NewHandle size
-memory_call (call.DisposeHandle handle) = DisposeHandle handle
-memory_call (call.Poke block offset bytes) = Poke block offset bytes.now
-memory_call (call.Peek block offset count) = Peek block offset count
-memory_call call.ZoneMap = ZoneMap
 
 -- the call of this name with these operands
 abbrev pub call_with : Variables → CallName → List Operand → MemoryCall

@@ -1,7 +1,8 @@
 //! The variables of a script, and the calls that its lines make with them.
 
 ghost use Rattle.std.specs.Prelude.{◌≡◌};
-ghost use Rattle.script_lang.specs.Variables.{number_in, number_at, bytes_at, call_of, memory_call};
+ghost use Rattle.script_lang.specs.Variables.{number_in, number_at, bytes_at, call_of};
+ghost use Rattle.toolbox.specs.Told.{memory_call_of};
 
 use crate::call::CallName;
 use crate::line::{CallLine, Name, Operand};
@@ -92,7 +93,7 @@ fn bytes_at(operands: &[Operand], place: usize) -> &[u8]
 
 /// The call that a line makes, with the values that its operands have now.
 pub fn resolve<'a>(line: &'a CallLine, vars: &Vars) -> Call<'a>
-    ensures { memory_call result ≡ call_of vars.now line.now }
+    ensures { memory_call_of result ≡ call_of vars.now line.now }
 {
     let operands = line.operands.as_slice();
     match line.call {
