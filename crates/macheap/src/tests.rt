@@ -110,6 +110,21 @@ fn scripts_print_their_replies(rt: HostRuntime) -> Result<(), Fail> {
     Ok(())
 }
 
+/// What is refused, each with each of its codes, and what stands after it.
+const REFUSALS: (&str, &str) = (
+    "h = NewHandle 8\nPoke 0 0 \"a\"\nPoke 4 0 \"a\"\nPoke h 8 \"a\"\nPoke h 7 \"ab\"\nPeek 0 0 1\nPeek 4 0 1\nPeek h 8 1\nPeek h 9 0\nDisposeHandle 0\nDisposeHandle 4\nNewHandle 8388609\nNewHandle 4000\nPeek h 0 8\nZoneMap\n",
+    "1 NewHandle $0010003C 0\n2 Poke -109\n3 Poke -111\n4 Poke -50\n5 Poke -50\n6 Peek -109\n7 Peek -111\n8 Peek -50\n9 Peek -50\n10 DisposeHandle -109\n11 DisposeHandle -111\n12 NewHandle -50\n13 NewHandle -108\n14 Peek $\"0000000000000000\" 0\n15 ZoneMap 3 0\n  $00100034 264 master\n  $0010013C 16 rel $0010003C 8 ---\n  $0010014C 3764 free\n",
+);
+
+#[test]
+fn refusals_change_nothing(rt: HostRuntime) -> Result<(), Fail> {
+    let (script, output) = REFUSALS;
+    let (end, written) = run_script(rt.alloc(), script.as_bytes())?;
+    assert_eq!(rt; end, RunEnd::Finished);
+    assert_eq!(rt; written.as_slice(), output.as_bytes());
+    Ok(())
+}
+
 #[test]
 fn faulty_scripts_run_nothing(rt: HostRuntime) -> Result<(), Fail> {
     let long = vec![in rt.alloc(); b'\n'; 1_048_577]?;
