@@ -1,0 +1,11 @@
+pub mod Changes
+pub mod Heads
+pub mod Here
+pub mod Lent
+pub mod NewZone
+pub mod Parts
+pub mod ReadBlocks
+pub mod ReadParts
+pub mod Rendered
+pub mod Sizes
+pub mod Walking

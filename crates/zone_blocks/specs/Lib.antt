@@ -1,0 +1,7 @@
+pub mod Head
+pub mod Layout
+pub mod Reading
+pub mod Finding
+pub mod NewLayout
+pub mod Lending
+pub mod Walk

@@ -1,0 +1,44 @@
+-- How the blocks are read off the bytes of a zone.
+use Rattle.std.specs.Prelude.{◌≡◌, ℕ, zero, suc, ◌+◌, ◌-◌, ◌≤◌, IsTrue, List, [], ◌∷◌, length, take, drop}
+use Rattle.std.specs.List.{list_all}
+use Rattle.mac_base.specs.declared.block.HeadKind.{HeadKind}
+use Rattle.mac_base.specs.HeadKind.{head_size, zone_header}
+use Rattle.mac_base.specs.ZoneSizes.{ZoneSizes}
+use Rattle.raw_region.specs.Bytes.{part}
+use Rattle.zone_blocks.specs.declared.header.Header.{Header}
+use Rattle.zone_blocks.specs.declared.blocks.Blocks.TheInside.{Inside}
+use Rattle.zone_blocks.specs.Head.{header_in}
+use Rattle.zone_blocks.specs.Layout.{Held, Layout, held, is_possible, image_of, address_behind}
+
+-- the block whose header, of so many bytes, stands at the front of these bytes
+abbrev pub held_in : HeadKind → Header → List ℕ → Held
+held_in heads h xs = held h.role (h.size - head_size heads - h.correction) (part xs (head_size heads) (h.size - head_size heads))
+
+-- the blocks that these bytes are, up to n of them
+abbrev pub blocks_in : ℕ → HeadKind → List ℕ → List Held
+blocks_in zero heads xs = []
+blocks_in (suc n) heads [] = []
+blocks_in (suc n) heads (x ∷ xs) = let h = header_in heads (x ∷ xs) in held_in heads h (x ∷ xs) ∷ blocks_in n heads (drop h.size (x ∷ xs))
+
+-- the zone that the bytes up to an end are
+abbrev pub layout_in : ZoneSizes → ℕ → List ℕ → Layout
+layout_in spec end bytes = record {
+  heads = spec.heads;
+  base = spec.base;
+  header = take zone_header bytes;
+  blocks = blocks_in (length bytes) spec.heads (part bytes zone_header (end - zone_header));
+  spare = drop end bytes;
+}
+
+-- what the fields stand for
+abbrev pub layout_of : Inside → Layout
+layout_of z = layout_in z.spec z.end z.memory
+
+-- the bytes are those of possible blocks, and nothing else
+pub record IsLayout (z : Inside) : Type 0 where
+  pub all_bytes : length z.memory ≡ z.spec.limit
+  pub low : zone_header ≤ z.end
+  pub high : z.end ≤ z.spec.limit
+  pub form : z.memory ≡ image_of (layout_of z)
+  pub ends : address_behind (layout_of z) (layout_of z).blocks ≡ z.spec.base + z.end
+  pub possible : IsTrue (list_all (is_possible z.spec.heads) (layout_of z).blocks)
