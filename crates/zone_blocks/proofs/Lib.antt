@@ -9,3 +9,4 @@ pub mod ReadParts
 pub mod Rendered
 pub mod Sizes
 pub mod Walking
+pub mod Walks

@@ -68,6 +68,10 @@ pub record Layout : Type 0 where
 abbrev pub image_of : Layout → List ℕ
 image_of l = l.header ++ (rendered l.heads l.base l.blocks ++ l.spare)
 
+-- those up to the end of its last block
+abbrev pub zone_bytes : Layout → List ℕ
+zone_bytes l = l.header ++ rendered l.heads l.base l.blocks
+
 -- the zone with other blocks
 abbrev pub with_blocks : List Held → Layout → Layout
 with_blocks bs l = record l { blocks = bs }

@@ -47,10 +47,11 @@ impl Blocks {
     ghost use Rattle.mac_base.specs.ZoneSizes.{shape_of};
     ghost use Rattle.raw_region.specs.Bytes.{part, written};
     ghost use Rattle.zone_blocks.specs.declared.header.Role.TheVariants.{Free};
-    ghost use Rattle.zone_blocks.specs.Layout.{Held, Layout, BlockAt, WordAt, CanBe, CanResize, CanSplit, CanMerge, front_of, rest_of, with_word, cleared, body, held, free_held, size_of, header_of, is_possible, joint_body, image_of, with_blocks, with_header, address_behind};
+    ghost use Rattle.zone_blocks.specs.Layout.{Held, Layout, BlockAt, WordAt, CanBe, CanResize, CanSplit, CanMerge, front_of, rest_of, with_word, cleared, body, held, free_held, size_of, header_of, is_possible, joint_body, zone_bytes, with_blocks, with_header, address_behind};
     ghost use Rattle.zone_blocks.specs.Finding.{HoldsByte, LiesOutside, LowestFree, NoneFree};
     ghost use Rattle.zone_blocks.specs.Lending.{LendsContents};
     ghost use Rattle.zone_blocks.specs.NewLayout.{new_layout};
+    ghost use Rattle.zone_blocks.specs.Walk.{Walks};
 
     /// A new zone: one free block, and all bytes but those of its header are zero.
     pub fn create(alloc: Global, spec: ZoneSpec) -> Result<Blocks, HostFull>
@@ -309,10 +310,12 @@ impl Blocks {
         self.memory.clear(start, length as usize);
     }
 
-    /// All bytes of the zone, from its start to its limit.
+    /// The bytes of the zone, from its start to the end of its last block.
     pub fn image(&self) -> &[u8]
-        ensures { result.now ≡ image_of self.now }
+        ensures bytes { result.now ≡ zone_bytes self.now }
+        ensures walks { Walks self.now.heads result.now }
     {
-        self.memory.bytes(0, self.memory.len())
+        let size = self.end() - self.spec.base();
+        self.memory.bytes(0, size as usize)
     }
 }
