@@ -7,6 +7,8 @@ A script has at most 1,048,576 bytes, so 65,536 lines have 16 bytes each at most
   bytes     a Poke of one byte and a Peek of 100 bytes in turn
   pokes     a Poke of 100 bytes and a Peek of them in turn (for 16,384 lines at most)
   comments  seven comments and blank lines, and then a Peek of 4 bytes
+  sixty     60 live handles of all sizes up to 4,000 bytes: one after the other is disposed of and made anew with
+            another size, then a Poke and a Peek of it (for 32,768 lines at most, in a zone of 262,144 bytes)
 """
 import sys
 
@@ -21,10 +23,24 @@ TURNS = {
 }
 
 
+def sixty(count):
+    """So many lines that keep 60 handles."""
+    lines = [f"h{i} = NewHandle {i * 68 % 4001}" for i in range(60)]
+    turn = 0
+    while len(lines) < count:
+        name, size = f"h{turn * 7 % 60}", 1 + turn * 1237 % 4000
+        lines += [f"DisposeHandle {name}", f"{name} = NewHandle {size}", f'Poke {name} {size - 1} "x"', f"Peek {name} 0 1"]
+        turn += 1
+    return lines[:count]
+
+
 def main():
     kind, count = sys.argv[1], int(sys.argv[2])
-    first, turn = TURNS[kind]
-    lines = first + [turn[i % len(turn)] for i in range(count - len(first))]
+    if kind == "sixty":
+        lines = sixty(count)
+    else:
+        first, turn = TURNS[kind]
+        lines = first + [turn[i % len(turn)] for i in range(count - len(first))]
     text = "".join(line + "\n" for line in lines)
     assert len(text) <= 1_048_576, "the script is too long"
     sys.stdout.write(text)

@@ -1,5 +1,5 @@
 -- What each change of a zone's bytes is to its list of blocks.
-use Rattle.std.proofs.Common.{◌≡◌, ℕ, ◌+◌, ◌-◌, ◌≤◌, List, [], ◌∷◌, ◌++◌, length, take, drop, sym, ap, ◌∙◌, arith, append_assoc, length-append, length-drop, drop-drop, take_at, drop_at, take-append-drop, IsTrue}
+use Rattle.std.proofs.Common.{◌≡◌, ℕ, ◌+◌, ◌-◌, ◌/◌, ◌≤◌, List, [], ◌∷◌, ◌++◌, length, take, drop, sym, ap, ◌∙◌, arith, append_assoc, length-append, length-drop, drop-drop, take_at, drop_at, take-append-drop, IsTrue}
 use Rattle.std.specs.Prelude.{◌&&◌, ◌==◌, ◌%◌, nat_le}
 use Rattle.std.specs.List.{list_all}
 use Rattle.mac_base.specs.declared.block.HeadKind.{HeadKind}
@@ -11,11 +11,13 @@ use Rattle.zone_blocks.specs.declared.header.Role.{Role}
 use Rattle.zone_blocks.specs.declared.blocks.Blocks.TheInside.{Inside}
 use Rattle.zone_blocks.specs.Head.{head_bytes}
 use Rattle.zone_blocks.specs.Layout.{Held, Layout, held, body, size_of, total_of, header_of, can_be_told, is_possible, rendered, image_of, with_blocks, with_header, joint_body, address_behind}
+use Rattle.zone_blocks.specs.Starts.{starts_of}
 use Rattle.zone_blocks.specs.Reading.{blocks_in, layout_in, layout_of, IsLayout}
 use Rattle.zone_blocks.proofs.Heads.{length-head_bytes}
 use Rattle.zone_blocks.proofs.Rendered.{total_of-append, written-middle, written-within}
-use Rattle.zone_blocks.proofs.ReadBlocks.{and-true, IsRead}
-use Rattle.zone_blocks.proofs.Parts.{front, rear, head, image-parts, length-front, length-header, IsIn, IsIn-from, possible-with, possible-more, changed}
+use Rattle.zone_blocks.proofs.ReadBlocks.{and-true, IsPossible-from, IsRead}
+use Rattle.zone_blocks.proofs.Starts.{mark-set, mark-cleared}
+use Rattle.zone_blocks.proofs.Parts.{front, rear, head, image-parts, length-front, length-header, IsIn, IsIn-from, possible-with, possible-more, marked-parts, marked-same, changed}
 
 -- the bytes of a body taken apart are that body
 pub body-held : (role : Role) (n : ℕ) (bytes : List ℕ) → body (held role n bytes) ≡ bytes
@@ -55,18 +57,19 @@ module _ (z : Inside) (whole : IsLayout z) (small : ArePossible z.spec) (before 
   -- another header for the same body
   pub head-changed : (b : Held) (memory : List ℕ) → body b ≡ body here → IsTrue (is_possible z.spec.heads b)
       → memory ≡ front (layout_of z) before ++ (head (layout_of z) b ++ (body here ++ rear (layout_of z) behind))
-      → IsRead (record { spec = z.spec; end = z.end; memory = memory }) (with_blocks (before ++ b ∷ behind) (layout_of z))
+      → IsRead (record z { memory = memory }) (with_blocks (before ++ b ∷ behind) (layout_of z))
   head-changed b memory same possible bytes =
       let i = inside in let old = size-body z.spec.heads here in let new = size-body z.spec.heads b in let long : length (body b) ≡ length (body here) = ap length same in
       let sum = total_of-append z.spec.heads before (b ∷ behind) in let sum' = i.sum in
-      changed z whole small (before ++ b ∷ behind) memory
+      changed z whole small (before ++ b ∷ behind) memory z.starts
       (bytes ∙ ap (λ (l : List ℕ). front (layout_of z) before ++ (head (layout_of z) b ++ (l ++ rear (layout_of z) behind))) (sym same) ∙ sym (image-parts (layout_of z) before b behind))
       (omega arith)
       (possible-with z.spec.heads before (b ∷ behind) i.before_possible (possible-more z.spec.heads b behind possible i.behind_possible))
+      (marked-same z whole before here behind is b (omega arith))
 
   -- bytes written in the contents
   pub contents-changed : (offset place : ℕ) (ws : List ℕ) → place ≡ zone_header + total_of z.spec.heads before + head_size z.spec.heads + offset → offset + length ws ≤ length here.contents
-      → IsRead (record { spec = z.spec; end = z.end; memory = written z.memory place ws }) (with_blocks (before ++ (record here { contents = written here.contents offset ws }) ∷ behind) (layout_of z))
+      → IsRead (record z { memory = written z.memory place ws }) (with_blocks (before ++ (record here { contents = written here.contents offset ws }) ∷ behind) (layout_of z))
   contents-changed offset place ws there fits =
       let i = inside in let l = layout_of z in let cs = written here.contents offset ws in let b : Held = record { role = here.role; contents = cs; slack = here.slack } in
       let long : length cs ≡ length here.contents = length-written here.contents offset ws in
@@ -81,8 +84,9 @@ module _ (z : Inside) (whole : IsLayout z) (small : ArePossible z.spec) (before 
       ap (λ (m : List ℕ). written m place ws) parts ∙ written-within pre here.contents post place offset ws (omega arith) fits
       ∙ append_assoc (front l before) (head l here) (cs ++ post) ∙ ap (λ (h : List ℕ). front l before ++ (h ++ (cs ++ post))) same
       ∙ ap (λ (m : List ℕ). front l before ++ (head l b ++ m)) (sym (append_assoc cs here.slack (rear l behind))) ∙ sym (image-parts l before b behind) in
-      changed z whole small (before ++ b ∷ behind) (written z.memory place ws) bytes (omega arith)
+      changed z whole small (before ++ b ∷ behind) (written z.memory place ws) z.starts bytes (omega arith)
       (possible-with z.spec.heads before (b ∷ behind) i.before_possible (possible-more z.spec.heads b behind (ap (λ (n : ℕ). (n % 4 == 0) && (nat_le (smallest_block z.spec.heads) n && (nat_le (length here.slack) 15 && can_be_told here.role (length here.slack)))) size ∙ i.is_possible_here) i.behind_possible))
+      (marked-same z whole before here behind is b size)
 
 module _ (z : Inside) (whole : IsLayout z) (small : ArePossible z.spec) (before : List Held) (here next : Held) (behind : List Held) (is : (layout_of z).blocks ≡ before ++ here ∷ next ∷ behind) where
   -- the first of two neighbours is in the list
@@ -90,21 +94,25 @@ module _ (z : Inside) (whole : IsLayout z) (small : ArePossible z.spec) (before 
   first-inside = IsIn-from z whole before here (next ∷ behind) is
 
   -- one header for the bodies of two neighbours
-  pub merge-changed : (b : Held) (memory : List ℕ) → body b ≡ joint_body (layout_of z) here next → IsTrue (is_possible z.spec.heads b)
+  pub merge-changed : (b : Held) (memory starts : List ℕ) → body b ≡ joint_body (layout_of z) here next → IsTrue (is_possible z.spec.heads b)
       → memory ≡ front (layout_of z) before ++ (head (layout_of z) b ++ (body here ++ rear (layout_of z) (next ∷ behind)))
-      → IsRead (record { spec = z.spec; end = z.end; memory = memory }) (with_blocks (before ++ b ∷ behind) (layout_of z))
-  merge-changed b memory same possible bytes =
+      → (place : ℕ) → place ≡ (zone_header + total_of z.spec.heads before + size_of z.spec.heads here) / 4 → starts ≡ written z.starts place (0 ∷ [])
+      → IsRead (record z { memory = memory; starts = starts }) (with_blocks (before ++ b ∷ behind) (layout_of z))
+  merge-changed b memory starts same possible bytes place there marks =
       let i = first-inside in let l = layout_of z in
       let long : length (body b) ≡ length (joint_body l here next) = ap length same in
       let e = length-append (body here) (head l next ++ body next) in let e' = length-append (head l next) (body next) in let e'' = length-head_bytes z.spec.heads z.spec.base (header_of z.spec.heads next) in
       let new = size-body z.spec.heads b in let first = size-body z.spec.heads here in let second = size-body z.spec.heads next in
       let sum = total_of-append z.spec.heads before (b ∷ behind) in let sum' = i.sum in
       let joint : body here ++ rear l (next ∷ behind) ≡ joint_body l here next ++ rear l behind = simp append_assoc in
-      changed z whole small (before ++ b ∷ behind) memory
+      let rest = and-true (is_possible z.spec.heads next) (list_all (is_possible z.spec.heads) behind) i.behind_possible in
+      changed z whole small (before ++ b ∷ behind) memory starts
       (bytes ∙ ap (λ (m : List ℕ). front l before ++ (head l b ++ m)) (joint ∙ ap (λ (m : List ℕ). m ++ rear l behind) (sym same)) ∙ sym (image-parts l before b behind))
       (omega arith)
       (possible-with z.spec.heads before (b ∷ behind) i.before_possible
-      (possible-more z.spec.heads b behind possible (and-true (is_possible z.spec.heads next) (list_all (is_possible z.spec.heads) behind) i.behind_possible).1))
+      (possible-more z.spec.heads b behind possible rest.1))
+      (marks ∙ ap (λ (ms : List ℕ). written ms place (0 ∷ [])) (marked-parts z whole before here (next ∷ behind) is)
+      ∙ mark-cleared l before b here next behind (omega arith) i.before_possible i.here_possible (IsPossible-from z.spec.heads next rest.0) place there)
 
 module _ (z : Inside) (whole : IsLayout z) (small : ArePossible z.spec) (before : List Held) (here : Held) (behind : List Held) (is : (layout_of z).blocks ≡ before ++ here ∷ behind)
     (first second : Held) (cut : List ℕ) (apart : body here ≡ body first ++ (cut ++ body second)) (cut-long : length cut ≡ head_size z.spec.heads) where
@@ -124,21 +132,24 @@ module _ (z : Inside) (whole : IsLayout z) (small : ArePossible z.spec) (before 
       ∙ written-middle pre cut (body second ++ rear l behind) (head l second) place (omega arith) (omega arith) ∙ simp append_assoc
 
   -- two headers for one body
-  pub split-changed : (memory : List ℕ) → IsTrue (is_possible z.spec.heads first) → IsTrue (is_possible z.spec.heads second)
+  pub split-changed : (memory starts : List ℕ) → IsTrue (is_possible z.spec.heads first) → IsTrue (is_possible z.spec.heads second)
       → memory ≡ front (layout_of z) before ++ (head (layout_of z) first ++ (body first ++ (head (layout_of z) second ++ (body second ++ rear (layout_of z) behind))))
-      → IsRead (record { spec = z.spec; end = z.end; memory = memory }) (with_blocks (before ++ first ∷ second ∷ behind) (layout_of z))
-  split-changed memory possible possible' bytes =
+      → (place : ℕ) → place ≡ (zone_header + total_of z.spec.heads before + size_of z.spec.heads first) / 4 → starts ≡ written z.starts place (1 ∷ [])
+      → IsRead (record z { memory = memory; starts = starts }) (with_blocks (before ++ first ∷ second ∷ behind) (layout_of z))
+  split-changed memory starts possible possible' bytes place there marks =
       let i = IsIn-from z whole before here behind is in let l = layout_of z in
       let long : length (body here) ≡ length (body first ++ (cut ++ body second)) = ap length apart in
       let e = length-append (body first) (cut ++ body second) in let e' = length-append cut (body second) in
       let old = size-body z.spec.heads here in let one = size-body z.spec.heads first in let two = size-body z.spec.heads second in
       let sum = total_of-append z.spec.heads before (first ∷ second ∷ behind) in let sum' = i.sum in
       let parts : body first ++ rear l (second ∷ behind) ≡ body first ++ (head l second ++ (body second ++ rear l behind)) = simp append_assoc in
-      changed z whole small (before ++ first ∷ second ∷ behind) memory
+      changed z whole small (before ++ first ∷ second ∷ behind) memory starts
       (bytes ∙ ap (λ (m : List ℕ). front l before ++ (head l first ++ m)) (sym parts) ∙ sym (image-parts l before first (second ∷ behind)))
       (omega arith)
       (possible-with z.spec.heads before (first ∷ second ∷ behind) i.before_possible
       (possible-more z.spec.heads first (second ∷ behind) possible (possible-more z.spec.heads second behind possible' i.behind_possible)))
+      (marks ∙ ap (λ (ms : List ℕ). written ms place (1 ∷ [])) (marked-parts z whole before here behind is)
+      ∙ mark-set l before here first second behind (omega arith) i.before_possible (IsPossible-from z.spec.heads first possible) (IsPossible-from z.spec.heads second possible') place there)
 
 -- the zone that bytes are read as, with another header in front
 layout_in-header : (spec : ZoneSizes) (end : ℕ) (old new bytes : List ℕ) → length old ≡ zone_header → length new ≡ zone_header → zone_header ≤ end
@@ -161,7 +172,7 @@ layout_in-header spec end old new bytes long long' low =
 
 -- bytes written in the zone's header
 pub header-changed : (z : Inside) → IsLayout z → (at : ℕ) (ws : List ℕ) → at + length ws ≤ zone_header
-    → IsRead (record { spec = z.spec; end = z.end; memory = written z.memory at ws }) (with_header (written (layout_of z).header at ws) (layout_of z))
+    → IsRead (record z { memory = written z.memory at ws }) (with_header (written (layout_of z).header at ws) (layout_of z))
 header-changed z whole at ws fits =
     let l = layout_of z in let old = l.header in let new = written l.header at ws in let bytes = rendered l.heads l.base l.blocks ++ l.spare in
     let long = length-header z whole in let long' : length new ≡ zone_header = length-written l.header at ws ∙ long in
@@ -177,5 +188,6 @@ header-changed z whole at ws fits =
         form = is ∙ sym (ap image_of view);
         ends = ap (λ (m : Layout). address_behind m m.blocks) view ∙ whole.ends;
         possible = ap (λ (m : Layout). list_all (is_possible m.heads) m.blocks) view ∙ whole.possible;
+        marked = whole.marked ∙ sym (ap starts_of view);
       };
     }

@@ -1,5 +1,5 @@
 -- Where a block lies, by its header.
-use Rattle.std.proofs.Common.{◌≡◌, ℕ, ◌+◌, ◌-◌, ◌≤◌, [], ◌∷◌, ◌++◌, length, sym, ap, ◌∙◌, subst, arith, append_assoc, length-append, length-drop}
+use Rattle.std.proofs.Common.{◌≡◌, ℕ, ◌+◌, ◌-◌, ◌*◌, ◌≤◌, [], ◌∷◌, ◌++◌, length, sym, ap, ◌∙◌, subst, arith, append_assoc, length-append, length-drop}
 use Rattle.mac_base.specs.HeadKind.{head_size, zone_header}
 use Rattle.zone_blocks.specs.Head.{head_bytes}
 use Rattle.zone_blocks.specs.declared.header.Header.{Header}
@@ -9,7 +9,7 @@ use Rattle.zone_blocks.specs.Reading.{layout_of, IsLayout}
 use Rattle.zone_blocks.proofs.Heads.{length-head_bytes}
 use Rattle.zone_blocks.proofs.Rendered.{total_of-append}
 use Rattle.zone_blocks.proofs.ReadBlocks.{IsPossible-from}
-use Rattle.zone_blocks.proofs.Parts.{IsIn-from}
+use Rattle.zone_blocks.proofs.Parts.{length-starts, IsIn-from}
 use Rattle.zone_blocks.proofs.Changes.{size-body}
 
 -- a block with this header lies at this address, below the zone's end
@@ -19,13 +19,14 @@ pub record IsHere (z : Inside) (at : ℕ) (h : Header) : Type 0 where
   pub headed : head_size z.spec.heads + h.correction ≤ h.size
   pub within : z.end ≤ z.spec.limit
   pub all_bytes : length z.memory ≡ z.spec.limit
+  pub marks : z.end ≤ 4 * length z.starts
 
 -- a block of the list that the fields stand for
 here_itself : (z : Inside) → IsLayout z → (at : ℕ) (h : Header) (b : BlockAt (layout_of z) at) → h ≡ header_of z.spec.heads b.here → IsHere z at h
 here_itself z whole at h b is =
     let i = IsIn-from z whole b.before b.here b.behind b.blocks in let place = b.place in
     let size : h.size ≡ size_of z.spec.heads b.here = ap (λ (h : Header). h.size) is in let slack : h.correction ≡ length b.here.slack = ap (λ (h : Header). h.correction) is in
-    record { above = omega arith; below = omega arith; headed = omega arith; within = whole.high; all_bytes = whole.all_bytes }
+    record { above = omega arith; below = omega arith; headed = omega arith; within = whole.high; all_bytes = whole.all_bytes; marks = length-starts z whole }
 
 -- a block of the value that the fields stand for
 pub IsHere-from : (z : Inside) → IsLayout z → (l : Layout) → layout_of z ≡ l → (at : ℕ) (h : Header) (b : BlockAt l at) → h ≡ header_of l.heads b.here → IsHere z at h

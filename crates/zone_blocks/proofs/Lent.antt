@@ -1,16 +1,17 @@
 -- What is left behind a slice of a block's contents.
-use Rattle.std.proofs.Common.{◌≡◌, ℕ, ◌+◌, ◌-◌, ◌<◌, ◌≤◌, Bool, true, false, List, [], ◌∷◌, ◌++◌, length, take, replicate, refl, sym, ap, ◌∙◌, arith, length-take}
+use Rattle.std.proofs.Common.{◌≡◌, ℕ, ◌+◌, ◌-◌, ◌<◌, ◌≤◌, Bool, true, false, List, [], ◌∷◌, ◌++◌, length, take, drop, replicate, refl, sym, ap, ◌∙◌, arith, length-take, length-drop, append-nil}
 use Rattle.std.specs.Prelude.{◌==◌, if◌then◌else◌}
-use Rattle.std.proofs.lemmas.List.{length-replicate}
+use Rattle.std.proofs.lemmas.List.{length-replicate, nil_from_length}
 use Rattle.std.proofs.lemmas.Bool.Decides.{nat_tests}
 use Rattle.mac_base.specs.declared.block.HeadKind.{HeadKind}
 use Rattle.mac_base.specs.HeadKind.{head_size}
 use Rattle.mac_base.specs.ZoneSizes.{ArePossible}
 use Rattle.mac_base.specs.ZoneState.{overwritten}
 use Rattle.raw_region.specs.Bytes.{written}
+use Rattle.raw_region.proofs.Lists.{written_is}
 use Rattle.zone_blocks.specs.declared.header.Header.{Header}
 use Rattle.zone_blocks.specs.declared.blocks.Blocks.TheInside.{Inside}
-use Rattle.zone_blocks.specs.Layout.{Held, BlockAt, cleared, size_of, total_of, header_of, with_blocks, address_behind}
+use Rattle.zone_blocks.specs.Layout.{Held, BlockAt, cleared, cleared_from, size_of, total_of, header_of, with_blocks, address_behind}
 use Rattle.zone_blocks.specs.Reading.{layout_of, IsLayout}
 use Rattle.zone_blocks.specs.Lending.{overwritten_at, with_contents_at}
 use Rattle.zone_blocks.proofs.Rendered.{written-whole}
@@ -54,12 +55,12 @@ module _ (z : Inside) (whole : IsLayout z) (small : ArePossible z.spec) (at : �
 
   -- other contents, of the same length
   other : (ws : List ℕ) → length ws ≤ n
-      → IsRead (record { spec = z.spec; end = z.end; memory = written z.memory place ws }) (with_blocks (b.before ++ with_contents b.here (written b.here.contents 0 ws) ∷ b.behind) (layout_of z))
+      → IsRead (record z { memory = written z.memory place ws }) (with_blocks (b.before ++ with_contents b.here (written b.here.contents 0 ws) ∷ b.behind) (layout_of z))
   other ws few = let e = n-is in let at_is = b.place in
       contents-changed z whole small b.before b.here b.behind b.blocks 0 place ws (omega arith) (omega arith)
 
   -- what a slice of the contents leaves
-  pub lent-read : (ws : List ℕ) → IsRead (record { spec = z.spec; end = z.end; memory = written z.memory place (take n ws) }) (with_contents_at (layout_of z) at ws)
+  pub lent-read : (ws : List ℕ) → IsRead (record z { memory = written z.memory place (take n ws) }) (with_contents_at (layout_of z) at ws)
   lent-read ws = let e = n-is in let at_is = b.place in let l = layout_of z in let cut = length-take n ws in
       let read = other (take n ws) (omega arith) in
       let same : written b.here.contents 0 (take n ws) ≡ overwritten b.here.contents ws = ap (λ (k : ℕ). written b.here.contents 0 (take k ws)) e ∙ written-overwritten b.here.contents ws in
@@ -69,8 +70,22 @@ module _ (z : Inside) (whole : IsLayout z) (small : ArePossible z.spec) (at : �
       record { view = read.view ∙ ap (λ (bs : List Held). with_blocks bs l) blocks; whole = read.whole }
 
   -- contents that are zero
-  pub cleared-read : IsRead (record { spec = z.spec; end = z.end; memory = written z.memory place (replicate n 0) }) (with_blocks (b.before ++ cleared b.here ∷ b.behind) (layout_of z))
+  pub cleared-read : IsRead (record z { memory = written z.memory place (replicate n 0) }) (with_blocks (b.before ++ cleared b.here ∷ b.behind) (layout_of z))
   cleared-read = let e = n-is in let l = layout_of z in let zeros : length {A = ℕ} (replicate n 0) ≡ n = length-replicate {A = ℕ} n 0 in
       let read = other (replicate n 0) (omega arith) in
       let same : written b.here.contents 0 (replicate n 0) ≡ replicate (length b.here.contents) 0 = written-whole b.here.contents (replicate n 0) (omega arith) ∙ ap (λ (k : ℕ). replicate k 0) e in
       record { view = read.view ∙ ap (λ (contents : List ℕ). with_blocks (b.before ++ with_contents b.here contents ∷ b.behind) l) same; whole = read.whole }
+
+  -- contents that are zero from a place on
+  pub cleared-part : (from : ℕ) → from ≤ n → IsRead (record z { memory = written z.memory (place + from) (replicate (n - from) 0) }) (with_blocks (b.before ++ cleared_from b.here from ∷ b.behind) (layout_of z))
+  cleared-part from within = let e = n-is in let at_is = b.place in let l = layout_of z in let zeros : length {A = ℕ} (replicate (n - from) 0) ≡ n - from = length-replicate {A = ℕ} (n - from) 0 in
+      let read = contents-changed z whole small b.before b.here b.behind b.blocks from (place + from) (replicate (n - from) 0) (omega arith) (omega arith) in
+      let nothing : drop (length (replicate (n - from) 0)) (drop from b.here.contents) ≡ [] = drop_none (drop from b.here.contents) (length {A = ℕ} (replicate (n - from) 0)) (omega (arith, length-drop from b.here.contents)) in
+      let same : written b.here.contents from (replicate (n - from) 0) ≡ take from b.here.contents ++ replicate (length b.here.contents - from) 0 =
+      written_is b.here.contents from (replicate (n - from) 0) (omega arith)
+      ∙ ap (λ (l : List ℕ). take from b.here.contents ++ (replicate (n - from) 0 ++ l)) nothing ∙ ap (λ (l : List ℕ). take from b.here.contents ++ l) (append-nil (replicate (n - from) 0))
+      ∙ ap (λ (k : ℕ). take from b.here.contents ++ replicate (k - from) 0) e in
+      record { view = read.view ∙ ap (λ (contents : List ℕ). with_blocks (b.before ++ with_contents b.here contents ∷ b.behind) l) same; whole = read.whole }
+    where
+      drop_none : (xs : List ℕ) (k : ℕ) → length xs ≤ k → drop k xs ≡ []
+      drop_none xs k all = nil_from_length (drop k xs) (length-drop k xs ∙ omega arith)

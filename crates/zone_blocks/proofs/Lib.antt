@@ -8,5 +8,6 @@ pub mod ReadBlocks
 pub mod ReadParts
 pub mod Rendered
 pub mod Sizes
+pub mod Starts
 pub mod Walking
 pub mod Walks

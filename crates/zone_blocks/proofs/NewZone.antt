@@ -1,5 +1,5 @@
 -- The bytes of a new zone.
-use Rattle.std.proofs.Common.{◌≡◌, ℕ, ◌+◌, ◌-◌, ◌≤◌, Bool, true, List, [], ◌∷◌, ◌++◌, length, replicate, refl, sym, ap, ◌∙◌, arith, append_assoc, append-nil, IsTrue}
+use Rattle.std.proofs.Common.{◌≡◌, ℕ, suc, ◌+◌, ◌-◌, ◌/◌, ◌≤◌, Bool, true, List, [], ◌∷◌, ◌++◌, length, replicate, refl, sym, ap, ◌∙◌, arith, append_assoc, append-nil, IsTrue}
 use Rattle.std.specs.Prelude.{◌&&◌, ◌==◌, ◌%◌, nat_le}
 use Rattle.std.proofs.lemmas.List.{length-replicate, replicate-append-replicate}
 use Rattle.std.proofs.lemmas.Bool.Decides.{nat_tests}
@@ -51,11 +51,23 @@ module _ (z : ZoneSizes) (possible : ArePossible z) where
       ∙ replicate-append-replicate zone_header (head_size z.heads + (room + (z.limit - z.size))) 0
       ∙ ap (λ (n : ℕ). zeros n) (let e : zone_header + (head_size z.heads + (room + (z.limit - z.size))) ≡ z.limit = omega arith in e))
 
+  -- the marks of one block
+  first-marked : (size : ℕ) → size ≡ z.size - zone_header
+      → written (zeros (z.limit / 4)) (zone_header / 4) (1 ∷ []) ≡ zeros (zone_header / 4) ++ ((1 ∷ (zeros (size / 4 - 1) ++ [])) ++ zeros (length (zeros (z.limit - z.size)) / 4))
+  first-marked size is = let long = length-zeros (z.limit - z.size) in let rest = zeros (length (zeros (z.limit - z.size)) / 4) in
+      ap (λ (n : ℕ). written (zeros n) (zone_header / 4) (1 ∷ []))
+      (let e : z.limit / 4 ≡ zone_header / 4 + (suc (size / 4 - 1 + length (zeros (z.limit - z.size)) / 4)) = omega arith in e)
+      ∙ sym (ap (λ (l : List ℕ). written l (zone_header / 4) (1 ∷ [])) (replicate-append-replicate (zone_header / 4) (suc (size / 4 - 1 + length (zeros (z.limit - z.size)) / 4)) 0))
+      ∙ ap (λ (l : List ℕ). written (zeros (zone_header / 4) ++ (0 ∷ l)) (zone_header / 4) (1 ∷ [])) (sym (replicate-append-replicate (size / 4 - 1) (length (zeros (z.limit - z.size)) / 4) 0))
+      ∙ written-middle (zeros (zone_header / 4)) (0 ∷ []) (zeros (size / 4 - 1) ++ rest) (1 ∷ []) (zone_header / 4) (sym (length-zeros (zone_header / 4))) refl
+      ∙ ap (λ (l : List ℕ). zeros (zone_header / 4) ++ (1 ∷ (l ++ rest))) (sym (append-nil (zeros (size / 4 - 1))))
+
   -- the fields of a new zone stand for it
-  pub new-read : (end : ℕ) (memory : List ℕ) (heads : HeadKind) (base : ℕ) (h : Header) → end ≡ z.size → heads ≡ z.heads → base ≡ z.base → h ≡ record { size = z.size - zone_header; role = Free; correction = 0 }
+  pub new-read : (end : ℕ) (memory starts : List ℕ) (heads : HeadKind) (base : ℕ) (h : Header) → end ≡ z.size → heads ≡ z.heads → base ≡ z.base → h ≡ record { size = z.size - zone_header; role = Free; correction = 0 }
       → memory ≡ written (zeros z.limit) zone_header (head_bytes heads base h)
-      → IsRead (record { spec = z; end = end; memory = memory }) (new_layout z)
-  new-read end memory heads base h end_is heads_is base_is h_is is =
+      → starts ≡ written (zeros (z.limit / 4)) (zone_header / 4) (1 ∷ [])
+      → IsRead (record { spec = z; end = end; memory = memory; starts = starts }) (new_layout z)
+  new-read end memory starts heads base h end_is heads_is base_is h_is is marks =
       let small = sizes-small z.heads in let one = small.0 in let two = small.1 in
       let b = free_held (zeros room) in let long = length-zeros room in let head_long = length-zeros zone_header in let spare_long = length-zeros (z.limit - z.size) in
       let old_long = length-zeros (head_size z.heads) in let new_long = length-head_bytes z.heads z.base (header_of z.heads b) in
@@ -63,7 +75,8 @@ module _ (z : ZoneSizes) (possible : ArePossible z) where
       let header : h ≡ header_of z.heads b = h_is ∙ ap (λ (n : ℕ). record { size = n; role = Free; correction = 0 }) size in
       let all : length memory ≡ z.limit = ap length is ∙ length-written (zeros z.limit) zone_header (head_bytes heads base h) ∙ length-zeros z.limit in
       let told : IsTrue (is_possible z.heads b) = is_possible-from z.heads b (record { even = omega arith; large = omega arith; few = omega arith; told = refl }) in
-      image-read z end memory (zeros zone_header) (b ∷ []) (zeros (z.limit - z.size)) head_long (omega arith) (ap (λ (t : Bool). t && true) told) (omega arith) (omega arith) (omega arith) all
+      image-read z end memory starts (zeros zone_header) (b ∷ []) (zeros (z.limit - z.size)) head_long (omega arith) (ap (λ (t : Bool). t && true) told) (omega arith) (omega arith) (omega arith) all
       (is ∙ (λ i. written (zero-parts i) zone_header (head_bytes (heads_is i) (base_is i) (header i)))
       ∙ written-middle (zeros zone_header) (zeros (head_size z.heads)) (zeros room ++ zeros (z.limit - z.size)) (head_bytes z.heads z.base (header_of z.heads b)) zone_header (omega arith) (omega arith)
       ∙ ap (λ (l : List ℕ). zeros zone_header ++ l) (sym (simp (append_assoc, append-nil))))
+      (marks ∙ first-marked (size_of z.heads b) (omega arith))

@@ -1,5 +1,5 @@
 -- The bytes of a zone in parts: those before a block, its header, its body, and those behind it.
-use Rattle.std.proofs.Common.{◌≡◌, ℕ, ◌+◌, ◌≤◌, Bool, List, ◌∷◌, ◌++◌, length, sym, ap, ◌∙◌, arith, append_assoc, length-append, length-take-le, IsTrue}
+use Rattle.std.proofs.Common.{◌≡◌, ℕ, ◌+◌, ◌*◌, ◌/◌, ◌≤◌, Bool, List, ◌∷◌, ◌++◌, length, replicate, sym, ap, ◌∙◌, arith, append_assoc, length-append, length-take-le, IsTrue}
 use Rattle.std.specs.Prelude.{◌&&◌}
 use Rattle.std.specs.List.{list_all}
 use Rattle.std.proofs.lemmas.List.Folds.{list_all-append}
@@ -9,9 +9,11 @@ use Rattle.mac_base.specs.ZoneSizes.{ArePossible}
 use Rattle.zone_blocks.specs.declared.blocks.Blocks.TheInside.{Inside}
 use Rattle.zone_blocks.specs.Head.{head_bytes}
 use Rattle.zone_blocks.specs.Layout.{Held, Layout, body, size_of, total_of, header_of, is_possible, rendered, image_of, with_blocks}
+use Rattle.zone_blocks.specs.Starts.{marks_of, starts_of}
 use Rattle.zone_blocks.specs.Reading.{layout_of, IsLayout}
 use Rattle.zone_blocks.proofs.Rendered.{total_of-append, length-rendered, rendered-append}
 use Rattle.zone_blocks.proofs.ReadBlocks.{and-true, IsPossible, IsPossible-from, rendered-more, IsRead, image-read}
+use Rattle.zone_blocks.proofs.Starts.{length-unmarked, length-marks_of, marks_of-same}
 
 -- the bytes before a block
 abbrev pub front : Layout → List Held → List ℕ
@@ -84,11 +86,30 @@ possible-with heads before bs first second = list_all-append (is_possible heads)
 pub possible-more : (heads : HeadKind) (b : Held) (bs : List Held) → IsTrue (is_possible heads b) → IsTrue (list_all (is_possible heads) bs) → IsTrue (list_all (is_possible heads) (b ∷ bs))
 possible-more heads b bs first second = ap (λ (x : Bool). x && list_all (is_possible heads) bs) first ∙ second
 
--- bytes that are those of the zone with other blocks, of the same size in all, stand for it
-pub changed : (z : Inside) → IsLayout z → ArePossible z.spec → (bs : List Held) (memory : List ℕ) → memory ≡ image_of (with_blocks bs (layout_of z))
+-- there are enough for the bytes up to the end of the blocks
+pub length-starts : (z : Inside) → IsLayout z → z.end ≤ 4 * length z.starts
+length-starts z whole = let l = layout_of z in
+    let is : length z.starts ≡ length (starts_of l) = ap length whole.marked in let ends = total-ends z whole in let long = length-marks_of l.heads l.blocks whole.possible in
+    let e = length-append (replicate (zone_header / 4) 0) (marks_of l.heads l.blocks ++ replicate (length l.spare / 4) 0) in
+    let e' = length-append (marks_of l.heads l.blocks) (replicate (length l.spare / 4) 0) in let e'' = length-unmarked (zone_header / 4) in omega arith
+
+-- the marks of the zone, by a block of it
+pub marked-parts : (z : Inside) → IsLayout z → (before : List Held) (here : Held) (behind : List Held) → (layout_of z).blocks ≡ before ++ here ∷ behind
+    → z.starts ≡ starts_of (with_blocks (before ++ here ∷ behind) (layout_of z))
+marked-parts z whole before here behind is = whole.marked ∙ ap (λ (bs : List Held). starts_of (with_blocks bs (layout_of z))) is
+
+-- they are those of the zone with another block of that size
+pub marked-same : (z : Inside) → IsLayout z → (before : List Held) (here : Held) (behind : List Held) → (layout_of z).blocks ≡ before ++ here ∷ behind
+    → (b : Held) → size_of z.spec.heads b ≡ size_of z.spec.heads here → z.starts ≡ starts_of (with_blocks (before ++ b ∷ behind) (layout_of z))
+marked-same z whole before here behind is b same = let l = layout_of z in
+    marked-parts z whole before here behind is
+    ∙ ap (λ (ms : List ℕ). replicate (zone_header / 4) 0 ++ (ms ++ replicate (length l.spare / 4) 0)) (sym (marks_of-same l.heads before b here behind same))
+
+-- bytes that are those of the zone with other blocks, of the same size in all, and marks that are theirs, stand for it
+pub changed : (z : Inside) → IsLayout z → ArePossible z.spec → (bs : List Held) (memory starts : List ℕ) → memory ≡ image_of (with_blocks bs (layout_of z))
     → total_of z.spec.heads bs ≡ total_of z.spec.heads (layout_of z).blocks → IsTrue (list_all (is_possible z.spec.heads) bs)
-    → IsRead (record { spec = z.spec; end = z.end; memory = memory }) (with_blocks bs (layout_of z))
-changed z whole small bs memory is sum possible =
+    → starts ≡ starts_of (with_blocks bs (layout_of z)) → IsRead (record z { memory = memory; starts = starts }) (with_blocks bs (layout_of z))
+changed z whole small bs memory starts is sum possible marks =
     let l = layout_of z in
     let old = length-rendered l.heads l.base l.blocks in let new = length-rendered l.heads l.base bs in
     let old-sum = length-append l.header (rendered l.heads l.base l.blocks ++ l.spare) in let old-sum' = length-append (rendered l.heads l.base l.blocks) l.spare in
@@ -96,4 +117,4 @@ changed z whole small bs memory is sum possible =
     let old-long : length z.memory ≡ length (image_of l) = ap length whole.form in let new-long : length memory ≡ length (image_of (with_blocks bs l)) = ap length is in
     let ends = total-ends z whole in
     let all : length z.memory ≡ z.spec.limit = whole.all_bytes in
-    image-read z.spec z.end memory l.header bs l.spare (length-header z whole) (omega arith) possible (omega arith) (omega arith) whole.high (omega arith) is
+    image-read z.spec z.end memory starts l.header bs l.spare (length-header z whole) (omega arith) possible (omega arith) (omega arith) whole.high (omega arith) is marks

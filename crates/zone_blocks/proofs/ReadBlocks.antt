@@ -11,6 +11,7 @@ use Rattle.raw_region.specs.Bytes.{part}
 use Rattle.zone_blocks.specs.declared.header.Header.{Header}
 use Rattle.zone_blocks.specs.Head.{head_bytes, header_in}
 use Rattle.zone_blocks.specs.Layout.{Held, Layout, held, body, size_of, total_of, header_of, can_be_told, is_possible, rendered, image_of, address_behind}
+use Rattle.zone_blocks.specs.Starts.{starts_of}
 use Rattle.zone_blocks.specs.Reading.{held_in, blocks_in, layout_in, layout_of, IsLayout}
 use Rattle.zone_blocks.specs.declared.blocks.Blocks.TheInside.{Inside}
 use Rattle.zone_blocks.proofs.Heads.{length-head_bytes, header_in-head_bytes}
@@ -117,11 +118,12 @@ pub record IsRead (z : Inside) (l : Layout) : Type 0 where
   pub whole : IsLayout z
 
 -- the fields whose bytes are those of a zone stand for it
-pub image-read : (spec : ZoneSizes) (end : ℕ) (memory header : List ℕ) (bs : List Held) (spare : List ℕ) → length header ≡ zone_header
+pub image-read : (spec : ZoneSizes) (end : ℕ) (memory starts header : List ℕ) (bs : List Held) (spare : List ℕ) → length header ≡ zone_header
     → zone_header + total_of spec.heads bs ≡ end → IsTrue (list_all (is_possible spec.heads) bs) → spec.limit < 2 ^ 24 → spec.base < 2 ^ 32
     → end ≤ spec.limit → length memory ≡ spec.limit → memory ≡ header ++ (rendered spec.heads spec.base bs ++ spare)
-    → IsRead (record { spec = spec; end = end; memory = memory }) (record { heads = spec.heads; base = spec.base; header = header; blocks = bs; spare = spare })
-image-read spec end memory header bs spare head ends possible small low high all is =
+    → starts ≡ starts_of (record { heads = spec.heads; base = spec.base; header = header; blocks = bs; spare = spare })
+    → IsRead (record { spec = spec; end = end; memory = memory; starts = starts }) (record { heads = spec.heads; base = spec.base; header = header; blocks = bs; spare = spare })
+image-read spec end memory starts header bs spare head ends possible small low high all is marks =
     let l : Layout = record { heads = spec.heads; base = spec.base; header = header; blocks = bs; spare = spare } in
     let read : layout_in spec end memory ≡ l = ap (layout_in spec end) is ∙ layout_in-image spec end header bs spare head ends possible (omega arith) low in
     record {
@@ -133,5 +135,6 @@ image-read spec end memory header bs spare head ends possible small low high all
         form = is ∙ sym (ap image_of read);
         ends = ap (λ (m : Layout). address_behind m m.blocks) read ∙ omega arith;
         possible = ap (λ (m : Layout). list_all (is_possible m.heads) m.blocks) read ∙ possible;
+        marked = marks ∙ sym (ap starts_of read);
       };
     }

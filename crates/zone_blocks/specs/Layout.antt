@@ -110,6 +110,15 @@ with_word b offset number = record b { contents = written b.contents offset (big
 abbrev pub cleared : Held → Held
 cleared b = record b { contents = replicate (length b.contents) 0 }
 
+-- a block whose contents are zero from a place among them on
+abbrev pub cleared_from : Held → ℕ → Held
+cleared_from b from = record b { contents = take from b.contents ++ replicate (length b.contents - from) 0 }
+
+-- the block at an address has so many bytes of contents
+pub record CanClear (l : Layout) (at from : ℕ) : Type 0 where
+  pub block : BlockAt l at
+  pub within : from ≤ length block.here.contents
+
 -- the block at an address can be made one for this, with so many bytes of contents
 pub record CanBe (l : Layout) (at : ℕ) (role : Role) (n : ℕ) : Type 0 where
   pub block : BlockAt l at

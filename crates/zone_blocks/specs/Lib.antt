@@ -1,5 +1,6 @@
 pub mod Head
 pub mod Layout
+pub mod Starts
 pub mod Reading
 pub mod Finding
 pub mod NewLayout

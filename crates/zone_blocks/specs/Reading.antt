@@ -9,6 +9,7 @@ use Rattle.zone_blocks.specs.declared.header.Header.{Header}
 use Rattle.zone_blocks.specs.declared.blocks.Blocks.TheInside.{Inside}
 use Rattle.zone_blocks.specs.Head.{header_in}
 use Rattle.zone_blocks.specs.Layout.{Held, Layout, held, is_possible, image_of, address_behind}
+use Rattle.zone_blocks.specs.Starts.{starts_of}
 
 -- the block whose header, of so many bytes, stands at the front of these bytes
 abbrev pub held_in : HeadKind → Header → List ℕ → Held
@@ -34,7 +35,7 @@ layout_in spec end bytes = record {
 abbrev pub layout_of : Inside → Layout
 layout_of z = layout_in z.spec z.end z.memory
 
--- the bytes are those of possible blocks, and nothing else
+-- the bytes are those of possible blocks, and nothing else, and the headers of these are marked
 pub record IsLayout (z : Inside) : Type 0 where
   pub all_bytes : length z.memory ≡ z.spec.limit
   pub low : zone_header ≤ z.end
@@ -42,3 +43,4 @@ pub record IsLayout (z : Inside) : Type 0 where
   pub form : z.memory ≡ image_of (layout_of z)
   pub ends : address_behind (layout_of z) (layout_of z).blocks ≡ z.spec.base + z.end
   pub possible : IsTrue (list_all (is_possible z.spec.heads) (layout_of z).blocks)
+  pub marked : z.starts ≡ starts_of (layout_of z)

@@ -24,6 +24,8 @@ pub struct Blocks {
     spec: ZoneSpec,
     end: u32,
     memory: Memory,
+    /// For each four bytes of the zone one byte: 1 where a block's header begins with them, or else 0.
+    starts: Memory,
 }
 
 impl Model for Blocks {
@@ -39,7 +41,7 @@ impl Model for Blocks {
 }
 
 impl Blocks {
-    ghost use Rattle.std.specs.Prelude.{◌≡◌, ◌+◌, ◌-◌, ◌<◌, ◌≤◌, ◌^◌, ◌++◌, ◌∷◌, [], length, take, drop, replicate, IfOk, IfSome, IfNone, IsTrue, IsFalse};
+    ghost use Rattle.std.specs.Prelude.{◌≡◌, ◌+◌, ◌-◌, ◌<◌, ◌≤◌, ◌^◌, ◌++◌, ◌∷◌, ◌↔◌, [], length, take, drop, replicate, IfOk, IfSome, IfNone, IsTrue, IsFalse};
     ghost use Rattle.std.specs.Borrow.{sem};
     ghost use Rattle.std.specs.List.{list_all};
     ghost use Rattle.byteorder.specs.Endian.{big_bytes, big_number};
@@ -47,7 +49,7 @@ impl Blocks {
     ghost use Rattle.mac_base.specs.ZoneSizes.{shape_of};
     ghost use Rattle.raw_region.specs.Bytes.{part, written};
     ghost use Rattle.zone_blocks.specs.declared.header.Role.TheVariants.{Free};
-    ghost use Rattle.zone_blocks.specs.Layout.{Held, Layout, BlockAt, WordAt, CanBe, CanResize, CanSplit, CanMerge, front_of, rest_of, with_word, cleared, body, held, free_held, size_of, header_of, is_possible, joint_body, zone_bytes, with_blocks, with_header, address_behind};
+    ghost use Rattle.zone_blocks.specs.Layout.{Held, Layout, BlockAt, WordAt, CanBe, CanResize, CanSplit, CanMerge, front_of, rest_of, with_word, cleared, cleared_from, CanClear, body, held, free_held, size_of, header_of, is_possible, joint_body, zone_bytes, with_blocks, with_header, address_behind};
     ghost use Rattle.zone_blocks.specs.Finding.{HoldsByte, LiesOutside, LowestFree, NoneFree};
     ghost use Rattle.zone_blocks.specs.Lending.{LendsContents};
     ghost use Rattle.zone_blocks.specs.NewLayout.{new_layout};
@@ -59,16 +61,19 @@ impl Blocks {
     {
         let heads = spec.heads();
         let mut memory = Memory::create(alloc, spec.limit() as usize)?;
+        let mut starts = Memory::create(alloc, spec.limit() as usize / 4)?;
         let free = Header {
             size: spec.size() - ZONE_HEADER,
             role: Role::Free,
             correction: 0,
         };
         memory.set_header(heads, ZONE_HEADER as usize, spec.base(), free);
+        starts.set_byte(ZONE_HEADER as usize / 4, 1);
         Ok(Blocks {
             spec,
             end: spec.size(),
             memory,
+            starts,
         })
     }
 
@@ -112,6 +117,18 @@ impl Blocks {
         ensures { self.new ≡ with_header (written self.old.header at (big_bytes 2 number)) self.old }
     {
         self.memory.set_half(at, number);
+    }
+
+    /// Whether a block's header stands at an address.
+    pub fn is_block(&self, at: u32) -> bool
+        ensures { IsTrue result ↔ BlockAt self.now at }
+    {
+        let base = self.spec.base();
+        if at < base {
+            return false;
+        }
+        let offset = at - base;
+        offset < self.end && offset % 4 == 0 && self.starts.byte(offset as usize / 4) == 1
     }
 
     /// What the header of the block at an address says.
@@ -230,9 +247,10 @@ impl Blocks {
             correction: 0,
         };
         let offset = (at - base) as usize;
+        let second = offset + size as usize;
         self.memory.set_header(heads, offset, base, front);
-        self.memory
-            .set_header(heads, offset + size as usize, base, rest);
+        self.memory.set_header(heads, second, base, rest);
+        self.starts.set_byte(second / 4, 1);
     }
 
     /// Makes the block at an address and the one behind it one block, for what the first is for, with so many bytes of
@@ -245,7 +263,8 @@ impl Blocks {
         let heads = self.spec.heads();
         let base = self.spec.base();
         let first = self.entry_at(at);
-        let second = self.entry_at(at + first.size);
+        let next = at + first.size;
+        let second = self.entry_at(next);
         let size = first.size + second.size;
         let header = Header {
             size,
@@ -254,6 +273,7 @@ impl Blocks {
         };
         self.memory
             .set_header(heads, (at - base) as usize, base, header);
+        self.starts.set_byte((next - base) as usize / 4, 0);
     }
 
     /// The number in 4 bytes of a block's contents.
@@ -308,6 +328,19 @@ impl Blocks {
         let start = (at - self.spec.base() + head_size) as usize;
         let length = header.size - head_size - header.correction;
         self.memory.clear(start, length as usize);
+    }
+
+    /// Makes the contents of the block at an address zero from a place among them on.
+    pub fn clear_from(&mut self, at: u32, from: u32)
+        requires { CanClear self.old at from }
+        ensures { (can : CanClear self.old at from)
+            → self.new ≡ with_blocks (can.block.before ++ cleared_from can.block.here from ∷ can.block.behind) self.old }
+    {
+        let header = self.entry_at(at);
+        let head_size = self.spec.heads().head_size();
+        let start = at - self.spec.base() + head_size + from;
+        let length = header.size - head_size - header.correction - from;
+        self.memory.clear(start as usize, length as usize);
     }
 
     /// The bytes of the zone, from its start to the end of its last block.

@@ -1,6 +1,6 @@
 //! The memory of a zone.
 
-ghost use Rattle.std.specs.Prelude.{◌≡◌, ◌+◌, ◌≤◌, ◌<◌, ◌^◌, length, replicate, drop, IfOk};
+ghost use Rattle.std.specs.Prelude.{◌≡◌, ◌+◌, ◌≤◌, ◌<◌, ◌^◌, [], ◌∷◌, length, replicate, drop, slice_index, IfOk};
 ghost use Rattle.std.specs.Borrow.{sem};
 ghost use Rattle.byteorder.specs.Endian.{big_bytes, big_number};
 ghost use Rattle.mac_base.specs.HeadKind.{head_size};
@@ -79,6 +79,22 @@ impl Memory {
         ensures { self.new ≡ written self.old at (replicate count 0) }
     {
         self.region.fill(at, count, 0);
+    }
+
+    /// The byte at `at`.
+    pub fn byte(&self, at: usize) -> u8
+        requires { at + 1 ≤ length self.now }
+        ensures { result ≡ slice_index self.now at }
+    {
+        self.region.get8(at)
+    }
+
+    /// Writes the byte at `at`.
+    pub fn set_byte(&mut self, at: usize, byte: u8)
+        requires { at + 1 ≤ length self.old }
+        ensures { self.new ≡ written self.old at (byte ∷ []) }
+    {
+        self.region.put8(at, byte);
     }
 
     /// The number in the 4 bytes from `at` on.

@@ -20,11 +20,11 @@ set_header-requires-clause-size c =
 
 -- what the fields stand for then
 assigned : (c : goal.After-set_header) (can : CanBe c.args.self.now c.args.at c.args.role c.args.length)
-    → IsRead (record { spec = c.self.inside.spec; end = c.self.inside.end; memory = c.set_header.new.self })
+    → IsRead (record c.self.inside { memory = c.set_header.new.self })
     (with_blocks (can.block.before ++ held c.args.role c.args.length (body can.block.here) ∷ can.block.behind) c.args.self.now)
 assigned c can = let z = c.self.inside in let at = c.args.at in let n = c.args.length in let role = c.args.role in let r = c.entry_at-size.result in
     subst (λ (l : Layout). (can : CanBe l at role n) → ((b : BlockAt l at) → r ≡ header_of l.heads b.here)
-    → IsRead (record { spec = z.spec; end = z.end; memory = c.set_header.new.self }) (with_blocks (can.block.before ++ held role n (body can.block.here) ∷ can.block.behind) l)) c.self.view_is
+    → IsRead (record z { memory = c.set_header.new.self }) (with_blocks (can.block.before ++ held role n (body can.block.here) ∷ can.block.behind) l)) c.self.view_is
     (λ can entry.
     let b = can.block in let new = held role n (body b.here) in let i = IsIn-from z c.self.invariant b.before b.here b.behind b.blocks in let place = b.place in
     let size = ap (λ (h : Header). h.size) (entry b) ∙ size-body z.spec.heads b.here in

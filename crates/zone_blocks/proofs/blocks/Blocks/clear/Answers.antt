@@ -14,12 +14,12 @@ clear-requires c =
 
 -- what the fields stand for then
 made_zero : (c : goal.After-clear) (b : BlockAt c.args.self.now c.args.at)
-    → IsRead (record { spec = c.self.inside.spec; end = c.self.inside.end; memory = c.clear.new.self }) (with_blocks (b.before ++ cleared b.here ∷ b.behind) c.args.self.now)
+    → IsRead (record c.self.inside { memory = c.clear.new.self }) (with_blocks (b.before ++ cleared b.here ∷ b.behind) c.args.self.now)
 made_zero c b = let z = c.self.inside in let at = c.args.at in let h = c.entry_at-header.result in let k = c.head_size-head_size.result in
     let e = ap head_size c.heads.ensures in
-    subst (λ (m : List ℕ). IsRead (record { spec = z.spec; end = z.end; memory = m }) (with_blocks (b.before ++ cleared b.here ∷ b.behind) c.args.self.now)) (sym c.clear.ensures)
+    subst (λ (m : List ℕ). IsRead (record z { memory = m }) (with_blocks (b.before ++ cleared b.here ∷ b.behind) c.args.self.now)) (sym c.clear.ensures)
     (subst (λ (l : Layout). (b : BlockAt l at) → h ≡ header_of l.heads b.here
-    → IsRead (record { spec = z.spec; end = z.end; memory = written z.memory (at - c.base.result + k) (replicate (h.size - k - h.correction) 0) }) (with_blocks (b.before ++ cleared b.here ∷ b.behind) l)) c.self.view_is
+    → IsRead (record z { memory = written z.memory (at - c.base.result + k) (replicate (h.size - k - h.correction) 0) }) (with_blocks (b.before ++ cleared b.here ∷ b.behind) l)) c.self.view_is
     (λ b is. cleared-read z c.self.invariant c.base.ensures.possible at h (at - c.base.result + k) (h.size - k - h.correction) b is (omega arith) (omega arith)) b (c.entry_at-header.ensures b))
 
 pub invariant_of-self : goal.invariant_of-self

@@ -8,7 +8,7 @@ use Rattle.zone_blocks.proofs.blocks.Blocks.set_field.Goals as goal
 
 pub invariant_of-self : goal.invariant_of-self
 invariant_of-self c =
-    subst (λ (m : List ℕ). IsLayout (record { spec = c.self.inside.spec; end = c.self.inside.end; memory = m })) (sym c.set_word.ensures)
+    subst (λ (m : List ℕ). IsLayout (record c.self.inside { memory = m })) (sym c.set_word.ensures)
     (header-changed c.self.inside c.self.invariant c.args.at (big_bytes 4 c.args.number) c.requires).whole
 
 pub returns : goal.returns

@@ -8,7 +8,7 @@ use Rattle.zone_blocks.proofs.blocks.Blocks.set_half_field.Goals as goal
 
 pub invariant_of-self : goal.invariant_of-self
 invariant_of-self c =
-    subst (λ (m : List ℕ). IsLayout (record { spec = c.self.inside.spec; end = c.self.inside.end; memory = m })) (sym c.set_half.ensures)
+    subst (λ (m : List ℕ). IsLayout (record c.self.inside { memory = m })) (sym c.set_half.ensures)
     (header-changed c.self.inside c.self.invariant c.args.at (big_bytes 2 c.args.number) c.requires).whole
 
 pub returns : goal.returns

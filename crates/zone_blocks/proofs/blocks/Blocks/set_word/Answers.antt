@@ -14,11 +14,11 @@ set_word-requires c =
 pub invariant_of-self : goal.invariant_of-self
 invariant_of-self c =
     let w = subst (λ (l : Layout). WordAt l c.args.at) (sym c.self.view_is) c.requires in
-    subst (λ (m : List ℕ). IsLayout (record { spec = c.self.inside.spec; end = c.self.inside.end; memory = m })) (sym c.set_word.ensures)
+    subst (λ (m : List ℕ). IsLayout (record c.self.inside { memory = m })) (sym c.set_word.ensures)
     (contents-changed c.self.inside c.self.invariant c.base-base.ensures.possible w.before w.here w.behind w.blocks w.offset (c.args.at - c.base-base.result) (big_bytes 4 c.args.number) (omega arith) w.inside).whole
 
 pub returns : goal.returns
 returns c = subst (λ (l : Layout). (w : WordAt l c.args.at)
-    → layout_of (record { spec = c.self.inside.spec; end = c.self.inside.end; memory = c.set_word.new.self }) ≡ with_blocks (w.before ++ with_word w.here w.offset c.args.number ∷ w.behind) l) c.self.view_is (λ w.
+    → layout_of (record c.self.inside { memory = c.set_word.new.self }) ≡ with_blocks (w.before ++ with_word w.here w.offset c.args.number ∷ w.behind) l) c.self.view_is (λ w.
     ap (layout_in c.self.inside.spec c.self.inside.end) c.set_word.ensures
     ∙ (contents-changed c.self.inside c.self.invariant c.base-base.ensures.possible w.before w.here w.behind w.blocks w.offset (c.args.at - c.base-base.result) (big_bytes 4 c.args.number) (omega arith) w.inside).view)
