@@ -1,9 +1,10 @@
 //! A heap zone: one attempt to place, release or show a block.
 #![tactic(auto)]
 
-mod blocks;
-mod memory;
-mod slots;
 mod zone;
 
 pub use zone::{NoRoom, Zone};
+pub use zone_blocks::check;
+
+#[cfg(test)]
+mod tests;

@@ -1,19 +1,11 @@
 //! The zone.
 
-ghost use Rattle.std.specs.Prelude.{◌≡◌, ◌+◌, ◌<◌, ◌≤◌, length, take};
-ghost use Rattle.mac_base.specs.HeadKind.{zone_header, head_size};
-ghost use Rattle.mac_base.specs.ZoneMap.{total_size};
-ghost use Rattle.mac_base.specs.ZoneSizes.{shape_of};
-ghost use Rattle.zone_heap.specs.Places.{first_slot};
-
-use crate::blocks::{first_fit, free_at, place_of, take_first_fit, total_size};
-use crate::memory::Memory;
-use crate::slots::{Slot, contents_length, new_slots, slot_index};
-use mac_base::block::{Block, Entry, Flags, Kind, Status};
+use mac_base::block::{Block, Status};
 use mac_base::error::HostFull;
 use mac_base::handle::Handle;
-use mac_base::size::{MASTER_LENGTH, SLOT_COUNT, ZONE_HEADER, need};
+use mac_base::size::{MASTER_LENGTH, ZONE_HEADER, need};
 use mac_base::zone_spec::ZoneSpec;
+use master_ptrs::MasterPointers;
 use std::alloc::Global;
 use std::marker::Model;
 use thiserror::Error;
@@ -23,15 +15,11 @@ use thiserror::Error;
 #[error("no block of the zone has room")]
 pub struct NoRoom;
 
-/// A heap zone. Contracts see its shape and its heap: the handle table, the zone map and the free slots. All host
-/// memory is taken by `create`.
+/// A heap zone in raw bytes. Contracts see its shape and its heap: the handle table, the zone map and the free slots.
+/// All host memory is taken by `create`.
 #[derive(Drop)]
 pub struct Zone {
-    spec: ZoneSpec,
-    entries: Vec<Entry>,
-    slots: Vec<Slot>,
-    free_slots: Vec<Handle>,
-    memory: Memory,
+    pointers: MasterPointers,
 }
 
 impl Model for Zone {
@@ -59,30 +47,19 @@ impl Zone {
     ghost use Rattle.mac_base.specs.ZoneSizes.{shape_of};
     ghost use Rattle.zone_heap.specs.Placed.{placed_lowest};
     ghost use Rattle.mac_base.specs.Reply.{report_at};
+    ghost use Rattle.master_ptrs.specs.Image.{IsImage};
+    ghost use Rattle.zone_blocks.specs.Walk.{Walks};
     ghost use Rattle.zone_heap.specs.LendingBytes.{LendsBytes};
 
     /// A new zone: a master block with 64 free slots, and one free block.
     pub fn create(alloc: Global, spec: ZoneSpec) -> Result<Zone, HostFull>
         ensures { IfOk result (λ zone. zone ≡ record { shape = shape_of spec; heap = new_heap (shape_of spec) spec.size }) }
     {
-        let limit = spec.limit() as usize;
-        let master = need(MASTER_LENGTH);
-        let mut entries = Vec::with_capacity(alloc, limit / 12 + 1)?;
-        entries.push(Entry {
-            size: master,
-            kind: Kind::Master,
-        })?;
-        entries.push(Entry {
-            size: spec.size() - ZONE_HEADER - master,
-            kind: Kind::Free,
-        })?;
-        Ok(Zone {
-            spec,
-            entries,
-            slots: vec![in alloc; Slot::Free; SLOT_COUNT as usize]?,
-            free_slots: new_slots(alloc, first_slot(spec))?,
-            memory: Memory::create(alloc, limit)?,
-        })
+        let mut pointers = MasterPointers::create(alloc, spec)?;
+        let first = spec.base() + ZONE_HEADER;
+        pointers.split(first, need(MASTER_LENGTH));
+        pointers.build_master(first);
+        Ok(Zone { pointers })
     }
 
     /// Whether a handle is live: the address of a slot that isn't free. The zone has handles alone so far.
@@ -90,10 +67,7 @@ impl Zone {
         ensures live { result ≡ is_handle self.now.heap.table handle }
         ensures so_far { HandlesAlone self.now.heap.table }
     {
-        match slot_index(first_slot(self.spec), handle) {
-            Some(index) => self.slots[index].is_full(),
-            None => false,
-        }
+        self.pointers.is_live(handle)
     }
 
     /// A new handle with `length` bytes of zero and no flags, in the lowest free block that has room. There is none
@@ -106,18 +80,14 @@ impl Zone {
             (λ _. (placed_lowest self.old.shape length self.old.heap ≡ None) × (self.new ≡ self.old)) }
     {
         let needed = need(length);
-        let Some(at) = first_fit(&self.entries, needed) else {
+        let Some(at) = self.pointers.lowest_free(needed) else {
             return Err(NoRoom);
         };
-        let Some(handle) = self.free_slots.first().copied() else {
+        let Some(handle) = self.pointers.take() else {
             return Err(NoRoom);
         };
-        let index = slot_index(first_slot(self.spec), handle).unwrap();
-        let start = contents_start(&self.entries, at, self.spec);
-        take_first_fit(&mut self.entries, at, self.spec, needed, Kind::Rel(handle));
-        self.memory.clear(start, length as usize);
-        self.slots[index] = Slot::Full { length };
-        self.free_slots.remove(0);
+        cut(&mut self.pointers, at, needed);
+        self.pointers.point(handle, at, length);
         Ok(handle)
     }
 
@@ -128,11 +98,10 @@ impl Zone {
         ensures heap { self.new.heap ≡ heap_released (DisposesHandle handle) self.old.heap }
         ensures shape { self.new.shape ≡ self.old.shape }
     {
-        let index = slot_index(first_slot(self.spec), handle).unwrap();
-        let at = place_of(&self.entries, handle).unwrap();
-        free_at(&mut self.entries, at);
-        self.slots[index] = Slot::Free;
-        self.free_slots.insert(0, handle).unwrap();
+        let at = self.pointers.block_of(handle);
+        self.pointers.empty(handle);
+        self.pointers.release(handle);
+        join(&mut self.pointers, at);
     }
 
     /// The bytes of a handle that has a block.
@@ -140,11 +109,7 @@ impl Zone {
         requires { status_of self.now.heap.table handle ≡ Status.Full }
         ensures { result.now ≡ bytes_of self.now.heap.table handle }
     {
-        let index = slot_index(first_slot(self.spec), handle).unwrap();
-        let at = place_of(&self.entries, handle).unwrap();
-        let start = contents_start(&self.entries, at, self.spec);
-        self.memory
-            .bytes(start, self.slots[index].length() as usize)
+        self.pointers.contents(handle)
     }
 
     /// The bytes of a handle that has a block, to be written.
@@ -153,11 +118,7 @@ impl Zone {
         ensures* writes_back { sem 𝓛 (LendsBytes self.entry handle result) }
         ensures value { result.now ≡ bytes_of self.old.heap.table handle }
     {
-        let index = slot_index(first_slot(self.spec), handle).unwrap();
-        let at = place_of(&self.entries, handle).unwrap();
-        let start = contents_start(&self.entries, at, self.spec);
-        let length = self.slots[index].length() as usize;
-        self.memory.bytes_mut(start, length)
+        self.pointers.contents_mut(handle)
     }
 
     /// The address of the zone's first block header. What the zone shows is a sound heap, and its addresses have 24
@@ -167,42 +128,56 @@ impl Zone {
         ensures sound { Sound self.now.shape self.now.heap }
         ensures reach { self.now.shape.base + self.now.shape.limit ≤ 0x100_0000 }
     {
-        self.spec.base() + ZONE_HEADER
+        self.pointers.spec().base() + ZONE_HEADER
     }
 
     /// The block whose header stands at this address, if one does.
     pub fn entry(&self, at: u32) -> Option<Block>
         ensures { result ≡ report_at self.now.shape self.now.heap at }
     {
-        let mut address = self.first_block();
-        for entry in &self.entries {
-            if address == at {
-                let length = contents_length(&self.slots, first_slot(self.spec), entry.kind);
-                return Some(Block {
-                    address,
-                    entry: *entry,
-                    length,
-                    flags: Flags::NONE,
-                });
-            }
-            address += entry.size;
-        }
-        None
+        self.pointers.entry(at)
+    }
+
+    /// The bytes of the zone, from its start to the end of its last block: its header, and its blocks with their
+    /// headers, master pointers and contents. They are bytes that `check` takes.
+    pub fn image(&self) -> &[u8]
+        ensures form { IsImage self.now result.now }
+        ensures walks { Walks self.now.shape.heads result.now }
+    {
+        self.pointers.image()
     }
 }
 
-/// Where the zone's first slot stands.
-fn first_slot(spec: ZoneSpec) -> u32
-    ensures { result ≡ first_slot (shape_of spec) }
+ghost use Rattle.std.specs.Prelude.{◌≡◌, ◌+◌, ◌-◌, ◌≤◌, ◌<◌, IsTrue};
+ghost use Rattle.mac_base.specs.Suits.{is_block_size};
+ghost use Rattle.master_ptrs.specs.Places.{FreeAt};
+ghost use Rattle.zone_heap.specs.Joins.{CanTake, NewlyFree, with_front, all_joined};
+
+/// Cuts a free block to its first `size` bytes, unless fewer bytes than a block has would be left.
+fn cut(pointers: &mut MasterPointers, at: u32, size: u32)
+    requires { CanTake pointers.old at size }
+    ensures { (take : CanTake pointers.old at size) → pointers.new ≡ with_front pointers.old take }
 {
-    spec.base() + ZONE_HEADER + spec.heads().head_size()
+    let heads = pointers.spec().heads();
+    let whole = pointers.entry_at(at).size;
+    if whole - size >= heads.smallest_block() {
+        pointers.split(at, size);
+    }
 }
 
-/// Where the contents of the block at a place begin, from the zone's start on.
-fn contents_start(entries: &[Entry], at: usize, spec: ZoneSpec) -> usize
-    requires within { at < length entries.now }
-    requires fits { total_size entries.now ≤ 0x10_0000 }
-    ensures { result ≡ zone_header + total_size (take at entries.now) + head_size spec.heads }
+/// Joins a free block to its free neighbours, where no two other free blocks are neighbours.
+fn join(pointers: &mut MasterPointers, at: u32)
+    requires { NewlyFree pointers.old at }
+    ensures { pointers.new ≡ all_joined pointers.old }
 {
-    (ZONE_HEADER + total_size(&entries[..at]) + spec.heads().head_size()) as usize
+    if let Some(next) = pointers.behind(at) {
+        if pointers.entry_at(next).kind.is_free() {
+            pointers.merge(at);
+        }
+    }
+    if let Some(last) = pointers.before(at) {
+        if pointers.entry_at(last).kind.is_free() {
+            pointers.merge(last);
+        }
+    }
 }

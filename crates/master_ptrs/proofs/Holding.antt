@@ -1,0 +1,128 @@
+-- Blocks that are those of a zone map: taken apart at a place, put together again, and for other owners.
+use Rattle.std.proofs.Common.{◌≡◌, ℕ, zero, suc, ◌+◌, ◌*◌, ◌<◌, ◌≤◌, Bool, true, false, not, cond, eqb, List, [], ◌∷◌, ◌++◌, length, refl, ap, sym, ◌∙◌, subst, arith, length-append}
+use Rattle.std.specs.Prelude.{IsTrue, IsFalse}
+use Rattle.std.specs.List.{list_all}
+use Rattle.std.proofs.lemmas.Bool.Decides.{nat_tests}
+use Rattle.mac_base.specs.declared.block.Entry.{Entry}
+use Rattle.mac_base.specs.declared.block.Kind.{Kind}
+use Rattle.mac_base.specs.declared.block.Kind.TheVariants as kind
+use Rattle.mac_base.specs.HeadKind.{Shape, head_size, slot_count}
+use Rattle.mac_base.specs.ZoneMap.{ZoneMap, total_size, is_named}
+use Rattle.mac_base.proofs.Maps.{both_true, true_not}
+use Rattle.mac_base.proofs.Tables.{eqb_same}
+use Rattle.raw_region.proofs.Numbers.{length-big_bytes}
+use Rattle.zone_blocks.specs.Layout.{Held, size_of, total_of}
+use Rattle.master_ptrs.specs.Image.{Owners, pointers_from, HoldsOwned, HoldsBlock, HoldsBlocks}
+
+-- all sizes together are those of the map
+pub total-held : (o : Owners) (s : Shape) (at : ℕ) (bs : List Held) (es : ZoneMap) → HoldsBlocks o s at bs es → total_of s.heads bs ≡ total_size es
+total-held o s at [] [] h = refl
+total-held o s at [] (e ∷ es) h = absurd h
+total-held o s at (b ∷ bs) [] h = absurd h
+total-held o s at (b ∷ bs) (e ∷ es) h = let here = h.0.size in let rest = total-held o s (at + e.size) bs es h.1 in omega arith
+
+pub total_of-append : (s : Shape) (a b : List Held) → total_of s.heads (a ++ b) ≡ total_of s.heads a + total_of s.heads b
+total_of-append s [] b = omega arith
+total_of-append s (x ∷ a) b = let rest = total_of-append s a b in omega arith
+
+-- the blocks and the map taken apart at one place of each
+pub record Apart (o : Owners) (s : Shape) (at : ℕ) (bs : List Held) (es : ZoneMap) (before : List Held) (here : Held) (behind : List Held) (low : ZoneMap) (e : Entry) (high : ZoneMap) : Type 0 where
+  pub blocks : bs ≡ before ++ here ∷ behind
+  pub map : es ≡ low ++ e ∷ high
+  pub lower : HoldsBlocks o s at before low
+  pub block : HoldsBlock o s (at + total_size low) here e
+  pub higher : HoldsBlocks o s (at + total_size low + e.size) behind high
+
+-- by a place of the map
+pub record AtEntry (o : Owners) (s : Shape) (at : ℕ) (bs : List Held) (es low : ZoneMap) (e : Entry) (high : ZoneMap) : Type 0 where
+  pub before : List Held
+  pub here : Held
+  pub behind : List Held
+  pub parts : Apart o s at bs es before here behind low e high
+
+pub apart-entry : (o : Owners) (s : Shape) (at : ℕ) (bs : List Held) (low : ZoneMap) (e : Entry) (high : ZoneMap) → HoldsBlocks o s at bs (low ++ e ∷ high) → AtEntry o s at bs (low ++ e ∷ high) low e high
+apart-entry o s at [] [] e high h = absurd h
+apart-entry o s at (b ∷ bs) [] e high h = record {
+  before = [];
+  here = b;
+  behind = bs;
+  parts = record {
+    blocks = refl;
+    map = refl;
+    lower = tt;
+    block = subst (λ n. HoldsBlock o s n b e) (let q : at ≡ at + 0 = omega arith in q) h.0;
+    higher = subst (λ n. HoldsBlocks o s n bs high) (let q : at + e.size ≡ at + 0 + e.size = omega arith in q) h.1;
+  };
+}
+apart-entry o s at [] (f ∷ low) e high h = absurd h
+apart-entry o s at (b ∷ bs) (f ∷ low) e high h =
+    let rest = apart-entry o s (at + f.size) bs low e high h.1 in
+    let there : at + f.size + total_size low ≡ at + (f.size + total_size low) = omega arith in
+    record {
+      before = b ∷ rest.before;
+      here = rest.here;
+      behind = rest.behind;
+      parts = record {
+        blocks = ap (λ (xs : List Held). b ∷ xs) rest.parts.blocks;
+        map = refl;
+        lower = (h.0, rest.parts.lower);
+        block = subst (λ n. HoldsBlock o s n rest.here e) there rest.parts.block;
+        higher = subst (λ n. HoldsBlocks o s (n + e.size) rest.behind high) there rest.parts.higher;
+      };
+    }
+
+-- by a place of the blocks
+pub record AtBlock (o : Owners) (s : Shape) (at : ℕ) (es : ZoneMap) (before : List Held) (here : Held) (behind : List Held) : Type 0 where
+  pub low : ZoneMap
+  pub e : Entry
+  pub high : ZoneMap
+  pub parts : Apart o s at (before ++ here ∷ behind) es before here behind low e high
+
+pub apart-block : (o : Owners) (s : Shape) (at : ℕ) (es : ZoneMap) (before : List Held) (here : Held) (behind : List Held) → HoldsBlocks o s at (before ++ here ∷ behind) es → AtBlock o s at es before here behind
+apart-block o s at [] [] here behind h = absurd h
+apart-block o s at (e ∷ es) [] here behind h = record {
+  low = [];
+  e = e;
+  high = es;
+  parts = record {
+    blocks = refl;
+    map = refl;
+    lower = tt;
+    block = subst (λ n. HoldsBlock o s n here e) (let q : at ≡ at + 0 = omega arith in q) h.0;
+    higher = subst (λ n. HoldsBlocks o s n behind es) (let q : at + e.size ≡ at + 0 + e.size = omega arith in q) h.1;
+  };
+}
+apart-block o s at [] (b ∷ before) here behind h = absurd h
+apart-block o s at (f ∷ es) (b ∷ before) here behind h =
+    let rest = apart-block o s (at + f.size) es before here behind h.1 in
+    let there : at + f.size + total_size rest.low ≡ at + (f.size + total_size rest.low) = omega arith in
+    record {
+      low = f ∷ rest.low;
+      e = rest.e;
+      high = rest.high;
+      parts = record {
+        blocks = refl;
+        map = ap (λ (xs : ZoneMap). f ∷ xs) rest.parts.map;
+        lower = (h.0, rest.parts.lower);
+        block = subst (λ n. HoldsBlock o s n here rest.e) there rest.parts.block;
+        higher = subst (λ n. HoldsBlocks o s (n + rest.e.size) behind rest.high) there rest.parts.higher;
+      };
+    }
+
+-- two lists one behind the other
+pub together : (o : Owners) (s : Shape) (at : ℕ) (before : List Held) (low : ZoneMap) (bs : List Held) (es : ZoneMap)
+    → HoldsBlocks o s at before low → HoldsBlocks o s (at + total_size low) bs es → HoldsBlocks o s at (before ++ bs) (low ++ es)
+together o s at [] [] bs es low high = subst (λ n. HoldsBlocks o s n bs es) (let q : at + 0 ≡ at = omega arith in q) high
+together o s at [] (e ∷ low) bs es h high = absurd h
+together o s at (b ∷ before) [] bs es h high = absurd h
+together o s at (b ∷ before) (e ∷ low) bs es h high =
+    (h.0, together o s (at + e.size) before low bs es h.1 (subst (λ n. HoldsBlocks o s n bs es) (let q : at + (e.size + total_size low) ≡ at + e.size + total_size low = omega arith in q) high))
+
+-- how long master pointers are
+pub length-pointers : (o : Owners) (n at : ℕ) → length (pointers_from o n at) ≡ 4 * n
+length-pointers o zero at = refl
+length-pointers o (suc n) at =
+    let rest = length-pointers o n (at + 4) in
+    let here = length-big_bytes 4 (o.pointer at) in
+    let all = length-append (Rattle.byteorder.specs.Endian.big_bytes 4 (o.pointer at)) (pointers_from o n (at + 4)) in
+    omega arith

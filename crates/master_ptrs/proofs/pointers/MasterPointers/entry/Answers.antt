@@ -1,0 +1,32 @@
+use Rattle.std.proofs.Common.{◌≡◌, true, false, refl, sym, ◌∙◌, subst}
+use Rattle.mac_base.specs.declared.block.Entry.{Entry}
+use Rattle.zone_blocks.specs.Layout.{BlockAt}
+use Rattle.master_ptrs.specs.Places.{EntryAt, HasOwner}
+use Rattle.master_ptrs.proofs.Held.{held-now}
+use Rattle.master_ptrs.proofs.Located.{of-block}
+use Rattle.master_ptrs.proofs.Owned.{has-owner}
+use Rattle.master_ptrs.proofs.Reported.{reported-none, reported-here}
+use Rattle.master_ptrs.proofs.pointers.MasterPointers.entry.Goals as goal
+
+pub returns-then-not-is_block : goal.returns-then-not-is_block
+returns-then-not-is_block c =
+    let held = held-now c.self.inside c.args.self.now c.self.invariant c.self.view_is in
+    reported-none _ c.args.self.now held c.args.at (λ b. cc (sym c.if-not-is_block.true ∙ c.is_block.ensures.1 b))
+
+pub entry_at-entry-requires : goal.entry_at-entry-requires
+entry_at-entry-requires c = (of-block _ c.args.self.now (held-now c.self.inside c.args.self.now c.self.invariant c.self.view_is) c.args.at (c.is_block.ensures.0 c.if-not-is_block.false)).entry
+
+pub length_at-requires : goal.length_at-requires
+length_at-requires c = (of-block _ c.args.self.now (held-now c.self.inside c.args.self.now c.self.invariant c.self.view_is) c.args.at (c.is_block.ensures.0 c.if-not-is_block.false)).entry
+
+pub flags_of-requires : goal.flags_of-requires
+flags_of-requires c =
+    let held = held-now c.self.inside c.args.self.now c.self.invariant c.self.view_is in
+    let e = (of-block _ c.args.self.now held c.args.at (c.is_block.ensures.0 c.if-not-is_block.false)).entry in
+    subst (λ (e : Entry). HasOwner c.args.self.now e.kind) (sym (c.entry_at-entry.ensures e)) (has-owner _ c.args.self.now held c.args.at e)
+
+pub returns : goal.returns
+returns c =
+    let held = held-now c.self.inside c.args.self.now c.self.invariant c.self.view_is in
+    let e = (of-block _ c.args.self.now held c.args.at (c.is_block.ensures.0 c.if-not-is_block.false)).entry in
+    reported-here _ c.args.self.now held c.args.at e c.entry_at-entry.result c.length_at.result c.flags_of.result (c.entry_at-entry.ensures e) (c.length_at.ensures e) c.flags_of.ensures

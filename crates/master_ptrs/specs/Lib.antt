@@ -1,0 +1,7 @@
+pub mod Word
+pub mod Image
+pub mod Fit
+pub mod Reading
+pub mod Places
+pub mod Changes
+pub mod Lending

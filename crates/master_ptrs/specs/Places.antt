@@ -1,0 +1,68 @@
+-- Places of blocks in a zone map, by the address of the header.
+use Rattle.std.specs.Prelude.{◌≡◌, ℕ, ◌-◌, ◌<◌, ◌≤◌, not, IsTrue, ◌∷◌, ◌++◌, ⊤}
+use Rattle.std.specs.List.{list_all}
+use Rattle.mac_base.specs.declared.block.Entry.{Entry}
+use Rattle.mac_base.specs.declared.block.Kind.TheVariants.{Free, Master, Ptr, Rel}
+use Rattle.mac_base.specs.declared.block.Kind.{Kind}
+use Rattle.mac_base.specs.HandleTable.{is_handle}
+use Rattle.mac_base.specs.ZoneMap.{ZoneMap, block, has_free, address_behind}
+use Rattle.mac_base.specs.Suits.{is_block_size, has_length}
+use Rattle.mac_base.specs.ZoneState.{ZoneState}
+
+-- a block's header stands at an address
+pub record EntryAt (z : ZoneState) (at : ℕ) : Type 0 where
+  pub before : ZoneMap
+  pub here : Entry
+  pub behind : ZoneMap
+  pub map : z.heap.map ≡ before ++ here ∷ behind
+  pub place : at ≡ address_behind z.shape before
+
+-- the handle whose block a block of this kind is is live
+abbrev pub HasOwner : ZoneState → Kind → Type 0
+HasOwner z (Rel h) = IsTrue (is_handle z.heap.table h)
+HasOwner z Free = ⊤
+HasOwner z Master = ⊤
+HasOwner z (Ptr p) = ⊤
+
+-- a free block's
+pub record FreeAt (z : ZoneState) (at : ℕ) : Type 0 where
+  pub before : ZoneMap
+  pub size : ℕ
+  pub behind : ZoneMap
+  pub map : z.heap.map ≡ before ++ block Free size ∷ behind
+  pub place : at ≡ address_behind z.shape before
+
+-- that of the block of the handle h
+pub record BlockOf (z : ZoneState) (h at : ℕ) : Type 0 where
+  pub before : ZoneMap
+  pub size : ℕ
+  pub behind : ZoneMap
+  pub map : z.heap.map ≡ before ++ block (Rel h) size ∷ behind
+  pub place : at ≡ address_behind z.shape before
+
+-- the header of the lowest free block of at least k bytes
+pub record LowestAt (z : ZoneState) (k at : ℕ) : Type 0 where
+  pub free : FreeAt z at
+  pub large : k ≤ free.size
+  pub lowest : IsTrue (list_all (λ e. not (has_free k e)) free.before)
+
+-- a free block that can be given to an owner who wants n bytes
+pub record RoomFor (z : ZoneState) (at n : ℕ) : Type 0 where
+  pub free : FreeAt z at
+  pub room : IsTrue (has_length z.shape free.size n)
+
+-- a free block that can be cut in two, the first of so many bytes
+pub record CanCut (z : ZoneState) (at size : ℕ) : Type 0 where
+  pub free : FreeAt z at
+  pub smaller : size < free.size
+  pub front : IsTrue (is_block_size z.shape size)
+  pub rest : IsTrue (is_block_size z.shape (free.size - size))
+
+-- two free neighbours, the first at an address
+pub record FreePair (z : ZoneState) (at : ℕ) : Type 0 where
+  pub before : ZoneMap
+  pub first : ℕ
+  pub second : ℕ
+  pub behind : ZoneMap
+  pub map : z.heap.map ≡ before ++ block Free first ∷ block Free second ∷ behind
+  pub place : at ≡ address_behind z.shape before

@@ -1,0 +1,143 @@
+-- A new handle is placed: its slot is taken, then a free block is cut, and then the handle has the block.
+use Rattle.std.proofs.Common.{◌≡◌, ℕ, ◌≤◌, Bool, true, false, cond, List, ◌∷◌, ◌++◌, drop, Some, None, Option, refl, ap, sym, ◌∙◌, subst, IsTrue}
+use Rattle.std.specs.Prelude.{not, slice_index, option_map}
+use Rattle.std.specs.List.{list_all}
+use Rattle.mac_base.specs.declared.block.Entry.{Entry}
+use Rattle.mac_base.specs.declared.block.Kind.TheVariants.{Free, Rel}
+use Rattle.mac_base.specs.HeadKind.{Shape, need}
+use Rattle.mac_base.specs.ZoneMap.{ZoneMap, block, has_free}
+use Rattle.mac_base.specs.HandleTable.{HandleTable, EmptyHandle, FullHandle, no_flags, zeros, live_at, with_live}
+use Rattle.mac_base.specs.Suits.{is_block_size, has_length}
+use Rattle.mac_base.specs.BlockStatus.{HandlesAlone}
+use Rattle.mac_base.specs.Request.{NewBlock}
+use Rattle.mac_base.specs.Heap.{Heap, granted}
+use Rattle.mac_base.specs.Serve.{take_lowest, taken}
+use Rattle.mac_base.specs.ExactStep.{has_none}
+use Rattle.mac_base.specs.Sound.{Sound}
+use Rattle.mac_base.specs.ZoneState.{ZoneState}
+use Rattle.mac_base.proofs.Taken.{need-is_size}
+use Rattle.mac_base.proofs.SoundPlaced.{sound-placed}
+use Rattle.mac_base.proofs.Tables.{live_at-with_live_same}
+use Rattle.master_ptrs.specs.Changes.{with_map, pointed}
+use Rattle.master_ptrs.specs.Changes as change
+use Rattle.master_ptrs.specs.Places.{LowestAt, RoomFor}
+use Rattle.zone_heap.specs.Joins.{CanTake, with_front}
+use Rattle.zone_heap.specs.Placed.{placed_lowest}
+use Rattle.zone_heap.proofs.Alone.{alone-full}
+use Rattle.zone_heap.proofs.Taking.{front_size, front_rest, taken-parts, front-has_length, take_lowest-there, take_lowest-none, all-there}
+use Rattle.zone_heap.proofs.Twice.{with_live-twice}
+
+-- where no block has room there is no new handle
+pub placed-full : (s : Shape) (n : ℕ) (heap : Heap) → IsTrue (list_all (λ e. not (has_free (need s.heads n) e)) heap.map) → placed_lowest s n heap ≡ None
+placed-full s n heap none =
+    let h = slice_index heap.free_slots 0 in
+    let place : Option ZoneMap → Option (ℕ × Heap) = option_map (λ m. (h, granted (NewBlock n) h m heap)) in
+    ap (λ o. cond (has_none heap.free_slots) None (place o)) (take_lowest-none s (need s.heads n) (Rel h) heap.map none) ∙ either (has_none heap.free_slots) None
+  where
+    either : (b : Bool) (o : Option (ℕ × Heap)) → cond b o o ≡ o
+    either true o = refl
+    either false o = refl
+
+-- the block for n bytes is chosen, and so is the slot
+pub record Chosen (z : ZoneState) (h n k at : ℕ) : Type 0 where
+  pub sound : Sound z.shape z.heap
+  pub low : LowestAt z k at
+  pub size : k ≡ need z.shape.heads n
+  pub front : z.heap.free_slots ≡ h ∷ drop 1 z.heap.free_slots
+
+-- the whole block has a possible size
+pub whole-size : (z : ZoneState) (h n k at : ℕ) (p : Chosen z h n k at) → IsTrue (is_block_size z.shape p.low.free.size)
+whole-size z h n k at p =
+    let possible : Entry → Bool = λ e. is_block_size z.shape e.size in
+    all-there possible p.low.free.before (block Free p.low.free.size) p.low.free.behind (subst (λ m. IsTrue (list_all possible m)) p.low.free.map p.sound.suits.sizes)
+
+-- and so has its front
+pub front-size : (z : ZoneState) (h n k at : ℕ) → Chosen z h n k at → IsTrue (is_block_size z.shape k)
+front-size z h n k at p = subst (λ k. IsTrue (is_block_size z.shape k)) (sym p.size) (need-is_size z.shape n)
+
+-- once the slot is taken, the front of the block can be
+abbrev taken_front : (z : ZoneState) (h n k at : ℕ) → Chosen z h n k at → CanTake (change.taken h z) at k
+taken_front z h n k at p = record {
+  free = record { before = p.low.free.before; size = p.low.free.size; behind = p.low.free.behind; map = p.low.free.map; place = p.low.free.place };
+  fits = p.low.large;
+  front = front-size z h n k at p;
+  whole = whole-size z h n k at p;
+}
+
+-- the zone once it is
+abbrev cut_zone : (z : ZoneState) (h n k at : ℕ) → Chosen z h n k at → ZoneState
+cut_zone z h n k at p = with_map (p.low.free.before ++ block Free (front_size z.shape k p.low.free.size) ∷ (front_rest z.shape k p.low.free.size ++ p.low.free.behind)) (change.taken h z)
+
+-- there is room for the bytes
+pub room-there : (z : ZoneState) (h n k at : ℕ) (p : Chosen z h n k at) → IsTrue (has_length z.shape (front_size z.shape k p.low.free.size) n)
+room-there z h n k at p =
+    subst (λ k. IsTrue (has_length z.shape (front_size z.shape k p.low.free.size) n)) (sym p.size) (front-has_length z.shape n p.low.free.size (subst (λ k. k ≤ p.low.free.size) p.size p.low.large))
+
+-- in the block that was cut
+abbrev room : (z : ZoneState) (h n k at : ℕ) (p : Chosen z h n k at) → RoomFor (cut_zone z h n k at p) at n
+room z h n k at p = record {
+  free = record { before = p.low.free.before; size = front_size z.shape k p.low.free.size; behind = front_rest z.shape k p.low.free.size ++ p.low.free.behind; map = refl; place = p.low.free.place };
+  room = room-there z h n k at p;
+}
+
+-- the map with the block of the handle
+abbrev pub placed_map : (z : ZoneState) (h n k at : ℕ) → Chosen z h n k at → ZoneMap
+placed_map z h n k at p = p.low.free.before ++ (taken z.shape k (Rel h) p.low.free.size ++ p.low.free.behind)
+
+-- and the zone
+abbrev pub placed_zone : (z : ZoneState) (h n k at : ℕ) → Chosen z h n k at → ZoneState
+placed_zone z h n k at p = record { shape = z.shape; heap = granted (NewBlock n) h (placed_map z h n k at p) z.heap }
+
+-- the zone with the handle
+pointed_zone : (z : ZoneState) (h n k at : ℕ) (p : Chosen z h n k at) → pointed h n (cut_zone z h n k at p) (room z h n k at p).free ≡ placed_zone z h n k at p
+pointed_zone z h n k at p =
+    let state = λ (t : HandleTable) (m : ZoneMap). let new : ZoneState = record { shape = z.shape; heap = record { table = t; map = m; free_slots = drop 1 z.heap.free_slots } } in new in
+    let full = FullHandle no_flags (zeros n) in
+    ap (λ t. state t (p.low.free.before ++ block (Rel h) (front_size z.shape k p.low.free.size) ∷ (front_rest z.shape k p.low.free.size ++ p.low.free.behind))) (with_live-twice h full EmptyHandle z.heap.table)
+    ∙ ap (λ m. state (with_live h full z.heap.table) (p.low.free.before ++ m)) (sym (taken-parts z.shape k (Rel h) p.low.free.size p.low.free.behind))
+
+-- it is what the map was once the lowest block is taken
+pub lowest-taken : (z : ZoneState) (h n k at : ℕ) (p : Chosen z h n k at) → take_lowest z.shape (need z.shape.heads n) (Rel h) z.heap.map ≡ Some (placed_map z h n k at p)
+lowest-taken z h n k at p =
+    subst (λ j. take_lowest z.shape j (Rel h) z.heap.map ≡ Some (placed_map z h n k at p)) p.size
+    (ap (take_lowest z.shape k (Rel h)) p.low.free.map ∙ take_lowest-there z.shape k (Rel h) p.low.free.before p.low.free.size p.low.free.behind p.low.lowest p.low.large)
+
+-- so the new handle is given
+pub placed-there : (z : ZoneState) (h n k at : ℕ) (p : Chosen z h n k at) → placed_lowest z.shape n z.heap ≡ Some (h, (placed_zone z h n k at p).heap)
+placed-there z h n k at p =
+    let place : ℕ → Option ZoneMap → Option (ℕ × Heap) = λ x. option_map (λ m. (x, granted (NewBlock n) x m z.heap)) in
+    ap (λ (slots : List ℕ). cond (has_none slots) None (place (slice_index slots 0) (take_lowest z.shape (need z.shape.heads n) (Rel (slice_index slots 0)) z.heap.map))) p.front
+    ∙ ap (place h) (lowest-taken z h n k at p)
+
+-- the zone stays sound
+pub placed-sound : (z : ZoneState) (h n k at : ℕ) (p : Chosen z h n k at) → Sound z.shape (placed_zone z h n k at p).heap
+placed-sound z h n k at p = sound-placed z.shape z.heap h (drop 1 z.heap.free_slots) p.sound p.front n (placed_map z h n k at p) (lowest-taken z h n k at p)
+
+-- and it has handles alone as before
+pub placed-alone : (z : ZoneState) (h n k at : ℕ) (p : Chosen z h n k at) → HandlesAlone z.heap.table → HandlesAlone (placed_zone z h n k at p).heap.table
+placed-alone z h n k at p alone = alone-full h (FullHandle no_flags (zeros n)) z.heap.table alone refl
+
+-- once the slot is taken, the block can be cut
+pub can-cut : (z new : ZoneState) (h n k at : ℕ) → Chosen z h n k at → new ≡ change.taken h z → CanTake new at k
+can-cut z new h n k at p slot = subst (λ w. CanTake w at k) (sym slot) (taken_front z h n k at p)
+
+-- which makes it that zone
+cut-done : (z new cut : ZoneState) (h n k at : ℕ) (p : Chosen z h n k at) → new ≡ change.taken h z → ((take : CanTake new at k) → cut ≡ with_front new take) → cut ≡ cut_zone z h n k at p
+cut-done z new cut h n k at p slot front =
+    subst (λ w. (take : CanTake w at k) → cut ≡ with_front w take) slot front (taken_front z h n k at p)
+    ∙ ap (λ m. with_map (p.low.free.before ++ m) (change.taken h z)) (taken-parts z.shape k Free p.low.free.size p.low.free.behind)
+
+-- in which the handle is empty
+pub can-point-empty : (z new cut : ZoneState) (h n k at : ℕ) → Chosen z h n k at → new ≡ change.taken h z → ((take : CanTake new at k) → cut ≡ with_front new take) → live_at cut.heap.table h ≡ Some EmptyHandle
+can-point-empty z new cut h n k at p slot front = ap (λ (w : ZoneState). live_at w.heap.table h) (cut-done z new cut h n k at p slot front) ∙ live_at-with_live_same h EmptyHandle z.heap.table
+
+-- and there is room for its bytes
+pub can-point-room : (z new cut : ZoneState) (h n k at : ℕ) → Chosen z h n k at → new ≡ change.taken h z → ((take : CanTake new at k) → cut ≡ with_front new take) → RoomFor cut at n
+can-point-room z new cut h n k at p slot front = subst (λ w. RoomFor w at n) (sym (cut-done z new cut h n k at p slot front)) (room z h n k at p)
+
+-- so that it can be given them, and then the new handle is placed
+pub placed-done : (z new cut last : ZoneState) (h n k at : ℕ) (p : Chosen z h n k at) → new ≡ change.taken h z → ((take : CanTake new at k) → cut ≡ with_front new take) → ((r : RoomFor cut at n) → last ≡ pointed h n cut r.free)
+    → last ≡ placed_zone z h n k at p
+placed-done z new cut last h n k at p slot front point =
+    subst (λ w. (r : RoomFor w at n) → last ≡ pointed h n w r.free) (cut-done z new cut h n k at p slot front) point (room z h n k at p)
+    ∙ pointed_zone z h n k at p
