@@ -77,7 +77,8 @@ impl Blocks {
         })
     }
 
-    /// Where the zone lies and how far it may grow. Its blocks are possible ones, and end within the limit.
+    /// Where the zone lies and how far it may grow. Its blocks are possible ones, and end within the limit. The size in
+    /// it is the one that the zone was made with, and says nothing of the zone now.
     pub fn spec(&self) -> ZoneSpec
         ensures heads { result.heads ≡ self.now.heads }
         ensures base { result.base ≡ self.now.base }
