@@ -177,8 +177,8 @@ header-changed z whole at ws fits =
     let l = layout_of z in let old = l.header in let new = written l.header at ws in let bytes = rendered l.heads l.base l.blocks ++ l.spare in
     let long = length-header z whole in let long' : length new ≡ zone_header = length-written l.header at ws ∙ long in
     let is : written z.memory at ws ≡ new ++ bytes = ap (λ (m : List ℕ). written m at ws) whole.form ∙ written-within [] old bytes at at ws (omega arith) (omega arith) in
-    let view : layout_in z.spec z.end (written z.memory at ws) ≡ with_header new l =
-    ap (layout_in z.spec z.end) is ∙ layout_in-header z.spec z.end old new bytes long long' whole.low ∙ ap (λ (m : List ℕ). with_header new (layout_in z.spec z.end m)) (sym whole.form) in
+    let view : layout_in z.spec z.spec.size (written z.memory at ws) ≡ with_header new l =
+    ap (layout_in z.spec z.spec.size) is ∙ layout_in-header z.spec z.spec.size old new bytes long long' whole.low ∙ ap (λ (m : List ℕ). with_header new (layout_in z.spec z.spec.size m)) (sym whole.form) in
     record {
       view = view;
       whole = record {

@@ -15,11 +15,11 @@ use Rattle.zone_blocks.proofs.Changes.{size-body}
 -- a block with this header lies at this address, below the zone's end
 pub record IsHere (z : Inside) (at : ℕ) (h : Header) : Type 0 where
   pub above : z.spec.base + zone_header ≤ at
-  pub below : at + h.size ≤ z.spec.base + z.end
+  pub below : at + h.size ≤ z.spec.base + z.spec.size
   pub headed : head_size z.spec.heads + h.correction ≤ h.size
-  pub within : z.end ≤ z.spec.limit
+  pub within : z.spec.size ≤ z.spec.limit
   pub all_bytes : length z.memory ≡ z.spec.limit
-  pub marks : z.end ≤ 4 * length z.starts
+  pub marks : z.spec.size ≤ 4 * length z.starts
 
 -- a block of the list that the fields stand for
 here_itself : (z : Inside) → IsLayout z → (at : ℕ) (h : Header) (b : BlockAt (layout_of z) at) → h ≡ header_of z.spec.heads b.here → IsHere z at h

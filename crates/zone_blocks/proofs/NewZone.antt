@@ -63,11 +63,11 @@ module _ (z : ZoneSizes) (possible : ArePossible z) where
       ∙ ap (λ (l : List ℕ). zeros (zone_header / 4) ++ (1 ∷ (l ++ rest))) (sym (append-nil (zeros (size / 4 - 1))))
 
   -- the fields of a new zone stand for it
-  pub new-read : (end : ℕ) (memory starts : List ℕ) (heads : HeadKind) (base : ℕ) (h : Header) → end ≡ z.size → heads ≡ z.heads → base ≡ z.base → h ≡ record { size = z.size - zone_header; role = Free; correction = 0 }
+  pub new-read : (memory starts : List ℕ) (heads : HeadKind) (base : ℕ) (h : Header) → heads ≡ z.heads → base ≡ z.base → h ≡ record { size = z.size - zone_header; role = Free; correction = 0 }
       → memory ≡ written (zeros z.limit) zone_header (head_bytes heads base h)
       → starts ≡ written (zeros (z.limit / 4)) (zone_header / 4) (1 ∷ [])
-      → IsRead (record { spec = z; end = end; memory = memory; starts = starts }) (new_layout z)
-  new-read end memory starts heads base h end_is heads_is base_is h_is is marks =
+      → IsRead (record { spec = z; memory = memory; starts = starts }) (new_layout z)
+  new-read memory starts heads base h heads_is base_is h_is is marks =
       let small = sizes-small z.heads in let one = small.0 in let two = small.1 in
       let b = free_held (zeros room) in let long = length-zeros room in let head_long = length-zeros zone_header in let spare_long = length-zeros (z.limit - z.size) in
       let old_long = length-zeros (head_size z.heads) in let new_long = length-head_bytes z.heads z.base (header_of z.heads b) in
@@ -75,7 +75,7 @@ module _ (z : ZoneSizes) (possible : ArePossible z) where
       let header : h ≡ header_of z.heads b = h_is ∙ ap (λ (n : ℕ). record { size = n; role = Free; correction = 0 }) size in
       let all : length memory ≡ z.limit = ap length is ∙ length-written (zeros z.limit) zone_header (head_bytes heads base h) ∙ length-zeros z.limit in
       let told : IsTrue (is_possible z.heads b) = is_possible-from z.heads b (record { even = omega arith; large = omega arith; few = omega arith; told = refl }) in
-      image-read z end memory starts (zeros zone_header) (b ∷ []) (zeros (z.limit - z.size)) head_long (omega arith) (ap (λ (t : Bool). t && true) told) (omega arith) (omega arith) (omega arith) all
+      image-read z memory starts (zeros zone_header) (b ∷ []) (zeros (z.limit - z.size)) head_long (omega arith) (ap (λ (t : Bool). t && true) told) (omega arith) (omega arith) (omega arith) all
       (is ∙ (λ i. written (zero-parts i) zone_header (head_bytes (heads_is i) (base_is i) (header i)))
       ∙ written-middle (zeros zone_header) (zeros (head_size z.heads)) (zeros room ++ zeros (z.limit - z.size)) (head_bytes z.heads z.base (header_of z.heads b)) zone_header (omega arith) (omega arith)
       ∙ ap (λ (l : List ℕ). zeros zone_header ++ l) (sym (simp (append_assoc, append-nil))))

@@ -46,8 +46,8 @@ length-header z whole = length-take-le zone_header z.memory (let e = whole.all_b
 pub record IsIn (z : Inside) (before : List Held) (here : Held) (behind : List Held) : Type 0 where
   pub header_long : length (layout_of z).header ≡ zone_header
   pub sum : total_of z.spec.heads (layout_of z).blocks ≡ total_of z.spec.heads before + (size_of z.spec.heads here + total_of z.spec.heads behind)
-  pub ends : zone_header + total_of z.spec.heads (layout_of z).blocks ≡ z.end
-  pub high : z.end ≤ z.spec.limit
+  pub ends : zone_header + total_of z.spec.heads (layout_of z).blocks ≡ z.spec.size
+  pub high : z.spec.size ≤ z.spec.limit
   pub all_bytes : length z.memory ≡ z.spec.limit
   pub here_possible : IsPossible z.spec.heads here
   pub is_possible_here : IsTrue (is_possible z.spec.heads here)
@@ -56,8 +56,8 @@ pub record IsIn (z : Inside) (before : List Held) (here : Held) (behind : List H
   pub bytes : z.memory ≡ front (layout_of z) before ++ (head (layout_of z) here ++ (body here ++ rear (layout_of z) behind))
 
 -- the sum of the sizes is what the blocks take
-pub total-ends : (z : Inside) → IsLayout z → zone_header + total_of z.spec.heads (layout_of z).blocks ≡ z.end
-total-ends z whole = let e : z.spec.base + zone_header + total_of z.spec.heads (layout_of z).blocks ≡ z.spec.base + z.end = whole.ends in omega arith
+pub total-ends : (z : Inside) → IsLayout z → zone_header + total_of z.spec.heads (layout_of z).blocks ≡ z.spec.size
+total-ends z whole = let e : z.spec.base + zone_header + total_of z.spec.heads (layout_of z).blocks ≡ z.spec.base + z.spec.size = whole.ends in omega arith
 
 -- each block of the list is in it
 pub IsIn-from : (z : Inside) → IsLayout z → (before : List Held) (here : Held) (behind : List Held) → (layout_of z).blocks ≡ before ++ here ∷ behind → IsIn z before here behind
@@ -87,7 +87,7 @@ pub possible-more : (heads : HeadKind) (b : Held) (bs : List Held) → IsTrue (i
 possible-more heads b bs first second = ap (λ (x : Bool). x && list_all (is_possible heads) bs) first ∙ second
 
 -- there are enough for the bytes up to the end of the blocks
-pub length-starts : (z : Inside) → IsLayout z → z.end ≤ 4 * length z.starts
+pub length-starts : (z : Inside) → IsLayout z → z.spec.size ≤ 4 * length z.starts
 length-starts z whole = let l = layout_of z in
     let is : length z.starts ≡ length (starts_of l) = ap length whole.marked in let ends = total-ends z whole in let long = length-marks_of l.heads l.blocks whole.possible in
     let e = length-append (replicate (zone_header / 4) 0) (marks_of l.heads l.blocks ++ replicate (length l.spare / 4) 0) in
@@ -117,4 +117,4 @@ changed z whole small bs memory starts is sum possible marks =
     let old-long : length z.memory ≡ length (image_of l) = ap length whole.form in let new-long : length memory ≡ length (image_of (with_blocks bs l)) = ap length is in
     let ends = total-ends z whole in
     let all : length z.memory ≡ z.spec.limit = whole.all_bytes in
-    image-read z.spec z.end memory starts l.header bs l.spare (length-header z whole) (omega arith) possible (omega arith) (omega arith) whole.high (omega arith) is marks
+    image-read z.spec memory starts l.header bs l.spare (length-header z whole) (omega arith) possible (omega arith) (omega arith) whole.high (omega arith) is marks

@@ -118,14 +118,14 @@ pub record IsRead (z : Inside) (l : Layout) : Type 0 where
   pub whole : IsLayout z
 
 -- the fields whose bytes are those of a zone stand for it
-pub image-read : (spec : ZoneSizes) (end : ℕ) (memory starts header : List ℕ) (bs : List Held) (spare : List ℕ) → length header ≡ zone_header
-    → zone_header + total_of spec.heads bs ≡ end → IsTrue (list_all (is_possible spec.heads) bs) → spec.limit < 2 ^ 24 → spec.base < 2 ^ 32
-    → end ≤ spec.limit → length memory ≡ spec.limit → memory ≡ header ++ (rendered spec.heads spec.base bs ++ spare)
+pub image-read : (spec : ZoneSizes) (memory starts header : List ℕ) (bs : List Held) (spare : List ℕ) → length header ≡ zone_header
+    → zone_header + total_of spec.heads bs ≡ spec.size → IsTrue (list_all (is_possible spec.heads) bs) → spec.limit < 2 ^ 24 → spec.base < 2 ^ 32
+    → spec.size ≤ spec.limit → length memory ≡ spec.limit → memory ≡ header ++ (rendered spec.heads spec.base bs ++ spare)
     → starts ≡ starts_of (record { heads = spec.heads; base = spec.base; header = header; blocks = bs; spare = spare })
-    → IsRead (record { spec = spec; end = end; memory = memory; starts = starts }) (record { heads = spec.heads; base = spec.base; header = header; blocks = bs; spare = spare })
-image-read spec end memory starts header bs spare head ends possible small low high all is marks =
+    → IsRead (record { spec = spec; memory = memory; starts = starts }) (record { heads = spec.heads; base = spec.base; header = header; blocks = bs; spare = spare })
+image-read spec memory starts header bs spare head ends possible small low high all is marks =
     let l : Layout = record { heads = spec.heads; base = spec.base; header = header; blocks = bs; spare = spare } in
-    let read : layout_in spec end memory ≡ l = ap (layout_in spec end) is ∙ layout_in-image spec end header bs spare head ends possible (omega arith) low in
+    let read : layout_in spec spec.size memory ≡ l = ap (layout_in spec spec.size) is ∙ layout_in-image spec spec.size header bs spare head ends possible (omega arith) low in
     record {
       view = read;
       whole = record {

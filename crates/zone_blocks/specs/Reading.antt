@@ -33,14 +33,14 @@ layout_in spec end bytes = record {
 
 -- what the fields stand for
 abbrev pub layout_of : Inside → Layout
-layout_of z = layout_in z.spec z.end z.memory
+layout_of z = layout_in z.spec z.spec.size z.memory
 
 -- the bytes are those of possible blocks, and nothing else, and the headers of these are marked
 pub record IsLayout (z : Inside) : Type 0 where
   pub all_bytes : length z.memory ≡ z.spec.limit
-  pub low : zone_header ≤ z.end
-  pub high : z.end ≤ z.spec.limit
+  pub low : zone_header ≤ z.spec.size
+  pub high : z.spec.size ≤ z.spec.limit
   pub form : z.memory ≡ image_of (layout_of z)
-  pub ends : address_behind (layout_of z) (layout_of z).blocks ≡ z.spec.base + z.end
+  pub ends : address_behind (layout_of z) (layout_of z).blocks ≡ z.spec.base + z.spec.size
   pub possible : IsTrue (list_all (is_possible z.spec.heads) (layout_of z).blocks)
   pub marked : z.starts ≡ starts_of (layout_of z)

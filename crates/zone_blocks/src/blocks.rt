@@ -22,7 +22,6 @@ use std::marker::Model;
 #[derive(Drop)]
 pub struct Blocks {
     spec: ZoneSpec,
-    end: u32,
     memory: Memory,
     /// For each four bytes of the zone one byte: 1 where a block's header begins with them, or else 0.
     starts: Memory,
@@ -71,17 +70,16 @@ impl Blocks {
         starts.set_byte(ZONE_HEADER as usize / 4, 1);
         Ok(Blocks {
             spec,
-            end: spec.size(),
             memory,
             starts,
         })
     }
 
-    /// Where the zone lies and how far it may grow. Its blocks are possible ones, and end within the limit. The size in
-    /// it is the one that the zone was made with, and says nothing of the zone now.
+    /// Where the zone lies, how large it is and how far it may grow. Its blocks are possible ones.
     pub fn spec(&self) -> ZoneSpec
         ensures heads { result.heads ≡ self.now.heads }
         ensures base { result.base ≡ self.now.base }
+        ensures size { result.base + result.size ≡ address_behind self.now self.now.blocks }
         ensures limit { result.base + result.limit ≡ address_behind self.now self.now.blocks + length self.now.spare }
         ensures header { length self.now.header ≡ zone_header }
         ensures possible { IsTrue (list_all (is_possible self.now.heads) self.now.blocks) }
@@ -93,7 +91,7 @@ impl Blocks {
     pub fn end(&self) -> u32
         ensures { result ≡ address_behind self.now self.now.blocks }
     {
-        self.spec.base() + self.end
+        self.spec.base() + self.spec.size()
     }
 
     /// The number in 4 bytes of the zone's header.
@@ -129,7 +127,7 @@ impl Blocks {
             return false;
         }
         let offset = at - base;
-        offset < self.end && offset % 4 == 0 && self.starts.byte(offset as usize / 4) == 1
+        offset < self.spec.size() && offset % 4 == 0 && self.starts.byte(offset as usize / 4) == 1
     }
 
     /// What the header of the block at an address says.

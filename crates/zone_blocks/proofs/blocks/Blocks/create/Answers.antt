@@ -7,11 +7,12 @@ use Rattle.zone_blocks.specs.NewLayout.{new_layout}
 use Rattle.zone_blocks.proofs.ReadBlocks.{IsRead}
 use Rattle.zone_blocks.proofs.NewZone.{new-read}
 use Rattle.zone_blocks.proofs.blocks.Blocks.create.Goals as goal
+use Rattle.zone_blocks.proofs.blocks.Blocks.create.Goals.{After-set_byte}
 
 -- what the fields stand for
-made : (c : goal.After-size-2) → IsRead (record { spec = c.args.spec; end = c.size-2.result; memory = c.set_header.new.self; starts = c.set_byte.new.self }) (new_layout c.args.spec)
-made c = new-read c.args.spec c.size.ensures.possible c.size-2.result c.set_header.new.self c.set_byte.new.self c.heads-heads.result c.base.result (record { size = c.size.result - zone_header; role = Free; correction = 0 })
-    c.size-2.ensures.value c.heads-heads.ensures c.base.ensures.value
+made : (c : After-set_byte) → IsRead (record { spec = c.args.spec; memory = c.set_header.new.self; starts = c.set_byte.new.self }) (new_layout c.args.spec)
+made c = new-read c.args.spec c.size.ensures.possible c.set_header.new.self c.set_byte.new.self c.heads-heads.result c.base.result (record { size = c.size.result - zone_header; role = Free; correction = 0 })
+    c.heads-heads.ensures c.base.ensures.value
     (ap (λ (n : ℕ). record { size = n - zone_header; role = Free; correction = 0 }) c.size.ensures.value)
     (c.set_header.ensures
     ∙ ap (λ (m : List ℕ). written m zone_header (head_bytes c.heads-heads.result c.base.result (record { size = c.size.result - zone_header; role = Free; correction = 0 })))

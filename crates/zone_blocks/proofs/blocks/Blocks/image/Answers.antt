@@ -10,7 +10,7 @@ use Rattle.zone_blocks.proofs.Walks.{follows-rendered}
 use Rattle.zone_blocks.proofs.blocks.Blocks.image.Goals as goal
 
 -- how many bytes there are
-size_is : (c : goal.After-base) → c.end.result - c.base.result ≡ c.self.inside.end
+size_is : (c : goal.After-base) → c.end.result - c.base.result ≡ c.self.inside.spec.size
 size_is c =
     let ends = c.self.invariant.ends in
     let base = c.base.ensures.value in
@@ -32,11 +32,11 @@ bytes_are c =
     let ends = c.self.invariant.ends in
     let base = c.base.ensures.value in
     let end : c.end.result ≡ address_behind l l.blocks = c.end.ensures ∙ ap (λ (l : Layout). address_behind l l.blocks) (sym c.self.view_is) in
-    let long : length front ≡ c.self.inside.end =
+    let long : length front ≡ c.self.inside.spec.size =
     length-append l.header (rendered l.heads l.base l.blocks) ∙ ap (λ n. n + length (rendered l.heads l.base l.blocks)) (length-header c.self.inside c.self.invariant)
     ∙ ap (λ n. zone_header + n) (length-rendered l.heads l.base l.blocks) ∙ total-ends c.self.inside c.self.invariant in
-    c.bytes.ensures ∙ ap (part c.self.inside.memory 0) (let e : c.end.result - c.base.result ≡ c.self.inside.end = omega arith in e)
-    ∙ ap (take c.self.inside.end) (c.self.invariant.form ∙ sym (append_assoc l.header (rendered l.heads l.base l.blocks) l.spare)) ∙ take_at front l.spare c.self.inside.end long
+    c.bytes.ensures ∙ ap (part c.self.inside.memory 0) (let e : c.end.result - c.base.result ≡ c.self.inside.spec.size = omega arith in e)
+    ∙ ap (take c.self.inside.spec.size) (c.self.invariant.form ∙ sym (append_assoc l.header (rendered l.heads l.base l.blocks) l.spare)) ∙ take_at front l.spare c.self.inside.spec.size long
 
 pub returns-clause-bytes : goal.returns-clause-bytes
 returns-clause-bytes c = bytes_are c ∙ ap zone_bytes c.self.view_is

@@ -6,7 +6,7 @@ use Rattle.zone_blocks.specs.Reading.{layout_of}
 use Rattle.zone_blocks.proofs.Parts.{total-ends, length-starts}
 use Rattle.zone_blocks.proofs.Starts.{block-marked, marked-block}
 use Rattle.zone_blocks.proofs.blocks.Blocks.is_block.Goals as goal
-use Rattle.zone_blocks.proofs.blocks.Blocks.is_block.Goals.{then-offset-self, else-offset-self}
+use Rattle.zone_blocks.proofs.blocks.Blocks.is_block.Goals.{then-offset-size, else-offset-size}
 
 pub byte-requires : goal.byte-requires
 byte-requires c = let marks = length-starts c.self.inside c.self.invariant in omega arith
@@ -25,9 +25,9 @@ never_both b passed failed = let no : true ≡ false = sym passed ∙ failed in 
 
 pub returns-then-offset-eq0 : goal.returns-then-offset-eq0
 returns-then-offset-eq0 c = let z = c.self.inside in let at = c.args.at in let k = (at - c.base-base.result) / 4 in let ends = total-ends z c.self.invariant in
-    let even : (at - c.base-base.result) % 4 ≡ 0 = elim c.if-offset-self.branch [
-      | then-offset-self w ↦ test_true ((at - c.base-base.result) % 4) 0 (sym w.value-is ∙ c.if-offset-eq0.true)
-      | else-offset-self w ↦ absurd (let below = ltb-true (at - c.base-base.result) z.end (sym w.value-is ∙ c.if-offset-eq0.true) in omega arith)
+    let even : (at - c.base-base.result) % 4 ≡ 0 = elim c.if-offset-size.branch [
+      | then-offset-size w ↦ test_true ((at - c.base-base.result) % 4) 0 (sym w.value-is ∙ c.if-offset-eq0.true)
+      | else-offset-size w ↦ absurd (let below = ltb-true (at - c.base-base.result) c.size.result (sym w.value-is ∙ c.if-offset-eq0.true) in omega arith)
     ] in
     let mark : c.byte.result ≡ slice_index z.starts k = c.byte.ensures in (
       λ is. subst (λ (l : Layout). BlockAt l at) c.self.view_is
@@ -40,11 +40,11 @@ returns-then-offset-eq0 c = let z = c.self.inside in let at = c.args.at in let k
 
 pub returns-else-offset-eq0 : goal.returns-else-offset-eq0
 returns-else-offset-eq0 c = let z = c.self.inside in let at = c.args.at in let ends = total-ends z c.self.invariant in (
-  λ is. absurd (never_both c.if-offset-self.value is c.if-offset-eq0.false),
+  λ is. absurd (never_both c.if-offset-size.value is c.if-offset-eq0.false),
   λ b.
       let m = marked-block (layout_of z) c.self.invariant.possible at (subst (λ (l : Layout). BlockAt l at) (sym c.self.view_is) b) in
-      absurd (elim c.if-offset-self.branch [
-        | then-offset-self w ↦ let odd = test_false ((at - c.base-base.result) % 4) 0 (sym w.value-is ∙ c.if-offset-eq0.false) in let even = m.even in omega arith
-        | else-offset-self w ↦ let below = m.below in omega arith
+      absurd (elim c.if-offset-size.branch [
+        | then-offset-size w ↦ let odd = test_false ((at - c.base-base.result) % 4) 0 (sym w.value-is ∙ c.if-offset-eq0.false) in let even = m.even in omega arith
+        | else-offset-size w ↦ let below = m.below in omega arith
       ]),
 )

@@ -13,6 +13,6 @@ invariant_of-self c =
 
 pub returns : goal.returns
 returns c =
-    ap (layout_in c.self.inside.spec c.self.inside.end) c.set_half.ensures
+    ap (layout_in c.self.inside.spec c.self.inside.spec.size) c.set_half.ensures
     ∙ (header-changed c.self.inside c.self.invariant c.args.at (big_bytes 2 c.args.number) c.requires).view
     ∙ ap (λ (l : Layout). with_header (written l.header c.args.at (big_bytes 2 c.args.number)) l) c.self.view_is

@@ -20,5 +20,5 @@ invariant_of-self c =
 pub returns : goal.returns
 returns c = subst (λ (l : Layout). (w : WordAt l c.args.at)
     → layout_of (record c.self.inside { memory = c.set_word.new.self }) ≡ with_blocks (w.before ++ with_word w.here w.offset c.args.number ∷ w.behind) l) c.self.view_is (λ w.
-    ap (layout_in c.self.inside.spec c.self.inside.end) c.set_word.ensures
+    ap (layout_in c.self.inside.spec c.self.inside.spec.size) c.set_word.ensures
     ∙ (contents-changed c.self.inside c.self.invariant c.base-base.ensures.possible w.before w.here w.behind w.blocks w.offset (c.args.at - c.base-base.result) (big_bytes 4 c.args.number) (omega arith) w.inside).view)
