@@ -50,11 +50,11 @@ impl MasterPointers {
     ghost use Rattle.mac_base.specs.Suits.{slots, wanted_length};
     ghost use Rattle.mac_base.specs.Reply.{report_at, block_flags};
     ghost use Rattle.mac_base.specs.ZoneMap.{has_free, contents_of};
-    ghost use Rattle.mac_base.specs.ZoneSizes.{shape_of};
     ghost use Rattle.master_ptrs.specs.Changes.{bare_zone, taken, given_back, pointed, without_block, cut_in_two, joined_pair, with_master, flagged};
     ghost use Rattle.master_ptrs.specs.Image.{IsImage};
     ghost use Rattle.master_ptrs.specs.Lending.{LendsBytes};
     ghost use Rattle.master_ptrs.specs.Places.{EntryAt, HasOwner, FreeAt, BlockOf, LowestAt, RoomFor, CanCut, FreePair};
+    ghost use Rattle.master_ptrs.specs.Sizes.{sizes_of};
     ghost use Rattle.zone_blocks.specs.Walk.{Walks};
 
     /// A new zone: one free block, and no slot.
@@ -68,9 +68,9 @@ impl MasterPointers {
         Ok(MasterPointers { blocks })
     }
 
-    /// Where the zone lies and how far it may grow.
+    /// Where the zone lies, how large it is now and how far it may grow.
     pub fn spec(&self) -> ZoneSpec
-        ensures { shape_of result ≡ self.now.shape }
+        ensures { result ≡ sizes_of self.now }
     {
         self.blocks.spec()
     }
