@@ -1,6 +1,7 @@
 pub mod Changes
 pub mod Heads
 pub mod Here
+pub mod Holders
 pub mod Lent
 pub mod NewZone
 pub mod Parts

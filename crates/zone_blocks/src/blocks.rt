@@ -151,24 +151,21 @@ impl Blocks {
     }
 
     /// The address of the block that a byte of the zone is part of, its header's bytes among them. There is none where
-    /// the byte lies before the first block or behind the last.
+    /// the byte lies before the first block or behind the last. No header is read: the search goes down from the byte,
+    /// four bytes at a time, to the first at which a block starts.
     pub fn holder(&self, at: u32) -> Option<u32>
         ensures holds { IfSome result (λ start. HoldsByte self.now at start) }
         ensures outside { IfNone result (LiesOutside self.now at) }
     {
-        let mut start = self.spec.base() + ZONE_HEADER;
-        if at < start {
+        let first = self.spec.base() + ZONE_HEADER;
+        if at < first || self.end() <= at {
             return None;
         }
-        let end = self.end();
-        while start < end {
-            let next = start + self.entry_at(start).size;
-            if at < next {
-                return Some(start);
-            }
-            start = next;
+        let mut start = at - at % 4;
+        while !self.is_block(start) {
+            start -= 4;
         }
-        None
+        Some(start)
     }
 
     /// The address of the lowest free block of at least so many bytes, its header among them.

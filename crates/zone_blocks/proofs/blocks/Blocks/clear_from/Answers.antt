@@ -2,7 +2,7 @@ use Rattle.std.proofs.Common.{◌≡◌, ◌+◌, ◌-◌, ◌≤◌, ◌∷◌,
 use Rattle.mac_base.specs.HeadKind.{head_size}
 use Rattle.raw_region.specs.Bytes.{written}
 use Rattle.zone_blocks.specs.declared.header.Header.{Header}
-use Rattle.zone_blocks.specs.Layout.{Layout, BlockAt, CanClear, header_of, size_of, cleared_from, with_blocks}
+use Rattle.zone_blocks.specs.Layout.{Layout, BlockAt, CanClear, header_of, cleared_from, with_blocks}
 use Rattle.zone_blocks.proofs.ReadBlocks.{IsRead}
 use Rattle.zone_blocks.proofs.Here.{IsHere-from}
 use Rattle.zone_blocks.proofs.Lent.{cleared-part}

@@ -1,33 +1,20 @@
-use Rattle.std.proofs.Common.{◌+◌, true, refl, ap, arith}
-use Rattle.zone_blocks.specs.declared.header.Header.{Header}
-use Rattle.zone_blocks.proofs.Walking.{size_of-pos, block-reached, block-below, reached-next}
+use Rattle.std.proofs.Common.{◌≡◌, ◌%◌, ap, sym, subst, arith, IsTrue}
+use Rattle.std.specs.List.{list_all}
+use Rattle.zone_blocks.specs.Layout.{Layout, is_possible}
+use Rattle.zone_blocks.proofs.Holders.{held-somewhere, holds-rounded, holds-there}
 use Rattle.zone_blocks.proofs.blocks.Blocks.holder.Goals as goal
 
-pub entry_at-requires : goal.entry_at-requires
-entry_at-requires c = (block-reached c.args.self.now c.loop-start.start (λ b. true) c.loop-start.invariant.reached (omega arith)).block
+pub loop-start-init : goal.loop-start-init
+loop-start-init c =
+    let l = c.args.self.now in
+    let base : l.base ≡ c.self.inside.spec.base = ap (λ (l : Layout). l.base) (sym c.self.view_is) in
+    let even : l.base % 4 ≡ 0 = let e = c.base-first.ensures.possible.even_base in omega arith in
+    let possible = subst (λ (l : Layout). IsTrue (list_all (is_possible l.heads) l.blocks)) c.self.view_is c.self.invariant.possible in
+    record {
+      holds = holds-rounded l c.args.at (held-somewhere l c.args.at even possible (let value = c.base-first.ensures.value in omega arith) (let end = c.end.ensures in omega arith));
+      low = omega arith;
+      even = omega arith;
+    }
 
-pub overflow_add-next : goal.overflow_add-next
-overflow_add-next c =
-    let b = block-reached c.args.self.now c.loop-start.start (λ b. true) c.loop-start.invariant.reached (omega arith) in
-    let size = ap (λ (h : Header). h.size) (c.entry_at.ensures b.block) in
-    let below = block-below c.args.self.now c.loop-start.start b.block in
-    omega arith
-
-pub returns-then-at-next-clause-holds : goal.returns-then-at-next-clause-holds
-returns-then-at-next-clause-holds c =
-    let b = block-reached c.args.self.now c.loop-start.start (λ b. true) c.loop-start.invariant.reached (omega arith) in
-    let size = ap (λ (h : Header). h.size) (c.entry_at.ensures b.block) in
-    record { block = b.block; low = c.loop-start.invariant.low; high = omega arith }
-
-pub loop-start-smaller : goal.loop-start-smaller
-loop-start-smaller c =
-    let b = block-reached c.args.self.now c.loop-start.start (λ b. true) c.loop-start.invariant.reached (omega arith) in
-    let size = ap (λ (h : Header). h.size) (c.entry_at.ensures b.block) in
-    let large = size_of-pos c.args.self.now.heads b.block.here in
-    omega arith
-
-pub loop-start-preserved : goal.loop-start-preserved
-loop-start-preserved c =
-    let b = block-reached c.args.self.now c.loop-start.start (λ b. true) c.loop-start.invariant.reached (omega arith) in
-    let size = ap (λ (h : Header). h.size) (c.entry_at.ensures b.block) in
-    record { reached = reached-next c.args.self.now c.loop-start.start (c.loop-start.start + c.entry_at.result.size) (λ b. true) b (omega arith) refl; low = omega arith }
+pub returns-clause-holds : goal.returns-clause-holds
+returns-clause-holds c = holds-there c.args.self.now c.args.at c.loop-start.start c.loop-start.invariant.holds (c.is_block.ensures.0 c.loop-start-test.false) c.loop-start.invariant.low

@@ -1,14 +1,15 @@
-use Rattle.std.proofs.Common.{◌-◌, ◌≤◌, true}
-use Rattle.zone_blocks.proofs.Walking.{Reached}
+use Rattle.std.proofs.Common.{◌≡◌, ◌≤◌, ◌%◌}
+use Rattle.zone_blocks.proofs.Holders.{HoldsBelow}
 use Rattle.zone_blocks.proofs.blocks.Blocks.holder.Given as goal
 
 abbrev pub invariant-loop-start : goal.invariant-loop-start
 invariant-loop-start l = record {
-  -- a block stands there, or it is the end
-  reached : Reached l.self l.start (λ b. true);
+  -- a block has the byte, and starts there or further down
+  holds : HoldsBelow l.self l.at l.start;
   -- the byte doesn't lie before it
   low : l.start ≤ l.at;
+  even : l.start % 4 ≡ 0;
 }
 
 abbrev pub decreases-loop-start : goal.decreases-loop-start
-decreases-loop-start l = l.end - l.start
+decreases-loop-start l = l.start

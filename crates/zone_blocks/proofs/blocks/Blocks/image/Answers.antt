@@ -1,7 +1,7 @@
-use Rattle.std.proofs.Common.{◌≡◌, ℕ, ◌+◌, ◌-◌, ◌<◌, ◌≤◌, ◌^◌, ◌++◌, length, map, take, drop, refl, sym, ap, ◌∙◌, subst, arith, append_assoc, length-append, take_at}
+use Rattle.std.proofs.Common.{◌≡◌, ◌+◌, ◌-◌, ◌++◌, length, map, take, sym, ap, ◌∙◌, subst, arith, append_assoc, length-append, take_at}
 use Rattle.mac_base.specs.HeadKind.{zone_header}
 use Rattle.raw_region.specs.Bytes.{part}
-use Rattle.zone_blocks.specs.Layout.{Layout, rendered, zone_bytes, total_of, size_of, address_behind}
+use Rattle.zone_blocks.specs.Layout.{Layout, rendered, zone_bytes, size_of, address_behind}
 use Rattle.zone_blocks.specs.Reading.{layout_of}
 use Rattle.zone_blocks.specs.Walk.{Walks}
 use Rattle.zone_blocks.proofs.Parts.{total-ends, length-header}
