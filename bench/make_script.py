@@ -9,7 +9,12 @@ A script has at most 1,048,576 bytes, so 65,536 lines have 16 bytes each at most
   comments  seven comments and blank lines, and then a Peek of 4 bytes
   sixty     60 live handles of all sizes up to 4,000 bytes: one after the other is disposed of and made anew with
             another size, then a Poke and a Peek of it (for 32,768 lines at most, in a zone of 262,144 bytes)
+
+make_script.py pointers LIVE CALLS writes so many NewPtr 8, and then so many calls: DisposePtr of a pointer at a random place
+and NewPtr 8 in turn.
 """
+import random
+import string
 import sys
 
 TURNS = {
@@ -34,10 +39,29 @@ def sixty(count):
     return lines[:count]
 
 
+def name_of(number):
+    """A name of three letters and digits at most."""
+    letters = string.ascii_letters
+    rest = letters + string.digits
+    return letters[number % 52] + rest[number // 52 % 62] + rest[number // 52 // 62]
+
+
+def pointers(live, calls):
+    """So many live pointers, and then so many calls that dispose of one and make it anew."""
+    random.seed(live)
+    lines = [f"{name_of(i)} = NewPtr 8" for i in range(live)]
+    for _ in range(calls // 2):
+        name = name_of(random.randrange(live))
+        lines += [f"DisposePtr {name}", f"{name} = NewPtr 8"]
+    return lines
+
+
 def main():
     kind, count = sys.argv[1], int(sys.argv[2])
     if kind == "sixty":
         lines = sixty(count)
+    elif kind == "pointers":
+        lines = pointers(count, int(sys.argv[3]))
     else:
         first, turn = TURNS[kind]
         lines = first + [turn[i % len(turn)] for i in range(count - len(first))]
