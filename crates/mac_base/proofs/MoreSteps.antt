@@ -7,7 +7,7 @@ use Rattle.mac_base.specs.HeadKind.{Shape, need}
 use Rattle.mac_base.specs.ZoneMap.{ZoneMap}
 use Rattle.mac_base.specs.HandleTable.{is_full, is_pointer}
 use Rattle.mac_base.specs.Request.{NewPointer, NewEmpty, Resize}
-use Rattle.mac_base.specs.Serve.{take_lowest, resized_in_place}
+use Rattle.mac_base.specs.Serve.{take_lowest, resized_in_place, lowest_contents}
 use Rattle.mac_base.specs.Heap.{Heap, granted, grown}
 use Rattle.mac_base.specs.Sound.{Sound}
 use Rattle.mac_base.specs.MemoryCall.{IsPointer, NotLent, IsSize, NewPtr, NewEmptyHandle, SetHandleSize, SetPtrSize, DisposePtr, EmptyHandle, MaxApplZone, refusal}
@@ -17,7 +17,7 @@ use Rattle.mac_base.specs.FirstRuns.{UnmovedRun}
 use Rattle.mac_base.specs.MemoryStep.{RunRelation, StepBy, StepUnless, RequestStep}
 use Rattle.mac_base.proofs.Refusals.{first_passed, passed-IsPointer}
 use Rattle.mac_base.proofs.SoundCalls.{passed-full}
-use Rattle.mac_base.proofs.SoundPointer.{lowest_contents, unmoved-placed_pointer, unmoved-no_room_pointer}
+use Rattle.mac_base.proofs.SoundPointer.{unmoved-placed_pointer, unmoved-no_room_pointer}
 use Rattle.mac_base.proofs.SoundResized.{unmoved-resized, unmoved-not_resized}
 use Rattle.mac_base.proofs.Steps.{step-quiet}
 use Rattle.mac_base.proofs.Unmoved.{same_heap, every_slot_live-none, every_slot_live-some, unmoved-new_empty}

@@ -11,7 +11,7 @@ use Rattle.mac_base.specs.ZoneMap.{ZoneMap, block, has_free, is_master, address_
 use Rattle.mac_base.specs.HandleTable.{Pointer, live_at, live_full, live_handle, is_handle, is_pointer, with_live, zeros}
 use Rattle.mac_base.specs.Suits.{Suits}
 use Rattle.mac_base.specs.Request.{NewPointer}
-use Rattle.mac_base.specs.Serve.{taken, take_lowest}
+use Rattle.mac_base.specs.Serve.{taken, take_lowest, lowest_before, lowest_contents}
 use Rattle.mac_base.specs.Heap.{Heap, granted}
 use Rattle.mac_base.specs.Sound.{Sound, is_growth}
 use Rattle.mac_base.specs.FirstRuns.{UnmovedRun}
@@ -22,11 +22,6 @@ use Rattle.mac_base.proofs.Taken.{taken_exchange}
 use Rattle.mac_base.proofs.SuitsTaken.{Suits-new_pointer, addresses-untaken, slots-same}
 use Rattle.mac_base.proofs.SlotOwners.{free_contents_no_handle, free_contents_no_pointer}
 use Rattle.mac_base.proofs.Unmoved.{same_heap, take_lowest-none}
-
--- the blocks before the lowest free one of at least k bytes
-abbrev pub lowest_before : ℕ → ZoneMap → ZoneMap
-lowest_before k [] = []
-lowest_before k (e ∷ es) = cond (has_free k e) [] (e ∷ lowest_before k es)
 
 -- the map in three parts, the first of them what stands before the block that is taken
 pub record TakenLowest (s : Shape) (k : ℕ) (kind : Kind) (old new : ZoneMap) : Type 0 where
@@ -65,10 +60,6 @@ before_place k (e ∷ es) (suc i) d within here below = ap (λ b. cond b [] (e �
 -- they are as many as a search passes over
 pub lowest_before-position : (k : ℕ) (m : ZoneMap) (i : ℕ) → position (has_free k) m ≡ Some i → lowest_before k m ≡ take i m
 lowest_before-position k m i found = let h = position-Some (has_free k) m i (block Free 0) found in before_place k m i (block Free 0) h.0 h.1 h.2
-
--- where the contents of the lowest free block of at least k bytes begin
-abbrev pub lowest_contents : Shape → ℕ → ZoneMap → ℕ
-lowest_contents s k m = address_behind s (lowest_before k m) + head_size s.heads
 
 -- so the place is found from a search
 pub lowest_contents-position : (s : Shape) (k : ℕ) (m : ZoneMap) (i : ℕ) → position (has_free k) m ≡ Some i → lowest_contents s k m ≡ address_behind s (take i m) + head_size s.heads
