@@ -32,7 +32,7 @@ pub size-head : (heads : HeadKind) (n : ℕ) → ((n % 4 == 0) && nat_le (smalle
 size-head Bits24 n possible = grind (arith, nat_tests)
 
 -- a body of n bytes has none over where n are contents
-none_over : (n : ℕ) (bytes : List ℕ) → length bytes ≡ n → length (drop n bytes) ≡ 0
+pub none_over : (n : ℕ) (bytes : List ℕ) → length bytes ≡ n → length (drop n bytes) ≡ 0
 none_over n bytes long = let over = length-drop n bytes in omega arith
 
 -- a header stays where the zone's end and the free bytes do
@@ -145,7 +145,7 @@ module _ (l : Layout) (z : ZoneState) (at size n : ℕ) (held : Held l z) (can :
 -- ---- two free neighbours made one
 
 -- the sum of two possible sizes is possible
-sum_size : (heads : HeadKind) (n k : ℕ) → ((n % 4 == 0) && nat_le (smallest_block heads) n) ≡ true → ((k % 4 == 0) && nat_le (smallest_block heads) k) ≡ true → (((n + k) % 4 == 0) && nat_le (smallest_block heads) (n + k)) ≡ true
+pub sum_size : (heads : HeadKind) (n k : ℕ) → ((n % 4 == 0) && nat_le (smallest_block heads) n) ≡ true → ((k % 4 == 0) && nat_le (smallest_block heads) k) ≡ true → (((n + k) % 4 == 0) && nat_le (smallest_block heads) (n + k)) ≡ true
 sum_size heads n k first second = grind (arith, nat_tests)
 
 module _ (l : Layout) (z : ZoneState) (at n : ℕ) (held : Held l z) (pair : FreePair z at) (is : n ≡ pair.first + pair.second - head_size l.heads) where

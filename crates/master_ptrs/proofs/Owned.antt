@@ -1,11 +1,11 @@
 -- What the header of a block says of its entry, and who owns it.
-use Rattle.std.proofs.Common.{◌≡◌, ℕ, ◌+◌, ◌-◌, ◌≤◌, ◌<◌, Bool, true, false, List, [], ◌∷◌, ◌++◌, length, cond, refl, ap, sym, ◌∙◌, arith}
+use Rattle.std.proofs.Common.{◌≡◌, ℕ, ◌+◌, ◌-◌, ◌≤◌, ◌<◌, Bool, true, false, [], ◌∷◌, ◌++◌, length, cond, refl, ap, sym, ◌∙◌, arith}
 use Rattle.mac_base.specs.declared.block.Entry.{Entry}
 use Rattle.mac_base.specs.declared.block.Kind.{Kind}
 use Rattle.mac_base.specs.declared.block.Kind.TheVariants as kind
 use Rattle.mac_base.specs.HeadKind.{Shape, head_size, slot_count}
 use Rattle.mac_base.specs.ZoneMap.{ZoneMap, block, addresses_from, address_behind}
-use Rattle.mac_base.specs.HandleTable.{is_full, is_handle, bytes_of}
+use Rattle.mac_base.specs.HandleTable.{is_full, is_handle}
 use Rattle.mac_base.specs.Suits.{is_handle_block, wanted_length}
 use Rattle.mac_base.specs.ZoneState.{ZoneState}
 use Rattle.mac_base.proofs.Owners.{nothing_passes, no_length}
@@ -17,7 +17,7 @@ use Rattle.zone_blocks.specs.Layout as layout
 use Rattle.zone_blocks.specs.Layout.{Layout, BlockAt, size_of, header_of}
 use Rattle.master_ptrs.specs.Image.{Owners, owners_of, role_of, HoldsOwned, HoldsBlock}
 use Rattle.master_ptrs.specs.Reading.{kind_in}
-use Rattle.master_ptrs.specs.Places.{EntryAt, BlockOf, HasOwner}
+use Rattle.master_ptrs.specs.Places.{EntryAt, HasOwner}
 use Rattle.master_ptrs.proofs.Held.{Held}
 use Rattle.master_ptrs.proofs.Holding.{length-pointers, total-held}
 use Rattle.master_ptrs.proofs.Known.{slot-range, end-range}
@@ -25,17 +25,13 @@ use Rattle.master_ptrs.proofs.Located.{of-entry, within}
 use Rattle.master_ptrs.proofs.ReadMap.{map_in-held}
 
 -- where no block passes a test, the one at a place doesn't
-passes-not : (at : ℕ) (test : Kind → Bool) (before : ZoneMap) (e : Entry) (behind : ZoneMap) → addresses_from at test (before ++ e ∷ behind) ≡ [] → test e.kind ≡ false
+pub passes-not : (at : ℕ) (test : Kind → Bool) (before : ZoneMap) (e : Entry) (behind : ZoneMap) → addresses_from at test (before ++ e ∷ behind) ≡ [] → test e.kind ≡ false
 passes-not at test [] e behind none = (nothing_passes (test e.kind) at (addresses_from (at + e.size) test behind) none).0
 passes-not at test (f ∷ before) e behind none = passes-not (at + f.size) test before e behind (nothing_passes (test f.kind) at (addresses_from (at + f.size) test (before ++ e ∷ behind)) none).1
 
 -- the entry of a block is read off its role and size
 said : (o : Owners) (s : Shape) (at : ℕ) (b : layout.Held) (e : Entry) → HoldsBlock o s at b e → block (kind_in s (at + head_size s.heads) b.role) (size_of s.heads b) ≡ e
 said o s at b e h = let one = map_in-held o s at (b ∷ []) (e ∷ []) (h, tt) in cc one
-
--- the block of a handle's entry
-abbrev pub entry-of : (z : ZoneState) (h at : ℕ) → BlockOf z h at → EntryAt z at
-entry-of z h at b = record { before = b.before; here = block (kind.Rel h) b.size; behind = b.behind; map = b.map; place = b.place }
 
 module _ (l : Layout) (z : ZoneState) (held : Held l z) where
   -- the entry at an address is read off the header there
@@ -114,7 +110,3 @@ module _ (l : Layout) (z : ZoneState) (held : Held l z) where
       by_kind kind.Master b other owned = ap length owned ∙ length-pointers (owners_of z) slot_count (at + head_size z.shape.heads)
       by_kind (kind.Ptr p) b other owned = ap length owned.1
       by_kind (kind.Rel h) b other owned = ap length owned.1
-
-  -- the bytes of a handle are the contents of its block
-  pub handle-bytes : (h at : ℕ) (e : BlockOf z h at) (bytes : List ℕ) → ((b : BlockAt l at) → bytes ≡ b.here.contents) → bytes ≡ bytes_of z.heap.table h
-  handle-bytes h at e bytes is = let mine = of-entry l z held at (entry-of z h at e) in is mine.block ∙ mine.both.block.owned.1

@@ -19,7 +19,7 @@ use Rattle.master_ptrs.proofs.Owning.{SlotAt}
 use Rattle.master_ptrs.proofs.Places.{EntryOf, entry-of, block-at, size-read, entry-range, sizes-apart, possible-from}
 
 -- a block that has a length has room for its header and so many bytes, and few are over
-room-bounds : (heads : HeadKind) (size n : ℕ) → (nat_le (need heads n) size && nat_lt size (need heads n + smallest_block heads)) ≡ true → (head_size heads + n ≤ size) × (size ≤ head_size heads + n + 15)
+pub room-bounds : (heads : HeadKind) (size n : ℕ) → (nat_le (need heads n) size && nat_lt size (need heads n + smallest_block heads)) ≡ true → (head_size heads + n ≤ size) × (size ≤ head_size heads + n + 15)
 room-bounds Bits24 size n fits = by_number size n ((n + 8 + 3) / 4) (omega arith) (omega arith) fits
   where
     by_number : (size n k : ℕ) → n + 8 ≤ 4 * k → 4 * k ≤ n + 11 → (nat_le (max 12 (4 * k)) size && nat_lt size (max 12 (4 * k) + 12)) ≡ true → (8 + n ≤ size) × (size ≤ 8 + n + 15)

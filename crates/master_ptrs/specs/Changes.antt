@@ -2,15 +2,15 @@
 use Rattle.std.specs.Prelude.{ℕ, ◌+◌, ◌-◌, if◌then◌else◌, [], ◌∷◌, ◌++◌, map, drop}
 use Rattle.mac_base.specs.declared.block.Entry.{Entry}
 use Rattle.mac_base.specs.declared.block.Flags.{Flags}
-use Rattle.mac_base.specs.declared.block.Kind.TheVariants.{Free, Master, Rel}
+use Rattle.mac_base.specs.declared.block.Kind.TheVariants.{Free, Master, Ptr, Rel}
 use Rattle.mac_base.specs.HeadKind.{zone_header, head_size, slot_count}
-use Rattle.mac_base.specs.ZoneMap.{ZoneMap, block, is_named}
+use Rattle.mac_base.specs.ZoneMap.{ZoneMap, block, free_block, is_named}
 use Rattle.mac_base.specs.ZoneSizes.{ZoneSizes, shape_of}
-use Rattle.mac_base.specs.HandleTable.{EmptyHandle, FullHandle, new_table, no_flags, zeros, with_live, with_flags, without, emptied}
+use Rattle.mac_base.specs.HandleTable.{HandleTable, EmptyHandle, FullHandle, Pointer, new_table, no_flags, zeros, bytes_of, resized, with_live, with_bytes, with_flags, without, emptied}
 use Rattle.mac_base.specs.Heap.{Heap}
 use Rattle.mac_base.specs.Suits.{slots_from}
 use Rattle.mac_base.specs.ZoneState.{ZoneState}
-use Rattle.master_ptrs.specs.Places.{FreeAt, RoomFor, CanCut, FreePair}
+use Rattle.master_ptrs.specs.Places.{FreeAt, FreePair, CanHold, CanGrow}
 
 -- the zone with another heap
 abbrev pub with_heap : Heap → ZoneState → ZoneState
@@ -67,3 +67,35 @@ with_master {at = at} z free = with_heap (record {
 -- the handle h has these flags
 abbrev pub flagged : ℕ → Flags → ZoneState → ZoneState
 flagged h flags z = with_heap (record { table = with_flags h flags z.heap.table; map = z.heap.map; free_slots = z.heap.free_slots }) z
+
+-- a free block is that of a new pointer with n bytes of zero, whose number is where they begin
+abbrev pub fixed : ℕ → {at : ℕ} → (z : ZoneState) → FreeAt z at → ZoneState
+fixed n {at = at} z free = let p = at + head_size z.shape.heads in with_heap (record {
+  table = with_live p (Pointer (zeros n)) z.heap.table;
+  map = free.before ++ block (Ptr p) free.size ∷ free.behind;
+  free_slots = z.heap.free_slots;
+}) z
+
+-- the pointer p isn't live, and its block is free
+abbrev pub unfixed : ℕ → ZoneState → ZoneState
+unfixed p z = with_heap (record { table = without p z.heap.table; map = freed p z.heap.map; free_slots = z.heap.free_slots }) z
+
+-- the table in which x has n bytes: those that it had, as far as they go, and zeros behind them
+abbrev pub sized : ℕ → ℕ → HandleTable → HandleTable
+sized x n t = with_bytes x (resized n (bytes_of t x)) t
+
+-- the block of x has so many of its bytes, n of them contents, and the others are free
+abbrev pub held_there : {x size n : ℕ} → (z : ZoneState) → CanHold z x size n → ZoneState
+held_there {x = x} {size = size} {n = n} z can = with_heap (record {
+  table = sized x n z.heap.table;
+  map = can.before ++ block can.here.kind size ∷ free_block (can.here.size - size) ++ can.behind;
+  free_slots = z.heap.free_slots;
+}) z
+
+-- the block of x has so many of its bytes and of those right behind it, n of them contents, and the others are free
+abbrev pub enlarged : {x size n : ℕ} → (z : ZoneState) → CanGrow z x size n → ZoneState
+enlarged {x = x} {size = size} {n = n} z can = with_heap (record {
+  table = sized x n z.heap.table;
+  map = can.before ++ block can.here.kind size ∷ free_block (can.here.size + can.free - size) ++ can.behind;
+  free_slots = z.heap.free_slots;
+}) z

@@ -5,4 +5,5 @@ pub mod Reading
 pub mod Places
 pub mod Sizes
 pub mod Changes
+pub mod Fitting
 pub mod Lending

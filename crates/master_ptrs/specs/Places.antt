@@ -1,12 +1,13 @@
 -- Places of blocks in a zone map, by the address of the header.
-use Rattle.std.specs.Prelude.{◌≡◌, ℕ, ◌-◌, ◌<◌, ◌≤◌, not, IsTrue, ◌∷◌, ◌++◌, ⊤}
+use Rattle.std.specs.Prelude.{◌≡◌, ℕ, ◌+◌, ◌-◌, ◌<◌, ◌≤◌, ◌⊎◌, not, IsTrue, ◌∷◌, ◌++◌, ⊤}
 use Rattle.std.specs.List.{list_all}
 use Rattle.mac_base.specs.declared.block.Entry.{Entry}
 use Rattle.mac_base.specs.declared.block.Kind.TheVariants.{Free, Master, Ptr, Rel}
 use Rattle.mac_base.specs.declared.block.Kind.{Kind}
 use Rattle.mac_base.specs.HandleTable.{is_handle}
-use Rattle.mac_base.specs.ZoneMap.{ZoneMap, block, has_free, address_behind}
+use Rattle.mac_base.specs.ZoneMap.{ZoneMap, block, has_free, is_named, address_behind}
 use Rattle.mac_base.specs.Suits.{is_block_size, has_length}
+use Rattle.mac_base.specs.HeadKind.{Shape}
 use Rattle.mac_base.specs.ZoneState.{ZoneState}
 
 -- a block's header stands at an address
@@ -66,3 +67,39 @@ pub record FreePair (z : ZoneState) (at : ℕ) : Type 0 where
   pub behind : ZoneMap
   pub map : z.heap.map ≡ before ++ block Free first ∷ block Free second ∷ behind
   pub place : at ≡ address_behind z.shape before
+
+-- that of the block of x, a handle or a pointer
+pub record NamedAt (z : ZoneState) (x at : ℕ) : Type 0 where
+  pub before : ZoneMap
+  pub here : Entry
+  pub behind : ZoneMap
+  pub map : z.heap.map ≡ before ++ here ∷ behind
+  pub place : at ≡ address_behind z.shape before
+  pub named : IsTrue (is_named x here.kind)
+
+-- a block of so many bytes, n of them contents, can be the front of this many; what is over is nothing or a block
+pub record CanFront (s : Shape) (whole size n : ℕ) : Type 0 where
+  pub within : size ≤ whole
+  pub front : IsTrue (is_block_size s size)
+  pub room : IsTrue (has_length s size n)
+  pub rest : (size ≡ whole) ⊎ IsTrue (is_block_size s (whole - size))
+
+-- the block of x can be cut to its first bytes, so many with n of contents
+pub record CanHold (z : ZoneState) (x size n : ℕ) : Type 0 where
+  pub before : ZoneMap
+  pub here : Entry
+  pub behind : ZoneMap
+  pub map : z.heap.map ≡ before ++ here ∷ behind
+  pub named : IsTrue (is_named x here.kind)
+  pub fits : CanFront z.shape here.size size n
+
+-- it can take bytes of the free block right behind it, to be so many with n of contents
+pub record CanGrow (z : ZoneState) (x size n : ℕ) : Type 0 where
+  pub before : ZoneMap
+  pub here : Entry
+  pub free : ℕ
+  pub behind : ZoneMap
+  pub map : z.heap.map ≡ before ++ here ∷ block Free free ∷ behind
+  pub named : IsTrue (is_named x here.kind)
+  pub larger : here.size ≤ size
+  pub fits : CanFront z.shape (here.size + free) size n

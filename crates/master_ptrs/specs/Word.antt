@@ -35,6 +35,12 @@ says_live (Free next) = false
 says_live Empty = true
 says_live (Full flags contents) = true
 
+-- whether a slot is a live handle with a block
+abbrev pub says_full : Slot → Bool
+says_full (Free next) = false
+says_full Empty = false
+says_full (Full flags contents) = true
+
 -- the next free slot that a free one says, and 0 for any other
 abbrev pub next_said : Slot → ℕ
 next_said (Free next) = next

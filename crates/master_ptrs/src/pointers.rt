@@ -45,15 +45,15 @@ impl MasterPointers {
     ghost use Rattle.std.specs.Prelude.{◌≡◌, ◌+◌, ◌≤◌, ◌<◌, IfOk, IfSome, IfNone, IsTrue, MatchOption, Some, None, ◌∷◌, [], not, drop, Contains, ◌↔◌};
     ghost use Rattle.std.specs.List.{list_all};
     ghost use Rattle.std.specs.Borrow.{sem};
-    ghost use Rattle.mac_base.specs.HandleTable.{EmptyHandle, is_handle, is_full, live_at, bytes_of, flags_of};
+    ghost use Rattle.mac_base.specs.HandleTable.{EmptyHandle, has_block, is_handle, is_full, is_pointer, live_at, bytes_of, flags_of};
     ghost use Rattle.mac_base.specs.HeadKind.{master_length, head_size};
     ghost use Rattle.mac_base.specs.Suits.{slots, wanted_length};
     ghost use Rattle.mac_base.specs.Reply.{report_at, block_flags};
     ghost use Rattle.mac_base.specs.ZoneMap.{has_free, contents_of};
-    ghost use Rattle.master_ptrs.specs.Changes.{bare_zone, taken, given_back, pointed, without_block, cut_in_two, joined_pair, with_master, flagged};
+    ghost use Rattle.master_ptrs.specs.Changes.{bare_zone, taken, given_back, pointed, without_block, fixed, unfixed, held_there, enlarged, cut_in_two, joined_pair, with_master, flagged};
     ghost use Rattle.master_ptrs.specs.Image.{IsImage};
     ghost use Rattle.master_ptrs.specs.Lending.{LendsBytes};
-    ghost use Rattle.master_ptrs.specs.Places.{EntryAt, HasOwner, FreeAt, BlockOf, LowestAt, RoomFor, CanCut, FreePair};
+    ghost use Rattle.master_ptrs.specs.Places.{EntryAt, HasOwner, FreeAt, BlockOf, NamedAt, LowestAt, RoomFor, CanCut, CanHold, CanGrow, FreePair};
     ghost use Rattle.master_ptrs.specs.Sizes.{sizes_of};
     ghost use Rattle.zone_blocks.specs.Walk.{Walks};
 
@@ -142,6 +142,66 @@ impl MasterPointers {
         self.blocks.set_field(FREE_BYTES, free_bytes + size);
     }
 
+    /// Makes a free block that of a new pointer, with `length` bytes of zero. The pointer is the address of the first.
+    pub fn fix(&mut self, at: u32, length: u32) -> Ptr
+        requires { RoomFor self.old at length }
+        ensures pointer { result ≡ at + head_size self.old.shape.heads }
+        ensures zone { (r : RoomFor self.old at length) → self.new ≡ fixed length self.old r.free }
+    {
+        let head_size = self.blocks.spec().heads().head_size();
+        let size = self.blocks.entry_at(at).size;
+        let free_bytes = self.blocks.field(FREE_BYTES);
+        self.blocks.assign(at, Role::Fixed, length);
+        self.blocks.clear(at);
+        self.blocks.set_field(FREE_BYTES, free_bytes - size);
+        Ptr::new(at + head_size)
+    }
+
+    /// Makes a pointer's block free. The pointer isn't live any more.
+    pub fn unfix(&mut self, pointer: Ptr)
+        requires { IsTrue (is_pointer self.old.heap.table pointer) }
+        ensures { self.new ≡ unfixed pointer self.old }
+    {
+        let at = self.place_of(pointer.number());
+        let size = self.blocks.entry_at(at).size;
+        let free_bytes = self.blocks.field(FREE_BYTES);
+        self.blocks.set_free(at);
+        self.blocks.set_field(FREE_BYTES, free_bytes + size);
+    }
+
+    /// Gives a handle or a pointer `length` bytes in the first `size` bytes of its block; the others are free. Bytes
+    /// that it had stay as far as they go, and those that are added are zero.
+    pub fn hold(&mut self, block: u32, size: u32, length: u32)
+        requires { CanHold self.old block size length }
+        ensures { (can : CanHold self.old block size length) → self.new ≡ held_there self.old can }
+    {
+        let at = self.place_of(block);
+        let kept = self.length_at(at);
+        let whole = self.blocks.entry_at(at).size;
+        let free_bytes = self.blocks.field(FREE_BYTES);
+        fit(&mut self.blocks, at, size, length, kept);
+        self.blocks
+            .set_field(FREE_BYTES, free_bytes + (whole - size));
+    }
+
+    /// Gives a handle or a pointer `length` bytes in the first `size` bytes of its block and the free one right behind
+    /// it; the others are free. Bytes that it had stay as far as they go, and those that are added are zero.
+    pub fn grow(&mut self, block: u32, size: u32, length: u32)
+        requires { CanGrow self.old block size length }
+        ensures { (can : CanGrow self.old block size length) → self.new ≡ enlarged self.old can }
+    {
+        let head_size = self.blocks.spec().heads().head_size();
+        let at = self.place_of(block);
+        let kept = self.length_at(at);
+        let first = self.blocks.entry_at(at).size;
+        let whole = first + self.blocks.entry_at(at + first).size;
+        let free_bytes = self.blocks.field(FREE_BYTES);
+        self.blocks.merge(at, whole - head_size);
+        fit(&mut self.blocks, at, size, length, kept);
+        self.blocks
+            .set_field(FREE_BYTES, free_bytes - (size - first));
+    }
+
     /// Cuts a free block in two, the first of `size` bytes.
     pub fn split(&mut self, at: u32, size: u32)
         requires { CanCut self.old at size }
@@ -188,6 +248,38 @@ impl MasterPointers {
         self.is_slot(handle) && Slot::read(self.blocks.word(handle.number())).is_live()
     }
 
+    /// Whether a pointer is live: a nonrelocatable block's contents begin there. One header is read.
+    pub fn is_pointer(&self, pointer: Ptr) -> bool
+        ensures { result ≡ is_pointer self.now.heap.table pointer }
+    {
+        let head_size = self.blocks.spec().heads().head_size();
+        let number = pointer.number();
+        number >= head_size
+            && self.blocks.is_block(number - head_size)
+            && self.blocks.entry_at(number - head_size).role == Role::Fixed
+    }
+
+    /// Whether a number has a block: it is a handle that isn't empty, or a pointer.
+    pub fn has_block(&self, block: u32) -> bool
+        ensures { result ≡ has_block self.now.heap.table block }
+    {
+        self.is_pointer(Ptr::new(block))
+            || (self.is_slot(Handle::new(block)) && Slot::read(self.blocks.word(block)).is_full())
+    }
+
+    /// The address of the block of a handle or a pointer that has one.
+    pub fn place_of(&self, block: u32) -> u32
+        requires { IsTrue (has_block self.now.heap.table block) }
+        ensures { NamedAt self.now block result }
+    {
+        let head_size = self.blocks.spec().heads().head_size();
+        if self.is_pointer(Ptr::new(block)) {
+            block - head_size
+        } else {
+            Slot::read(self.blocks.word(block)).contents() - head_size
+        }
+    }
+
     /// The address of the block of a handle that has one.
     pub fn block_of(&self, handle: Handle) -> u32
         requires { IsTrue (is_full self.now.heap.table handle) }
@@ -216,21 +308,21 @@ impl MasterPointers {
         self.blocks.set_word(handle.number(), pointer.word());
     }
 
-    /// The bytes of a handle that has a block.
-    pub fn contents(&self, handle: Handle) -> &[u8]
-        requires { IsTrue (is_full self.now.heap.table handle) }
-        ensures { result.now ≡ bytes_of self.now.heap.table handle }
+    /// The bytes of a handle or a pointer that has a block.
+    pub fn contents(&self, block: u32) -> &[u8]
+        requires { IsTrue (has_block self.now.heap.table block) }
+        ensures { result.now ≡ bytes_of self.now.heap.table block }
     {
-        self.blocks.contents(self.block_of(handle))
+        self.blocks.contents(self.place_of(block))
     }
 
-    /// The bytes of a handle that has a block, to be written.
-    pub fn contents_mut(&mut self, handle: Handle) -> &mut [u8]
-        requires full { IsTrue (is_full self.old.heap.table handle) }
-        ensures* writes_back { sem 𝓛 (LendsBytes self.entry handle result) }
-        ensures value { result.now ≡ bytes_of self.old.heap.table handle }
+    /// The bytes of a handle or a pointer that has a block, to be written.
+    pub fn contents_mut(&mut self, block: u32) -> &mut [u8]
+        requires block { IsTrue (has_block self.old.heap.table block) }
+        ensures* writes_back { sem 𝓛 (LendsBytes self.entry block result) }
+        ensures value { result.now ≡ bytes_of self.old.heap.table block }
     {
-        let at = self.block_of(handle);
+        let at = self.place_of(block);
         self.blocks.contents_mut(at)
     }
 
@@ -333,5 +425,24 @@ impl MasterPointers {
             && first <= number
             && number < first + MASTER_LENGTH
             && (number - first) % 4 == 0
+    }
+}
+
+ghost use Rattle.std.specs.Prelude.{◌≡◌};
+ghost use Rattle.master_ptrs.specs.Fitting.{CanFit, fitted};
+
+/// Cuts a block to its first `size` bytes, `length` of them contents, which are zero from `kept` on. The other bytes are
+/// a free block, if there are any.
+fn fit(blocks: &mut Blocks, at: u32, size: u32, length: u32, kept: u32)
+    requires { CanFit blocks.old at size length }
+    ensures { (can : CanFit blocks.old at size length) → blocks.new ≡ fitted blocks.old can kept }
+{
+    if size < blocks.entry_at(at).size {
+        blocks.split(at, size, length);
+    } else {
+        blocks.resize(at, length);
+    }
+    if kept < length {
+        blocks.clear_from(at, kept);
     }
 }

@@ -15,7 +15,7 @@ pub(crate) enum Slot {
 
 impl Slot {
     ghost use Rattle.std.specs.Prelude.{◌≡◌, ◌<◌, ◌≤◌, ◌^◌, IsTrue};
-    ghost use Rattle.master_ptrs.specs.Word.{slot_word, slot_in, has_addresses, says_live, next_said, contents_said, flags_said};
+    ghost use Rattle.master_ptrs.specs.Word.{slot_word, slot_in, has_addresses, says_live, says_full, next_said, contents_said, flags_said};
 
     /// The master pointer that says so.
     pub fn word(self) -> u32
@@ -36,6 +36,16 @@ impl Slot {
         match self {
             Slot::Free { .. } => false,
             Slot::Empty | Slot::Full { .. } => true,
+        }
+    }
+
+    /// Whether the slot is a live handle with a block.
+    pub fn is_full(self) -> bool
+        ensures { result ≡ says_full self }
+    {
+        match self {
+            Slot::Free { .. } | Slot::Empty => false,
+            Slot::Full { .. } => true,
         }
     }
 
