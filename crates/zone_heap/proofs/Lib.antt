@@ -1,9 +1,15 @@
 pub mod Twice
-pub mod Alone
 pub mod NewZone
 pub mod Taking
 pub mod Cutting
 pub mod Places
 pub mod Joining
 pub mod Releasing
+pub mod Emptying
+pub mod Contents
 pub mod Placing
+pub mod Pointers
+pub mod Writing
+pub mod Sizing
+pub mod Shrinking
+pub mod Growing

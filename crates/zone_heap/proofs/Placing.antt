@@ -1,5 +1,5 @@
 -- A new handle is placed: its slot is taken, then a free block is cut, and then the handle has the block.
-use Rattle.std.proofs.Common.{◌≡◌, ℕ, ◌≤◌, Bool, true, false, cond, List, ◌∷◌, ◌++◌, drop, Some, None, Option, refl, ap, sym, ◌∙◌, subst, IsTrue}
+use Rattle.std.proofs.Common.{◌≡◌, ℕ, ◌≤◌, Bool, true, false, cond, List, ◌∷◌, ◌++◌, drop, [], Some, None, Option, MatchOption, refl, ap, sym, ◌∙◌, subst, IsTrue}
 use Rattle.std.specs.Prelude.{not, slice_index, option_map}
 use Rattle.std.specs.List.{list_all}
 use Rattle.mac_base.specs.declared.block.Entry.{Entry}
@@ -8,7 +8,6 @@ use Rattle.mac_base.specs.HeadKind.{Shape, need}
 use Rattle.mac_base.specs.ZoneMap.{ZoneMap, block, has_free}
 use Rattle.mac_base.specs.HandleTable.{HandleTable, EmptyHandle, FullHandle, no_flags, zeros, live_at, with_live}
 use Rattle.mac_base.specs.Suits.{is_block_size, has_length}
-use Rattle.mac_base.specs.BlockStatus.{HandlesAlone}
 use Rattle.mac_base.specs.Request.{NewBlock}
 use Rattle.mac_base.specs.Heap.{Heap, granted}
 use Rattle.mac_base.specs.Serve.{take_lowest, taken}
@@ -17,13 +16,13 @@ use Rattle.mac_base.specs.Sound.{Sound}
 use Rattle.mac_base.specs.ZoneState.{ZoneState}
 use Rattle.mac_base.proofs.Taken.{need-is_size}
 use Rattle.mac_base.proofs.SoundPlaced.{sound-placed}
+use Rattle.mac_base.proofs.SoundWritten.{sound-new_empty}
 use Rattle.mac_base.proofs.Tables.{live_at-with_live_same}
 use Rattle.master_ptrs.specs.Changes.{with_map, pointed}
 use Rattle.master_ptrs.specs.Changes as change
 use Rattle.master_ptrs.specs.Places.{LowestAt, RoomFor}
 use Rattle.zone_heap.specs.Joins.{CanTake, with_front}
 use Rattle.zone_heap.specs.Placed.{placed_lowest}
-use Rattle.zone_heap.proofs.Alone.{alone-full}
 use Rattle.zone_heap.proofs.Taking.{front_size, front_rest, taken-parts, front-has_length, take_lowest-there, take_lowest-none, all-there}
 use Rattle.zone_heap.proofs.Twice.{with_live-twice}
 
@@ -113,10 +112,6 @@ placed-there z h n k at p =
 pub placed-sound : (z : ZoneState) (h n k at : ℕ) (p : Chosen z h n k at) → Sound z.shape (placed_zone z h n k at p).heap
 placed-sound z h n k at p = sound-placed z.shape z.heap h (drop 1 z.heap.free_slots) p.sound p.front n (placed_map z h n k at p) (lowest-taken z h n k at p)
 
--- and it has handles alone as before
-pub placed-alone : (z : ZoneState) (h n k at : ℕ) (p : Chosen z h n k at) → HandlesAlone z.heap.table → HandlesAlone (placed_zone z h n k at p).heap.table
-placed-alone z h n k at p alone = alone-full h (FullHandle no_flags (zeros n)) z.heap.table alone refl
-
 -- once the slot is taken, the block can be cut
 pub can-cut : (z new : ZoneState) (h n k at : ℕ) → Chosen z h n k at → new ≡ change.taken h z → CanTake new at k
 can-cut z new h n k at p slot = subst (λ w. CanTake w at k) (sym slot) (taken_front z h n k at p)
@@ -141,3 +136,10 @@ pub placed-done : (z new cut last : ZoneState) (h n k at : ℕ) (p : Chosen z h 
 placed-done z new cut last h n k at p slot front point =
     subst (λ w. (r : RoomFor w at n) → last ≡ pointed h n w r.free) (cut-done z new cut h n k at p slot front) point (room z h n k at p)
     ∙ pointed_zone z h n k at p
+
+-- a slot taken as an empty handle, or none, leaves the zone sound
+pub taken-sound : (z new : ZoneState) (o : Option ℕ) → Sound z.shape z.heap → MatchOption o ((z.heap.free_slots ≡ []) × (new ≡ z)) (λ h. (z.heap.free_slots ≡ h ∷ drop 1 z.heap.free_slots) × (new ≡ change.taken h z))
+    → Sound new.shape new.heap × (new.heap.table.lent ≡ z.heap.table.lent)
+taken-sound z new None sound none = (subst (λ (w : ZoneState). Sound w.shape w.heap) (sym none.1) sound, ap (λ (w : ZoneState). w.heap.table.lent) none.1)
+taken-sound z new (Some h) sound some =
+    (subst (λ (w : ZoneState). Sound w.shape w.heap) (sym some.1) (sound-new_empty z.shape z.heap h (drop 1 z.heap.free_slots) sound some.0), ap (λ (w : ZoneState). w.heap.table.lent) some.1)

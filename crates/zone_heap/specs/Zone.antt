@@ -1,5 +1,5 @@
 -- What a zone's field means, and what it keeps true.
-use Rattle.mac_base.specs.BlockStatus.{HandlesAlone}
+use Rattle.std.specs.Prelude.{◌≡◌, []}
 use Rattle.mac_base.specs.Sound.{Sound}
 use Rattle.mac_base.specs.ZoneState.{ZoneState}
 use Rattle.zone_heap.specs.declared.zone.Zone.TheInside.{Inside}
@@ -8,7 +8,7 @@ use Rattle.zone_heap.specs.declared.zone.Zone.TheInside.{Inside}
 abbrev pub zone_of : Inside → ZoneState
 zone_of z = z.pointers
 
--- it is sound, and has handles alone so far
+-- it is sound, and nothing is lent so far
 pub record IsZone (z : Inside) : Type 0 where
   pub sound : Sound z.pointers.shape z.pointers.heap
-  pub alone : HandlesAlone z.pointers.heap.table
+  pub unlent : z.pointers.heap.table.lent ≡ []

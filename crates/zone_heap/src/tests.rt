@@ -1,7 +1,7 @@
 //! The bytes of a zone are compared with those that the format says.
 
 use crate::{Zone, check};
-use mac_base::block::HeadKind;
+use mac_base::block::{Flags, HeadKind};
 use mac_base::zone_spec::ZoneSpec;
 
 /// A word of a zone: where it stands, and what it is.
@@ -47,6 +47,22 @@ fn a_new_handle_leaves_the_bytes_of_the_format(rt: HostRuntime) {
     let handle = zone.place_rel(100).expect(&rt, "the zone has room");
     assert_eq!(rt; handle.number(), 0x0010_003c);
     assert_eq!(rt; zone.image(), &expected()[..]);
+}
+
+#[test]
+fn a_locked_handle_is_marked_in_its_slot(rt: HostRuntime) {
+    let spec = ZoneSpec::new(0x10_0000, 4096, 4096).expect(&rt, "there is such a zone");
+    let mut zone = Zone::create(rt.alloc(), spec).expect(&rt, "the host has memory");
+    let handle = zone.place_rel(100).expect(&rt, "the zone has room");
+    let flags = Flags {
+        lock: true,
+        purge: false,
+        resource: false,
+    };
+    zone.set_flags(handle, flags);
+    let mut image = expected();
+    put(&mut image, 0x3c, 0x8010_0144);
+    assert_eq!(rt; zone.image(), &image[..]);
 }
 
 #[test]

@@ -1,10 +1,10 @@
 //! The zone.
 
-use mac_base::block::{Block, Status};
+use mac_base::block::{Block, Flags, Status};
 use mac_base::error::HostFull;
-use mac_base::handle::Handle;
+use mac_base::handle::{Handle, Ptr};
 use mac_base::size::{MASTER_LENGTH, ZONE_HEADER, need};
-use mac_base::zone_spec::ZoneSpec;
+use mac_base::zone_spec::{ADDRESS_END, LARGEST_LIMIT, ZoneSpec};
 use master_ptrs::MasterPointers;
 use std::alloc::Global;
 use std::marker::Model;
@@ -36,16 +36,16 @@ impl Model for Zone {
 
 impl Zone {
     ghost use Rattle.std.specs.Prelude.{◌≡◌, ◌+◌, ◌≤◌, IfOk, IsTrue, MatchResult, Some, None, []};
-    ghost use Rattle.mac_base.specs.ZoneMap.{address_behind};
+    ghost use Rattle.mac_base.specs.ZoneMap.{address_behind, contents_of};
     ghost use Rattle.std.specs.Borrow.{sem};
-    ghost use Rattle.mac_base.specs.BlockStatus.{HandlesAlone, status_of};
-    ghost use Rattle.mac_base.specs.HandleTable.{is_handle, bytes_of};
-    ghost use Rattle.mac_base.specs.Heap.{new_heap};
+    ghost use Rattle.mac_base.specs.BlockStatus.{status_of};
+    ghost use Rattle.mac_base.specs.HandleTable.{has_block, is_full, is_handle, is_pointer, bytes_of, flags_of, with_flags};
+    ghost use Rattle.mac_base.specs.Heap.{new_heap, with_table};
     ghost use Rattle.mac_base.specs.MemoryCall.{max_size};
     ghost use Rattle.mac_base.specs.Sound.{Sound};
-    ghost use Rattle.mac_base.specs.GrowZone.{heap_released, DisposesHandle};
+    ghost use Rattle.mac_base.specs.GrowZone.{heap_released, DisposesHandle, DisposesPtr, Empties};
     ghost use Rattle.mac_base.specs.ZoneSizes.{shape_of};
-    ghost use Rattle.zone_heap.specs.Placed.{placed_lowest};
+    ghost use Rattle.zone_heap.specs.Placed.{placed_lowest, placed_empty, placed_pointer, resized_there};
     ghost use Rattle.mac_base.specs.Reply.{report_at};
     ghost use Rattle.master_ptrs.specs.Image.{IsImage};
     ghost use Rattle.zone_blocks.specs.Walk.{Walks};
@@ -62,12 +62,28 @@ impl Zone {
         Ok(Zone { pointers })
     }
 
-    /// Whether a handle is live: the address of a slot that isn't free. The zone has handles alone so far.
+    /// Whether a handle is live: the address of a slot that isn't free. Nothing is lent so far.
     pub fn is_live(&self, handle: Handle) -> bool
         ensures live { result ≡ is_handle self.now.heap.table handle }
-        ensures so_far { HandlesAlone self.now.heap.table }
+        ensures unlent { self.now.heap.table.lent ≡ [] }
     {
         self.pointers.is_live(handle)
+    }
+
+    /// Whether a pointer is live: a nonrelocatable block's contents begin there. Nothing is lent so far.
+    pub fn is_pointer(&self, pointer: Ptr) -> bool
+        ensures live { result ≡ is_pointer self.now.heap.table pointer }
+        ensures unlent { self.now.heap.table.lent ≡ [] }
+    {
+        self.pointers.is_pointer(pointer)
+    }
+
+    /// Whether a number has a block: it is a handle that isn't empty, or a pointer. Nothing is lent so far.
+    pub fn has_block(&self, block: u32) -> bool
+        ensures block { result ≡ has_block self.now.heap.table block }
+        ensures unlent { self.now.heap.table.lent ≡ [] }
+    {
+        self.pointers.has_block(block)
     }
 
     /// A new handle with `length` bytes of zero and no flags, in the lowest free block that has room. There is none
@@ -91,34 +107,138 @@ impl Zone {
         Ok(handle)
     }
 
-    /// Disposes of a live handle: its block is free and joined to its free neighbours, and its slot is the next to
-    /// be given.
+    /// A new empty handle. There is none exactly where no slot is free, and then nothing has changed.
+    pub fn place_empty(&mut self) -> Result<Handle, NoRoom>
+        ensures sound { Sound self.old.shape self.old.heap }
+        ensures placed { MatchResult result
+            (λ handle. (placed_empty self.old.heap ≡ Some (handle, self.new.heap)) × (self.new.shape ≡ self.old.shape))
+            (λ _. (placed_empty self.old.heap ≡ None) × (self.new ≡ self.old)) }
+    {
+        self.pointers.take().ok_or(NoRoom)
+    }
+
+    /// A new pointer to `length` bytes of zero, in the lowest free block that has room. There is none exactly where no
+    /// free block has room, and then nothing has changed.
+    pub fn place_fix(&mut self, length: u32) -> Result<Ptr, NoRoom>
+        requires { length ≤ max_size }
+        ensures sound { Sound self.old.shape self.old.heap }
+        ensures placed { MatchResult result
+            (λ pointer. (placed_pointer self.old.shape length self.old.heap ≡ Some (pointer, self.new.heap)) × (self.new.shape ≡ self.old.shape))
+            (λ _. (placed_pointer self.old.shape length self.old.heap ≡ None) × (self.new ≡ self.old)) }
+    {
+        let size = need(length);
+        let Some(at) = self.pointers.lowest_free(size) else {
+            return Err(NoRoom);
+        };
+        cut(&mut self.pointers, at, size);
+        Ok(self.pointers.fix(at, length))
+    }
+
+    /// Disposes of a live handle: its block, if it has one, is free and joined to its free neighbours, and its slot is
+    /// the next to be given.
     pub fn release(&mut self, handle: Handle)
         requires live { IsTrue (is_handle self.old.heap.table handle) }
         ensures heap { self.new.heap ≡ heap_released (DisposesHandle handle) self.old.heap }
         ensures shape { self.new.shape ≡ self.old.shape }
     {
-        let at = self.pointers.block_of(handle);
-        self.pointers.empty(handle);
+        self.empty(handle);
         self.pointers.release(handle);
+    }
+
+    /// Disposes of a live pointer: its block is free and joined to its free neighbours.
+    pub fn release_pointer(&mut self, pointer: Ptr)
+        requires live { IsTrue (is_pointer self.old.heap.table pointer) }
+        ensures heap { self.new.heap ≡ heap_released (DisposesPtr pointer) self.old.heap }
+        ensures shape { self.new.shape ≡ self.old.shape }
+    {
+        let at = self.pointers.place_of(pointer.number());
+        self.pointers.unfix(pointer);
         join(&mut self.pointers, at);
     }
 
-    /// The bytes of a handle that has a block.
-    pub fn bytes(&self, handle: Handle) -> &[u8]
-        requires { status_of self.now.heap.table handle ≡ Status.Full }
-        ensures { result.now ≡ bytes_of self.now.heap.table handle }
+    /// Empties a live handle: its block is free and joined to its free neighbours, and its slot stays its own. A handle
+    /// that is empty stays so.
+    pub fn empty(&mut self, handle: Handle)
+        requires live { IsTrue (is_handle self.old.heap.table handle) }
+        ensures heap { self.new.heap ≡ heap_released (Empties handle) self.old.heap }
+        ensures shape { self.new.shape ≡ self.old.shape }
     {
-        self.pointers.contents(handle)
+        if self.pointers.has_block(handle.number()) {
+            let at = self.pointers.block_of(handle);
+            self.pointers.empty(handle);
+            join(&mut self.pointers, at);
+        }
     }
 
-    /// The bytes of a handle that has a block, to be written.
-    pub fn bytes_mut(&mut self, handle: Handle) -> &mut [u8]
-        requires full { status_of self.old.heap.table handle ≡ Status.Full }
-        ensures* writes_back { sem 𝓛 (LendsBytes self.entry handle result) }
-        ensures value { result.now ≡ bytes_of self.old.heap.table handle }
+    /// Gives a handle that has a block `length` bytes where the block is: its own bytes, or with them those of the free
+    /// block right behind it. What is over is free where it makes a block. Bytes that the handle had stay, as far as
+    /// they go, and those that are added are zero. Where there is no room, nothing has changed.
+    pub fn resize_rel(&mut self, handle: Handle, length: u32) -> Result<(), NoRoom>
+        requires full { IsTrue (is_full self.old.heap.table handle) }
+        requires size { length ≤ max_size }
+        ensures sound { Sound self.old.shape self.old.heap }
+        ensures resized { MatchResult result
+            (λ _. (resized_there self.old.shape handle length self.old.heap ≡ Some self.new.heap) × (self.new.shape ≡ self.old.shape))
+            (λ _. (resized_there self.old.shape handle length self.old.heap ≡ None) × (self.new ≡ self.old)) }
     {
-        self.pointers.contents_mut(handle)
+        self.resize(handle.number(), length)
+    }
+
+    /// Gives a pointer `length` bytes where its block is, as `resize_rel` does for a handle.
+    pub fn resize_fix(&mut self, pointer: Ptr, length: u32) -> Result<(), NoRoom>
+        requires live { IsTrue (is_pointer self.old.heap.table pointer) }
+        requires size { length ≤ max_size }
+        ensures sound { Sound self.old.shape self.old.heap }
+        ensures resized { MatchResult result
+            (λ _. (resized_there self.old.shape pointer length self.old.heap ≡ Some self.new.heap) × (self.new.shape ≡ self.old.shape))
+            (λ _. (resized_there self.old.shape pointer length self.old.heap ≡ None) × (self.new ≡ self.old)) }
+    {
+        self.resize(pointer.number(), length)
+    }
+
+    /// The flags of a live handle; an empty one has none.
+    pub fn flags(&self, handle: Handle) -> Flags
+        requires { IsTrue (is_handle self.now.heap.table handle) }
+        ensures { result ≡ flags_of self.now.heap.table handle }
+    {
+        self.pointers.flags(handle)
+    }
+
+    /// Sets the flags of a handle that has a block.
+    pub fn set_flags(&mut self, handle: Handle, flags: Flags)
+        requires full { IsTrue (is_full self.old.heap.table handle) }
+        ensures heap { self.new.heap ≡ with_table (with_flags handle flags self.old.heap.table) self.old.heap }
+        ensures shape { self.new.shape ≡ self.old.shape }
+    {
+        self.pointers.set_flags(handle, flags);
+    }
+
+    /// Where the contents of the block of a handle begin.
+    pub fn contents_address(&self, handle: Handle) -> u32
+        requires { IsTrue (is_full self.now.heap.table handle) }
+        ensures { result ≡ contents_of self.now.shape handle self.now.heap.map }
+    {
+        let spec = self.pointers.spec();
+        let at = self.pointers.block_of(handle);
+        prove!(at < spec.base() + spec.limit());
+        at + spec.heads().head_size()
+    }
+
+    /// The bytes of a handle or a pointer that has a block.
+    pub fn bytes(&self, block: u32) -> &[u8]
+        requires { status_of self.now.heap.table block ≡ Status.Full }
+        ensures { result.now ≡ bytes_of self.now.heap.table block }
+    {
+        self.pointers.contents(block)
+    }
+
+    /// The bytes of a handle or a pointer that has a block, to be written.
+    pub fn bytes_mut(&mut self, block: u32) -> &mut [u8]
+        requires full { status_of self.old.heap.table block ≡ Status.Full }
+        ensures* writes_back { sem 𝓛 (LendsBytes self.entry block result) }
+        ensures value { result.now ≡ bytes_of self.old.heap.table block }
+    {
+        self.pointers.contents_mut(block)
     }
 
     /// The address of the zone's first block header. What the zone shows is a sound heap, and its addresses have 24
@@ -146,11 +266,43 @@ impl Zone {
     {
         self.pointers.image()
     }
+
+    /// Gives a handle or a pointer that has a block `length` bytes where the block is.
+    fn resize(&mut self, block: u32, length: u32) -> Result<(), NoRoom>
+        requires block { IsTrue (has_block self.old.heap.table block) }
+        requires size { length ≤ max_size }
+        ensures sound { Sound self.old.shape self.old.heap }
+        ensures resized { MatchResult result
+            (λ _. (resized_there self.old.shape block length self.old.heap ≡ Some self.new.heap) × (self.new.shape ≡ self.old.shape))
+            (λ _. (resized_there self.old.shape block length self.old.heap ≡ None) × (self.new ≡ self.old)) }
+    {
+        let needed = need(length);
+        let at = self.pointers.place_of(block);
+        let size = self.pointers.entry_at(at).size;
+        if needed <= size {
+            shrink(&mut self.pointers, block, needed, length);
+            return Ok(());
+        }
+        let spec = self.pointers.spec();
+        prove!(spec.limit() <= LARGEST_LIMIT);
+        let whole = size + free_behind(&self.pointers, at);
+        if whole < needed {
+            return Err(NoRoom);
+        }
+        let taken = front(&self.pointers, whole, needed);
+        self.pointers.grow(block, taken, length);
+        Ok(())
+    }
 }
 
-ghost use Rattle.std.specs.Prelude.{◌≡◌, ◌+◌, ◌-◌, ◌≤◌, ◌<◌, IsTrue};
-ghost use Rattle.mac_base.specs.Suits.{is_block_size};
-ghost use Rattle.master_ptrs.specs.Places.{FreeAt};
+ghost use Rattle.std.specs.Prelude.{◌≡◌, ◌-◌, ◌≤◌, IsTrue, Some, if◌then◌else◌, nat_lt};
+ghost use Rattle.mac_base.specs.HandleTable.{has_block};
+ghost use Rattle.mac_base.specs.HeadKind.{need, smallest_block};
+ghost use Rattle.mac_base.specs.Request.{size_of};
+ghost use Rattle.mac_base.specs.Serve.{free_in_front};
+ghost use Rattle.mac_base.specs.Sound.{Sound};
+ghost use Rattle.master_ptrs.specs.Places.{EntryAt};
+ghost use Rattle.zone_heap.specs.Placed.{resized_there};
 ghost use Rattle.zone_heap.specs.Joins.{CanTake, NewlyFree, with_front, all_joined};
 
 /// Cuts a free block to its first `size` bytes, unless fewer bytes than a block has would be left.
@@ -179,5 +331,54 @@ fn join(pointers: &mut MasterPointers, at: u32)
         if pointers.entry_at(last).kind.is_free() {
             pointers.merge(last);
         }
+    }
+}
+
+/// The size of the free block right behind the one at an address, and 0 where none stands there.
+fn free_behind(pointers: &MasterPointers, at: u32) -> u32
+    requires sound { Sound pointers.now.shape pointers.now.heap }
+    requires there { EntryAt pointers.now at }
+    ensures { (e : EntryAt pointers.now at) → result ≡ free_in_front e.behind }
+{
+    if let Some(next) = pointers.behind(at) {
+        let entry = pointers.entry_at(next);
+        if entry.kind.is_free() {
+            return entry.size;
+        }
+    }
+    0
+}
+
+/// How many of `whole` bytes a block takes that needs `needed` of them: so many, unless fewer bytes than a block has
+/// would be left.
+fn front(pointers: &MasterPointers, whole: u32, needed: u32) -> u32
+    requires { needed ≤ whole }
+    ensures { result ≡ (if nat_lt (whole - needed) (smallest_block pointers.now.shape.heads) then whole else needed) }
+{
+    if whole - needed < pointers.spec().heads().smallest_block() {
+        whole
+    } else {
+        needed
+    }
+}
+
+/// Gives the owner of a block `length` bytes, which need `needed` bytes of the block. What is over is free where it makes
+/// a block, and joined to the free block behind it.
+fn shrink(pointers: &mut MasterPointers, block: u32, needed: u32, length: u32)
+    requires sound { Sound pointers.old.shape pointers.old.heap }
+    requires block { IsTrue (has_block pointers.old.heap.table block) }
+    requires needed { needed ≡ need pointers.old.shape.heads length }
+    requires fits { needed ≤ size_of block pointers.old.heap.map }
+    ensures heap { resized_there pointers.old.shape block length pointers.old.heap ≡ Some pointers.new.heap }
+    ensures shape { pointers.new.shape ≡ pointers.old.shape }
+{
+    let spec = pointers.spec();
+    prove!(spec.base() + spec.limit() <= ADDRESS_END);
+    let at = pointers.place_of(block);
+    let whole = pointers.entry_at(at).size;
+    let taken = front(pointers, whole, needed);
+    pointers.hold(block, taken, length);
+    if taken < whole {
+        join(pointers, at + taken);
     }
 }

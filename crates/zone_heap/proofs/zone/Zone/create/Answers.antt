@@ -1,9 +1,7 @@
-use Rattle.std.proofs.Common.{sym, subst}
+use Rattle.std.proofs.Common.{ap, sym, subst}
 use Rattle.mac_base.specs.ZoneState.{ZoneState}
-use Rattle.mac_base.specs.BlockStatus.{HandlesAlone}
 use Rattle.mac_base.specs.Sound.{Sound}
 use Rattle.mac_base.proofs.SoundNew.{sound-new}
-use Rattle.zone_heap.proofs.Alone.{alone-new}
 use Rattle.zone_heap.proofs.NewZone.{Begun, new-cut, new-room, new-heap}
 use Rattle.zone_heap.proofs.zone.Zone.create.Goals as goal
 use Rattle.zone_heap.proofs.zone.Zone.create.Goals.{After-need}
@@ -26,5 +24,5 @@ invariant_of-result c =
     let is = new-heap c.args.spec c.in_ok-pointers.pointers c.split.new.self c.build_master.new.self c.base-first.result c.need.result (begun (goal.at.invariant_of-result c).After-need) c.split.ensures c.build_master.ensures in
     record {
       sound = subst (λ (z : ZoneState). Sound z.shape z.heap) (sym is) (sound-new c.args.spec c.base-first.ensures.possible);
-      alone = subst (λ (z : ZoneState). HandlesAlone z.heap.table) (sym is) alone-new;
+      unlent = ap (λ (z : ZoneState). z.heap.table.lent) is;
     }

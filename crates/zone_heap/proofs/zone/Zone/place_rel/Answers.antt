@@ -3,11 +3,10 @@ use Rattle.std.specs.List.{list_all}
 use Rattle.mac_base.specs.HeadKind.{need}
 use Rattle.mac_base.specs.ZoneMap.{has_free}
 use Rattle.mac_base.specs.ZoneState.{ZoneState}
-use Rattle.mac_base.specs.BlockStatus.{HandlesAlone}
 use Rattle.mac_base.specs.Sound.{Sound}
 use Rattle.zone_heap.specs.Placed.{placed_lowest}
 use Rattle.zone_heap.proofs.NewZone.{heads-bits24}
-use Rattle.zone_heap.proofs.Placing.{Chosen, placed-full, placed-there, placed-sound, placed-alone, can-cut, can-point-empty, can-point-room, placed-done}
+use Rattle.zone_heap.proofs.Placing.{Chosen, placed-full, placed-there, placed-sound, can-cut, can-point-empty, can-point-room, placed-done}
 use Rattle.zone_heap.proofs.zone.Zone.place_rel.Goals as goal
 use Rattle.zone_heap.proofs.zone.Zone.place_rel.Goals.{In-Some-take, After-point}
 
@@ -46,7 +45,7 @@ invariant_of-self-2 c =
     let is = placed-done z c.take.new.self c.cut.new.pointers c.point.new.self h n k at p c.in-Some-take.ensures.1 c.cut.ensures c.point.ensures in
     record {
       sound = subst (λ (w : ZoneState). Sound w.shape w.heap) (sym is) (placed-sound z h n k at p);
-      alone = subst (λ (w : ZoneState). HandlesAlone w.heap.table) (sym is) (placed-alone z h n k at p c.self.invariant.alone);
+      unlent = ap (λ (w : ZoneState). w.heap.table.lent) is ∙ c.self.invariant.unlent;
     }
 
 pub returns-clause-placed : goal.returns-clause-placed

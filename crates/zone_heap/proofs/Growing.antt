@@ -1,0 +1,135 @@
+-- A block made longer where it stands, by the bytes of the free block right behind it.
+use Rattle.std.proofs.Common.{◌≡◌, ℕ, ◌+◌, ◌-◌, ◌<◌, ◌≤◌, Bool, true, false, cond, [], ◌∷◌, ◌++◌, Some, None, Option, refl, ap, sym, ◌∙◌, arith, subst, append_assoc, IsTrue}
+use Rattle.std.specs.Prelude.{◌&&◌, ◌==◌, ◌%◌, nat_le, nat_lt}
+use Rattle.std.specs.List.{list_all}
+use Rattle.std.proofs.lemmas.Bool.Decides.{nat_tests}
+use Rattle.mac_base.specs.declared.block.Entry.{Entry}
+use Rattle.mac_base.specs.declared.block.Kind.TheVariants.{Free}
+use Rattle.mac_base.specs.HeadKind.{smallest_block}
+use Rattle.mac_base.specs.Heap.{granted}
+use Rattle.mac_base.specs.Request.{Resize}
+use Rattle.mac_base.specs.ZoneMap.{ZoneMap, block, free_block, free_size, is_free, total_size}
+use Rattle.mac_base.specs.Serve.{taken, cut, free_in_front, behind_free}
+use Rattle.mac_base.specs.Suits.{is_block_size}
+use Rattle.mac_base.specs.ZoneState.{ZoneState}
+use Rattle.mac_base.proofs.Maps.{total_size-append}
+use Rattle.mac_base.proofs.ResizedBlocks.{free_in_front-is}
+use Rattle.master_ptrs.specs.Changes.{enlarged}
+use Rattle.master_ptrs.specs.Places.{EntryAt, CanGrow}
+use Rattle.zone_heap.specs.Placed.{resized_there}
+use Rattle.zone_heap.proofs.Places.{total_size-behind, large-size}
+use Rattle.zone_heap.proofs.Sizing.{Standing, resized_zone, resized-there, not-resized, can-front, free-rest, here-size}
+use Rattle.zone_heap.proofs.Taking.{front_size, taken-parts, all-there}
+
+-- what stands behind a block by its address are the free bytes in front of those behind it
+pub free-behind : (z : ZoneState) (at next : ℕ) (e : EntryAt z at) (entry : Entry) → IsTrue (list_all (λ (e : Entry). is_block_size z.shape e.size) z.heap.map) → next ≡ at + e.here.size → EntryAt z next
+    → ((o : EntryAt z next) → entry ≡ o.here) → free_in_front e.behind ≡ free_size entry
+free-behind z at next e entry sizes there other read = by_behind e.behind refl
+  where
+    some : (m : ℕ) → nat_lt 0 m ≡ true → 0 < m
+    some m h = grind (arith, nat_tests)
+
+    by_behind : (m : ZoneMap) → e.behind ≡ m → free_in_front m ≡ free_size entry
+    by_behind [] is =
+        let possible : Entry → Bool = λ e. is_block_size z.shape e.size in
+        let all : total_size e.before + (e.here.size + 0) ≡ total_size other.before + (other.here.size + total_size other.behind) =
+        sym (total_size-append e.before (e.here ∷ [])) ∙ ap (λ m. total_size (e.before ++ e.here ∷ m)) (sym is) ∙ ap total_size (sym e.map ∙ other.map) ∙ total_size-append other.before (other.here ∷ other.behind) in
+        let large = some other.here.size (large-size z.shape other.here.size (all-there possible other.before other.here other.behind (subst (λ m. IsTrue (list_all possible m)) other.map sizes))) in
+        absurd (omega (arith, e.place, other.place))
+    by_behind (f ∷ fs) is = ap free_size (sym (read (record {
+      before = e.before ++ e.here ∷ [];
+      here = f;
+      behind = fs;
+      map = e.map ∙ ap (λ m. e.before ++ e.here ∷ m) is ∙ sym (append_assoc e.before (e.here ∷ []) (f ∷ fs));
+      place = (let all = total_size-behind e.before e.here in let start = e.place in omega arith);
+    })))
+
+-- the free bytes in front are among all
+pub free-within : (m : ZoneMap) → free_in_front m ≤ total_size m
+free-within [] = omega arith
+free-within (e ∷ es) = elim (is_free e.kind) as (λ c. cond c e.size 0 ≤ e.size + total_size es) [
+  | true ↦ omega arith
+  | false ↦ omega arith
+]
+
+-- two possible sizes make one
+sum_size : (small m n : ℕ) → ((m % 4 == 0) && nat_le small m) ≡ true → ((n % 4 == 0) && nat_le small n) ≡ true → (((m + n) % 4 == 0) && nat_le small (m + n)) ≡ true
+sum_size small m n a b = grind (arith, nat_tests)
+
+-- a number is not at most a smaller one
+not_least : (k m : ℕ) → m < k → nat_le k m ≡ false
+not_least k m h = grind (arith, nat_tests)
+
+-- and at most a larger one
+least : (k m : ℕ) → k ≤ m → nat_le k m ≡ true
+least k m h = grind (arith, nat_tests)
+
+module _ (z : ZoneState) (x n k at : ℕ) (b : Standing z x n k at) (more : b.named.here.size < k) where
+  -- the bytes of the block and the free ones right behind it
+  abbrev pub whole : ℕ
+  whole = b.named.here.size + free_in_front b.named.behind
+
+  -- it can't be so long where they are too few
+  pub too-few : whole < k → resized_there z.shape x n z.heap ≡ None
+  too-few few =
+      let es = b.named.behind in
+      let longer : Option ZoneMap = Some (taken z.shape k b.named.here.kind whole ++ behind_free es) in
+      not-resized z x n k at b
+      (ap (λ c. cond c (Some (cut z.shape k b.named.here es)) (cond (nat_le k whole) longer None)) (not_least k b.named.here.size more) ∙ ap (λ c. cond c longer None) (not_least k whole few))
+
+  module _ (enough : k ≤ whole) where
+    -- the blocks where they are taken
+    abbrev pub grown_blocks : ZoneMap
+    grown_blocks = taken z.shape k b.named.here.kind whole ++ behind_free b.named.behind
+
+    -- a free block stands behind it
+    pub free_there : z.heap.map ≡ b.named.before ++ b.named.here ∷ block Free (free_in_front b.named.behind) ∷ behind_free b.named.behind
+    free_there = b.named.map ∙ ap (λ m. b.named.before ++ b.named.here ∷ m) (free_in_front-is b.named.behind (omega arith))
+
+    -- both sizes are possible, and so is their sum
+    pub whole-size : IsTrue (is_block_size z.shape whole)
+    whole-size =
+        let possible : Entry → Bool = λ e. is_block_size z.shape e.size in
+        let free = free_in_front b.named.behind in
+        let parted = free_there ∙ sym (append_assoc b.named.before (b.named.here ∷ []) (block Free free ∷ behind_free b.named.behind)) in
+        sum_size (smallest_block z.shape.heads) b.named.here.size free (here-size z x n k at b)
+        (all-there possible (b.named.before ++ b.named.here ∷ []) (block Free free) (behind_free b.named.behind) (subst (λ m. IsTrue (list_all possible m)) parted b.sound.suits.sizes))
+
+    -- so the block can grow
+    abbrev pub can-grow : CanGrow z x (front_size z.shape k whole) n
+    can-grow = record {
+      before = b.named.before;
+      here = b.named.here;
+      free = free_in_front b.named.behind;
+      behind = behind_free b.named.behind;
+      map = free_there;
+      named = b.named.named;
+      larger = larger (nat_lt (whole - k) (smallest_block z.shape.heads));
+      fits = can-front z.shape n k whole b.size enough whole-size;
+    }
+      where
+        larger : (c : Bool) → b.named.here.size ≤ cond c whole k
+        larger true = omega arith
+        larger false = omega arith
+
+    -- which makes the blocks those
+    grown : enlarged z can-grow ≡ resized_zone z x n k at b grown_blocks
+    grown =
+        let state = λ (m : ZoneMap). let new : ZoneState = record { shape = z.shape; heap = granted (Resize x n) x m z.heap } in new in
+        let first = block b.named.here.kind (front_size z.shape k whole) in
+        let rest = free_block (whole - front_size z.shape k whole) in
+        ap state (append_assoc b.named.before (first ∷ rest) (behind_free b.named.behind))
+        ∙ ap (λ rest. state (b.named.before ++ first ∷ (rest ++ behind_free b.named.behind))) (free-rest z.shape k whole)
+        ∙ ap (λ m. state (b.named.before ++ m)) (sym (taken-parts z.shape k b.named.here.kind whole (behind_free b.named.behind)))
+
+    -- once it has grown the blocks are those
+    pub grown-done : (size : ℕ) (new : ZoneState) → size ≡ front_size z.shape k whole → ((can : CanGrow z x size n) → new ≡ enlarged z can) → new ≡ resized_zone z x n k at b grown_blocks
+    grown-done size new is grow = subst (λ size. (can : CanGrow z x size n) → new ≡ enlarged z can) is grow can-grow ∙ grown
+
+    -- so the block is as long as it is to be
+    pub grown-there : (new : ZoneState) → new ≡ resized_zone z x n k at b grown_blocks → resized_there z.shape x n z.heap ≡ Some new.heap
+    grown-there new is =
+        let es = b.named.behind in
+        resized-there z x n k at b grown_blocks new
+        (ap (λ c. cond c (Some (cut z.shape k b.named.here es)) (cond (nat_le k whole) (Some grown_blocks) None)) (not_least k b.named.here.size more) ∙ ap (λ c. cond c (Some grown_blocks) None) (least k whole enough))
+        is

@@ -1,0 +1,22 @@
+-- Bytes written in the block of a handle or a pointer.
+use Rattle.std.proofs.Common.{◌≡◌, ℕ, Bool, true, false, cond, List, length, take, drop, refl, ◌∙◌, arith, length-append, length-drop}
+use Rattle.std.specs.Prelude.{◌||◌}
+use Rattle.std.proofs.lemmas.List.{length-take}
+use Rattle.mac_base.specs.declared.block.Status.TheVariants.{NotLive, Empty, Lent, Full}
+use Rattle.mac_base.specs.BlockStatus.{status_of}
+use Rattle.mac_base.specs.HandleTable.{HandleTable, has_block, is_handle, is_lent, is_pointer}
+use Rattle.mac_base.specs.ZoneState.{overwritten}
+
+-- what is full has a block
+pub full-has_block : (t : HandleTable) (x : ℕ) → status_of t x ≡ Full → has_block t x ≡ true
+full-has_block t x is = by_tests (is_handle t x || is_pointer t x) (has_block t x) is
+  where
+    by_tests : (live has : Bool) → cond live (cond has (cond (is_lent t x) Lent Full) Empty) NotLive ≡ Full → has ≡ true
+    by_tests true true is = refl
+    by_tests true false is = absurd (cc is)
+    by_tests false true is = refl
+    by_tests false false is = absurd (cc is)
+
+-- there are as many bytes as before
+pub length-overwritten : (old others : List ℕ) → length (overwritten old others) ≡ length old
+length-overwritten old others = length-append (take (length old) others) (drop (length others) old) ∙ omega (arith, length-take (length old) others, length-drop (length others) old)
