@@ -1,1 +1,6 @@
+pub mod Attempts
+pub mod BlockLength
 pub mod NewHandles
+pub mod Passing
+pub mod Resizing
+pub mod StateBits

@@ -1,23 +1,22 @@
--- NewHandle by the lowest free block is a step.
-use Rattle.std.proofs.Common.{◌≡◌, ℕ, ◌≤◌, true, cond, List, [], ◌∷◌, Some, None, Option, refl, ap, sym, ◌∙◌, subst, arith}
-use Rattle.std.specs.Prelude.{option_map, slice_index, nat_le}
-use Rattle.std.specs.Option.{option_or}
-use Rattle.std.proofs.lemmas.Bool.Decides.{nat_tests}
-use Rattle.mac_base.specs.declared.error.OsErr.TheVariants.{ParamErr, MemFullErr}
+-- New handles by the front free slot and the lowest free block are steps.
+use Rattle.std.proofs.Common.{◌≡◌, ℕ, cond, List, [], ◌∷◌, Some, None, Option, refl, ap, sym, ◌∙◌, subst}
+use Rattle.std.specs.Prelude.{option_map, slice_index}
+use Rattle.mac_base.specs.declared.error.OsErr.TheVariants.{MemFullErr}
 use Rattle.mac_base.specs.declared.block.Kind.TheVariants.{Rel}
 use Rattle.mac_base.specs.HeadKind.{Shape, need}
 use Rattle.mac_base.specs.ZoneMap.{ZoneMap}
 use Rattle.mac_base.specs.Heap.{Heap, front_slot, granted}
-use Rattle.mac_base.specs.Request.{NewBlock}
+use Rattle.mac_base.specs.Request.{NewBlock, NewEmpty}
 use Rattle.mac_base.specs.Serve.{take_lowest}
 use Rattle.mac_base.specs.Sound.{Sound}
-use Rattle.mac_base.specs.MemoryCall.{NewHandle, refusal, max_size, unless_passed}
+use Rattle.mac_base.specs.MemoryCall.{NewHandle, NewEmptyHandle, refusal}
 use Rattle.mac_base.specs.Reply.{Number, Refused}
 use Rattle.mac_base.specs.MemoryStep.{StepBy}
 use Rattle.mac_base.specs.FirstRuns.{UnmovedRun}
 use Rattle.mac_base.specs.ExactStep.{has_none}
+use Rattle.mac_base.proofs.MoreSteps.{step-NewEmptyHandle, step-NewEmptyHandle_no_slot}
 use Rattle.mac_base.proofs.Steps.{step-NewHandle, step-NewHandle_no_slot, step-NewHandle_no_room}
-use Rattle.zone_heap.specs.Placed.{placed_lowest}
+use Rattle.zone_heap.specs.Placed.{placed_lowest, placed_empty}
 
 -- the handle and the heap that a map gives
 abbrev placed_in : Heap → ℕ → ZoneMap → ℕ × Heap
@@ -61,6 +60,28 @@ step-not_placed s old n sound passed none = by_slots old.free_slots refl
         by_map None missed = step-NewHandle_no_room s old (front_slot old) n passed missed
         by_map (Some m) found = absurd (cc (sym none ∙ ap (λ free. placed_by old n free (take_lowest s (need s.heads n) (Rel (front_slot old)) old.map)) front ∙ ap (placed_by old n (x ∷ xs)) found))
 
--- a possible size is not refused
-pub refusal-NewHandle : (s : Shape) (old : Heap) (n : ℕ) → n ≤ max_size → refusal s old (NewHandle n) ≡ None
-refusal-NewHandle s old n small = ap (λ b. option_or (unless_passed ParamErr b) None) (let e : nat_le n max_size ≡ true = grind (arith, nat_tests) in e)
+-- an empty handle, by the free slots
+abbrev empty_by : Heap → List ℕ → Option (ℕ × Heap)
+empty_by old free = cond (has_none free) None (Some (front_slot old, granted NewEmpty (front_slot old) old.map old))
+
+-- a new empty handle takes the front slot
+pub step-placed_empty : (s : Shape) (old new : Heap) (h : ℕ) → Sound s old → placed_empty old ≡ Some (h, new) → StepBy UnmovedRun s old NewEmptyHandle [] (Number h) new
+step-placed_empty s old new h sound is = by_slots old.free_slots refl
+  where
+    by_slots : (free : List ℕ) → old.free_slots ≡ free → StepBy UnmovedRun s old NewEmptyHandle [] (Number h) new
+    by_slots [] front = absurd (cc (sym is ∙ ap (empty_by old) front))
+    by_slots (x ∷ xs) front =
+        let given : Some (front_slot old, granted NewEmpty (front_slot old) old.map old) ≡ Some (h, new) = sym (ap (empty_by old) front) ∙ is in
+        subst (λ (p : ℕ × Heap). StepBy UnmovedRun s old NewEmptyHandle [] (Number p.0) p.1) (same (front_slot old, granted NewEmpty (front_slot old) old.map old) (h, new) given)
+        (step-NewEmptyHandle s old (front_slot old) xs sound (front_is old x xs front))
+      where
+        same : (a b : ℕ × Heap) → Some a ≡ Some b → a ≡ b
+        same a b e = cc
+
+-- where there is no slot the call has no room
+pub step-not_placed_empty : (s : Shape) (old : Heap) → Sound s old → placed_empty old ≡ None → StepBy UnmovedRun s old NewEmptyHandle [] (Refused MemFullErr) old
+step-not_placed_empty s old sound none = by_slots old.free_slots refl
+  where
+    by_slots : (free : List ℕ) → old.free_slots ≡ free → StepBy UnmovedRun s old NewEmptyHandle [] (Refused MemFullErr) old
+    by_slots [] front = step-NewEmptyHandle_no_slot s old sound front
+    by_slots (x ∷ xs) front = absurd (cc (sym none ∙ ap (empty_by old) front))

@@ -2,5 +2,6 @@
 #![tactic(auto)]
 
 mod manager;
+mod state;
 
 pub use manager::MemoryManager;

@@ -1,6 +1,11 @@
-use mac_base::block::{Block, Status};
+ghost use Rattle.std.specs.Prelude.{◌≡◌};
+ghost use Rattle.mac_base.specs.declared.error.OsErr.TheVariants.{MemFullErr};
+ghost use Rattle.mem_calls.specs.Testing.{TestsSize};
+
+use crate::state::{flags_from, state_of};
+use mac_base::block::{Block, Flags, Status};
 use mac_base::error::{HostFull, OsErr};
-use mac_base::handle::Handle;
+use mac_base::handle::{Handle, Ptr};
 use mac_base::size::MAX_SIZE;
 use mac_base::zone_spec::ZoneSpec;
 use std::alloc::Global;
@@ -23,19 +28,21 @@ impl Model for MemoryManager {
 }
 
 impl MemoryManager {
-    ghost use Rattle.std.specs.Prelude.{◌≡◌, ◌+◌, ◌≤◌, IfOk, IsTrue, []};
+    ghost use Rattle.std.specs.Prelude.{◌≡◌, ◌+◌, ◌≤◌, ◌∷◌, IfOk, [], length};
     ghost use Rattle.std.specs.Borrow.{sem};
     ghost use Rattle.mac_base.specs.BlockStatus.{status_of};
     ghost use Rattle.mac_base.specs.FirstRuns.{UnmovedRun};
-    ghost use Rattle.mac_base.specs.HandleTable.{bytes_of, is_handle};
+    ghost use Rattle.mac_base.specs.HandleTable.{bytes_of, flags_of};
     ghost use Rattle.mac_base.specs.Heap.{new_heap};
-    ghost use Rattle.mac_base.specs.MemoryCall.{NewHandle, DisposeHandle};
+    ghost use Rattle.mac_base.specs.MemoryCall.{NewHandle, NewEmptyHandle, NewPtr, DisposeHandle, DisposePtr, EmptyHandle, SetHandleSize, GetHandleSize, SetPtrSize, GetPtrSize, HLock, HUnlock, HPurge, HNoPurge, HSetRBit, HClrRBit, HGetState, HSetState, Deref};
+    ghost use Rattle.mac_base.specs.MemoryCall.{IsHandle, IsPointer, NotEmpty};
     ghost use Rattle.mac_base.specs.MemoryStep.{StepBy};
     ghost use Rattle.mac_base.specs.Reply.{number_reply, done_reply, report_at};
     ghost use Rattle.mac_base.specs.Sound.{Sound};
     ghost use Rattle.mac_base.specs.ZoneSizes.{shape_of};
     ghost use Rattle.mac_base.specs.ZoneMap.{address_behind};
     ghost use Rattle.mem_calls.specs.Lending.{LendsContents};
+    ghost use Rattle.mem_calls.specs.Testing.{Tests, FindsUnlent};
 
     /// A new zone: a master block with 64 free slots, and the rest free. It takes all the memory that the zone will
     /// ever need.
@@ -54,38 +61,225 @@ impl MemoryManager {
         ensures step { StepBy UnmovedRun self.old.shape self.old.heap (NewHandle size) [] (number_reply result) self.new.heap }
         ensures shape { self.new.shape ≡ self.old.shape }
     {
-        if size > MAX_SIZE {
-            return Err(OsErr::ParamErr);
-        }
-        match self.zone.place_rel(size) {
-            Ok(handle) => Ok(handle),
-            Err(NoRoom) => Err(OsErr::MemFullErr),
-        }
+        test_size(size)?;
+        self.zone.place_rel(size).map_err(no_room)
     }
 
-    /// DisposeHandle: the handle's block is free and its slot is the next to be given. nilHandleErr where the handle
-    /// is 0, memWZErr where it isn't live (Inside Macintosh: Memory, Allocating and Releasing Relocatable Blocks of
-    /// Memory).
+    /// NewEmptyHandle: a new handle without a block. memFullErr where no slot is free (Inside Macintosh: Memory,
+    /// Allocating and Releasing Relocatable Blocks of Memory).
+    pub fn new_empty_handle(&mut self) -> Result<Handle, OsErr>
+        ensures step { StepBy UnmovedRun self.old.shape self.old.heap NewEmptyHandle [] (number_reply result) self.new.heap }
+        ensures shape { self.new.shape ≡ self.old.shape }
+    {
+        self.zone.place_empty().map_err(no_room)
+    }
+
+    /// NewPtr: a new nonrelocatable block of `size` zero bytes, in the lowest free block that has room. paramErr where
+    /// `size` is over 8,388,608; memFullErr where no free block has room (Inside Macintosh: Memory, Allocating and
+    /// Releasing Nonrelocatable Blocks of Memory).
+    pub fn new_ptr(&mut self, size: u32) -> Result<Ptr, OsErr>
+        ensures step { StepBy UnmovedRun self.old.shape self.old.heap (NewPtr size) [] (number_reply result) self.new.heap }
+        ensures shape { self.new.shape ≡ self.old.shape }
+    {
+        test_size(size)?;
+        self.zone.place_fix(size).map_err(no_room)
+    }
+
+    /// DisposeHandle: the handle's block, if it has one, is free, and its slot is the next to be given. nilHandleErr
+    /// where the handle is 0, memWZErr where it isn't live (Inside Macintosh: Memory, Allocating and Releasing
+    /// Relocatable Blocks of Memory).
     pub fn dispose_handle(&mut self, handle: Handle) -> Result<(), OsErr>
         ensures step { StepBy UnmovedRun self.old.shape self.old.heap (DisposeHandle handle) [] (done_reply result) self.new.heap }
         ensures shape { self.new.shape ≡ self.old.shape }
     {
-        if handle.number() == 0 {
-            return Err(OsErr::NilHandleErr);
-        }
-        if !self.zone.is_live(handle) {
-            return Err(OsErr::MemWzErr);
-        }
+        self.test_handle(handle)?;
         self.zone.release(handle);
         Ok(())
+    }
+
+    /// DisposePtr: the pointer's block is free. memWZErr where the pointer isn't live (Inside Macintosh: Memory,
+    /// Allocating and Releasing Nonrelocatable Blocks of Memory).
+    pub fn dispose_ptr(&mut self, pointer: Ptr) -> Result<(), OsErr>
+        ensures step { StepBy UnmovedRun self.old.shape self.old.heap (DisposePtr pointer) [] (done_reply result) self.new.heap }
+        ensures shape { self.new.shape ≡ self.old.shape }
+    {
+        self.test_pointer(pointer)?;
+        self.zone.release_pointer(pointer);
+        Ok(())
+    }
+
+    /// EmptyHandle: the handle's block is free, and the handle stays live; an empty handle stays as it is. nilHandleErr
+    /// where the handle is 0, memWZErr where it isn't live, memPurErr where it is locked (Inside Macintosh: Memory,
+    /// Managing Relocatable Blocks).
+    pub fn empty_handle(&mut self, handle: Handle) -> Result<(), OsErr>
+        ensures step { StepBy UnmovedRun self.old.shape self.old.heap (EmptyHandle handle) [] (done_reply result) self.new.heap }
+        ensures shape { self.new.shape ≡ self.old.shape }
+    {
+        self.test_handle(handle)?;
+        if self.zone.flags(handle).lock {
+            return Err(OsErr::MemPurErr);
+        }
+        self.zone.empty(handle);
+        Ok(())
+    }
+
+    /// SetHandleSize: gives the handle's block `size` bytes where it is; bytes that are added are zero. nilHandleErr
+    /// where the handle is 0 or empty, memWZErr where it isn't live, paramErr where `size` is over 8,388,608, memFullErr
+    /// where neither the block nor the free one right behind it has room (Inside Macintosh: Memory, Changing
+    /// the Sizes of Relocatable and Nonrelocatable Blocks).
+    pub fn set_handle_size(&mut self, handle: Handle, size: u32) -> Result<(), OsErr>
+        ensures step { StepBy UnmovedRun self.old.shape self.old.heap (SetHandleSize handle size) [] (done_reply result) self.new.heap }
+        ensures shape { self.new.shape ≡ self.old.shape }
+    {
+        self.test_full(handle)?;
+        test_size(size)?;
+        self.zone.resize_rel(handle, size).map_err(no_room)
+    }
+
+    /// GetHandleSize: the bytes of the handle's block. nilHandleErr where the handle is 0 or empty, memWZErr where it
+    /// isn't live (Inside Macintosh: Memory, Changing the Sizes of Relocatable and Nonrelocatable Blocks).
+    pub fn get_handle_size(&self, handle: Handle) -> Result<u32, OsErr>
+        ensures step { StepBy UnmovedRun self.now.shape self.now.heap (GetHandleSize handle) [] (number_reply result) self.now.heap }
+    {
+        self.test_full(handle)?;
+        Ok(self.length(handle.number()))
+    }
+
+    /// SetPtrSize: gives the pointer's block `size` bytes where it is; bytes that are added are zero. memWZErr where the
+    /// pointer isn't live, paramErr where `size` is over 8,388,608, memFullErr where neither the block nor the free one
+    /// right behind it has room (Inside Macintosh: Memory, Changing the Sizes of Relocatable and Nonrelocatable Blocks).
+    pub fn set_ptr_size(&mut self, pointer: Ptr, size: u32) -> Result<(), OsErr>
+        ensures step { StepBy UnmovedRun self.old.shape self.old.heap (SetPtrSize pointer size) [] (done_reply result) self.new.heap }
+        ensures shape { self.new.shape ≡ self.old.shape }
+    {
+        self.test_pointer(pointer)?;
+        test_size(size)?;
+        self.zone.resize_fix(pointer, size).map_err(no_room)
+    }
+
+    /// GetPtrSize: the bytes of the pointer's block. memWZErr where the pointer isn't live (Inside Macintosh: Memory,
+    /// Changing the Sizes of Relocatable and Nonrelocatable Blocks).
+    pub fn get_ptr_size(&self, pointer: Ptr) -> Result<u32, OsErr>
+        ensures step { StepBy UnmovedRun self.now.shape self.now.heap (GetPtrSize pointer) [] (number_reply result) self.now.heap }
+    {
+        self.test_pointer(pointer)?;
+        Ok(self.length(pointer.number()))
+    }
+
+    /// HLock: the block stays where it is until HUnlock. nilHandleErr where the handle is 0 or empty, memWZErr where it
+    /// isn't live (Inside Macintosh: Memory, Setting the Properties of Relocatable Blocks).
+    pub fn hlock(&mut self, handle: Handle) -> Result<(), OsErr>
+        ensures step { StepBy UnmovedRun self.old.shape self.old.heap (HLock handle) [] (done_reply result) self.new.heap }
+        ensures shape { self.new.shape ≡ self.old.shape }
+    {
+        let mut flags = self.flags(handle)?;
+        flags.lock = true;
+        self.zone.set_flags(handle, flags);
+        Ok(())
+    }
+
+    /// HUnlock: the block may be moved again. nilHandleErr where the handle is 0 or empty, memWZErr where it isn't live
+    /// (Inside Macintosh: Memory, Setting the Properties of Relocatable Blocks).
+    pub fn hunlock(&mut self, handle: Handle) -> Result<(), OsErr>
+        ensures step { StepBy UnmovedRun self.old.shape self.old.heap (HUnlock handle) [] (done_reply result) self.new.heap }
+        ensures shape { self.new.shape ≡ self.old.shape }
+    {
+        let mut flags = self.flags(handle)?;
+        flags.lock = false;
+        self.zone.set_flags(handle, flags);
+        Ok(())
+    }
+
+    /// HPurge: the block may be purged where it isn't locked. nilHandleErr where the handle is 0 or empty, memWZErr where
+    /// it isn't live (Inside Macintosh: Memory, Setting the Properties of Relocatable Blocks).
+    pub fn hpurge(&mut self, handle: Handle) -> Result<(), OsErr>
+        ensures step { StepBy UnmovedRun self.old.shape self.old.heap (HPurge handle) [] (done_reply result) self.new.heap }
+        ensures shape { self.new.shape ≡ self.old.shape }
+    {
+        let mut flags = self.flags(handle)?;
+        flags.purge = true;
+        self.zone.set_flags(handle, flags);
+        Ok(())
+    }
+
+    /// HNoPurge: the block may not be purged. nilHandleErr where the handle is 0 or empty, memWZErr where it isn't live
+    /// (Inside Macintosh: Memory, Setting the Properties of Relocatable Blocks).
+    pub fn hno_purge(&mut self, handle: Handle) -> Result<(), OsErr>
+        ensures step { StepBy UnmovedRun self.old.shape self.old.heap (HNoPurge handle) [] (done_reply result) self.new.heap }
+        ensures shape { self.new.shape ≡ self.old.shape }
+    {
+        let mut flags = self.flags(handle)?;
+        flags.purge = false;
+        self.zone.set_flags(handle, flags);
+        Ok(())
+    }
+
+    /// HSetRBit: the block has the contents of a resource. nilHandleErr where the handle is 0 or empty, memWZErr where it
+    /// isn't live (Inside Macintosh: Memory, Setting the Properties of Relocatable Blocks).
+    pub fn hset_rbit(&mut self, handle: Handle) -> Result<(), OsErr>
+        ensures step { StepBy UnmovedRun self.old.shape self.old.heap (HSetRBit handle) [] (done_reply result) self.new.heap }
+        ensures shape { self.new.shape ≡ self.old.shape }
+    {
+        let mut flags = self.flags(handle)?;
+        flags.resource = true;
+        self.zone.set_flags(handle, flags);
+        Ok(())
+    }
+
+    /// HClrRBit: the block has the contents of no resource. nilHandleErr where the handle is 0 or empty, memWZErr where
+    /// it isn't live (Inside Macintosh: Memory, Setting the Properties of Relocatable Blocks).
+    pub fn hclr_rbit(&mut self, handle: Handle) -> Result<(), OsErr>
+        ensures step { StepBy UnmovedRun self.old.shape self.old.heap (HClrRBit handle) [] (done_reply result) self.new.heap }
+        ensures shape { self.new.shape ≡ self.old.shape }
+    {
+        let mut flags = self.flags(handle)?;
+        flags.resource = false;
+        self.zone.set_flags(handle, flags);
+        Ok(())
+    }
+
+    /// HGetState: the flags of the handle as a number: lock 128, purgeable 64, resource 32, added. nilHandleErr where
+    /// the handle is 0 or empty, memWZErr where it isn't live (Inside Macintosh: Memory, Setting the Properties of
+    /// Relocatable Blocks).
+    pub fn hget_state(&self, handle: Handle) -> Result<u32, OsErr>
+        ensures step { StepBy UnmovedRun self.now.shape self.now.heap (HGetState handle) [] (number_reply result) self.now.heap }
+    {
+        let flags = self.flags(handle)?;
+        Ok(state_of(flags))
+    }
+
+    /// HSetState: sets the three flags as HGetState gives them; other bits say nothing. nilHandleErr where the handle is
+    /// 0 or empty, memWZErr where it isn't live, paramErr where `state` is over 255 (Inside Macintosh: Memory, Setting
+    /// the Properties of Relocatable Blocks).
+    pub fn hset_state(&mut self, handle: Handle, state: u32) -> Result<(), OsErr>
+        ensures step { StepBy UnmovedRun self.old.shape self.old.heap (HSetState handle state) [] (done_reply result) self.new.heap }
+        ensures shape { self.new.shape ≡ self.old.shape }
+    {
+        self.test_full(handle)?;
+        if state > 255 {
+            return Err(OsErr::ParamErr);
+        }
+        self.zone.set_flags(handle, flags_from(state));
+        Ok(())
+    }
+
+    /// The address of the block's contents, which is what the handle's master pointer says. nilHandleErr where the
+    /// handle is 0 or empty, memWZErr where it isn't live (Inside Macintosh: Memory, Relocatable Blocks).
+    pub fn deref(&self, handle: Handle) -> Result<u32, OsErr>
+        ensures step { StepBy UnmovedRun self.now.shape self.now.heap (Deref handle) [] (number_reply result) self.now.heap }
+    {
+        self.test_full(handle)?;
+        Ok(self.zone.contents_address(handle))
     }
 
     /// Whether a number is live, empty or lent.
     pub fn status(&self, block: u32) -> Status
         ensures { result ≡ status_of self.now.heap.table block }
     {
-        if self.zone.is_live(Handle::new(block)) {
+        if self.zone.has_block(block) {
             Status::Full
+        } else if self.zone.is_live(Handle::new(block)) {
+            Status::Empty
         } else {
             Status::NotLive
         }
@@ -96,7 +290,7 @@ impl MemoryManager {
         requires { status_of self.now.heap.table block ≡ Status.Full }
         ensures { result.now ≡ bytes_of self.now.heap.table block }
     {
-        self.zone.bytes(Handle::new(block))
+        self.zone.bytes(block)
     }
 
     /// The bytes of a block that is live, not empty and not lent, to be written.
@@ -105,7 +299,7 @@ impl MemoryManager {
         ensures* writes_back { sem 𝓛 (LendsContents self.entry block result) }
         ensures value { result.now ≡ bytes_of self.old.heap.table block }
     {
-        self.zone.bytes_mut(Handle::new(block))
+        self.zone.bytes_mut(block)
     }
 
     /// The address of the zone's first block header. What the zone shows is a sound heap, and its addresses have 24
@@ -124,4 +318,79 @@ impl MemoryManager {
     {
         self.zone.entry(at)
     }
+
+    /// Tests that a handle is live: nilHandleErr where it is 0, memWZErr where it is another number that isn't live.
+    fn test_handle(&self, handle: Handle) -> Result<(), OsErr>
+        ensures refusal { Tests self.now (IsHandle handle ∷ []) result }
+        ensures unlent { FindsUnlent self.now result }
+    {
+        if handle.number() == 0 {
+            return Err(OsErr::NilHandleErr);
+        }
+        if !self.zone.is_live(handle) {
+            return Err(OsErr::MemWzErr);
+        }
+        Ok(())
+    }
+
+    /// Tests that a handle is live and has a block: nilHandleErr where it is 0 or empty, memWZErr where it is another
+    /// number that isn't live.
+    fn test_full(&self, handle: Handle) -> Result<(), OsErr>
+        ensures refusal { Tests self.now (IsHandle handle ∷ NotEmpty handle ∷ []) result }
+        ensures unlent { FindsUnlent self.now result }
+    {
+        self.test_handle(handle)?;
+        if !self.zone.has_block(handle.number()) {
+            return Err(OsErr::NilHandleErr);
+        }
+        Ok(())
+    }
+
+    /// Tests that a pointer is live: memWZErr where it isn't.
+    fn test_pointer(&self, pointer: Ptr) -> Result<(), OsErr>
+        ensures refusal { Tests self.now (IsPointer pointer ∷ []) result }
+        ensures unlent { FindsUnlent self.now result }
+    {
+        if !self.zone.is_pointer(pointer) {
+            return Err(OsErr::MemWzErr);
+        }
+        Ok(())
+    }
+
+    /// The flags of a handle that is live and has a block. nilHandleErr where it is 0 or empty, memWZErr where it is
+    /// another number that isn't live.
+    fn flags(&self, handle: Handle) -> Result<Flags, OsErr>
+        ensures refusal { Tests self.now (IsHandle handle ∷ NotEmpty handle ∷ []) result }
+        ensures unlent { FindsUnlent self.now result }
+        ensures value { IfOk result (λ flags. flags ≡ flags_of self.now.heap.table handle) }
+    {
+        self.test_full(handle)?;
+        Ok(self.zone.flags(handle))
+    }
+
+    /// How many bytes a block has that is live, not empty and not lent: it lies in a zone whose addresses have 24 bits.
+    fn length(&self, block: u32) -> u32
+        requires { status_of self.now.heap.table block ≡ Status.Full }
+        ensures { result ≡ length (bytes_of self.now.heap.table block) }
+    {
+        let _first = self.first_block();
+        self.contents(block).len() as u32
+    }
+}
+
+/// memFullErr: the zone has no room.
+fn no_room(_: NoRoom) -> OsErr
+    ensures { result ≡ MemFullErr }
+{
+    OsErr::MemFullErr
+}
+
+/// Tests a size: paramErr where it is over 8,388,608.
+fn test_size(size: u32) -> Result<(), OsErr>
+    ensures { TestsSize size result }
+{
+    if size > MAX_SIZE {
+        return Err(OsErr::ParamErr);
+    }
+    Ok(())
 }
