@@ -1,2 +1,3 @@
+pub mod Memory
 pub mod Quiet
 pub mod Walk

@@ -1,5 +1,5 @@
 -- The steps of calls that make no request.
-use Rattle.std.proofs.Common.{◌≡◌, ℕ, ◌+◌, ◌-◌, ◌≤◌, List, [], ◌∷◌, ◌++◌, length, map, take, drop, refl, sym, ap, subst, ◌∙◌, Some, None, Ok, Err, arith, append_assoc, length-append, length-take, length-drop}
+use Rattle.std.proofs.Common.{◌≡◌, ℕ, ◌+◌, ◌-◌, ◌≤◌, List, [], ◌++◌, length, map, take, drop, refl, sym, ap, subst, ◌∙◌, Some, None, Ok, Err, arith, append_assoc, length-append, length-take, length-drop}
 use Rattle.std.proofs.Math.Nat.{add-sub_cancel_left}
 use Rattle.std.proofs.Math.Seq.{take-length, drop-length}
 use Rattle.std.proofs.lemmas.List.{append-nil, drop-drop}
@@ -13,15 +13,15 @@ use Rattle.mac_base.specs.ZoneMap.{address_behind}
 use Rattle.mac_base.specs.ZoneState.{ZoneState, overwritten, with_contents}
 use Rattle.toolbox.specs.declared.reply.BlockLine.{BlockLine}
 use Rattle.toolbox.specs.declared.reply.Results.TheVariants as results
-use Rattle.toolbox.specs.Steps.{Steps}
+use Rattle.toolbox.specs.Steps.{MemorySteps}
 use Rattle.toolbox.specs.Told.{line_of}
 
 -- a call that is refused
-pub refused_step : (zone : ZoneState) (call : MemoryCall) (code : OsErr) → refusal zone.shape zone.heap call ≡ Some code → Steps zone call (Err code) zone
+pub refused_step : (zone : ZoneState) (call : MemoryCall) (code : OsErr) → refusal zone.shape zone.heap call ≡ Some code → MemorySteps zone call (Err code) zone
 refused_step zone call code refused = (Refused code, rw refused (refl, refl, record { table = refl; map = refl }), refl, refl)
 
 -- a Peek that isn't refused
-pub peek_step : (zone : ZoneState) (x at n : ℕ) (contents bytes : List ℕ) → refusal zone.shape zone.heap (Peek x at n) ≡ None → contents ≡ bytes_of zone.heap.table x → bytes ≡ take (at + n - at) (drop at contents) → Steps zone (Peek x at n) (Ok (results.Bytes bytes)) zone
+pub peek_step : (zone : ZoneState) (x at n : ℕ) (contents bytes : List ℕ) → refusal zone.shape zone.heap (Peek x at n) ≡ None → contents ≡ bytes_of zone.heap.table x → bytes ≡ take (at + n - at) (drop at contents) → MemorySteps zone (Peek x at n) (Ok (results.Bytes bytes)) zone
 peek_step zone x at n contents bytes passed whole is = (
   Bytes (take n (drop at (bytes_of zone.heap.table x))),
   rw passed (refl, (record { table = refl; map = refl }, refl)),
@@ -30,7 +30,7 @@ peek_step zone x at n contents bytes passed whole is = (
 )
 
 -- a ZoneMap
-pub zone_step : (zone : ZoneState) (lines : List BlockLine) → lines ≡ map line_of (reports_from zone.heap.table (address_behind zone.shape []) zone.heap.map) → Steps zone ZoneMap (Ok (results.Blocks lines)) zone
+pub zone_step : (zone : ZoneState) (lines : List BlockLine) → lines ≡ map line_of (reports_from zone.heap.table (address_behind zone.shape []) zone.heap.map) → MemorySteps zone ZoneMap (Ok (results.Blocks lines)) zone
 zone_step zone lines is = (Blocks (reports_from zone.heap.table (address_behind zone.shape []) zone.heap.map), (refl, (record { table = refl; map = refl }, refl)), is, refl)
 
 -- bytes written over all others
@@ -49,8 +49,8 @@ part_written old bytes at within =
     rw behind (overwritten-whole old (take at old ++ (bytes ++ drop (at + length bytes) old)) whole ∙ sym (append_assoc (take at old) bytes (drop (at + length bytes) old)))
 
 -- a Poke that isn't refused: the zone is seen through the memory
-pub poke_step : (zone memory : ZoneState) (x at : ℕ) (bytes contents copied : List ℕ) → memory ≡ zone → refusal zone.shape zone.heap (Peek x at (length bytes)) ≡ None → at + length bytes ≤ length (bytes_of zone.heap.table x) → contents ≡ bytes_of memory.heap.table x → copied ≡ bytes → Steps zone (Poke x at bytes) (Ok results.Nothing) (with_contents memory x (take at contents ++ (copied ++ post_of at (at + length bytes - at) contents)))
+pub poke_step : (zone memory : ZoneState) (x at : ℕ) (bytes contents copied : List ℕ) → memory ≡ zone → refusal zone.shape zone.heap (Peek x at (length bytes)) ≡ None → at + length bytes ≤ length (bytes_of zone.heap.table x) → contents ≡ bytes_of memory.heap.table x → copied ≡ bytes → MemorySteps zone (Poke x at bytes) (Ok results.Nothing) (with_contents memory x (take at contents ++ (copied ++ post_of at (at + length bytes - at) contents)))
 poke_step zone memory x at bytes contents copied is passed within whole all =
     let same : with_contents memory x (take at contents ++ (copied ++ post_of at (at + length bytes - at) contents)) ≡ with_contents zone x (take at (bytes_of zone.heap.table x) ++ (bytes ++ drop (length bytes) (drop at (bytes_of zone.heap.table x)))) = rw (whole, all, is, add-sub_cancel_left at (length bytes)) refl in
-    let P : ZoneState → Type 0 = λ new. Steps zone (Poke x at bytes) (Ok results.Nothing) new in
+    let P : ZoneState → Type 0 = λ new. MemorySteps zone (Poke x at bytes) (Ok results.Nothing) new in
     subst P (sym same) (Done, rw passed (refl, (record { table = ap (λ (bs : List ℕ). with_bytes x bs zone.heap.table) (part_written (bytes_of zone.heap.table x) bytes at within); map = refl }, refl)), tt, refl)

@@ -6,5 +6,5 @@ mod reply;
 mod toolbox;
 
 pub use call::Call;
-pub use reply::{BlockKind, BlockLine, BlockLines, Reply, Results};
+pub use reply::{BlockKind, BlockLine, BlockLines, Outcome, Reply, Results};
 pub use toolbox::Toolbox;

@@ -1,7 +1,7 @@
 use mac_base::block::Flags;
 use mac_base::bytes::Bytes;
 use mac_base::error::OsErr;
-use mac_base::handle::Handle;
+use mac_base::handle::{Handle, Ptr};
 use std::marker::Model;
 
 /// What stands in a block. Lengths are the bytes of contents that the block's owner asked for.
@@ -67,14 +67,37 @@ pub enum Results {
     Nothing,
     /// A new handle.
     Handle(Handle),
+    /// A new pointer.
+    Pointer(Ptr),
+    /// Where contents begin.
+    Address(u32),
+    /// A size in bytes, or a state.
+    Number(u32),
+    /// The code of an earlier call: none where it succeeded, or where there was none.
+    Code(Option<OsErr>),
     /// Bytes of a block.
     Bytes(Bytes),
     /// The blocks of the zone.
     Blocks(BlockLines),
 }
 
-/// The reply to a call: its results, or the code of its refusal. A refusal has no results.
+/// How a call ends: with its results, or with the code of its refusal. A refusal has no results.
+pub type Outcome = Result<Results, OsErr>;
+
+/// The reply to a call.
 #[derive(Debug, Drop)]
 pub struct Reply {
-    pub outcome: Result<Results, OsErr>,
+    pub outcome: Outcome,
+}
+
+impl Reply {
+    ghost use Rattle.std.specs.Prelude.{◌≡◌};
+    ghost use Rattle.std.specs.Result.{result_err};
+
+    /// The code, where the call was refused.
+    pub fn refusal(&self) -> Option<OsErr>
+        ensures { result ≡ result_err self.now.outcome }
+    {
+        self.outcome.as_ref().err().copied()
+    }
 }

@@ -1,7 +1,7 @@
 use Rattle.std.proofs.Common.{◌+◌, ◌++◌, ◌∷◌, [], map, arith, sym, ap, ◌∙◌}
 use Rattle.mac_base.specs.Reply.{reports_from}
 use Rattle.mac_base.specs.ZoneMap.{address_behind}
-use Rattle.mac_base.specs.ZoneState.{ZoneState}
+use Rattle.toolbox.specs.ToolCall.{ToolState}
 use Rattle.toolbox.specs.Told.{line_of}
 use Rattle.toolbox.proofs.Walk.{HasWalked, block_ends, HasWalked-step, HasWalked-end}
 use Rattle.toolbox.proofs.toolbox.Toolbox.block_lines.Goals as goal
@@ -29,4 +29,4 @@ loop-block-preserved c =
 pub returns : goal.returns
 returns c =
     let all = HasWalked-end _ _ _ _ c.loop-block.invariant c.first_block-at.ensures.sound (sym c.in_default.ensures) in
-    all ∙ ap (λ (z : ZoneState). map line_of (reports_from z.heap.table (address_behind z.shape []) z.heap.map)) c.self.view_is
+    all ∙ ap (λ (z : ToolState). map line_of (reports_from z.zone.heap.table (address_behind z.zone.shape []) z.zone.heap.map)) c.self.view_is

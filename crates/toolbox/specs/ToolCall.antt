@@ -1,0 +1,15 @@
+-- The toolbox's calls, and what stays from one call to the next.
+use Rattle.std.specs.Prelude.{Option}
+use Rattle.mac_base.specs.declared.error.OsErr.{OsErr}
+use Rattle.mac_base.specs.MemoryCall.{MemoryCall}
+use Rattle.mac_base.specs.ZoneState.{ZoneState}
+
+-- a call of the Memory Manager, or the question how the last one ended
+pub data ToolCall : Type 0 where
+  OfMemory : MemoryCall → ToolCall
+  MemError : ToolCall
+
+-- the zone, and the code of the last Memory Manager call: none where it succeeded, or where there was none
+pub record ToolState : Type 0 where
+  pub zone : ZoneState
+  pub refused : Option OsErr
