@@ -4,7 +4,7 @@ use Rattle.std.specs.Prelude.{find}
 use Rattle.std.specs.Str.{bytes_eq}
 use Rattle.std.proofs.lemmas.Slice.Eq.{bytes_eq-Decides}
 use Rattle.script_lang.specs.declared.call.CallName.{CallName}
-use Rattle.script_lang.specs.declared.call.CallName.TheVariants.{NewHandle, DisposeHandle, Poke, Peek, ZoneMap}
+use Rattle.script_lang.specs.declared.call.CallName.TheVariants.{NewHandle, NewEmptyHandle, NewPtr, DisposeHandle, DisposePtr, EmptyHandle, GetHandleSize, SetHandleSize, GetPtrSize, SetPtrSize, HLock, HUnlock, HPurge, HNoPurge, HSetRBit, HClrRBit, HGetState, HSetState, Deref, Poke, Peek, ZoneMap, MemError}
 use Rattle.script_lang.specs.declared.call.TheConstants.{ALL_CALLS}
 use Rattle.script_lang.specs.Calls.{signature}
 
@@ -19,10 +19,28 @@ call_named word = find (has_name word) ALL_CALLS
 -- each call is the first that has its name
 named_again : (call : CallName) → call_named (signature call).name ≡ Some call
 named_again NewHandle = refl
+named_again NewEmptyHandle = refl
+named_again NewPtr = refl
 named_again DisposeHandle = refl
+named_again DisposePtr = refl
+named_again EmptyHandle = refl
+named_again GetHandleSize = refl
+named_again SetHandleSize = refl
+named_again GetPtrSize = refl
+named_again SetPtrSize = refl
+named_again HLock = refl
+named_again HUnlock = refl
+named_again HPurge = refl
+named_again HNoPurge = refl
+named_again HSetRBit = refl
+named_again HClrRBit = refl
+named_again HGetState = refl
+named_again HSetState = refl
+named_again Deref = refl
 named_again Poke = refl
 named_again Peek = refl
 named_again ZoneMap = refl
+named_again MemError = refl
 
 -- no two calls have one name
 pub one_call : (a b : CallName) → (signature a).name ≡ (signature b).name → a ≡ b

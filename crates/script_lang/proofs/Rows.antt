@@ -2,11 +2,13 @@
 use Rattle.std.proofs.Common.{◌≡◌, refl, [], ◌∷◌, None, Some, Ok, Err, codes}
 use Rattle.std.specs.Fmt.{digits}
 use Rattle.mac_base.specs.HandleTable.{no_flags}
-use Rattle.mac_base.specs.declared.error.OsErr.TheVariants.{MemFullErr}
+use Rattle.mac_base.specs.declared.error.OsErr.TheVariants.{MemFullErr, NilHandleErr}
 use Rattle.mac_base.specs.MemoryCall.{Poke as PokeBlock}
+use Rattle.toolbox.specs.ToolCall.{OfMemory}
 use Rattle.toolbox.specs.declared.reply.BlockKind.TheVariants.{Free, Master, Ptr, Rel}
-use Rattle.toolbox.specs.declared.reply.Results.TheVariants.{Handle, Blocks}
-use Rattle.script_lang.specs.declared.call.CallName.TheVariants.{NewHandle, Poke, ZoneMap}
+use Rattle.toolbox.specs.declared.reply.Results.TheVariants.{Handle, Pointer, Address, Number, Code, Blocks}
+use Rattle.script_lang.specs.declared.call.CallName.{CallName}
+use Rattle.script_lang.specs.declared.call.CallName.TheVariants.{NewHandle, NewPtr, HGetState, Deref, Poke, ZoneMap, MemError}
 use Rattle.script_lang.specs.declared.line.CallLine.{CallLine}
 use Rattle.script_lang.specs.declared.line.Operand.TheVariants as operand
 use Rattle.script_lang.specs.Variables.{call_of, with_value}
@@ -37,9 +39,33 @@ blocks_text : reply_text 2 zone_map (record {
 unfolding address digits
 blocks_text = refl
 
+-- a line that makes this call
+abbrev line_of : CallName → CallLine
+line_of call = record { assigned = None; call = call; operands = [] }
+
+pointer_text : reply_text 1 (line_of NewPtr) (record { outcome = Ok (Pointer 0x0010_0144) }) ≡ codes "1 NewPtr $00100144 0\n"
+unfolding address digits
+pointer_text = refl
+
+contents_text : reply_text 3 (line_of Deref) (record { outcome = Ok (Address 0x0010_01AC) }) ≡ codes "3 Deref $001001AC 0\n"
+unfolding address digits
+contents_text = refl
+
+state_text : reply_text 4 (line_of HGetState) (record { outcome = Ok (Number 192) }) ≡ codes "4 HGetState 192 0\n"
+unfolding digits
+state_text = refl
+
+code_text : reply_text 12 (line_of MemError) (record { outcome = Ok (Code (Some NilHandleErr)) }) ≡ codes "12 MemError -109 0\n"
+unfolding digits
+code_text = refl
+
+no_code_text : reply_text 12 (line_of MemError) (record { outcome = Ok (Code None) }) ≡ codes "12 MemError 0 0\n"
+unfolding digits
+no_code_text = refl
+
 fault_at_two : fault_text 2 ≡ codes "script fault at line 2\n"
 unfolding digits
 fault_at_two = refl
 
-poked : call_of (with_value [] (codes "h") 0x0010_003C) (record { assigned = None; call = Poke; operands = operand.Variable (codes "h") ∷ operand.Number 0 ∷ operand.Bytes (0 ∷ 255 ∷ []) ∷ [] }) ≡ PokeBlock 0x0010_003C 0 (0 ∷ 255 ∷ [])
+poked : call_of (with_value [] (codes "h") 0x0010_003C) (record { assigned = None; call = Poke; operands = operand.Variable (codes "h") ∷ operand.Number 0 ∷ operand.Bytes (0 ∷ 255 ∷ []) ∷ [] }) ≡ OfMemory (PokeBlock 0x0010_003C 0 (0 ∷ 255 ∷ []))
 poked = refl

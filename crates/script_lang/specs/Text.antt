@@ -1,5 +1,5 @@
 -- What a run prints.
-use Rattle.std.specs.Prelude.{ℕ, ◌-◌, ◌/◌, ◌%◌, ◌^◌, Bool, true, ◌==◌, ◌&&◌, not, min, if◌then◌else◌, List, [], ◌∷◌, ◌++◌, length, codes, decimal, Result, Ok, Err}
+use Rattle.std.specs.Prelude.{ℕ, ◌-◌, ◌/◌, ◌%◌, ◌^◌, Bool, true, ◌==◌, ◌&&◌, not, min, if◌then◌else◌, List, [], ◌∷◌, ◌++◌, length, codes, decimal, ℤ, pos, Option, Some, None, Result, Ok, Err}
 use Rattle.std.specs.List.{list_all, flat_map}
 use Rattle.std.specs.Int.{w32, to_be_bytes}
 use Rattle.std.specs.Fmt.{digit_glyph, signed_decimal}
@@ -40,10 +40,19 @@ is_plain byte = is_printable byte && not (byte == 34)
 abbrev pub in_quotes : List ℕ → List ℕ
 in_quotes bytes = if list_all is_plain bytes then 34 ∷ bytes ++ 34 ∷ [] else 36 ∷ 34 ∷ in_digits bytes ++ 34 ∷ []
 
+-- the number of the code of a call, and 0 where it was not refused
+abbrev pub number_of : Option OsErr → ℤ
+number_of (Some error) = code_of error
+number_of None = pos 0
+
 -- what a call gave, with a space before it
 abbrev pub results_text : Results → List ℕ
 results_text results.Nothing = []
 results_text (results.Handle handle) = spaced (address handle)
+results_text (results.Pointer pointer) = spaced (address pointer)
+results_text (results.Address at) = spaced (address at)
+results_text (results.Number n) = spaced (decimal n)
+results_text (results.Code refused) = spaced (signed_decimal (number_of refused))
 results_text (results.Bytes bytes) = spaced (in_quotes bytes)
 results_text (results.Blocks blocks) = spaced (decimal (length blocks))
 
@@ -96,5 +105,8 @@ no_memory_text = codes "no memory" ++ 10 ∷ []
 -- is no number.
 abbrev pub first_number : Result Results OsErr → ℕ
 first_number (Ok (results.Handle handle)) = handle
+first_number (Ok (results.Pointer pointer)) = pointer
+first_number (Ok (results.Address at)) = at
+first_number (Ok (results.Number n)) = n
 first_number (Ok (results.Blocks blocks)) = min (length blocks) (2 ^ 32 - 1)
 first_number outcome = 0

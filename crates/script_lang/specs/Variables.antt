@@ -8,7 +8,8 @@ use Rattle.script_lang.specs.declared.call.CallName.TheVariants as call_name
 use Rattle.script_lang.specs.declared.line.Operand.{Operand}
 use Rattle.script_lang.specs.declared.line.Operand.TheVariants.{Number, Variable, Bytes}
 use Rattle.script_lang.specs.declared.line.CallLine.{CallLine}
-use Rattle.mac_base.specs.MemoryCall.{MemoryCall, NewHandle, DisposeHandle, Poke, Peek, ZoneMap}
+use Rattle.mac_base.specs.MemoryCall.{NewHandle, NewEmptyHandle, NewPtr, DisposeHandle, DisposePtr, EmptyHandle, GetHandleSize, SetHandleSize, GetPtrSize, SetPtrSize, HLock, HUnlock, HPurge, HNoPurge, HSetRBit, HClrRBit, HGetState, HSetState, Deref, Poke, Peek, ZoneMap}
+use Rattle.toolbox.specs.ToolCall.{ToolCall, OfMemory, MemError}
 
 -- whether a word is one of the names
 abbrev pub is_named : List (List ℕ) → List ℕ → Bool
@@ -55,13 +56,31 @@ abbrev pub bytes_at : List Operand → ℕ → List ℕ
 bytes_at operands place = bytes_in (slice_get operands place)
 
 -- the call of this name with these operands
-abbrev pub call_with : Variables → CallName → List Operand → MemoryCall
-call_with variables call_name.NewHandle operands = NewHandle (number_at variables operands 0)
-call_with variables call_name.DisposeHandle operands = DisposeHandle (number_at variables operands 0)
-call_with variables call_name.Poke operands = Poke (number_at variables operands 0) (number_at variables operands 1) (bytes_at operands 2)
-call_with variables call_name.Peek operands = Peek (number_at variables operands 0) (number_at variables operands 1) (number_at variables operands 2)
-call_with variables call_name.ZoneMap operands = ZoneMap
+abbrev pub call_with : Variables → CallName → List Operand → ToolCall
+call_with variables call_name.NewHandle operands = OfMemory (NewHandle (number_at variables operands 0))
+call_with variables call_name.NewEmptyHandle operands = OfMemory NewEmptyHandle
+call_with variables call_name.NewPtr operands = OfMemory (NewPtr (number_at variables operands 0))
+call_with variables call_name.DisposeHandle operands = OfMemory (DisposeHandle (number_at variables operands 0))
+call_with variables call_name.DisposePtr operands = OfMemory (DisposePtr (number_at variables operands 0))
+call_with variables call_name.EmptyHandle operands = OfMemory (EmptyHandle (number_at variables operands 0))
+call_with variables call_name.GetHandleSize operands = OfMemory (GetHandleSize (number_at variables operands 0))
+call_with variables call_name.SetHandleSize operands = OfMemory (SetHandleSize (number_at variables operands 0) (number_at variables operands 1))
+call_with variables call_name.GetPtrSize operands = OfMemory (GetPtrSize (number_at variables operands 0))
+call_with variables call_name.SetPtrSize operands = OfMemory (SetPtrSize (number_at variables operands 0) (number_at variables operands 1))
+call_with variables call_name.HLock operands = OfMemory (HLock (number_at variables operands 0))
+call_with variables call_name.HUnlock operands = OfMemory (HUnlock (number_at variables operands 0))
+call_with variables call_name.HPurge operands = OfMemory (HPurge (number_at variables operands 0))
+call_with variables call_name.HNoPurge operands = OfMemory (HNoPurge (number_at variables operands 0))
+call_with variables call_name.HSetRBit operands = OfMemory (HSetRBit (number_at variables operands 0))
+call_with variables call_name.HClrRBit operands = OfMemory (HClrRBit (number_at variables operands 0))
+call_with variables call_name.HGetState operands = OfMemory (HGetState (number_at variables operands 0))
+call_with variables call_name.HSetState operands = OfMemory (HSetState (number_at variables operands 0) (number_at variables operands 1))
+call_with variables call_name.Deref operands = OfMemory (Deref (number_at variables operands 0))
+call_with variables call_name.Poke operands = OfMemory (Poke (number_at variables operands 0) (number_at variables operands 1) (bytes_at operands 2))
+call_with variables call_name.Peek operands = OfMemory (Peek (number_at variables operands 0) (number_at variables operands 1) (number_at variables operands 2))
+call_with variables call_name.ZoneMap operands = OfMemory ZoneMap
+call_with variables call_name.MemError operands = MemError
 
 -- the call that a line makes, with the values that its operands have
-abbrev pub call_of : Variables → CallLine → MemoryCall
+abbrev pub call_of : Variables → CallLine → ToolCall
 call_of variables line = call_with variables line.call line.operands

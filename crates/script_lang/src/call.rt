@@ -8,19 +8,55 @@ ghost use Rattle.script_lang.specs.Calls as calls;
 #[derive(Clone, Copy, Debug, PartialEq, Eq)]
 pub enum CallName {
     NewHandle,
+    NewEmptyHandle,
+    NewPtr,
     DisposeHandle,
+    DisposePtr,
+    EmptyHandle,
+    GetHandleSize,
+    SetHandleSize,
+    GetPtrSize,
+    SetPtrSize,
+    HLock,
+    HUnlock,
+    HPurge,
+    HNoPurge,
+    HSetRBit,
+    HClrRBit,
+    HGetState,
+    HSetState,
+    Deref,
     Poke,
     Peek,
     ZoneMap,
+    MemError,
 }
 
 /// All calls.
-const ALL_CALLS: [CallName; 5] = [
+const ALL_CALLS: [CallName; 23] = [
     CallName::NewHandle,
+    CallName::NewEmptyHandle,
+    CallName::NewPtr,
     CallName::DisposeHandle,
+    CallName::DisposePtr,
+    CallName::EmptyHandle,
+    CallName::GetHandleSize,
+    CallName::SetHandleSize,
+    CallName::GetPtrSize,
+    CallName::SetPtrSize,
+    CallName::HLock,
+    CallName::HUnlock,
+    CallName::HPurge,
+    CallName::HNoPurge,
+    CallName::HSetRBit,
+    CallName::HClrRBit,
+    CallName::HGetState,
+    CallName::HSetState,
+    CallName::Deref,
     CallName::Poke,
     CallName::Peek,
     CallName::ZoneMap,
+    CallName::MemError,
 ];
 
 /// How an operand is written.
@@ -79,10 +115,28 @@ impl CallName {
         use OperandKind::{Bytes, Number};
         match self {
             CallName::NewHandle => gives(b"NewHandle", &[Number]),
+            CallName::NewEmptyHandle => gives(b"NewEmptyHandle", &[]),
+            CallName::NewPtr => gives(b"NewPtr", &[Number]),
             CallName::DisposeHandle => does(b"DisposeHandle", &[Number]),
+            CallName::DisposePtr => does(b"DisposePtr", &[Number]),
+            CallName::EmptyHandle => does(b"EmptyHandle", &[Number]),
+            CallName::GetHandleSize => gives(b"GetHandleSize", &[Number]),
+            CallName::SetHandleSize => does(b"SetHandleSize", &[Number, Number]),
+            CallName::GetPtrSize => gives(b"GetPtrSize", &[Number]),
+            CallName::SetPtrSize => does(b"SetPtrSize", &[Number, Number]),
+            CallName::HLock => does(b"HLock", &[Number]),
+            CallName::HUnlock => does(b"HUnlock", &[Number]),
+            CallName::HPurge => does(b"HPurge", &[Number]),
+            CallName::HNoPurge => does(b"HNoPurge", &[Number]),
+            CallName::HSetRBit => does(b"HSetRBit", &[Number]),
+            CallName::HClrRBit => does(b"HClrRBit", &[Number]),
+            CallName::HGetState => gives(b"HGetState", &[Number]),
+            CallName::HSetState => does(b"HSetState", &[Number, Number]),
+            CallName::Deref => gives(b"Deref", &[Number]),
             CallName::Poke => does(b"Poke", &[Number, Number, Bytes]),
             CallName::Peek => does(b"Peek", &[Number, Number, Number]),
             CallName::ZoneMap => gives(b"ZoneMap", &[]),
+            CallName::MemError => does(b"MemError", &[]),
         }
     }
 

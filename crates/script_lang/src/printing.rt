@@ -8,7 +8,7 @@ ghost use Rattle.script_lang.specs.Text as texts;
 use crate::line::CallLine;
 use itoa::{Buffer, Integer};
 use mac_base::block::Flags;
-use mac_base::error::HostFull;
+use mac_base::error::{HostFull, NO_ERR, OsErr};
 use std::alloc::Global;
 use toolbox::{BlockKind, BlockLine, Reply, Results};
 
@@ -84,6 +84,16 @@ fn push_bytes(text: &mut Vec<u8>, bytes: &[u8]) -> Result<(), HostFull>
     Ok(())
 }
 
+/// The number of the code of a call, which is noErr where it wasn't refused.
+fn code_number(refused: Option<OsErr>) -> i16
+    ensures { result ≡ texts.number_of refused }
+{
+    match refused {
+        Some(error) => error.code(),
+        None => NO_ERR,
+    }
+}
+
 /// Adds a space and what a call gave, if it gave something.
 fn push_results(text: &mut Vec<u8>, results: &Results) -> Result<(), HostFull>
     ensures { OnOk result (text.new.items ≡ text.old.items ++ texts.results_text results.now) }
@@ -95,6 +105,10 @@ fn push_results(text: &mut Vec<u8>, results: &Results) -> Result<(), HostFull>
     match results {
         Results::Nothing => Ok(()),
         Results::Handle(handle) => push_address(text, handle.number()),
+        Results::Pointer(pointer) => push_address(text, pointer.number()),
+        Results::Address(address) => push_address(text, *address),
+        Results::Number(number) => push_number(text, *number),
+        Results::Code(refused) => push_number(text, code_number(*refused)),
         Results::Bytes(bytes) => push_bytes(text, bytes.as_slice()),
         Results::Blocks(blocks) => push_number(text, blocks.as_slice().len()),
     }
@@ -186,7 +200,7 @@ fn push_shown(text: &mut Vec<u8>, reply: &Reply) -> Result<(), HostFull>
 {
     match &reply.outcome {
         Ok(Results::Blocks(blocks)) => push_blocks(text, blocks.as_slice()),
-        Ok(Results::Nothing | Results::Handle(_) | Results::Bytes(_)) | Err(_) => Ok(()),
+        Ok(_) | Err(_) => Ok(()),
     }
 }
 
@@ -227,7 +241,9 @@ pub fn first_number(reply: &Reply) -> u32
 {
     match &reply.outcome {
         Ok(Results::Handle(handle)) => handle.number(),
+        Ok(Results::Pointer(pointer)) => pointer.number(),
+        Ok(Results::Address(number) | Results::Number(number)) => *number,
         Ok(Results::Blocks(blocks)) => u32::try_from(blocks.as_slice().len()).unwrap_or(u32::MAX),
-        Ok(Results::Nothing | Results::Bytes(_)) | Err(_) => 0,
+        Ok(Results::Nothing | Results::Code(_) | Results::Bytes(_)) | Err(_) => 0,
     }
 }

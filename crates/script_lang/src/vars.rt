@@ -2,13 +2,13 @@
 
 ghost use Rattle.std.specs.Prelude.{◌≡◌};
 ghost use Rattle.script_lang.specs.Variables.{number_in, number_at, bytes_at, call_of};
-ghost use Rattle.toolbox.specs.Told.{memory_call_of};
+ghost use Rattle.toolbox.specs.Told.{tool_call_of};
 
 use crate::call::CallName;
 use crate::line::{CallLine, Name, Operand};
 use indexmap::IndexMap;
 use mac_base::error::HostFull;
-use mac_base::handle::Handle;
+use mac_base::handle::{Handle, Ptr};
 use std::alloc::Global;
 use std::marker::Model;
 use toolbox::Call;
@@ -93,26 +93,44 @@ fn bytes_at(operands: &[Operand], place: usize) -> &[u8]
 
 /// The call that a line makes, with the values that its operands have now.
 pub fn resolve<'a>(line: &'a CallLine, vars: &Vars) -> Call<'a>
-    ensures { memory_call_of result ≡ call_of vars.now line.now }
+    ensures { tool_call_of result ≡ call_of vars.now line.now }
 {
     let operands = line.operands.as_slice();
+    let first = number_at(operands, vars, 0);
+    let second = number_at(operands, vars, 1);
+    let handle = Handle::new(first);
+    let pointer = Ptr::new(first);
     match line.call {
-        CallName::NewHandle => Call::NewHandle {
-            size: number_at(operands, vars, 0),
-        },
-        CallName::DisposeHandle => Call::DisposeHandle {
-            handle: Handle::new(number_at(operands, vars, 0)),
-        },
+        CallName::NewHandle => Call::NewHandle(first),
+        CallName::NewEmptyHandle => Call::NewEmptyHandle,
+        CallName::NewPtr => Call::NewPtr(first),
+        CallName::DisposeHandle => Call::DisposeHandle(handle),
+        CallName::DisposePtr => Call::DisposePtr(pointer),
+        CallName::EmptyHandle => Call::EmptyHandle(handle),
+        CallName::GetHandleSize => Call::GetHandleSize(handle),
+        CallName::SetHandleSize => Call::SetHandleSize(handle, second),
+        CallName::GetPtrSize => Call::GetPtrSize(pointer),
+        CallName::SetPtrSize => Call::SetPtrSize(pointer, second),
+        CallName::HLock => Call::HLock(handle),
+        CallName::HUnlock => Call::HUnlock(handle),
+        CallName::HPurge => Call::HPurge(handle),
+        CallName::HNoPurge => Call::HNoPurge(handle),
+        CallName::HSetRBit => Call::HSetRBit(handle),
+        CallName::HClrRBit => Call::HClrRBit(handle),
+        CallName::HGetState => Call::HGetState(handle),
+        CallName::HSetState => Call::HSetState(handle, second),
+        CallName::Deref => Call::Deref(handle),
         CallName::Poke => Call::Poke {
-            block: number_at(operands, vars, 0),
-            offset: number_at(operands, vars, 1),
+            block: first,
+            offset: second,
             bytes: bytes_at(operands, 2),
         },
         CallName::Peek => Call::Peek {
-            block: number_at(operands, vars, 0),
-            offset: number_at(operands, vars, 1),
+            block: first,
+            offset: second,
             count: number_at(operands, vars, 2),
         },
         CallName::ZoneMap => Call::ZoneMap,
+        CallName::MemError => Call::MemError,
     }
 }
