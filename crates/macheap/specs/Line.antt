@@ -12,9 +12,9 @@ use Rattle.script_lang.specs.Text.{first_number, reply_text}
 use Rattle.script_lang.specs.Variables.{Variables, call_of, with_value}
 use Rattle.macheap.specs.declared.machine.Machine.{Machine}
 
--- before the first line: a new zone, and no variables
+-- before the first line: a new zone, no refusal, and no variables
 abbrev pub start_of : ZoneSizes → Machine
-start_of sizes = record { toolbox = record { shape = shape_of sizes; heap = new_heap (shape_of sizes) sizes.size }; variables = [] }
+start_of sizes = record { toolbox = record { zone = record { shape = shape_of sizes; heap = new_heap (shape_of sizes) sizes.size }; refused = None }; variables = [] }
 
 -- the variables, where the one that a line assigns has this value
 abbrev pub assigned : Option (List ℕ) → ℕ → Variables → Variables

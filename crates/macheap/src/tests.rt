@@ -110,18 +110,197 @@ fn scripts_print_their_replies(rt: HostRuntime) -> Result<(), Fail> {
     Ok(())
 }
 
-/// What is refused, each with each of its codes, and what stands after it.
-const REFUSALS: (&str, &str) = (
-    "h = NewHandle 8\nPoke 0 0 \"a\"\nPoke 4 0 \"a\"\nPoke h 8 \"a\"\nPoke h 7 \"ab\"\nPeek 0 0 1\nPeek 4 0 1\nPeek h 8 1\nPeek h 9 0\nDisposeHandle 0\nDisposeHandle 4\nNewHandle 8388609\nNewHandle 4000\nPeek h 0 8\nZoneMap\n",
-    "1 NewHandle $0010003C 0\n2 Poke -109\n3 Poke -111\n4 Poke -50\n5 Poke -50\n6 Peek -109\n7 Peek -111\n8 Peek -50\n9 Peek -50\n10 DisposeHandle -109\n11 DisposeHandle -111\n12 NewHandle -50\n13 NewHandle -108\n14 Peek $\"0000000000000000\" 0\n15 ZoneMap 3 0\n  $00100034 264 master\n  $0010013C 16 rel $0010003C 8 ---\n  $0010014C 3764 free\n",
+#[test]
+fn handles_and_pointers_print_their_replies(rt: HostRuntime) -> Result<(), Fail> {
+    let rows: [(&str, &str); 7] = [
+        (
+            "h = NewHandle 100\nHLock h\nHPurge h\nHGetState h\nHSetState h 64\nHGetState h\nHSetState h 256\nEmptyHandle h\nGetHandleSize h\nHLock h\nEmptyHandle h\nMemError\n",
+            "1 NewHandle $0010003C 0\n2 HLock 0\n3 HPurge 0\n4 HGetState 192 0\n5 HSetState 0\n6 HGetState 64 0\n7 HSetState -50\n8 EmptyHandle 0\n9 GetHandleSize -109\n10 HLock -109\n11 EmptyHandle 0\n12 MemError 0 0\n",
+        ),
+        (
+            "p = NewPtr 20\nGetPtrSize p\nh = NewHandle 10\nSetHandleSize h 30\nGetHandleSize h\nPeek h 8 4\nSetPtrSize p 8\nDisposePtr h\nDisposePtr p\nDisposePtr p\n",
+            "1 NewPtr $00100144 0\n2 GetPtrSize 20 0\n3 NewHandle $0010003C 0\n4 SetHandleSize 0\n5 GetHandleSize 30 0\n6 Peek $\"00000000\" 0\n7 SetPtrSize 0\n8 DisposePtr -111\n9 DisposePtr 0\n10 DisposePtr -111\n",
+        ),
+        (
+            "p = NewPtr 20\nh = NewHandle 10\nHLock h\nHSetRBit h\nd = Deref h\nZoneMap\nHUnlock h\nHPurge h\nHClrRBit h\nHGetState h\nHNoPurge h\nHGetState h\nPeek d 0 0\n",
+            "1 NewPtr $00100144 0\n2 NewHandle $0010003C 0\n3 HLock 0\n4 HSetRBit 0\n5 Deref $00100160 0\n6 ZoneMap 4 0\n  $00100034 264 master\n  $0010013C 28 ptr 20\n  $00100158 20 rel $0010003C 10 L-R\n  $0010016C 3732 free\n7 HUnlock 0\n8 HPurge 0\n9 HClrRBit 0\n10 HGetState 64 0\n11 HNoPurge 0\n12 HGetState 0 0\n13 Peek -111\n",
+        ),
+        (
+            "h = NewEmptyHandle\nNewEmptyHandle\nGetHandleSize h\nEmptyHandle h\nDisposeHandle h\nNewEmptyHandle\nZoneMap\n",
+            "1 NewEmptyHandle $0010003C 0\n2 NewEmptyHandle $00100040 0\n3 GetHandleSize -109\n4 EmptyHandle 0\n5 DisposeHandle 0\n6 NewEmptyHandle $0010003C 0\n7 ZoneMap 2 0\n  $00100034 264 master\n  $0010013C 3780 free\n",
+        ),
+        (
+            "h = NewHandle 4\nPoke h 0 \"abcd\"\nSetHandleSize h 2\nSetHandleSize h 20\nPeek h 0 4\np = NewPtr 2\nPoke p 0 \"xy\"\nSetPtrSize p 30\nPeek p 0 3\nZoneMap\nHSetState h 255\nHGetState h\nHSetState h 31\nHGetState h\n",
+            "1 NewHandle $0010003C 0\n2 Poke 0\n3 SetHandleSize 0\n4 SetHandleSize 0\n5 Peek $\"61620000\" 0\n6 NewPtr $00100160 0\n7 Poke 0\n8 SetPtrSize 0\n9 Peek $\"787900\" 0\n10 ZoneMap 4 0\n  $00100034 264 master\n  $0010013C 28 rel $0010003C 20 ---\n  $00100158 40 ptr 30\n  $00100180 3712 free\n11 HSetState 0\n12 HGetState 224 0\n13 HSetState 0\n14 HGetState 0 0\n",
+        ),
+        (
+            "MemError\nMemError\nHLock 0\nMemError\nMemError\nPeek 4 0 1\nMemError\nZoneMap\nMemError\nPoke 0 0 \"\"\nMemError\nNewPtr 8388609\nMemError\nNewEmptyHandle\nMemError\n",
+            "1 MemError 0 0\n2 MemError 0 0\n3 HLock -109\n4 MemError -109 0\n5 MemError -109 0\n6 Peek -111\n7 MemError -111 0\n8 ZoneMap 2 0\n  $00100034 264 master\n  $0010013C 3780 free\n9 MemError 0 0\n10 Poke -109\n11 MemError -109 0\n12 NewPtr -50\n13 MemError -50 0\n14 NewEmptyHandle $0010003C 0\n15 MemError 0 0\n",
+        ),
+        (
+            "a = GetHandleSize 0\nNewHandle a\nn = ZoneMap\nNewPtr n\n",
+            "1 GetHandleSize -109\n2 NewHandle $0010003C 0\n3 ZoneMap 3 0\n  $00100034 264 master\n  $0010013C 12 rel $0010003C 0 ---\n  $00100148 3768 free\n4 NewPtr $00100150 0\n",
+        ),
+    ];
+    for (script, output) in rows {
+        let (end, written) = run_script(rt.alloc(), script.as_bytes())?;
+        assert_eq!(rt; end, RunEnd::Finished, "{script}");
+        assert_eq!(rt; written.as_slice(), output.as_bytes(), "{script}");
+    }
+    Ok(())
+}
+
+/// A handle without a block, one with a block, a pointer and a locked handle. The first two blocks have no room to grow.
+const PREPARED: (&str, &str) = (
+    "e = NewEmptyHandle\nh = NewHandle 8\np = NewPtr 20\nl = NewHandle 4\nHLock l\n",
+    "1 NewEmptyHandle $0010003C 0\n2 NewHandle $00100040 0\n3 NewPtr $00100154 0\n4 NewHandle $00100044 0\n5 HLock 0\n",
 );
+
+/// What ZoneMap prints then.
+const PREPARED_MAP: &str =
+    "ZoneMap 5 0\n  $00100034 264 master\n  $0010013C 16 rel $00100040 8 ---\n  $0010014C 28 ptr 20\n  $00100168 12 rel $00100044 4 L--\n  $00100174 3724 free\n";
+
+/// Calls that are refused then, each with its code.
+const REFUSALS: &str = "\
+NewHandle 8388609: -50
+NewHandle 8388608: -108
+NewHandle 3717: -108
+NewPtr 8388609: -50
+NewPtr 8388608: -108
+NewPtr 3717: -108
+DisposeHandle 0: -109
+DisposeHandle 4: -111
+DisposeHandle p: -111
+DisposePtr 0: -111
+DisposePtr 4: -111
+DisposePtr h: -111
+DisposePtr e: -111
+EmptyHandle 0: -109
+EmptyHandle 4: -111
+EmptyHandle p: -111
+EmptyHandle l: -112
+GetHandleSize 0: -109
+GetHandleSize 4: -111
+GetHandleSize p: -111
+GetHandleSize e: -109
+HLock 0: -109
+HLock 4: -111
+HLock p: -111
+HLock e: -109
+HUnlock 0: -109
+HUnlock 4: -111
+HUnlock p: -111
+HUnlock e: -109
+HPurge 0: -109
+HPurge 4: -111
+HPurge p: -111
+HPurge e: -109
+HNoPurge 0: -109
+HNoPurge 4: -111
+HNoPurge p: -111
+HNoPurge e: -109
+HSetRBit 0: -109
+HSetRBit 4: -111
+HSetRBit p: -111
+HSetRBit e: -109
+HClrRBit 0: -109
+HClrRBit 4: -111
+HClrRBit p: -111
+HClrRBit e: -109
+HGetState 0: -109
+HGetState 4: -111
+HGetState p: -111
+HGetState e: -109
+Deref 0: -109
+Deref 4: -111
+Deref p: -111
+Deref e: -109
+HSetState 0 0: -109
+HSetState 4 0: -111
+HSetState p 0: -111
+HSetState e 0: -109
+HSetState h 256: -50
+HSetState 0 256: -109
+HSetState 4 256: -111
+HSetState e 256: -109
+SetHandleSize 0 1: -109
+SetHandleSize 4 1: -111
+SetHandleSize p 1: -111
+SetHandleSize e 1: -109
+SetHandleSize h 8388609: -50
+SetHandleSize h 8388608: -108
+SetHandleSize h 9: -108
+SetHandleSize 0 8388609: -109
+SetHandleSize 4 8388609: -111
+SetHandleSize e 8388609: -109
+GetPtrSize 0: -111
+GetPtrSize 4: -111
+GetPtrSize h: -111
+GetPtrSize e: -111
+SetPtrSize 0 1: -111
+SetPtrSize 4 1: -111
+SetPtrSize h 1: -111
+SetPtrSize p 8388609: -50
+SetPtrSize p 8388608: -108
+SetPtrSize p 21: -108
+SetPtrSize 0 8388609: -111
+Poke 0 0 \"a\": -109
+Poke 4 0 \"a\": -111
+Poke e 0 \"\": -109
+Poke h 8 \"a\": -50
+Poke h 7 \"ab\": -50
+Poke p 21 \"\": -50
+Peek 0 0 1: -109
+Peek 4 0 1: -111
+Peek e 0 0: -109
+Peek h 8 1: -50
+Peek h 9 0: -50
+Peek p 20 1: -50
+";
+
+/// How a run ends that makes such a call, and what it writes: what was prepared, ZoneMap, the call, MemError and ZoneMap.
+fn run_refused(alloc: Global, call: &str) -> Result<(RunEnd, Vec<u8>), Fail> {
+    let (before, _) = PREPARED;
+    let script = format!(in alloc; "{before}ZoneMap\n{call}\nMemError\nZoneMap\n")?;
+    run_script(alloc, script.as_bytes())
+}
+
+/// What it is to write where the call is refused by this code.
+fn refused_text(alloc: Global, call: &str, code: &str) -> Result<String, Fail> {
+    let (_, prepared) = PREPARED;
+    let name = call.split(' ').next().unwrap_or("");
+    let text = format!(in alloc;
+        "{prepared}6 {PREPARED_MAP}7 {name} {code}\n8 MemError {code} 0\n9 {PREPARED_MAP}"
+    )?;
+    Ok(text)
+}
 
 #[test]
 fn refusals_change_nothing(rt: HostRuntime) -> Result<(), Fail> {
-    let (script, output) = REFUSALS;
+    for line in REFUSALS.lines() {
+        let (call, code) = line.split_once(": ").unwrap_or((line, ""));
+        let (end, written) = run_refused(rt.alloc(), call)?;
+        let output = refused_text(rt.alloc(), call, code)?;
+        assert_eq!(rt; end, RunEnd::Finished, "{line}");
+        assert_eq!(rt; written.as_slice(), output.as_bytes(), "{line}");
+    }
+    Ok(())
+}
+
+#[test]
+fn a_zone_has_sixty_four_handles(rt: HostRuntime) -> Result<(), Fail> {
+    let mut script = String::new(rt.alloc());
+    for _ in 0..64 {
+        script.push_str("NewEmptyHandle\n")?;
+    }
+    script.push_str("ZoneMap\nNewEmptyHandle\nMemError\nNewHandle 0\nZoneMap\nNewPtr 0\n")?;
     let (end, written) = run_script(rt.alloc(), script.as_bytes())?;
+    let map = "ZoneMap 2 0\n  $00100034 264 master\n  $0010013C 3780 free\n";
+    let last = format!(in rt.alloc();
+        "64 NewEmptyHandle $00100138 0\n65 {map}66 NewEmptyHandle -108\n67 MemError -108 0\n68 NewHandle -108\n69 {map}70 NewPtr $00100144 0\n"
+    )?;
     assert_eq!(rt; end, RunEnd::Finished);
-    assert_eq!(rt; written.as_slice(), output.as_bytes());
+    assert!(rt; written.ends_with(last.as_bytes()));
     Ok(())
 }
 
@@ -129,7 +308,7 @@ fn refusals_change_nothing(rt: HostRuntime) -> Result<(), Fail> {
 fn faulty_scripts_run_nothing(rt: HostRuntime) -> Result<(), Fail> {
     let long = vec![in rt.alloc(); b'\n'; 1_048_577]?;
     let full = vec![in rt.alloc(); b'#'; 1_048_576]?;
-    let rows: [(&[u8], RunEnd, &str); 5] = [
+    let rows: [(&[u8], RunEnd, &str); 7] = [
         (
             b"ZoneMap\nNewHandl 3",
             RunEnd::ScriptFault(2),
@@ -144,6 +323,16 @@ fn faulty_scripts_run_nothing(rt: HostRuntime) -> Result<(), Fail> {
             b"\n# gz comes later\ngz 1\n",
             RunEnd::ScriptFault(3),
             "script fault at line 3\n",
+        ),
+        (
+            b"h = NewHandle 1\nx = HLock h\n",
+            RunEnd::ScriptFault(2),
+            "script fault at line 2\n",
+        ),
+        (
+            b"x = MemError\n",
+            RunEnd::ScriptFault(1),
+            "script fault at line 1\n",
         ),
         (
             long.as_slice(),
@@ -321,18 +510,30 @@ fn meaning_of(alloc: Global, line: &str) -> Result<Meaning, Fail> {
 }
 
 #[test]
+fn zones_are_read(rt: HostRuntime) -> Result<(), Fail> {
+    let rows: [(&str, u32, u32); 7] = [
+        ("macheap", 1_048_576, 4096),
+        ("macheap --zone 8192", 1_048_576, 8192),
+        ("macheap --zone=8192", 1_048_576, 8192),
+        ("macheap --base 0004096", 4096, 4096),
+        ("macheap --base=4096 --zone 4096", 4096, 4096),
+        (
+            "macheap --zone 1048576 --base 15728640",
+            15_728_640,
+            1_048_576,
+        ),
+        ("macheap --base 16773120", 16_773_120, 4096),
+    ];
+    for (line, base, size) in rows {
+        let spec = ZoneSpec::new(base, size, size)?;
+        assert_eq!(rt; meaning_of(rt.alloc(), line)?, Meaning::Run(spec), "{line}");
+    }
+    Ok(())
+}
+
+#[test]
 fn words_are_read(rt: HostRuntime) -> Result<(), Fail> {
-    let usual = ZoneSpec::new(1_048_576, 4096, 4096)?;
-    let large = ZoneSpec::new(1_048_576, 8192, 8192)?;
-    let low = ZoneSpec::new(4096, 4096, 4096)?;
-    let last = ZoneSpec::new(15_728_640, 1_048_576, 1_048_576)?;
-    let rows: [(&str, Meaning); 28] = [
-        ("macheap", Meaning::Run(usual)),
-        ("macheap --zone 8192", Meaning::Run(large)),
-        ("macheap --zone=8192", Meaning::Run(large)),
-        ("macheap --base 0004096", Meaning::Run(low)),
-        ("macheap --base=4096 --zone 4096", Meaning::Run(low)),
-        ("macheap --zone 1048576 --base 15728640", Meaning::Run(last)),
+    let rows: [(&str, Meaning); 15] = [
         ("macheap --help", Meaning::Help),
         ("macheap -h", Meaning::Help),
         ("macheap --zone", Meaning::Words),
@@ -348,37 +549,33 @@ fn words_are_read(rt: HostRuntime) -> Result<(), Fail> {
         ("macheap --zone $1000", Meaning::NoNumber),
         ("macheap --base=", Meaning::NoNumber),
         ("macheap --base 4294967296", Meaning::NoNumber),
-        (
-            "macheap --zone 1022",
-            Meaning::Spec(BadSpec::UnevenSize(1022)),
-        ),
-        (
-            "macheap --zone 1020",
-            Meaning::Spec(BadSpec::SmallSize(1020)),
-        ),
-        (
-            "macheap --zone 1048580",
-            Meaning::Spec(BadSpec::LargeLimit(1_048_580)),
-        ),
-        ("macheap --base 4092", Meaning::Spec(BadSpec::LowBase(4092))),
-        (
-            "macheap --base 4098",
-            Meaning::Spec(BadSpec::UnevenBase(4098)),
-        ),
-        (
-            "macheap --base 16773120",
-            Meaning::Run(ZoneSpec::new(16_773_120, 4096, 4096)?),
-        ),
-        (
-            "macheap --base 16773124",
-            Meaning::Spec(BadSpec::HighEnd {
-                base: 16_773_124,
-                limit: 4096,
-            }),
-        ),
     ];
     for (line, want) in rows {
         assert_eq!(rt; meaning_of(rt.alloc(), line)?, want, "{line}");
+    }
+    Ok(())
+}
+
+#[test]
+fn impossible_zones_are_told(rt: HostRuntime) -> Result<(), Fail> {
+    let high = BadSpec::HighEnd {
+        base: 16_773_124,
+        limit: 4096,
+    };
+    let rows: [(&str, BadSpec); 6] = [
+        ("macheap --zone 1022", BadSpec::UnevenSize(1022)),
+        ("macheap --zone 1020", BadSpec::SmallSize(1020)),
+        ("macheap --zone 1048580", BadSpec::LargeLimit(1_048_580)),
+        ("macheap --base 4092", BadSpec::LowBase(4092)),
+        ("macheap --base 4098", BadSpec::UnevenBase(4098)),
+        ("macheap --base 16773124", high),
+    ];
+    for (line, fault) in rows {
+        assert_eq!(rt;
+            meaning_of(rt.alloc(), line)?,
+            Meaning::Spec(fault),
+            "{line}"
+        );
     }
     Ok(())
 }
