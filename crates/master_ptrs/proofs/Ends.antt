@@ -1,5 +1,5 @@
 -- How the calls that write one master pointer end.
-use Rattle.std.proofs.Common.{◌≡◌, ℕ, zero, suc, ◌+◌, ◌*◌, ◌≤◌, ◌<◌, List, [], ◌∷◌, ◌++◌, drop, refl, ap, sym, ◌∙◌, subst, arith, Contains, Some, None, true}
+use Rattle.std.proofs.Common.{◌≡◌, ℕ, ◌+◌, ◌*◌, List, [], ◌∷◌, ◌++◌, drop, refl, ap, sym, ◌∙◌, subst, Contains, Some, true}
 use Rattle.std.specs.Prelude.{slice_index}
 use Rattle.byteorder.specs.Endian.{big_bytes}
 use Rattle.raw_region.specs.Bytes.{written}
@@ -10,13 +10,12 @@ use Rattle.mac_base.specs.Reply.{state_of}
 use Rattle.mac_base.specs.Suits.{slots}
 use Rattle.mac_base.specs.ZoneMap.{contents_of}
 use Rattle.mac_base.specs.ZoneState.{ZoneState}
-use Rattle.mac_base.proofs.SlotPlaces.{Contains-here}
 use Rattle.zone_blocks.specs.Layout.{Layout, WordAt, with_word, with_blocks, with_header}
 use Rattle.master_ptrs.specs.Word.{next_free, next_said, slot_of, slot_of_live}
 use Rattle.master_ptrs.specs.Changes.{taken, given_back, flagged}
 use Rattle.master_ptrs.proofs.Held.{Held, Kept, kept}
 use Rattle.master_ptrs.proofs.Steps.{SlotOf, slot-of, word-at, with_slot_word, took, gave_back, set_flags_of}
-use Rattle.master_ptrs.proofs.Known.{rooms, slot-range, front-none}
+use Rattle.master_ptrs.proofs.Known.{rooms}
 use Rattle.master_ptrs.proofs.ChangeParts.{next_free-front}
 use Rattle.master_ptrs.proofs.ChangeTaken as t
 use Rattle.master_ptrs.proofs.ChangeGivenBack as g

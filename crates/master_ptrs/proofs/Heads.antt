@@ -1,5 +1,5 @@
 -- The zone's header: what is read there, and what a write makes of it.
-use Rattle.std.proofs.Common.{◌≡◌, ℕ, ◌+◌, ◌<◌, ◌^◌, List, ◌++◌, replicate, refl, ap, ◌∙◌, sym}
+use Rattle.std.proofs.Common.{◌≡◌, ℕ, ◌<◌, ◌^◌, List, ◌++◌, replicate, refl}
 use Rattle.byteorder.specs.Endian.{big_bytes, big_number}
 use Rattle.raw_region.specs.Bytes.{part, written}
 use Rattle.raw_region.proofs.Numbers.{number-bytes}

@@ -1,5 +1,5 @@
 -- What is known of the blocks of a zone while it is changed, and when they stand for the changed one.
-use Rattle.std.proofs.Common.{◌≡◌, ℕ, ◌+◌, ◌≤◌, ◌<◌, ◌^◌, refl, ap, sym, ◌∙◌, subst, arith}
+use Rattle.std.proofs.Common.{◌≡◌, ◌+◌, ◌≤◌, sym, subst, arith}
 use Rattle.mac_base.specs.ZoneState.{ZoneState}
 use Rattle.zone_blocks.specs.Layout.{Layout}
 use Rattle.master_ptrs.specs.declared.pointers.MasterPointers.TheInside.{Inside}

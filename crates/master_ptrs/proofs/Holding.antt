@@ -1,18 +1,11 @@
 -- Blocks that are those of a zone map: taken apart at a place, put together again, and for other owners.
-use Rattle.std.proofs.Common.{◌≡◌, ℕ, zero, suc, ◌+◌, ◌*◌, ◌<◌, ◌≤◌, Bool, true, false, not, cond, eqb, List, [], ◌∷◌, ◌++◌, length, refl, ap, sym, ◌∙◌, subst, arith, length-append}
-use Rattle.std.specs.Prelude.{IsTrue, IsFalse}
-use Rattle.std.specs.List.{list_all}
-use Rattle.std.proofs.lemmas.Bool.Decides.{nat_tests}
+use Rattle.std.proofs.Common.{◌≡◌, ℕ, zero, suc, ◌+◌, ◌*◌, List, [], ◌∷◌, ◌++◌, length, refl, ap, subst, arith, length-append}
 use Rattle.mac_base.specs.declared.block.Entry.{Entry}
-use Rattle.mac_base.specs.declared.block.Kind.{Kind}
-use Rattle.mac_base.specs.declared.block.Kind.TheVariants as kind
-use Rattle.mac_base.specs.HeadKind.{Shape, head_size, slot_count}
-use Rattle.mac_base.specs.ZoneMap.{ZoneMap, total_size, is_named}
-use Rattle.mac_base.proofs.Maps.{both_true, true_not}
-use Rattle.mac_base.proofs.Tables.{eqb_same}
+use Rattle.mac_base.specs.HeadKind.{Shape}
+use Rattle.mac_base.specs.ZoneMap.{ZoneMap, total_size}
 use Rattle.raw_region.proofs.Numbers.{length-big_bytes}
-use Rattle.zone_blocks.specs.Layout.{Held, size_of, total_of}
-use Rattle.master_ptrs.specs.Image.{Owners, pointers_from, HoldsOwned, HoldsBlock, HoldsBlocks}
+use Rattle.zone_blocks.specs.Layout.{Held, total_of}
+use Rattle.master_ptrs.specs.Image.{Owners, pointers_from, HoldsBlock, HoldsBlocks}
 
 -- all sizes together are those of the map
 pub total-held : (o : Owners) (s : Shape) (at : ℕ) (bs : List Held) (es : ZoneMap) → HoldsBlocks o s at bs es → total_of s.heads bs ≡ total_size es

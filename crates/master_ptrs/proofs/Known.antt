@@ -2,26 +2,25 @@
 use Rattle.std.proofs.Common.{◌≡◌, ℕ, ◌+◌, ◌*◌, ◌≤◌, ◌<◌, ◌^◌, ◌%◌, Bool, true, false, List, [], ◌∷◌, length, refl, ap, sym, ◌∙◌, subst, arith, Contains, Some, None}
 use Rattle.std.specs.Prelude.{IsTrue, slice_index}
 use Rattle.std.specs.List.{list_all}
-use Rattle.byteorder.specs.Endian.{big_bytes, big_number}
+use Rattle.byteorder.specs.Endian.{big_number}
 use Rattle.raw_region.specs.Bytes.{part}
 use Rattle.raw_region.proofs.Numbers.{number-bytes}
-use Rattle.mac_base.specs.declared.block.Entry.{Entry}
 use Rattle.mac_base.specs.HeadKind.{head_size, slot_count}
-use Rattle.mac_base.specs.ZoneMap.{ZoneMap, address_behind, contents_of, free_bytes, free_size, is_free, total_size}
-use Rattle.mac_base.specs.HandleTable.{is_handle, is_full, is_pointer}
+use Rattle.mac_base.specs.ZoneMap.{ZoneMap, address_behind, free_bytes, is_free, total_size}
+use Rattle.mac_base.specs.HandleTable.{is_pointer}
 use Rattle.mac_base.specs.Heap.{front_slot}
 use Rattle.mac_base.specs.Suits.{slots}
 use Rattle.mac_base.specs.ZoneState.{ZoneState}
 use Rattle.mac_base.proofs.SlotPlaces.{has_room, Contains-here}
 use Rattle.zone_blocks.specs.Layout.{Layout, WordAt}
-use Rattle.master_ptrs.specs.Word.{next_free, slot_of, slot_word, slot_in, has_addresses, master_pointer}
+use Rattle.master_ptrs.specs.Word.{next_free, slot_of, slot_in, has_addresses, master_pointer}
 use Rattle.master_ptrs.specs.Image.{owners_of}
 use Rattle.master_ptrs.proofs.Heads.{front-read, free-read}
 use Rattle.master_ptrs.proofs.Held.{Held}
 use Rattle.master_ptrs.proofs.HeldRooms.{rooms-held}
 use Rattle.master_ptrs.proofs.ReadWord.{slot_in-word}
 use Rattle.master_ptrs.proofs.ReadZone as read
-use Rattle.master_ptrs.proofs.Steps.{SlotOf, slot-of, word-at}
+use Rattle.master_ptrs.proofs.Steps.{slot-of, word-at}
 
 free_bytes-total : (m : ZoneMap) → free_bytes m ≤ total_size m
 free_bytes-total [] = omega arith

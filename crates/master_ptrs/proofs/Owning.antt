@@ -1,9 +1,9 @@
 -- Blocks that are those of a zone map for other owners: where these agree, and where one master pointer is written.
-use Rattle.std.proofs.Common.{◌≡◌, ℕ, zero, suc, ◌+◌, ◌-◌, ◌*◌, ◌<◌, ◌≤◌, ◌^◌, Bool, true, false, not, ◌&&◌, cond, eqb, List, [], ◌∷◌, ◌++◌, length, take, drop, refl, ap, sym, ◌∙◌, subst, arith, length-append, Contains, ◌⊎◌, inl, inr}
-use Rattle.std.specs.Prelude.{IsTrue, IsFalse, ◌==◌, if◌then◌else◌, get_or, flat_map, map}
+use Rattle.std.proofs.Common.{◌≡◌, ℕ, zero, suc, ◌+◌, ◌*◌, ◌<◌, ◌≤◌, Bool, true, false, not, ◌&&◌, cond, List, [], ◌∷◌, ◌++◌, length, refl, ap, sym, ◌∙◌, subst, arith, Contains, ◌⊎◌, inl, inr}
+use Rattle.std.specs.Prelude.{◌==◌, if◌then◌else◌, flat_map, map}
 use Rattle.std.specs.List.{list_all}
 use Rattle.std.proofs.lemmas.Bool.Decides.{nat_tests}
-use Rattle.byteorder.specs.Endian.{big_bytes, big_number}
+use Rattle.byteorder.specs.Endian.{big_bytes}
 use Rattle.raw_region.specs.Bytes.{part, written, length-written}
 use Rattle.raw_region.proofs.Numbers.{length-big_bytes}
 use Rattle.raw_region.proofs.Moved.{part-append-first, part-append-second}
@@ -14,7 +14,6 @@ use Rattle.mac_base.specs.HeadKind.{Shape, head_size, slot_count}
 use Rattle.mac_base.specs.ZoneMap.{ZoneMap, total_size, is_named, is_master, addresses_from}
 use Rattle.mac_base.specs.Suits.{slots_from}
 use Rattle.mac_base.proofs.Maps.{both_true, true_not}
-use Rattle.mac_base.proofs.Tables.{eqb_same, eqb-true-is}
 use Rattle.mac_base.proofs.SlotPlaces.{slots_at, Contains-none, Contains-cons_cases}
 use Rattle.std.proofs.lemmas.List.Elements.{Contains-append_cases}
 use Rattle.std.proofs.lemmas.List.{take_all}

@@ -1,9 +1,9 @@
 -- One master pointer of a zone is written: the blocks hold the changed zone.
-use Rattle.std.proofs.Common.{◌≡◌, ℕ, zero, suc, ◌+◌, ◌-◌, ◌*◌, ◌≤◌, ◌<◌, ◌^◌, Bool, true, false, cond, eqb, List, [], ◌∷◌, ◌++◌, length, refl, ap, sym, ◌∙◌, subst, arith, Contains, Some}
+use Rattle.std.proofs.Common.{◌≡◌, ℕ, ◌+◌, ◌*◌, true, cond, List, [], ◌∷◌, ◌++◌, ap, sym, ◌∙◌, arith, Contains, Some}
 use Rattle.std.specs.Prelude.{◌==◌, if◌then◌else◌}
 use Rattle.std.proofs.lemmas.Bool.Decides.{nat_tests}
-use Rattle.byteorder.specs.Endian.{big_bytes, big_number}
-use Rattle.raw_region.specs.Bytes.{part, written}
+use Rattle.byteorder.specs.Endian.{big_bytes}
+use Rattle.raw_region.specs.Bytes.{written}
 use Rattle.mac_base.specs.declared.block.Flags.{Flags}
 use Rattle.mac_base.specs.HeadKind.{head_size}
 use Rattle.mac_base.specs.ZoneMap.{address_behind, contents_of, free_bytes}
@@ -13,14 +13,12 @@ use Rattle.mac_base.specs.Reply.{state_of}
 use Rattle.mac_base.specs.Suits.{slots}
 use Rattle.mac_base.specs.ZoneState.{ZoneState}
 use Rattle.mac_base.proofs.Tables.{by_number}
-use Rattle.zone_blocks.specs.Layout as layout
 use Rattle.zone_blocks.specs.Layout.{Layout, WordAt, with_word, total_of}
-use Rattle.master_ptrs.specs.Word.{master_pointer, next_free}
+use Rattle.master_ptrs.specs.Word.{master_pointer}
 use Rattle.master_ptrs.specs.Image.{owners_of, zone_head}
-use Rattle.master_ptrs.specs.Fit.{Fits, HasSizes}
-use Rattle.master_ptrs.specs.Reading.{Holds}
+use Rattle.master_ptrs.specs.Fit.{Fits}
 use Rattle.master_ptrs.specs.Changes.{with_heap, taken, given_back, flagged}
-use Rattle.master_ptrs.proofs.Heads.{head_with, front-written}
+use Rattle.master_ptrs.proofs.Heads.{front-written}
 use Rattle.master_ptrs.proofs.Held.{Held}
 use Rattle.master_ptrs.proofs.HeldRooms.{rooms-held}
 use Rattle.master_ptrs.proofs.Owning.{SlotAt, slot-at, with_pointer, blocks-agree}

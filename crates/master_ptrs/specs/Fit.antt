@@ -1,5 +1,5 @@
 -- When a handle table, a zone map and free slots fit each other, so that bytes can stand for them.
-use Rattle.std.specs.Prelude.{◌≡◌, ℕ, ◌↔◌, IsTrue, IsFalse, if◌then◌else◌, List, [], ◌∷◌, length, Contains, nat_eq}
+use Rattle.std.specs.Prelude.{◌≡◌, ℕ, ◌↔◌, IsTrue, IsFalse, if◌then◌else◌, [], ◌∷◌, length, Contains, nat_eq}
 use Rattle.std.specs.Ordering.{nat_cmp}
 use Rattle.std.specs.List.{IsDistinct, list_all}
 use Rattle.std.specs.FinMap.{is_sorted}

@@ -1,4 +1,4 @@
-use Rattle.std.proofs.Common.{◌≡◌, ℕ, ◌+◌, ◌-◌, ◌≤◌, true, refl, ap, sym, ◌∙◌, subst, arith, Option, Some, None}
+use Rattle.std.proofs.Common.{◌≡◌, ℕ, ◌-◌, true, refl, ap, sym, ◌∙◌, subst, arith, Option, Some, None}
 use Rattle.mac_base.specs.HeadKind.{head_size}
 use Rattle.mac_base.specs.ZoneMap.{contents_of}
 use Rattle.mac_base.specs.HandleTable.{Live, EmptyHandle, FullHandle, Pointer, live_at, live_full}

@@ -1,7 +1,6 @@
-use Rattle.std.proofs.Common.{◌≡◌, true, false, refl, sym, ◌∙◌, subst}
+use Rattle.std.proofs.Common.{sym, ◌∙◌, subst}
 use Rattle.mac_base.specs.declared.block.Entry.{Entry}
-use Rattle.zone_blocks.specs.Layout.{BlockAt}
-use Rattle.master_ptrs.specs.Places.{EntryAt, HasOwner}
+use Rattle.master_ptrs.specs.Places.{HasOwner}
 use Rattle.master_ptrs.proofs.Held.{held-now}
 use Rattle.master_ptrs.proofs.Located.{of-block}
 use Rattle.master_ptrs.proofs.Owned.{has-owner}
