@@ -1,5 +1,4 @@
 pub mod Attempts
-pub mod BlockLength
 pub mod NewHandles
 pub mod Passing
 pub mod Resizing

@@ -142,7 +142,7 @@ impl MemoryManager {
         ensures step { StepBy UnmovedRun self.now.shape self.now.heap (GetHandleSize handle) [] (number_reply result) self.now.heap }
     {
         self.test_full(handle)?;
-        Ok(self.length(handle.number()))
+        Ok(self.zone.length(handle.number()))
     }
 
     /// SetPtrSize: gives the pointer's block `size` bytes where it is; bytes that are added are zero. memWZErr where the
@@ -163,7 +163,7 @@ impl MemoryManager {
         ensures step { StepBy UnmovedRun self.now.shape self.now.heap (GetPtrSize pointer) [] (number_reply result) self.now.heap }
     {
         self.test_pointer(pointer)?;
-        Ok(self.length(pointer.number()))
+        Ok(self.zone.length(pointer.number()))
     }
 
     /// HLock: the block stays where it is until HUnlock. nilHandleErr where the handle is 0 or empty, memWZErr where it
@@ -366,15 +366,6 @@ impl MemoryManager {
     {
         self.test_full(handle)?;
         Ok(self.zone.flags(handle))
-    }
-
-    /// How many bytes a block has that is live, not empty and not lent: it lies in a zone whose addresses have 24 bits.
-    fn length(&self, block: u32) -> u32
-        requires { status_of self.now.heap.table block ≡ Status.Full }
-        ensures { result ≡ length (bytes_of self.now.heap.table block) }
-    {
-        let _first = self.first_block();
-        self.contents(block).len() as u32
     }
 }
 

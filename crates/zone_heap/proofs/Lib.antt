@@ -6,6 +6,7 @@ pub mod Places
 pub mod Joining
 pub mod Releasing
 pub mod Emptying
+pub mod BlockLength
 pub mod Contents
 pub mod Placing
 pub mod Pointers

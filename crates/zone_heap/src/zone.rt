@@ -35,7 +35,7 @@ impl Model for Zone {
 }
 
 impl Zone {
-    ghost use Rattle.std.specs.Prelude.{◌≡◌, ◌+◌, ◌≤◌, IfOk, IsTrue, MatchResult, Some, None, []};
+    ghost use Rattle.std.specs.Prelude.{length, ◌≡◌, ◌+◌, ◌≤◌, IfOk, IsTrue, MatchResult, Some, None, []};
     ghost use Rattle.mac_base.specs.ZoneMap.{address_behind, contents_of};
     ghost use Rattle.std.specs.Borrow.{sem};
     ghost use Rattle.mac_base.specs.BlockStatus.{status_of};
@@ -222,6 +222,16 @@ impl Zone {
         let at = self.pointers.block_of(handle);
         prove!(at < spec.base() + spec.limit());
         at + spec.heads().head_size()
+    }
+
+    /// How many bytes a handle or a pointer has.
+    pub fn length(&self, block: u32) -> u32
+        requires { status_of self.now.heap.table block ≡ Status.Full }
+        ensures { result ≡ length (bytes_of self.now.heap.table block) }
+    {
+        let spec = self.pointers.spec();
+        prove!(spec.limit() <= LARGEST_LIMIT);
+        self.bytes(block).len() as u32
     }
 
     /// The bytes of a handle or a pointer that has a block.

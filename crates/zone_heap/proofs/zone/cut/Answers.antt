@@ -1,6 +1,6 @@
 use Rattle.std.proofs.Common.{◌≡◌, ◌-◌, ◌<◌, ◌≤◌, ◌∙◌, ap, arith}
 use Rattle.mac_base.specs.declared.block.Entry.{Entry}
-use Rattle.mac_base.specs.HeadKind.{Shape, smallest_block}
+use Rattle.mac_base.specs.HeadKind.{smallest_block}
 use Rattle.mac_base.specs.ZoneSizes.{ZoneSizes}
 use Rattle.zone_heap.proofs.Cutting.{entry_taken, cut_taken, with_front-cut, with_front-whole}
 use Rattle.zone_heap.proofs.zone.cut.Goals as goal

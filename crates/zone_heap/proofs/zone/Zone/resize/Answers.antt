@@ -1,7 +1,7 @@
 use Rattle.std.proofs.Common.{◌≡◌, ◌+◌, ◌≤◌, ◌<◌, ◌∙◌, Some, sym, ap, subst, refl, arith, IsTrue}
 use Rattle.mac_base.specs.declared.block.Entry.{Entry}
 use Rattle.mac_base.specs.HandleTable.{has_block}
-use Rattle.mac_base.specs.HeadKind.{Shape, need}
+use Rattle.mac_base.specs.HeadKind.{need}
 use Rattle.mac_base.specs.Serve.{free_in_front}
 use Rattle.mac_base.specs.Sound.{Sound}
 use Rattle.mac_base.specs.ZoneState.{ZoneState}
