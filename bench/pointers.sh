@@ -7,28 +7,15 @@ cd "$(dirname "$0")"
 program=${1:-../crates/macheap/out/macheap}
 folder=$(mktemp -d)
 trap 'rm -rf "$folder"' EXIT
-
-# the best of three runs on a script, in nanoseconds
-best() {
-    least=
-    for _ in 1 2 3; do
-        before=$(date +%s%N)
-        "$program" --zone 1048576 < "$1" > "$folder/output"
-        taken=$(($(date +%s%N) - before))
-        if [ -z "$least" ] || [ "$taken" -lt "$least" ]; then
-            least=$taken
-        fi
-    done
-    echo "$least"
-}
+. ./best.sh
 
 printf '%13s %16s %12s %10s\n' 'live pointers' 'making them, ms' 'ns per call' growth
 first=
 for live in 2000 20000; do
     ./make_script.py pointers "$live" 0 > "$folder/making"
     ./make_script.py pointers "$live" 40000 > "$folder/script"
-    making=$(best "$folder/making")
-    taken=$(best "$folder/script")
+    making=$(best 3 "$folder/making" "$folder/output" "$program" --zone 1048576)
+    taken=$(best 3 "$folder/script" "$folder/output" "$program" --zone 1048576)
     if grep -qv ' 0$' "$folder/output"; then
         echo "a call was refused" >&2
         exit 1

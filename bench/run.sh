@@ -6,20 +6,7 @@ cd "$(dirname "$0")"
 program=${1:-../crates/macheap/out/macheap}
 folder=$(mktemp -d)
 trap 'rm -rf "$folder"' EXIT
-
-# the best of five runs on a script, in nanoseconds
-best() {
-    least=
-    for _ in 1 2 3 4 5; do
-        before=$(date +%s%N)
-        "$program" < "$1" > "$folder/output"
-        taken=$(($(date +%s%N) - before))
-        if [ -z "$least" ] || [ "$taken" -lt "$least" ]; then
-            least=$taken
-        fi
-    done
-    echo "$least"
-}
+. ./best.sh
 
 printf '%-10s %8s %12s %14s %10s\n' script lines milliseconds 'ns per line' growth
 for kind in handles bytes pokes comments; do
@@ -29,7 +16,7 @@ for kind in handles bytes pokes comments; do
             continue
         fi
         ./make_script.py "$kind" "$lines" > "$folder/script"
-        taken=$(best "$folder/script")
+        taken=$(best 5 "$folder/script" "$folder/output" "$program")
         each=$((taken / lines))
         first=${first:-$each}
         printf '%-10s %8d %12d %14d %9d%%\n' "$kind" "$lines" $((taken / 1000000)) "$each" $((100 * each / first))
