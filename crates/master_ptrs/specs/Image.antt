@@ -1,5 +1,6 @@
 -- The bytes of a zone: those of its header, and those of the blocks of its map with what their owners have in them.
-use Rattle.std.specs.Prelude.{◌≡◌, ℕ, zero, suc, ◌+◌, ◌-◌, ◌≤◌, List, [], ◌∷◌, ◌++◌, replicate, ⊤}
+use Rattle.std.specs.Prelude.{◌≡◌, ℕ, zero, suc, ◌+◌, ◌-◌, ◌≤◌, List, [], ◌∷◌, ◌++◌, replicate, IsTrue, ⊤}
+use Rattle.std.specs.List.{list_all}
 use Rattle.byteorder.specs.Endian.{big_bytes}
 use Rattle.mac_base.specs.declared.block.Entry.{Entry}
 use Rattle.mac_base.specs.declared.block.Kind.{Kind}
@@ -11,7 +12,7 @@ use Rattle.mac_base.specs.Heap.{front_slot}
 use Rattle.mac_base.specs.ZoneState.{ZoneState}
 use Rattle.zone_blocks.specs.declared.header.Role.{Role}
 use Rattle.zone_blocks.specs.declared.header.Role.TheVariants as role
-use Rattle.zone_blocks.specs.Layout.{Held, size_of, rendered}
+use Rattle.zone_blocks.specs.Layout.{Held, size_of, is_possible, rendered}
 use Rattle.master_ptrs.specs.Word.{master_pointer}
 
 -- the zone's header: bkLim at 0, hFstFree at 8, zcbFree at 12, moreMast at 20, and zeros
@@ -61,8 +62,9 @@ HoldsBlocks o s at [] (e ∷ es) = ⊥
 HoldsBlocks o s at (b ∷ bs) [] = ⊥
 HoldsBlocks o s at (b ∷ bs) (e ∷ es) = HoldsBlock o s at b e × HoldsBlocks o s (at + e.size) bs es
 
--- the bytes are those of the zone: its header, and then the blocks of its map with what their owners have in them
+-- the bytes are those of the zone: its header, and then the blocks of its map, possible ones, with what their owners have in them
 pub record IsImage (z : ZoneState) (bytes : List ℕ) : Type 0 where
   pub blocks : List Held
   pub form : bytes ≡ zone_head z ++ rendered z.shape.heads z.shape.base blocks
+  pub possible : IsTrue (list_all (is_possible z.shape.heads) blocks)
   pub holds : HoldsBlocks (owners_of z) z.shape (address_behind z.shape []) blocks z.heap.map

@@ -339,9 +339,10 @@ impl Blocks {
         self.memory.clear(start as usize, length as usize);
     }
 
-    /// The bytes of the zone, from its start to the end of its last block.
+    /// The bytes of the zone, from its start to the end of its last block. Its blocks are possible ones.
     pub fn image(&self) -> &[u8]
         ensures bytes { result.now ≡ zone_bytes self.now }
+        ensures blocks { IsTrue (list_all (is_possible self.now.heads) self.now.blocks) }
         ensures walks { Walks self.now.heads result.now }
     {
         let size = self.end() - self.spec.base();

@@ -1,5 +1,6 @@
-use Rattle.std.proofs.Common.{◌++◌, ap, ◌∙◌, subst}
-use Rattle.zone_blocks.specs.Layout.{rendered}
+use Rattle.std.proofs.Common.{◌++◌, ap, ◌∙◌, subst, IsTrue}
+use Rattle.std.specs.List.{list_all}
+use Rattle.zone_blocks.specs.Layout.{is_possible, rendered}
 use Rattle.zone_blocks.specs.Walk.{Walks}
 use Rattle.master_ptrs.specs.Image.{zone_head}
 use Rattle.master_ptrs.proofs.Held.{held-now}
@@ -14,6 +15,7 @@ returns-clause-form c =
       blocks = l.blocks;
       form = c.image.ensures.bytes ∙ ap (λ xs. xs ++ rendered l.heads l.base l.blocks) held.holds.header ∙ ap (λ heads. zone_head z ++ rendered heads l.base l.blocks) held.holds.heads
           ∙ ap (λ base. zone_head z ++ rendered z.shape.heads base l.blocks) held.holds.base;
+      possible = subst (λ heads. IsTrue (list_all (is_possible heads) l.blocks)) held.holds.heads c.image.ensures.blocks;
       holds = held.holds.blocks;
     }
 
