@@ -12,8 +12,8 @@ use std::alloc::Global;
 use std::marker::Model;
 use zone_heap::{NoRoom, Zone};
 
-/// The Memory Manager with its zone. Contracts see the zone's shape and its heap. No call takes host memory after
-/// `create`.
+/// The Memory Manager with its zone. Contracts see the zone's shape and its heap. Only `create` takes host memory, and can
+/// be refused it.
 #[derive(Drop)]
 pub struct MemoryManager {
     zone: Zone,
@@ -125,8 +125,8 @@ impl MemoryManager {
 
     /// SetHandleSize: gives the handle's block `size` bytes where it is; bytes that are added are zero. nilHandleErr
     /// where the handle is 0 or empty, memWZErr where it isn't live, paramErr where `size` is over 8,388,608, memFullErr
-    /// where neither the block nor the free one right behind it has room (Inside Macintosh: Memory, Changing
-    /// the Sizes of Relocatable and Nonrelocatable Blocks).
+    /// where the block has too few bytes, also with those of the free one right behind it (Inside Macintosh: Memory,
+    /// Changing the Sizes of Relocatable and Nonrelocatable Blocks).
     pub fn set_handle_size(&mut self, handle: Handle, size: u32) -> Result<(), OsErr>
         ensures step { StepBy UnmovedRun self.old.shape self.old.heap (SetHandleSize handle size) [] (done_reply result) self.new.heap }
         ensures shape { self.new.shape ≡ self.old.shape }
@@ -146,8 +146,9 @@ impl MemoryManager {
     }
 
     /// SetPtrSize: gives the pointer's block `size` bytes where it is; bytes that are added are zero. memWZErr where the
-    /// pointer isn't live, paramErr where `size` is over 8,388,608, memFullErr where neither the block nor the free one
-    /// right behind it has room (Inside Macintosh: Memory, Changing the Sizes of Relocatable and Nonrelocatable Blocks).
+    /// pointer isn't live, paramErr where `size` is over 8,388,608, memFullErr where the block has too few bytes, also with
+    /// those of the free one right behind it (Inside Macintosh: Memory, Changing the Sizes of Relocatable and Nonrelocatable
+    /// Blocks).
     pub fn set_ptr_size(&mut self, pointer: Ptr, size: u32) -> Result<(), OsErr>
         ensures step { StepBy UnmovedRun self.old.shape self.old.heap (SetPtrSize pointer size) [] (done_reply result) self.new.heap }
         ensures shape { self.new.shape ≡ self.old.shape }
@@ -166,7 +167,7 @@ impl MemoryManager {
         Ok(self.zone.length(pointer.number()))
     }
 
-    /// HLock: the block stays where it is until HUnlock. nilHandleErr where the handle is 0 or empty, memWZErr where it
+    /// HLock: the block stays where it is while it is locked. nilHandleErr where the handle is 0 or empty, memWZErr where it
     /// isn't live (Inside Macintosh: Memory, Setting the Properties of Relocatable Blocks).
     pub fn hlock(&mut self, handle: Handle) -> Result<(), OsErr>
         ensures step { StepBy UnmovedRun self.old.shape self.old.heap (HLock handle) [] (done_reply result) self.new.heap }
@@ -263,8 +264,9 @@ impl MemoryManager {
         Ok(())
     }
 
-    /// The address of the block's contents, which is what the handle's master pointer says. nilHandleErr where the
-    /// handle is 0 or empty, memWZErr where it isn't live (Inside Macintosh: Memory, Relocatable Blocks).
+    /// Deref: where the block's contents begin, which is what the handle's master pointer says beside its flags.
+    /// nilHandleErr where the handle is 0 or empty, memWZErr where it isn't live (Inside Macintosh: Memory, Relocatable
+    /// Blocks).
     pub fn deref(&self, handle: Handle) -> Result<u32, OsErr>
         ensures step { StepBy UnmovedRun self.now.shape self.now.heap (Deref handle) [] (number_reply result) self.now.heap }
     {

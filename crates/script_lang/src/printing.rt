@@ -235,7 +235,7 @@ pub fn fault_line(alloc: Global, line: u32) -> Result<Vec<u8>, HostFull>
 }
 
 /// What a variable takes that a reply is assigned to: the first result as a number, the number of blocks where the
-/// call shows blocks, and 0 where it was refused or gives no number.
+/// call shows blocks, and 0 where it was refused or gives a code, bytes or nothing.
 pub fn first_number(reply: &Reply) -> u32
     ensures { result ≡ texts.first_number reply.now.outcome }
 {

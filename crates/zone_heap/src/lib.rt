@@ -1,4 +1,4 @@
-//! A heap zone: one attempt to place, release or show a block.
+//! A heap zone: one attempt to place, size, flag, release or show a block.
 #![tactic(auto)]
 
 mod zone;

@@ -10,9 +10,9 @@ use std::alloc::Global;
 use std::marker::Model;
 use thiserror::Error;
 
-/// No block of the zone has room for the attempt. Nothing has changed.
+/// The zone has no room for the attempt: no free block has it, or no slot is free. Nothing has changed.
 #[derive(Clone, Copy, Debug, PartialEq, Eq, Error)]
-#[error("no block of the zone has room")]
+#[error("the zone has no room")]
 pub struct NoRoom;
 
 /// A heap zone in raw bytes. Contracts see its shape and its heap: the handle table, the zone map and the free slots.
