@@ -7,8 +7,15 @@ A script has at most 1,048,576 bytes, so 65,536 lines have 16 bytes each at most
   bytes     a Poke of one byte and a Peek of 100 bytes in turn
   pokes     a Poke of 100 bytes and a Peek of them in turn (for 16,384 lines at most)
   comments  seven comments and blank lines, and then a Peek of 4 bytes
+  notes     comments and blank lines alone
+  digits    Peeks of 4,000 zero bytes, which print as hexadecimal digits (in a zone of 8,192 bytes)
+  plain     Peeks of 4,000 bytes that print as they are (in a zone of 8,192 bytes)
+  hexes     Pokes of 100 bytes in hexadecimal digits (for 4,096 lines at most)
   sixty     60 live handles of all sizes up to 4,000 bytes: one after the other is disposed of and made anew with
             another size, then a Poke and a Peek of it (for 32,768 lines at most, in a zone of 262,144 bytes)
+
+make_script.py names COUNT CALLS writes so many lines that assign a variable each, and then so many GetPtrSize of one of them at
+random.
 
 make_script.py pointers LIVE CALLS writes so many NewPtr 8, and then so many calls: DisposePtr of a pointer at a random place
 and NewPtr 8 in turn.
@@ -25,6 +32,10 @@ TURNS = {
         ["h = NewHandle 4"],
         ["# a comment", "", "   # and one", "\t", "# and another", "", "", "Peek h 0 4"],
     ),
+    "notes": ([], ["# a comment", "", "   # and one", "\t"]),
+    "digits": (["h = NewHandle 4000"], ["Peek h 0 4000"]),
+    "plain": (["h = NewHandle 4000", 'Poke h 0 "' + "plain " * 666 + 'text"'], ["Peek h 0 4000"]),
+    "hexes": (["h = NewHandle 100"], ['Poke h 0 $"' + "0a" * 100 + '"']),
 }
 
 
@@ -56,12 +67,19 @@ def pointers(live, calls):
     return lines
 
 
+def names(count, calls):
+    """So many variables, and then so many uses of one of them, which names no pointer."""
+    random.seed(count)
+    lines = ["z = NewEmptyHandle"] + [f"{name_of(i)} = GetPtrSize 1" for i in range(count)]
+    return lines + [f"GetPtrSize {name_of(random.randrange(count))}" for _ in range(calls)]
+
+
 def main():
     kind, count = sys.argv[1], int(sys.argv[2])
     if kind == "sixty":
         lines = sixty(count)
-    elif kind == "pointers":
-        lines = pointers(count, int(sys.argv[3]))
+    elif kind in ("pointers", "names"):
+        lines = {"pointers": pointers, "names": names}[kind](count, int(sys.argv[3]))
     else:
         first, turn = TURNS[kind]
         lines = first + [turn[i % len(turn)] for i in range(count - len(first))]

@@ -36,3 +36,7 @@ round_up n = 4 * ((n + 3) / 4)
 -- the physical size of a block with n bytes of contents
 abbrev pub need : HeadKind → ℕ → ℕ
 need heads n = max (smallest_block heads) (round_up (n + head_size heads))
+
+-- the largest size, offset or count that a call takes
+abbrev pub max_size : ℕ
+max_size = 0x80_0000

@@ -1,6 +1,6 @@
 -- The heap of a program: its handle table, its zone map, and the free slots in the order in which they will be used.
 use Rattle.std.specs.List.{list_all}
-use Rattle.std.specs.Prelude.{Bool, ℕ, ◌+◌, ◌-◌, List, [], ◌∷◌, ◌++◌, drop, fold, slice_index}
+use Rattle.std.specs.Prelude.{Bool, true, false, ℕ, ◌+◌, ◌-◌, List, [], ◌∷◌, ◌++◌, drop, fold, slice_index}
 use Rattle.mac_base.specs.declared.block.Kind.TheVariants.{Free, Master}
 use Rattle.mac_base.specs.HeadKind.{Shape, need, zone_header, slot_count, master_length}
 use Rattle.mac_base.specs.ZoneMap.{ZoneMap, block, released, at_limit}
@@ -49,6 +49,11 @@ grown s heap = with_map (at_limit s heap.map) heap
 -- the heap in which all handles that may be purged are empty
 abbrev pub all_purged : Heap → Heap
 all_purged heap = with_all_emptied (candidates_in heap.table [] heap.map) heap
+
+-- whether a list has no number
+abbrev pub has_none : List ℕ → Bool
+has_none [] = true
+has_none (x ∷ xs) = false
 
 -- whether every slot of the zone is live
 abbrev pub every_slot_live : Shape → Heap → Bool

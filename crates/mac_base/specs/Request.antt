@@ -1,5 +1,5 @@
 -- Requests for room, when they fit, and which handles may be purged for them.
-use Rattle.std.specs.Prelude.{ℕ, ◌+◌, Bool, true, not, ◌&&◌, ◌||◌, ◌==◌, nat_le, if◌then◌else◌, List, [], ◌∷◌, filter, filter_map, sum, Option}
+use Rattle.std.specs.Prelude.{ℕ, ◌+◌, Bool, true, false, not, ◌&&◌, ◌||◌, ◌==◌, nat_le, if◌then◌else◌, List, [], ◌∷◌, filter, filter_map, sum, Option}
 use Rattle.std.specs.Option.{option_map_or}
 use Rattle.std.specs.List.{list_any}
 use Rattle.mac_base.specs.declared.block.Entry.{Entry}
@@ -93,3 +93,9 @@ candidates t protected r m = candidates_in t protected (blocks_to_purge t r m)
 abbrev pub purged_until : (ZoneMap → Bool) → List ℕ → ZoneMap → List ℕ
 purged_until enough [] m = []
 purged_until enough (h ∷ hs) m = if enough m then [] else h ∷ purged_until enough hs (released h m)
+
+-- whether a request makes a handle
+abbrev pub makes_handle : Request → Bool
+makes_handle (NewBlock n) = true
+makes_handle NewEmpty = true
+makes_handle _ = false

@@ -1,79 +1,30 @@
--- How the parts of a run make its end.
-use Rattle.std.proofs.Common.{◌≡◌, ℕ, ◌+◌, ◌<◌, ◌≤◌, List, [], ◌∷◌, ◌++◌, Option, Some, None, take, length, get_or, refl, sym, ap, subst, ◌∙◌, append_assoc, ◌⊎◌, inl, inr}
+-- How what was asked for makes the program's end.
+use Rattle.std.proofs.Common.{ℕ, List, Option, Some, None, Ok, Err, inl, inr}
 use Rattle.std.specs.Prelude.{IfSome}
-use Rattle.std.specs.List.{concat}
-use Rattle.std.proofs.lemmas.List.{append-nil, take_more, take_all}
-use Rattle.script_lang.specs.declared.line.Line.{Line}
-use Rattle.script_lang.specs.Script.{IsScript, IsFaultAt, max_script}
-use Rattle.script_lang.specs.Text.{fault_text, no_memory_text}
-use Rattle.macheap.specs.declared.end.RunEnd.{RunEnd}
-use Rattle.macheap.specs.declared.end.RunEnd.TheVariants.{Finished, ScriptFault, NoMemory, ReadFault, WriteFault}
-use Rattle.macheap.specs.declared.machine.Machine.{Machine}
-use Rattle.macheap.specs.Line.{LineDoes}
-use Rattle.macheap.specs.Run.{IsRun, PrintsAll, PrintsSome, IsFront, replies, fault, no_memory, Ends, FaultEnds, NoMemoryEnds}
+use Rattle.clap.specs.Words.{Text, kind_of}
+use Rattle.macheap.specs.declared.asked.Asked.{Asked}
+use Rattle.macheap.specs.declared.asked.Asked.TheVariants.{Run, Help}
+use Rattle.macheap.specs.declared.asked.NotAsked.{NotAsked}
+use Rattle.macheap.specs.declared.asked.NotAsked.TheVariants.{Words, NoNumber, Spec, HostFull}
+use Rattle.macheap.specs.Asking.{Asks}
+use Rattle.macheap.specs.Program.{Answers, Refuses, ProgramEnds, ran, helped, told, full}
 
--- what holds of the text that was read holds of the input
-pub with_input : (known : Option (List ℕ)) (text : List ℕ) (P : List ℕ → Type 0) → IfSome known (λ input. (text ≡ input) × (length input ≤ max_script)) → P text → IfSome known P
-with_input None text P read holds = tt
-with_input (Some input) text P read holds = subst P read.0 holds
+answered : (words : List Text) (asked : Asked) (read_failed write_failed : Type 0) (input : List ℕ) (status : ℕ) (written : List ℕ) → Asks words (Ok asked) → Answers asked read_failed write_failed input status written → ProgramEnds words read_failed write_failed input status written
+answered words (Run sizes) read_failed write_failed input status written asks answers = ran sizes answers.0 asks answers.1 answers.2 answers.3
+answered words (Help text) read_failed write_failed input status written asks answers = helped asks.0 answers
 
-pub for_all : (known : Option (List ℕ)) (P : List ℕ → Type 0) → ((input : List ℕ) → P input) → IfSome known P
-for_all None P holds = tt
-for_all (Some input) P holds = holds input
+-- what was asked for was done
+pub answered_known : (words : List Text) (asked : Asked) (read_failed write_failed : Type 0) (input : Option (List ℕ)) (status : ℕ) (written : List ℕ) → Asks words (Ok asked) → IfSome input (λ script. Answers asked read_failed write_failed script status written) → IfSome input (λ script. ProgramEnds words read_failed write_failed script status written)
+answered_known words asked read_failed write_failed None status written asks answers = tt
+answered_known words asked read_failed write_failed (Some script) status written asks answers = answered words asked read_failed write_failed script status written asks answers
 
-pub too_long : (known : Option (List ℕ)) (P : List ℕ → Type 0) → IfSome known (λ input. max_script < length input) → ((input : List ℕ) → max_script < length input → P input) → IfSome known P
-too_long None P long holds = tt
-too_long (Some input) P long holds = holds input long
+refused : (words : List Text) (error : NotAsked) (read_failed write_failed : Type 0) (input : List ℕ) (status : ℕ) (written : List ℕ) → Asks words (Err error) → Refuses error write_failed status written → ProgramEnds words read_failed write_failed input status written
+refused words (Words fault) read_failed write_failed input status written asks refuses = told (inl (kind_of fault, asks.0, asks.1)) refuses.0 refuses.1
+refused words (NoNumber option) read_failed write_failed input status written asks refuses = told (inr (inl (option.now, asks))) refuses.0 refuses.1
+refused words (Spec fault) read_failed write_failed input status written asks refuses = told (inr (inr (fault, asks))) refuses.0 refuses.1
+refused words HostFull read_failed write_failed input status written asks refuses = full refuses.0 refuses.1
 
-pub fault_ends : (start : Machine) (input : List ℕ) (line : ℕ) (end : RunEnd) (written : List ℕ) → IsFaultAt input line → FaultEnds line end written → Ends start input end written
-fault_ends start input line (ScriptFault named) written is ends = (subst (λ n. IsFaultAt input n) (sym ends.0) is, ends.1 ∙ ap fault_text (sym ends.0))
-fault_ends start input line NoMemory written is ends = ([], inl refl, ends)
-fault_ends start input line WriteFault written is (inl front) = (fault_text line, fault line is refl, front)
-fault_ends start input line WriteFault written is (inr front) = (no_memory_text, no_memory [] (inl refl) refl, front)
-fault_ends start input line Finished written is ends = absurd ends
-fault_ends start input line ReadFault written is ends = absurd ends
-
-pub no_memory_ends : (start : Machine) (input printed : List ℕ) (end : RunEnd) (written : List ℕ) → (printed ≡ []) ⊎ PrintsSome start input printed → NoMemoryEnds end written → Ends start input end (printed ++ written)
-no_memory_ends start input printed NoMemory written so_far ends = (printed, so_far, ap (λ (t : List ℕ). printed ++ t) ends)
-no_memory_ends start input printed WriteFault written so_far ends =
-    (printed ++ no_memory_text, no_memory printed so_far refl, (ends.0, ap (λ (t : List ℕ). printed ++ t) ends.1 ∙ sym (append_assoc printed written ends.0)))
-no_memory_ends start input printed Finished written so_far ends = absurd ends
-no_memory_ends start input printed ReadFault written so_far ends = absurd ends
-no_memory_ends start input printed (ScriptFault line) written so_far ends = absurd ends
-
--- a run goes on by one line
-pub IsRun-push : (old : Machine) (lines : List Line) (texts : List (List ℕ)) (mid : Machine) (line : Line) (text : List ℕ) (new : Machine) → IsRun old lines texts mid → LineDoes mid line text new → IsRun old (lines ++ line ∷ []) (texts ++ text ∷ []) new
-IsRun-push old [] [] mid line text new run one = (new, subst (λ (s : Machine). LineDoes s line text new) run one, refl)
-IsRun-push old (first ∷ lines) (t ∷ texts) mid line text new run one = (run.0, run.1, IsRun-push run.0 lines texts mid line text new run.2 one)
-IsRun-push old [] (t ∷ texts) mid line text new run one = absurd run
-IsRun-push old (first ∷ lines) [] mid line text new run one = absurd run
-
-pub concat-push : (texts : List (List ℕ)) (text : List ℕ) → concat (texts ++ text ∷ []) ≡ concat texts ++ text
-concat-push [] text = append-nil text
-concat-push (t ∷ texts) text = ap (λ (rest : List ℕ). t ++ rest) (concat-push texts text) ∙ sym (append_assoc t (concat texts) text)
-
--- all lines have printed
-pub all_printed : (start : Machine) (input : List ℕ) (lines : List Line) (texts : List (List ℕ)) (last : Machine) → IsScript input lines → (count : ℕ) → length lines ≤ count → IsRun start (take count lines) texts last → PrintsAll start input (concat texts)
-all_printed start input lines texts last is count all run = record {
-  lines = lines;
-  script = is;
-  texts = texts;
-  last = last;
-  run = subst (λ (ls : List Line). IsRun start ls texts last) (take_all count lines all) run;
-  whole = refl;
-}
-
--- one more line of the list
-pub IsRun-step : (old : Machine) (lines : List Line) (count : ℕ) (texts : List (List ℕ)) (mid : Machine) (line : Line) (text : List ℕ) (new : Machine) → count < length lines → line ≡ get_or lines count line → IsRun old (take count lines) texts mid → LineDoes mid line text new → IsRun old (take (count + 1) lines) (texts ++ text ∷ []) new
-IsRun-step old lines count texts mid line text new lt is run one =
-    subst (λ (ls : List Line). IsRun old ls (texts ++ text ∷ []) new)
-    (ap (λ (l : Line). take count lines ++ l ∷ []) is ∙ sym (take_more lines count line lt))
-    (IsRun-push old (take count lines) texts mid line text new run one)
-
--- a text that was written in part
-pub front_ends : (start : Machine) (input : List ℕ) (lines : List Line) (count : ℕ) (texts : List (List ℕ)) (last : Machine) (text written : List ℕ) → IsScript input lines → IsRun start (take count lines) (texts ++ text ∷ []) last → IsFront written text → Ends start input WriteFault (concat texts ++ written)
-front_ends start input lines count texts last text written is run front = (
-  concat (texts ++ text ∷ []),
-  replies (record { lines = lines; script = is; count = count; texts = texts ++ text ∷ []; last = last; run = run; front = refl }),
-  (front.0, concat-push texts text ∙ ap (λ (t : List ℕ). concat texts ++ t) front.1 ∙ sym (append_assoc (concat texts) written front.0)),
-)
+-- it was told why nothing was asked for
+pub refused_known : (words : List Text) (error : NotAsked) (read_failed write_failed : Type 0) (input : Option (List ℕ)) (status : ℕ) (written : List ℕ) → Asks words (Err error) → Refuses error write_failed status written → IfSome input (λ script. ProgramEnds words read_failed write_failed script status written)
+refused_known words error read_failed write_failed None status written asks refuses = tt
+refused_known words error read_failed write_failed (Some script) status written asks refuses = refused words error read_failed write_failed script status written asks refuses

@@ -1,4 +1,3 @@
-pub mod Counted
-pub mod End
-pub mod Line
-pub mod Run
+pub mod Options
+pub mod Asking
+pub mod Program

@@ -1,5 +1,12 @@
 //! The words of the command line.
 
+ghost use Rattle.std.specs.Prelude.{◌≡◌, IfOk, IfErr, OnErr, map, option_map};
+ghost use Rattle.std.specs.Char.{is_ascii_digit};
+ghost use Rattle.std.specs.List.{list_all};
+ghost use Rattle.clap.specs.Words.{app_of, kind_of};
+ghost use Rattle.macheap.specs.Asking.{Asks, MeansNoRun, IsNoNumberFault};
+ghost use Rattle.macheap.specs.Options.{options, IsNumberOf, IsNoNumber};
+
 use clap::error::ErrorKind;
 use clap::{Arg, ArgAction, Command};
 use mac_base::zone_spec::{BadSpec, ZoneSpec};
@@ -39,20 +46,21 @@ pub enum NotAsked {
     HostFull,
 }
 
-impl From<clap::Error> for NotAsked {
-    fn from(error: clap::Error) -> NotAsked {
-        NotAsked::Words(error)
-    }
-}
-
 impl From<AllocError> for NotAsked {
+    ghost use Rattle.std.specs.Prelude.{◌≡◌};
+    ghost use Rattle.macheap.specs.declared.asked.NotAsked.TheVariants.{HostFull};
+
+    ghost from_gives = { λ _ e. e ≡ HostFull };
+
     fn from(_: AllocError) -> NotAsked {
         NotAsked::HostFull
     }
 }
 
 /// The command line's options.
-fn command<'a>(alloc: Global) -> Result<Command<'a>, AllocError> {
+fn command<'a>(alloc: Global) -> Result<Command<'a>, AllocError>
+    ensures { IfOk result (λ command. app_of command ≡ options) }
+{
     let zone = Arg::new(alloc, "zone")
         .long("zone")
         .value_name("N")
@@ -70,7 +78,9 @@ fn command<'a>(alloc: Global) -> Result<Command<'a>, AllocError> {
 }
 
 /// What the words ask for, of which the first is the program's name.
-pub fn asked_by<S: AsStr>(alloc: Global, words: &[S]) -> Result<Asked, NotAsked> {
+pub fn asked_by<S: AsStr>(alloc: Global, words: &[S]) -> Result<Asked, NotAsked>
+    ensures { Asks (map S.text words.now) result }
+{
     let matches = match command(alloc)?.try_get_matches_from(words) {
         Ok(matches) => matches,
         Err(error) => return not_matched(error),
@@ -84,7 +94,9 @@ pub fn asked_by<S: AsStr>(alloc: Global, words: &[S]) -> Result<Asked, NotAsked>
 }
 
 /// What it means that the words don't match the options.
-fn not_matched(error: clap::Error) -> Result<Asked, NotAsked> {
+fn not_matched(error: clap::Error) -> Result<Asked, NotAsked>
+    ensures { MeansNoRun (kind_of error) result }
+{
     match error.kind() {
         ErrorKind::DisplayHelp => Ok(Asked::Help(error)),
         ErrorKind::OutOfMemory => Err(NotAsked::HostFull),
@@ -93,12 +105,23 @@ fn not_matched(error: clap::Error) -> Result<Asked, NotAsked> {
 }
 
 /// The number that an option's value gives in decimal digits, or this one where the option doesn't stand there.
-fn number(option: &'static str, value: Option<&str>, default: u32) -> Result<u32, NotAsked> {
+fn number(option: &'static str, value: Option<&str>, default: u32) -> Result<u32, NotAsked>
+    ensures number { IfOk result (IsNumberOf (option_map (λ text. text.now) value.entry) default) }
+    ensures none { OnErr result (IsNoNumber (option_map (λ text. text.now) value.entry)) }
+    ensures error { IfErr result (IsNoNumberFault option.now) }
+{
     let Some(text) = value else {
         return Ok(default);
     };
-    if !text.bytes().all(|byte| byte.is_ascii_digit()) {
+    if !is_digits(text) {
         return Err(NotAsked::NoNumber(option));
     }
     text.parse::<u32>().map_err(|_| NotAsked::NoNumber(option))
+}
+
+/// Whether a text has nothing but decimal digits.
+fn is_digits(text: &str) -> bool
+    ensures { result ≡ list_all is_ascii_digit text.now }
+{
+    text.bytes().all(|byte| byte.is_ascii_digit())
 }

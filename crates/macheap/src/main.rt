@@ -2,27 +2,15 @@
 #![tactic(auto)]
 
 mod asked;
-mod counted;
-mod end;
-mod machine;
-mod reading;
-mod run;
+mod program;
 #[cfg(test)]
 mod tests;
-mod writing;
 
-use asked::{Asked, NotAsked, asked_by};
-use counted::Counted;
-use end::{RunEnd, status};
-use run::run;
-use script_lang::NO_MEMORY;
+use program::{BAD_WORDS, program};
+use script_run::{Counted, status, tell_no_memory};
 use std::io::ErrorKind;
 use std::process::ExitCode;
 use std::{env, io};
-use writing::write_whole;
-
-/// The exit status where the words of the command line, or the sizes that they give, are bad.
-const BAD_WORDS: u8 = 2;
 
 fn main(rt: HostRuntime) -> ExitCode {
     let alloc = rt.alloc();
@@ -33,32 +21,14 @@ fn main(rt: HostRuntime) -> ExitCode {
     let Ok(words) = words.collect::<Vec<String>>(alloc) else {
         return no_memory(&rt);
     };
-    match asked_by(alloc, words.as_slice()) {
-        Ok(asked) => answer(&rt, asked),
-        Err(NotAsked::HostFull) => no_memory(&rt),
-        Err(error) => {
-            let _ = rt.eprintln(error);
-            ExitCode::from(BAD_WORDS)
-        }
-    }
+    let mut input = Counted::new(rt.stdin());
+    let mut output = Counted::new(rt.stdout());
+    let mut messages = rt.stderr();
+    let words = words.as_slice();
+    ExitCode::from(program(alloc, words, &mut input, &mut output, &mut messages))
 }
 
-/// Does what the words ask for.
-fn answer(rt: &HostRuntime, asked: Asked) -> ExitCode {
-    match asked {
-        Asked::Run(spec) => {
-            let mut reader = Counted::new(rt.stdin());
-            let mut writer = Counted::new(rt.stdout());
-            ExitCode::from(status(run(rt.alloc(), &mut reader, &mut writer, spec)))
-        }
-        Asked::Help(text) => match rt.print(text) {
-            Ok(()) => ExitCode::SUCCESS,
-            Err(_) => ExitCode::from(status(RunEnd::WriteFault)),
-        },
-    }
-}
-
-/// Ends a run whose words can't be read: they are no text, or the host has no memory for them.
+/// Ends a program whose words can't be read: they are no text, or the host has no memory for them.
 fn no_words(rt: &HostRuntime, error: &io::Error) -> ExitCode {
     if error.kind() == ErrorKind::OutOfMemory {
         return no_memory(rt);
@@ -69,12 +39,8 @@ fn no_words(rt: &HostRuntime, error: &io::Error) -> ExitCode {
     ExitCode::from(BAD_WORDS)
 }
 
-/// Ends a run that has no memory for the words of the command line.
+/// Ends a program that has no memory for the words of the command line.
 fn no_memory(rt: &HostRuntime) -> ExitCode {
-    let mut writer = Counted::new(rt.stdout());
-    if write_whole(&mut writer, NO_MEMORY) {
-        ExitCode::from(status(RunEnd::NoMemory))
-    } else {
-        ExitCode::from(status(RunEnd::WriteFault))
-    }
+    let mut output = Counted::new(rt.stdout());
+    ExitCode::from(status(tell_no_memory(&mut output)))
 }

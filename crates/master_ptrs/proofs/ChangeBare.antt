@@ -8,7 +8,7 @@ use Rattle.mac_base.specs.declared.block.HeadKind.TheVariants.{Bits24}
 use Rattle.mac_base.specs.HeadKind.{head_size, zone_header}
 use Rattle.mac_base.specs.ZoneMap.{total_size, free_bytes}
 use Rattle.mac_base.specs.ZoneSizes.{ZoneSizes, ArePossible}
-use Rattle.mac_base.proofs.SlotPlaces.{Contains-none}
+use Rattle.zone_laws.proofs.SlotPlaces.{Contains-none}
 use Rattle.master_ptrs.specs.Changes.{bare_zone}
 use Rattle.master_ptrs.specs.Fit.{Fits}
 use Rattle.master_ptrs.proofs.ChangeParts.{HasRooms}

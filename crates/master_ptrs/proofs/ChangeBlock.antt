@@ -10,10 +10,10 @@ use Rattle.mac_base.specs.HeadKind.{Shape, head_size}
 use Rattle.mac_base.specs.ZoneMap.{ZoneMap, block, is_master, is_named, total_size, free_size, free_bytes, address_behind, addresses, addresses_from, contents_addresses, contents_of}
 use Rattle.mac_base.specs.Suits.{is_handle_block, is_pointer_block, slots}
 use Rattle.mac_base.specs.ZoneState.{ZoneState}
-use Rattle.mac_base.proofs.Maps.{both_true, true_both}
-use Rattle.mac_base.proofs.GapAppend.{total_size-append, free_bytes-append, addresses_from-append, addresses_from-none}
-use Rattle.mac_base.proofs.Owners.{none_named}
-use Rattle.mac_base.proofs.SuitsTaken.{slots-same, contents-same}
+use Rattle.zone_laws.proofs.Maps.{both_true, true_both}
+use Rattle.zone_laws.proofs.GapAppend.{total_size-append, free_bytes-append, addresses_from-append, addresses_from-none}
+use Rattle.zone_laws.proofs.Owners.{none_named}
+use Rattle.zone_laws.proofs.SuitsTaken.{slots-same, contents-same}
 
 -- where x names no block, none is the block of the handle x
 pub none_handle : (x : ℕ) (m : ZoneMap) → none_named x m ≡ true → IsTrue (list_all (λ (e : Entry). not (is_handle_block x e.kind)) m)

@@ -7,9 +7,9 @@ use Rattle.mac_base.specs.HeadKind.{head_size}
 use Rattle.mac_base.specs.ZoneMap.{ZoneMap, block, is_master, is_named, total_size, free_bytes, address_behind, addresses, addresses_from}
 use Rattle.mac_base.specs.Suits.{is_handle_block, is_pointer_block}
 use Rattle.mac_base.specs.ZoneState.{ZoneState}
-use Rattle.mac_base.proofs.Maps.{Exchanged, total_size-exchanged, addresses_from-exchanged, addresses_from-skip}
-use Rattle.mac_base.proofs.GapAppend.{free_bytes-append}
-use Rattle.mac_base.proofs.SuitsTaken.{slots-same, contents-same}
+use Rattle.zone_laws.proofs.Maps.{Exchanged, total_size-exchanged, addresses_from-exchanged, addresses_from-skip}
+use Rattle.zone_laws.proofs.GapAppend.{free_bytes-append}
+use Rattle.zone_laws.proofs.SuitsTaken.{slots-same, contents-same}
 use Rattle.master_ptrs.specs.Word.{master_pointer}
 use Rattle.master_ptrs.specs.Places.{FreeAt, FreePair}
 use Rattle.master_ptrs.specs.Changes.{with_map, cut_in_two, joined_pair}

@@ -10,10 +10,10 @@ use Rattle.mac_base.specs.ZoneMap.{ZoneMap, block, is_named, total_size, free_by
 use Rattle.mac_base.specs.HandleTable.{HandleTable, EmptyHandle, live_at, live_bytes, live_full, live_handle, live_pointer, bytes_of, is_full, is_handle, is_pointer, with_live}
 use Rattle.mac_base.specs.Suits.{is_handle_block, is_pointer_block, slots}
 use Rattle.mac_base.specs.ZoneState.{ZoneState}
-use Rattle.mac_base.proofs.Maps.{both_true, true_not}
-use Rattle.mac_base.proofs.GapAppend.{addresses_from-append, addresses_from-none}
-use Rattle.mac_base.proofs.Tables.{AgreeBut, live_at-with_live_same, with_live_agrees, in_order-with_live, by_number, eqb_same, eqb_swap, eqb-true-is, full_handle, handle_no_pointer}
-use Rattle.mac_base.proofs.Owners.{none_named, none_named-from, no_length}
+use Rattle.zone_laws.proofs.Maps.{both_true, true_not}
+use Rattle.zone_laws.proofs.GapAppend.{addresses_from-append, addresses_from-none}
+use Rattle.zone_laws.proofs.Tables.{AgreeBut, live_at-with_live_same, with_live_agrees, in_order-with_live, by_number, eqb_same, eqb_swap, eqb-true-is, full_handle, handle_no_pointer}
+use Rattle.zone_laws.proofs.Owners.{none_named, none_named-from, no_length}
 use Rattle.master_ptrs.specs.Word.{master_pointer, next_free, slot_word, slot_of_live}
 use Rattle.master_ptrs.specs.Places.{BlockOf}
 use Rattle.master_ptrs.specs.Changes.{with_heap, freed, without_block}

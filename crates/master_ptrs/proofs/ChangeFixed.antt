@@ -8,11 +8,11 @@ use Rattle.mac_base.specs.ZoneMap.{ZoneMap, block, is_free, is_master, total_siz
 use Rattle.mac_base.specs.HandleTable.{HandleTable, Live, Pointer, zeros, live_at, live_bytes, live_full, live_handle, live_pointer, bytes_of, is_full, is_handle, is_pointer, with_live}
 use Rattle.mac_base.specs.Suits.{is_handle_block, is_pointer_block, slots}
 use Rattle.mac_base.specs.ZoneState.{ZoneState}
-use Rattle.mac_base.proofs.GapAppend.{addresses_from-append}
-use Rattle.mac_base.proofs.SlotOwners.{false_from}
-use Rattle.mac_base.proofs.SlotPlaces.{slot_no_contents, one_block_at, Contains-here}
-use Rattle.mac_base.proofs.Tables.{AgreeBut, live_at-with_live_same, with_live_agrees, in_order-with_live, by_number, eqb_same, eqb_swap, full_handle}
-use Rattle.mac_base.proofs.Owners.{none_named}
+use Rattle.zone_laws.proofs.GapAppend.{addresses_from-append}
+use Rattle.zone_laws.proofs.SlotOwners.{false_from}
+use Rattle.zone_laws.proofs.SlotPlaces.{slot_no_contents, one_block_at, Contains-here}
+use Rattle.zone_laws.proofs.Tables.{AgreeBut, live_at-with_live_same, with_live_agrees, in_order-with_live, by_number, eqb_same, eqb_swap, full_handle}
+use Rattle.zone_laws.proofs.Owners.{none_named}
 use Rattle.master_ptrs.specs.Word.{master_pointer}
 use Rattle.master_ptrs.specs.Places.{FreeAt}
 use Rattle.master_ptrs.specs.Changes.{fixed}

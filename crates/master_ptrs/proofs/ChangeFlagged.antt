@@ -3,10 +3,10 @@ use Rattle.std.proofs.Common.{◌≡◌, ℕ, ◌+◌, ◌*◌, true, Some, refl
 use Rattle.mac_base.specs.declared.block.Flags.{Flags}
 use Rattle.mac_base.specs.ZoneMap.{contents_of}
 use Rattle.mac_base.specs.HandleTable.{HandleTable, FullHandle, Live, live_at, live_bytes, live_full, live_handle, live_pointer, bytes_of, is_full, with_live}
-use Rattle.mac_base.specs.Reply.{state_of}
+use Rattle.mac_base.specs.FlagState.{state_of}
 use Rattle.mac_base.specs.Suits.{slots}
 use Rattle.mac_base.specs.ZoneState.{ZoneState}
-use Rattle.mac_base.proofs.Tables.{AgreeBut, live_at-with_live_same, with_live_agrees, in_order-with_live, by_number, full_handle, handle_no_pointer}
+use Rattle.zone_laws.proofs.Tables.{AgreeBut, live_at-with_live_same, with_live_agrees, in_order-with_live, by_number, full_handle, handle_no_pointer}
 use Rattle.master_ptrs.specs.Word.{master_pointer, next_free, slot_word, slot_of_live}
 use Rattle.master_ptrs.specs.Changes.{flagged}
 use Rattle.master_ptrs.specs.Fit.{Fits}

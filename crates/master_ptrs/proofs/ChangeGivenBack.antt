@@ -5,9 +5,9 @@ use Rattle.mac_base.specs.HandleTable.{HandleTable, EmptyHandle, live_at, live_b
 use Rattle.mac_base.specs.Heap.{front_slot}
 use Rattle.mac_base.specs.Suits.{is_handle_block, is_pointer_block, slots}
 use Rattle.mac_base.specs.ZoneState.{ZoneState}
-use Rattle.mac_base.proofs.Tables.{AgreeBut, live_at-without_same, without_agrees, in_order-without, by_number, eqb_same}
-use Rattle.mac_base.proofs.SlotPlaces.{Contains-cons_cases, Contains-here, Contains-later}
-use Rattle.mac_base.proofs.SoundReleased.{IsDistinct-more}
+use Rattle.zone_laws.proofs.Tables.{AgreeBut, live_at-without_same, without_agrees, in_order-without, by_number, eqb_same}
+use Rattle.zone_laws.proofs.SlotPlaces.{Contains-cons_cases, Contains-here, Contains-later}
+use Rattle.zone_laws.proofs.SoundReleased.{IsDistinct-more}
 use Rattle.master_ptrs.specs.Word.{master_pointer, next_free, slot_word, slot_of_live}
 use Rattle.master_ptrs.specs.Changes.{given_back}
 use Rattle.master_ptrs.specs.Fit.{Fits}

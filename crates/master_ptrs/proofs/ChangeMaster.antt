@@ -17,12 +17,12 @@ use Rattle.mac_base.specs.HandleTable.{live_at, is_handle, is_pointer}
 use Rattle.mac_base.specs.Heap.{front_slot}
 use Rattle.mac_base.specs.Suits.{has_length, is_handle_block, is_pointer_block, slots, slots_from}
 use Rattle.mac_base.specs.ZoneState.{ZoneState}
-use Rattle.mac_base.proofs.Maps.{both_true, true_both}
-use Rattle.mac_base.proofs.GapAppend.{addresses_from-append}
-use Rattle.mac_base.proofs.Tables.{not_live}
-use Rattle.mac_base.proofs.SlotPlaces.{has_room, slots_at, slot_cases, slots_at-above, slot_no_contents, Contains-none, Contains-here, Contains-later, Contains-cons_cases}
-use Rattle.mac_base.proofs.SlotOwners.{false_from}
-use Rattle.mac_base.proofs.SoundReleased.{IsDistinct-more}
+use Rattle.zone_laws.proofs.Maps.{both_true, true_both}
+use Rattle.zone_laws.proofs.GapAppend.{addresses_from-append}
+use Rattle.zone_laws.proofs.Tables.{not_live}
+use Rattle.zone_laws.proofs.SlotPlaces.{has_room, slots_at, slot_cases, slots_at-above, slot_no_contents, Contains-none, Contains-here, Contains-later, Contains-cons_cases}
+use Rattle.zone_laws.proofs.SlotOwners.{false_from}
+use Rattle.zone_laws.proofs.SoundReleased.{IsDistinct-more}
 use Rattle.master_ptrs.specs.Word.{master_pointer, next_free, slot_word, slot_of_live}
 use Rattle.master_ptrs.specs.Places.{RoomFor}
 use Rattle.master_ptrs.specs.Changes.{with_master}

@@ -12,10 +12,10 @@ use Rattle.mac_base.specs.ZoneMap.{ZoneMap, is_master, address_behind, addresses
 use Rattle.mac_base.specs.HandleTable.{HandleTable, live_at, live_full, live_handle, live_pointer, is_full, is_handle, is_pointer}
 use Rattle.mac_base.specs.Suits.{is_handle_block, is_pointer_block, slots, slots_from}
 use Rattle.mac_base.specs.ZoneState.{ZoneState}
-use Rattle.mac_base.proofs.Tables.{AgreeBut, by_number, eqb_same, eqb_swap}
-use Rattle.mac_base.proofs.Owners.{none_named, none_named-from, no_length}
-use Rattle.mac_base.proofs.SlotPlaces.{has_room, slot_no_contents, Contains-none, Contains-here, Contains-later, Contains-cons_cases}
-use Rattle.mac_base.proofs.SlotOwners.{false_from}
+use Rattle.zone_laws.proofs.Tables.{AgreeBut, by_number, eqb_same, eqb_swap}
+use Rattle.zone_laws.proofs.Owners.{none_named, none_named-from, no_length}
+use Rattle.zone_laws.proofs.SlotPlaces.{has_room, slot_no_contents, Contains-none, Contains-here, Contains-later, Contains-cons_cases}
+use Rattle.zone_laws.proofs.SlotOwners.{false_from}
 use Rattle.master_ptrs.specs.Word.{master_pointer, next_free, slot_word, slot_of_live}
 use Rattle.master_ptrs.specs.Changes.{with_heap}
 use Rattle.master_ptrs.specs.Fit.{Fits}

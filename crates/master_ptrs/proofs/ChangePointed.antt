@@ -6,8 +6,8 @@ use Rattle.mac_base.specs.ZoneMap.{ZoneMap, block, total_size, free_bytes, addre
 use Rattle.mac_base.specs.HandleTable.{HandleTable, Live, EmptyHandle, FullHandle, no_flags, zeros, live_at, live_bytes, live_full, live_handle, live_pointer, bytes_of, is_full, is_handle, is_pointer, with_live}
 use Rattle.mac_base.specs.Suits.{is_handle_block, is_pointer_block, slots}
 use Rattle.mac_base.specs.ZoneState.{ZoneState}
-use Rattle.mac_base.proofs.Tables.{AgreeBut, live_at-with_live_same, with_live_agrees, in_order-with_live, by_number, eqb_same, eqb_swap}
-use Rattle.mac_base.proofs.Owners.{none_named}
+use Rattle.zone_laws.proofs.Tables.{AgreeBut, live_at-with_live_same, with_live_agrees, in_order-with_live, by_number, eqb_same, eqb_swap}
+use Rattle.zone_laws.proofs.Owners.{none_named}
 use Rattle.master_ptrs.specs.Word.{master_pointer, next_free, slot_word, slot_of_live}
 use Rattle.master_ptrs.specs.Places.{FreeAt}
 use Rattle.master_ptrs.specs.Changes.{pointed}

@@ -11,12 +11,12 @@ use Rattle.mac_base.specs.ZoneMap.{ZoneMap, block, free_block, is_free, is_maste
 use Rattle.mac_base.specs.HandleTable.{HandleTable, Live, EmptyHandle, FullHandle, Pointer, live_at, live_bytes, live_full, live_handle, live_pointer, bytes_of, has_block, is_full, is_handle, is_pointer, refilled, resized, with_live}
 use Rattle.mac_base.specs.Suits.{is_handle_block, is_pointer_block}
 use Rattle.mac_base.specs.ZoneState.{ZoneState}
-use Rattle.mac_base.proofs.Joined.{free_kind}
-use Rattle.mac_base.proofs.Maps.{both_true, Exchanged, total_size-exchanged, addresses_from-exchanged, addresses_from-skip}
-use Rattle.mac_base.proofs.GapAppend.{addresses_from-append, free_bytes-append}
-use Rattle.mac_base.proofs.SuitsTaken.{slots-same, contents-same}
-use Rattle.mac_base.proofs.Tables.{AgreeBut, live_at-with_live_same, with_live_agrees, in_order-with_live, by_number, full_handle, handle_no_pointer, pointer_no_handle}
-use Rattle.mac_base.proofs.Owners.{none_named, none_named-from, no_length}
+use Rattle.zone_laws.proofs.Joined.{free_kind}
+use Rattle.zone_laws.proofs.Maps.{both_true, Exchanged, total_size-exchanged, addresses_from-exchanged, addresses_from-skip}
+use Rattle.zone_laws.proofs.GapAppend.{addresses_from-append, free_bytes-append}
+use Rattle.zone_laws.proofs.SuitsTaken.{slots-same, contents-same}
+use Rattle.zone_laws.proofs.Tables.{AgreeBut, live_at-with_live_same, with_live_agrees, in_order-with_live, by_number, full_handle, handle_no_pointer, pointer_no_handle}
+use Rattle.zone_laws.proofs.Owners.{none_named, none_named-from, no_length}
 use Rattle.master_ptrs.specs.Word.{master_pointer, next_free, slot_word, slot_of_live}
 use Rattle.master_ptrs.specs.Places.{CanFront}
 use Rattle.master_ptrs.specs.Changes.{with_heap, sized}

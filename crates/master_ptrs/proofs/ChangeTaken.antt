@@ -10,8 +10,8 @@ use Rattle.mac_base.specs.HandleTable.{HandleTable, EmptyHandle, live_at, live_b
 use Rattle.mac_base.specs.Heap.{front_slot}
 use Rattle.mac_base.specs.Suits.{is_handle_block, is_pointer_block, slots}
 use Rattle.mac_base.specs.ZoneState.{ZoneState}
-use Rattle.mac_base.proofs.Tables.{AgreeBut, live_at-with_live_same, with_live_agrees, in_order-with_live, not_live, by_number, eqb-true-is}
-use Rattle.mac_base.proofs.SlotPlaces.{Contains-cons_cases, Contains-here, Contains-later}
+use Rattle.zone_laws.proofs.Tables.{AgreeBut, live_at-with_live_same, with_live_agrees, in_order-with_live, not_live, by_number, eqb-true-is}
+use Rattle.zone_laws.proofs.SlotPlaces.{Contains-cons_cases, Contains-here, Contains-later}
 use Rattle.master_ptrs.specs.Word.{master_pointer, next_free, slot_word, slot_of_live}
 use Rattle.master_ptrs.specs.Changes.{taken}
 use Rattle.master_ptrs.specs.Fit.{Fits}

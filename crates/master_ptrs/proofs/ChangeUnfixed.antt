@@ -9,10 +9,10 @@ use Rattle.mac_base.specs.ZoneMap.{ZoneMap, block, is_named, total_size, free_by
 use Rattle.mac_base.specs.HandleTable.{HandleTable, live_at, live_bytes, live_full, live_handle, live_pointer, bytes_of, is_full, is_handle, is_pointer, without}
 use Rattle.mac_base.specs.Suits.{is_handle_block, is_pointer_block}
 use Rattle.mac_base.specs.ZoneState.{ZoneState}
-use Rattle.mac_base.proofs.Maps.{both_true, true_both}
-use Rattle.mac_base.proofs.GapAppend.{addresses_from-append, addresses_from-none}
-use Rattle.mac_base.proofs.Tables.{AgreeBut, live_at-without_same, without_agrees, in_order-without, by_number, eqb_same, eqb_swap, eqb-true-is, pointer_no_handle}
-use Rattle.mac_base.proofs.Owners.{none_named, no_length}
+use Rattle.zone_laws.proofs.Maps.{both_true, true_both}
+use Rattle.zone_laws.proofs.GapAppend.{addresses_from-append, addresses_from-none}
+use Rattle.zone_laws.proofs.Tables.{AgreeBut, live_at-without_same, without_agrees, in_order-without, by_number, eqb_same, eqb_swap, eqb-true-is, pointer_no_handle}
+use Rattle.zone_laws.proofs.Owners.{none_named, no_length}
 use Rattle.master_ptrs.specs.Word.{master_pointer}
 use Rattle.master_ptrs.specs.Places.{NamedAt}
 use Rattle.master_ptrs.specs.Changes.{with_heap, unfixed}

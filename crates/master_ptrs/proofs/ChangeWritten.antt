@@ -4,7 +4,7 @@ use Rattle.std.specs.Prelude.{◌||◌}
 use Rattle.mac_base.specs.ZoneMap.{contents_of}
 use Rattle.mac_base.specs.HandleTable.{HandleTable, EmptyHandle, FullHandle, Pointer, Live, live_at, live_bytes, live_full, live_handle, live_pointer, bytes_of, has_block, refilled, with_live}
 use Rattle.mac_base.specs.ZoneState.{ZoneState, overwritten, with_contents}
-use Rattle.mac_base.proofs.Tables.{AgreeBut, live_at-with_live_same, with_live_agrees, in_order-with_live, by_number}
+use Rattle.zone_laws.proofs.Tables.{AgreeBut, live_at-with_live_same, with_live_agrees, in_order-with_live, by_number}
 use Rattle.master_ptrs.specs.Word.{master_pointer, next_free, slot_word, slot_of_live}
 use Rattle.master_ptrs.specs.Fit.{Fits}
 use Rattle.master_ptrs.proofs.ChangeParts.{same_pointer, Fits-same_map}

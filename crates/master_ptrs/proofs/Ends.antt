@@ -6,14 +6,14 @@ use Rattle.raw_region.specs.Bytes.{written}
 use Rattle.mac_base.specs.declared.block.Flags.{Flags}
 use Rattle.mac_base.specs.HandleTable.{EmptyHandle, live_at, is_full}
 use Rattle.mac_base.specs.Heap.{front_slot}
-use Rattle.mac_base.specs.Reply.{state_of}
+use Rattle.mac_base.specs.FlagState.{state_of}
 use Rattle.mac_base.specs.Suits.{slots}
 use Rattle.mac_base.specs.ZoneMap.{contents_of}
 use Rattle.mac_base.specs.ZoneState.{ZoneState}
 use Rattle.zone_blocks.specs.Layout.{Layout, WordAt, with_word, with_blocks, with_header}
 use Rattle.master_ptrs.specs.Word.{next_free, next_said, slot_of, slot_of_live}
 use Rattle.master_ptrs.specs.Changes.{taken, given_back, flagged}
-use Rattle.master_ptrs.proofs.Held.{Held, Kept, kept}
+use Rattle.master_ptrs.proofs.Standing.{RawBlock, Kept, kept}
 use Rattle.master_ptrs.proofs.Steps.{SlotOf, slot-of, word-at, with_slot_word, took, gave_back, set_flags_of}
 use Rattle.master_ptrs.proofs.Known.{rooms}
 use Rattle.master_ptrs.proofs.ChangeParts.{next_free-front}
@@ -27,14 +27,14 @@ front-list [] some = absurd (some refl)
 front-list (x ∷ xs) some = refl
 
 -- a slot's word is written in the blocks, and then the header
-written_slot : (l m new : Layout) (z : ZoneState) (h n : ℕ) (header : List ℕ) (slot : SlotOf l z h) (held : Held l z)
+written_slot : (l m new : Layout) (z : ZoneState) (h n : ℕ) (header : List ℕ) (slot : SlotOf l z h) (held : RawBlock l z)
     → ((w : WordAt l h) → m ≡ with_blocks (w.before ++ with_word w.here w.offset n ∷ w.behind) l) → new ≡ with_header (written m.header 8 header) m
     → new ≡ with_slot_word l z h slot n (written l.header 8 header)
 written_slot l m new z h n header slot held word last =
     let there = word (word-at l z h held slot) in
     last ∙ ap (λ (k : Layout). with_header (written k.header 8 header) k) there
 
-module _ (l : Layout) (z : ZoneState) (held : Held l z) where
+module _ (l : Layout) (z : ZoneState) (held : RawBlock l z) where
   module _ (front : ℕ) (is : front ≡ front_slot z.heap) (some : front ≡ 0 → ⊥) where
     -- the next slot stands in front
     pub front-first : z.heap.free_slots ≡ front ∷ drop 1 z.heap.free_slots
@@ -56,7 +56,7 @@ module _ (l : Layout) (z : ZoneState) (held : Held l z) where
         let slot = slot-of l z front held front-slot in
         let ends = took l z front (drop 1 z.heap.free_slots) slot held front-first in
         let form = written_slot l m new z front n (big_bytes 4 next) slot held word last in
-        kept new (taken front z) (subst (λ (k : Layout). Held k (taken front z)) (sym (form ∙ ap (λ k. with_slot_word l z front slot k (written l.header 8 (big_bytes 4 next))) none
+        kept new (taken front z) (subst (λ (k : Layout). RawBlock k (taken front z)) (sym (form ∙ ap (λ k. with_slot_word l z front slot k (written l.header 8 (big_bytes 4 next))) none
         ∙ ap (λ k. with_slot_word l z front slot 0 (written l.header 8 (big_bytes 4 k))) (said ∙ next-is))) ends)
 
   -- an empty handle's slot is given back
@@ -69,7 +69,7 @@ module _ (l : Layout) (z : ZoneState) (held : Held l z) where
       let ends = gave_back l z h slot held empty in
       let there : (w : WordAt l h) → m ≡ with_blocks (w.before ++ with_word w.here w.offset n ∷ w.behind) l = subst (λ x. (w : WordAt l x) → m ≡ with_blocks (w.before ++ with_word w.here w.offset n ∷ w.behind) l) same word in
       let form = written_slot l m new z h n (big_bytes 4 a) slot held there last in
-      kept new (given_back h z) (subst (λ (k : Layout). Held k (given_back h z)) (sym (form ∙ ap (λ k. with_slot_word l z h slot k (written l.header 8 (big_bytes 4 a))) (is ∙ ap (λ x. 0x100_0000 + x) front)
+      kept new (given_back h z) (subst (λ (k : Layout). RawBlock k (given_back h z)) (sym (form ∙ ap (λ k. with_slot_word l z h slot k (written l.header 8 (big_bytes 4 a))) (is ∙ ap (λ x. 0x100_0000 + x) front)
       ∙ ap (λ k. with_slot_word l z h slot (0x100_0000 + front_slot z.heap) (written l.header 8 (big_bytes 4 k))) again)) ends)
 
   -- a handle's flags are set
@@ -80,4 +80,4 @@ module _ (l : Layout) (z : ZoneState) (held : Held l z) where
       let slot = slot-of l z h held c in
       let there : (w : WordAt l h) → new ≡ with_blocks (w.before ++ with_word w.here w.offset n ∷ w.behind) l = subst (λ x. (w : WordAt l x) → new ≡ with_blocks (w.before ++ with_word w.here w.offset n ∷ w.behind) l) same word in
       let form = there (word-at l z h held slot) in
-      kept new (flagged h flags z) (subst (λ (k : Layout). Held k (flagged h flags z)) (sym (form ∙ ap (λ k. with_slot_word l z h slot k l.header) is)) (set_flags_of l z h flags slot held full))
+      kept new (flagged h flags z) (subst (λ (k : Layout). RawBlock k (flagged h flags z)) (sym (form ∙ ap (λ k. with_slot_word l z h slot k l.header) is)) (set_flags_of l z h flags slot held full))

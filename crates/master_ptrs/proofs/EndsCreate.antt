@@ -9,12 +9,12 @@ use Rattle.mac_base.specs.declared.block.HeadKind.TheVariants.{Bits24}
 use Rattle.mac_base.specs.HeadKind.{head_size, smallest_block, zone_header}
 use Rattle.mac_base.specs.ZoneMap.{address_behind}
 use Rattle.mac_base.specs.ZoneSizes.{ZoneSizes, ArePossible}
-use Rattle.mac_base.proofs.Maps.{true_both}
+use Rattle.zone_laws.proofs.Maps.{true_both}
 use Rattle.zone_blocks.specs.Layout.{Layout, with_header}
 use Rattle.zone_blocks.specs.NewLayout.{new_layout}
 use Rattle.master_ptrs.specs.Changes.{bare_zone}
 use Rattle.master_ptrs.proofs.Heads.{head_with, new-written}
-use Rattle.master_ptrs.proofs.Held.{Held, Kept, kept}
+use Rattle.master_ptrs.proofs.Standing.{RawBlock, Kept, kept}
 use Rattle.master_ptrs.proofs.ChangeBare.{bare-fits}
 
 -- a header is no larger than the smallest block
@@ -22,7 +22,7 @@ head-small : (heads : HeadKind) → (head_size heads ≤ 12) × (smallest_block 
 head-small Bits24 = (omega arith, omega arith)
 
 -- the blocks of a new zone, with this header, hold it
-new_held : (sizes : ZoneSizes) → ArePossible sizes → Held (with_header (head_with (sizes.base + sizes.size) 0 (sizes.size - 52)) (new_layout sizes)) (bare_zone sizes)
+new_held : (sizes : ZoneSizes) → ArePossible sizes → RawBlock (with_header (head_with (sizes.base + sizes.size) 0 (sizes.size - 52)) (new_layout sizes)) (bare_zone sizes)
 new_held sizes possible =
     let even = possible.even_size in
     let large = possible.large_enough in
@@ -61,4 +61,4 @@ create-ends sizes possible l m k new end free is ends frees first second third =
     let two : k ≡ with_header (written (written (replicate 52 0) 0 (big_bytes 4 (sizes.base + sizes.size))) 12 (big_bytes 4 (sizes.size - 52))) (new_layout sizes) = second ∙ (λ i. with_header (written (one i).header 12 (big_bytes 4 (frees i))) (one i)) in
     let three : new ≡ with_header (head_with (sizes.base + sizes.size) 0 (sizes.size - 52)) (new_layout sizes) =
     third ∙ ap (λ (k : Layout). with_header (written k.header 20 (big_bytes 2 64)) k) two ∙ ap (λ xs. with_header xs (new_layout sizes)) (new-written (sizes.base + sizes.size) (sizes.size - 52)) in
-    kept new (bare_zone sizes) (subst (λ (k : Layout). Held k (bare_zone sizes)) (sym three) (new_held sizes possible))
+    kept new (bare_zone sizes) (subst (λ (k : Layout). RawBlock k (bare_zone sizes)) (sym three) (new_held sizes possible))

@@ -8,7 +8,7 @@ use Rattle.mac_base.specs.ZoneMap.{is_named, address_behind, free_bytes}
 use Rattle.mac_base.specs.HandleTable.{HandleTable, bytes_of, has_block}
 use Rattle.mac_base.specs.Suits.{wanted_length}
 use Rattle.mac_base.specs.ZoneState.{ZoneState}
-use Rattle.mac_base.proofs.Tables.{eqb-true-is}
+use Rattle.zone_laws.proofs.Tables.{eqb-true-is}
 use Rattle.zone_blocks.specs.declared.header.Header.{Header}
 use Rattle.zone_blocks.specs.Layout.{Layout, BlockAt, header_of, with_blocks, with_header}
 use Rattle.master_ptrs.specs.Places.{EntryAt, NamedAt, CanHold}
@@ -16,7 +16,7 @@ use Rattle.master_ptrs.specs.Changes.{held_there}
 use Rattle.master_ptrs.specs.Fitting.{CanFit, fitted}
 use Rattle.master_ptrs.proofs.ChangeSized.{Room, names-one, named-contents, sized-free_bytes}
 use Rattle.master_ptrs.proofs.EndsSized.{WholeAt, whole_layout, sized-can_fit, sized-ends}
-use Rattle.master_ptrs.proofs.Held.{Held, Kept}
+use Rattle.master_ptrs.proofs.Standing.{RawBlock, Kept}
 use Rattle.master_ptrs.proofs.Known.{free-range}
 use Rattle.master_ptrs.proofs.Places.{EntryOf, entry-of, block-at, size-read, entry-range}
 
@@ -33,10 +33,10 @@ named-kept z x at kept there is =
     is (record { before = there.before; here = there.here; behind = there.behind; map = there.map; place = there.place }) ∙ named-wanted x z.heap.table there.here.kind there.named
 
 -- x has a block where one can be cut
-pub hold-block : (l : Layout) (z : ZoneState) (x size n : ℕ) → Held l z → CanHold z x size n → has_block z.heap.table x ≡ true
+pub hold-block : (l : Layout) (z : ZoneState) (x size n : ℕ) → RawBlock l z → CanHold z x size n → has_block z.heap.table x ≡ true
 hold-block l z x size n held can = (names-one z x can.before can.here can.behind held.holds.fits can.map can.named).block
 
-module _ (l : Layout) (z : ZoneState) (x size n at : ℕ) (held : Held l z) (can : CanHold z x size n) (there : NamedAt z x at) where
+module _ (l : Layout) (z : ZoneState) (x size n at : ℕ) (held : RawBlock l z) (can : CanHold z x size n) (there : NamedAt z x at) where
   -- the block
   abbrev pub hold_room : Room z x can.here.size size n
   hold_room = record { before = can.before; here = can.here; room = []; behind = can.behind; map = can.map; named = can.named; free = refl; sum = omega arith; fits = can.fits }

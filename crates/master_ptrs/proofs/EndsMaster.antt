@@ -11,16 +11,16 @@ use Rattle.mac_base.specs.ZoneMap.{block, address_behind, total_size, free_bytes
 use Rattle.mac_base.specs.Heap.{front_slot}
 use Rattle.mac_base.specs.Suits.{slots_from}
 use Rattle.mac_base.specs.ZoneState.{ZoneState}
-use Rattle.mac_base.proofs.Maps.{true_both}
+use Rattle.zone_laws.proofs.Maps.{true_both}
 use Rattle.zone_blocks.specs.declared.header.Role.TheVariants as role
-use Rattle.zone_blocks.specs.Layout.{Held as Block, Layout, WordAt, CanBe, body, held as held_block, with_word, with_blocks, with_header, total_of, can_be_told}
+use Rattle.zone_blocks.specs.Layout.{RawBlock as Block, Layout, WordAt, CanBe, body, raw_block as held_block, with_word, with_blocks, with_header, total_of, can_be_told}
 use Rattle.master_ptrs.specs.Word.{master_pointer}
-use Rattle.master_ptrs.specs.Image.{Owners, owners_of, zone_head, pointers_from, HoldsBlock, HoldsBlocks}
+use Rattle.master_ptrs.specs.Image.{Owners, owners_of, zone_head, pointers_from, IsBlockOf, AreBlocksOf}
 use Rattle.master_ptrs.specs.Places.{RoomFor}
 use Rattle.master_ptrs.specs.Changes.{with_master}
 use Rattle.master_ptrs.proofs.Heads.{head_with, front-written, free-written}
-use Rattle.master_ptrs.proofs.Held.{Held, Kept, kept}
-use Rattle.master_ptrs.proofs.Holding.{together, total-held}
+use Rattle.master_ptrs.proofs.Standing.{RawBlock, Kept, kept}
+use Rattle.master_ptrs.proofs.BlocksOf.{together, total-held}
 use Rattle.master_ptrs.proofs.Owning.{blocks-same, none-anywhere}
 use Rattle.master_ptrs.proofs.Known.{rooms, front-range}
 use Rattle.master_ptrs.proofs.ChangeParts.{slots_from-bounds}
@@ -43,8 +43,8 @@ pub record Filling (z : ZoneState) (at : ℕ) (r : RoomFor z at master_length) (
   pub header : m.header ≡ zone_head z
   pub limit : zone_header + total_size z.heap.map + length m.spare ≡ z.shape.limit
   pub blocks : m.blocks ≡ before ++ master_block contents slack ∷ behind
-  pub lower : HoldsBlocks (owners_of z) z.shape (address_behind z.shape []) before r.free.before
-  pub higher : HoldsBlocks (owners_of z) z.shape (address_behind z.shape [] + total_size r.free.before + r.free.size) behind r.free.behind
+  pub lower : AreBlocksOf (owners_of z) z.shape (address_behind z.shape []) before r.free.before
+  pub higher : AreBlocksOf (owners_of z) z.shape (address_behind z.shape [] + total_size r.free.before + r.free.size) behind r.free.behind
   pub long : length contents ≡ 256
   pub size : head_size z.shape.heads + (length contents + length slack) ≡ r.free.size
   pub filled : drop (4 * (64 - i)) contents ≡ pointers_from (owners_of (with_master z r.free)) i (at + head_size z.shape.heads + 4 * (64 - i))
@@ -68,14 +68,14 @@ filled_more o i j first word contents inside is filled =
     ∙ ap (pointers_from o i) (let e : first + 4 * (j + 1) ≡ first + 4 * j + 4 = omega arith in e))
     ∙ ap (λ n. big_bytes 4 n ++ pointers_from o i (first + 4 * j + 4)) is
 
-module _ (l : Layout) (z : ZoneState) (at : ℕ) (held : Held l z) (r : RoomFor z at master_length) where
+module _ (l : Layout) (z : ZoneState) (at : ℕ) (raw_block : RawBlock l z) (r : RoomFor z at master_length) where
   -- the changed zone
   abbrev pub now : ZoneState
   now = with_master z r.free
 
   -- the free block
   abbrev there : EntryOf l z r.free.before (block kind.Free r.free.size) r.free.behind
-  there = room_there l z at master_length held r
+  there = room_there l z at master_length raw_block r
 
   -- where the first slot stands
   abbrev first : ℕ
@@ -91,7 +91,7 @@ module _ (l : Layout) (z : ZoneState) (at : ℕ) (held : Held l z) (r : RoomFor 
 
   -- so it is made one
   abbrev pub master-can : CanBe l at role.Master master_length
-  master-can = can-be l z at master_length held r role.Master master-told
+  master-can = can-be l z at master_length raw_block r role.Master master-told
 
   -- at first none of its slots is written
   pub master-starts : (next : ℕ) → next ≡ front_slot z.heap → (m : Layout)
@@ -101,26 +101,26 @@ module _ (l : Layout) (z : ZoneState) (at : ℕ) (held : Held l z) (r : RoomFor 
     contents = contents;
     slack = drop master_length (body there.here);
     behind = there.behind;
-    heads = held.holds.heads;
-    base = held.holds.base;
-    header = held.holds.header;
-    limit = held.holds.limit;
+    heads = raw_block.holds.heads;
+    base = raw_block.holds.base;
+    header = raw_block.holds.header;
+    limit = raw_block.holds.limit;
     blocks = refl;
     lower = there.parts.lower;
     higher = there.parts.higher;
     long = long;
-    size = room-size l z at master_length held r role.Master;
+    size = room-size l z at master_length raw_block r role.Master;
     filled = nil_from_length _ (length-drop 256 contents ∙ ap (λ n. n - 256) long);
-    small = (let small = front-range l z held in omega arith);
-    says = λ below. ap (λ n. 0x100_0000 + n) is ∙ sym (c.master-last_pointer_at z at r held.holds.fits (rooms l z held));
+    small = (let small = front-range l z raw_block in omega arith);
+    says = λ below. ap (λ n. 0x100_0000 + n) is ∙ sym (c.master-last_pointer_at z at r raw_block.holds.fits (rooms l z raw_block));
   })
     where
       long : length contents ≡ 256
-      long = room-contents l z at master_length held r
+      long = room-contents l z at master_length raw_block r
 
   -- the slots lie within the block
   pub master-range : first + 256 < 0x100_0000 + 1
-  master-range = let fits = room-fits l z at master_length held r in let range = room-range l z at master_length held r in omega arith
+  master-range = let fits = room-fits l z at master_length raw_block r in let range = room-range l z at master_length raw_block r in omega arith
 
   -- the next slot to be written is in its contents
   abbrev word_at : (i next : ℕ) (m : Layout) → Filling z at r i next m → i < 64 → WordAt m (first + 4 * (63 - i))
@@ -169,7 +169,7 @@ module _ (l : Layout) (z : ZoneState) (at : ℕ) (held : Held l z) (r : RoomFor 
             ∙ (λ t. pointers_from (owners_of now) (one_more t) (first + 4 * rest t)));
         small = (let range = master-range in omega arith);
         says = λ below. ap (λ n. 0x100_0000 + n) (is ∙ (let e : first + 4 * (63 - i) ≡ first + 4 * (63 - (i + 1)) + 4 = omega arith in e))
-            ∙ sym (c.master-pointer_at z at r held.holds.fits (rooms l z held) (63 - (i + 1)) (omega arith));
+            ∙ sym (c.master-pointer_at z at r raw_block.holds.fits (rooms l z raw_block) (63 - (i + 1)) (omega arith));
       })
     where
       new_long : length (with_slot i word f.contents) ≡ length f.contents
@@ -183,20 +183,20 @@ module _ (l : Layout) (z : ZoneState) (at : ℕ) (held : Held l z) (r : RoomFor 
 
   -- the free bytes were more
   pub master-free : (size count : ℕ) → size ≡ r.free.size → count ≡ free_bytes z.heap.map → (size ≤ count) × (count - size ≡ free_bytes now.heap.map)
-  master-free size count is was = let less = c.master-free_bytes z at r held.holds.fits (rooms l z held) in (omega arith, omega arith)
+  master-free size count is was = let less = c.master-free_bytes z at r raw_block.holds.fits (rooms l z raw_block) in (omega arith, omega arith)
 
   -- no other number is one of its slots
   apart : (x : ℕ) → (x < at) ⊎ (at + r.free.size ≤ x) → Contains (slots_from slot_count first) x → ⊥
   apart x (inl low) own = let bounds = slots_from-bounds slot_count first x own in absurd (omega arith)
-  apart x (inr high) own = let bounds = slots_from-bounds slot_count first x own in let fits = room-fits l z at master_length held r in absurd (omega arith)
+  apart x (inr high) own = let bounds = slots_from-bounds slot_count first x own in let fits = room-fits l z at master_length raw_block r in absurd (omega arith)
 
   -- with all slots written, and the header, it is a master block
   pub master-ends : (i next : ℕ) (m k new : Layout) (a count : ℕ) → Filling z at r i next m → i ≡ 64 → a ≡ first → count ≡ free_bytes now.heap.map → k ≡ with_header (written m.header 8 (big_bytes 4 a)) m
       → new ≡ with_header (written k.header 12 (big_bytes 4 count)) k → Kept new now
   master-ends i next m k new a count filling all is counted one two =
       let f : Filling z at r 64 next m = subst (λ i. Filling z at r i next m) all filling in
-      let fits = held.holds.fits in
-      let room = rooms l z held in
+      let fits = raw_block.holds.fits in
+      let room = rooms l z raw_block in
       let start = address_behind z.shape [] in
       let here = start + total_size r.free.before in
       let place = r.free.place in
@@ -204,12 +204,12 @@ module _ (l : Layout) (z : ZoneState) (at : ℕ) (held : Held l z) (r : RoomFor 
       (none-anywhere r.free.before) f.lower in
       let higher = blocks-same (owners_of z) (owners_of now) z.shape (here + r.free.size) f.behind r.free.behind (λ x. false) (λ x from to. c.master-others z at r fits room x (apart x (inr (omega arith)))) (λ x out. refl)
       (none-anywhere r.free.behind) f.higher in
-      let own : HoldsBlock (owners_of now) z.shape here (master_block f.contents f.slack) (block kind.Master r.free.size) = record {
+      let own : IsBlockOf (owners_of now) z.shape here (master_block f.contents f.slack) (block kind.Master r.free.size) = record {
         size = f.size;
         role = refl;
         owned = f.filled ∙ ap (pointers_from (owners_of now) 64) (let e : first + 0 ≡ here + head_size z.shape.heads = omega arith in e);
       } in
-      let parts = sizes-apart z r.free.before (block kind.Free r.free.size) r.free.behind held.sizes r.free.map in
+      let parts = sizes-apart z r.free.before (block kind.Free r.free.size) r.free.behind raw_block.sizes r.free.map in
       let total = c.master-total z at r fits room in
       let head : written (written m.header 8 (big_bytes 4 a)) 12 (big_bytes 4 count) ≡ zone_head now =
       (λ t. written (written (f.header t) 8 (big_bytes 4 (is t))) 12 (big_bytes 4 (counted t)))
@@ -218,7 +218,7 @@ module _ (l : Layout) (z : ZoneState) (at : ℕ) (held : Held l z) (r : RoomFor 
       ∙ (λ t. head_with (z.shape.base + zone_header + sym total t) first (free_bytes now.heap.map)) in
       let form = two ∙ ap (λ (k : Layout). with_header (written k.header 12 (big_bytes 4 count)) k) one
       ∙ (λ t. record { heads = m.heads; base = m.base; header = written (written m.header 8 (big_bytes 4 a)) 12 (big_bytes 4 count); blocks = f.blocks t; spare = m.spare }) in
-      kept new now (subst (λ (k : Layout). Held k now) (sym form) (record {
+      kept new now (subst (λ (k : Layout). RawBlock k now) (sym form) (record {
         holds = record {
           heads = f.heads;
           base = f.base;
@@ -228,6 +228,6 @@ module _ (l : Layout) (z : ZoneState) (at : ℕ) (held : Held l z) (r : RoomFor 
           fits = c.master-fits z at r fits room;
         };
         sizes = sizes-together z.shape r.free.before (block kind.Master r.free.size ∷ r.free.behind) parts.0 (true_both _ _ parts.1 parts.2);
-        low = held.low;
-        high = held.high;
+        low = raw_block.low;
+        high = raw_block.high;
       }))

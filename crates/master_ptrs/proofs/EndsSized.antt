@@ -13,20 +13,20 @@ use Rattle.mac_base.specs.HandleTable.{bytes_of, resized}
 use Rattle.mac_base.specs.Heap.{front_slot}
 use Rattle.mac_base.specs.Suits.{is_block_size}
 use Rattle.mac_base.specs.ZoneState.{ZoneState}
-use Rattle.mac_base.proofs.Maps.{both_true, true_both}
-use Rattle.mac_base.proofs.Owners.{none_named}
-use Rattle.mac_base.proofs.SoundResized.{length-resized}
-use Rattle.mac_base.proofs.Tables.{eqb_same, eqb-true-is}
-use Rattle.zone_blocks.specs.Layout.{Held as Block, Layout, BlockAt, body, held as held_block, free_held, size_of, total_of, is_possible, can_be_told, with_blocks, with_header}
-use Rattle.zone_blocks.proofs.Changes.{size-body, size-held}
-use Rattle.master_ptrs.specs.Image.{Owners, owners_of, role_of, HoldsOwned, HoldsBlock, HoldsBlocks}
+use Rattle.zone_laws.proofs.Maps.{both_true, true_both}
+use Rattle.zone_laws.proofs.Owners.{none_named}
+use Rattle.zone_laws.proofs.SoundResized.{length-resized}
+use Rattle.zone_laws.proofs.Tables.{eqb_same, eqb-true-is}
+use Rattle.zone_blocks.specs.Layout.{RawBlock as Block, Layout, BlockAt, body, raw_block as held_block, free_raw_block, size_of, total_of, is_possible, can_be_told, with_blocks, with_header}
+use Rattle.zone_blocks.proofs.Changes.{size-body, size-raw_block}
+use Rattle.master_ptrs.specs.Image.{Owners, owners_of, role_of, IsOwnedBy, IsBlockOf, AreBlocksOf}
 use Rattle.master_ptrs.specs.Places.{EntryAt}
 use Rattle.master_ptrs.specs.Fitting.{CanFit, fitted, fitted_front, fitted_rest}
 use Rattle.master_ptrs.proofs.ChangeSized.{Room, NamesOne, sized_zone, sized-one, sized-fits, sized-pointers, sized-bytes, sized-other_bytes, sized-total}
 use Rattle.master_ptrs.proofs.EndsMap.{size-head}
 use Rattle.master_ptrs.proofs.Heads.{head_with, free-written}
-use Rattle.master_ptrs.proofs.Held.{Held, Kept, kept}
-use Rattle.master_ptrs.proofs.Holding.{together, total-held}
+use Rattle.master_ptrs.proofs.Standing.{RawBlock, Kept, kept}
+use Rattle.master_ptrs.proofs.BlocksOf.{together, total-held}
 use Rattle.master_ptrs.proofs.Known.{slot-range}
 use Rattle.master_ptrs.proofs.Owned.{handle-live}
 use Rattle.master_ptrs.proofs.Owning.{SamePointers, blocks-same, none_left_out-named}
@@ -34,22 +34,22 @@ use Rattle.master_ptrs.proofs.Places.{sized, sizes-apart, sizes-together, possib
 use Rattle.master_ptrs.proofs.Room.{room-bounds}
 
 -- the bytes of the block that x names are those of x
-owned_bytes : (o : Owners) (s : Shape) (at x : ℕ) (k : Kind) (b : Block) → is_named x k ≡ true → HoldsOwned o s at k b → b.contents ≡ o.bytes x
+owned_bytes : (o : Owners) (s : Shape) (at x : ℕ) (k : Kind) (b : Block) → is_named x k ≡ true → IsOwnedBy o s at k b → b.contents ≡ o.bytes x
 owned_bytes o s at x kind.Free b named h = absurd (cc named)
 owned_bytes o s at x kind.Master b named h = absurd (cc named)
 owned_bytes o s at x (kind.Ptr p) b named h = h.1 ∙ ap o.bytes (eqb-true-is p x named)
 owned_bytes o s at x (kind.Rel g) b named h = h.1 ∙ ap o.bytes (eqb-true-is g x named)
 
 -- another block there with the bytes that x has then is that of x
-owned_now : (o p : Owners) (s : Shape) (at x : ℕ) (k : Kind) (b c : Block) → is_named x k ≡ true → HoldsOwned o s at k b → c.contents ≡ p.bytes x → HoldsOwned p s at k c
+owned_now : (o p : Owners) (s : Shape) (at x : ℕ) (k : Kind) (b c : Block) → is_named x k ≡ true → IsOwnedBy o s at k b → c.contents ≡ p.bytes x → IsOwnedBy p s at k c
 owned_now o p s at x kind.Free b c named h is = absurd (cc named)
 owned_now o p s at x kind.Master b c named h is = absurd (cc named)
 owned_now o p s at x (kind.Ptr q) b c named h is = (h.0, is ∙ ap p.bytes (sym (eqb-true-is q x named)))
 owned_now o p s at x (kind.Rel g) b c named h is = (h.0, is ∙ ap p.bytes (sym (eqb-true-is g x named)))
 
 -- a header can say a block of x, where a slot has 24 bits
-pub named-told : (l : Layout) (z : ZoneState) → Held l z → (at x : ℕ) (e : EntryAt z at) → is_named x e.here.kind ≡ true → (over : ℕ) → can_be_told (role_of z.shape e.here.kind) over ≡ true
-named-told l z held at x e named over = by_kind e.here.kind refl named
+pub named-told : (l : Layout) (z : ZoneState) → RawBlock l z → (at x : ℕ) (e : EntryAt z at) → is_named x e.here.kind ≡ true → (over : ℕ) → can_be_told (role_of z.shape e.here.kind) over ≡ true
+named-told l z raw_block at x e named over = by_kind e.here.kind refl named
   where
     small : (k : ℕ) → k < 0x100_0000 → nat_lt k (2 ^ 32) ≡ true
     small k low = grind (arith, nat_tests)
@@ -58,7 +58,7 @@ named-told l z held at x e named over = by_kind e.here.kind refl named
     by_kind kind.Free is h = absurd (cc h)
     by_kind kind.Master is h = refl
     by_kind (kind.Ptr p) is h = refl
-    by_kind (kind.Rel g) is h = let range = slot-range l z held g (held.holds.fits.in_slots g (handle-live l z held at g e is)) in small (g - z.shape.base) (omega arith)
+    by_kind (kind.Rel g) is h = let range = slot-range l z raw_block g (raw_block.holds.fits.in_slots g (handle-live l z raw_block at g e is)) in small (g - z.shape.base) (omega arith)
 
 -- All bytes of the block of x and of the free ones behind it as one block, before it is cut.
 pub record WholeAt (l : Layout) (z : ZoneState) (x whole size n : ℕ) (r : Room z x whole size n) : Type 0 where
@@ -68,17 +68,17 @@ pub record WholeAt (l : Layout) (z : ZoneState) (x whole size n : ℕ) (r : Room
   -- the block as it was, and what it had more
   pub first : Block
   pub more : List ℕ
-  pub lower : HoldsBlocks (owners_of z) z.shape (address_behind z.shape []) before r.before
-  pub higher : HoldsBlocks (owners_of z) z.shape (address_behind z.shape [] + total_size r.before + whole) behind r.behind
+  pub lower : AreBlocksOf (owners_of z) z.shape (address_behind z.shape []) before r.before
+  pub higher : AreBlocksOf (owners_of z) z.shape (address_behind z.shape [] + total_size r.before + whole) behind r.behind
   pub long : size_of z.shape.heads here ≡ whole
   pub role : here.role ≡ role_of z.shape r.here.kind
-  pub owned : HoldsOwned (owners_of z) z.shape (address_behind z.shape [] + total_size r.before + head_size z.shape.heads) r.here.kind first
+  pub owned : IsOwnedBy (owners_of z) z.shape (address_behind z.shape [] + total_size r.before + head_size z.shape.heads) r.here.kind first
   pub begins : body here ≡ first.contents ++ more
 
-module _ (l : Layout) (z : ZoneState) (x whole size n at : ℕ) (held : Held l z) (r : Room z x whole size n) (place : at ≡ address_behind z.shape r.before) (w : WholeAt l z x whole size n r) where
+module _ (l : Layout) (z : ZoneState) (x whole size n at : ℕ) (raw_block : RawBlock l z) (r : Room z x whole size n) (place : at ≡ address_behind z.shape r.before) (w : WholeAt l z x whole size n r) where
   -- the zone then
   abbrev pub now : ZoneState
-  now = sized_zone z x whole size n held.holds.fits r
+  now = sized_zone z x whole size n raw_block.holds.fits r
 
   -- the blocks with the whole one
   abbrev pub whole_layout : Layout
@@ -86,11 +86,11 @@ module _ (l : Layout) (z : ZoneState) (x whole size n at : ℕ) (held : Held l z
 
   -- how long a header is
   heads_is : head_size l.heads ≡ head_size z.shape.heads
-  heads_is = ap head_size held.holds.heads
+  heads_is = ap head_size raw_block.holds.heads
 
   -- the whole block
   whole_long : size_of l.heads w.here ≡ whole
-  whole_long = ap (λ k. size_of k w.here) held.holds.heads ∙ w.long
+  whole_long = ap (λ k. size_of k w.here) raw_block.holds.heads ∙ w.long
 
   -- its header and its body are all of it
   body_long : head_size z.shape.heads + length (body w.here) ≡ whole
@@ -105,8 +105,8 @@ module _ (l : Layout) (z : ZoneState) (x whole size n at : ℕ) (held : Held l z
     blocks = refl;
     place = (
         let total = total-held (owners_of z) z.shape (address_behind z.shape []) w.before r.before w.lower in
-        let heads = ap (λ k. total_of k w.before) held.holds.heads in
-        let base = held.holds.base in
+        let heads = ap (λ k. total_of k w.before) raw_block.holds.heads in
+        let base = raw_block.holds.base in
         omega arith);
   }
 
@@ -118,7 +118,7 @@ module _ (l : Layout) (z : ZoneState) (x whole size n at : ℕ) (held : Held l z
   told : (over : ℕ) → can_be_told w.here.role over ≡ true
   told over =
       let e : EntryAt z at = record { before = r.before; here = r.here; behind = r.room ++ r.behind; map = r.map; place = place } in
-      ap (λ k. can_be_told k over) w.role ∙ named-told l z held at x e r.named over
+      ap (λ k. can_be_told k over) w.role ∙ named-told l z raw_block at x e r.named over
 
   -- the bytes behind the header of its front
   abbrev front_bytes : List ℕ
@@ -135,8 +135,8 @@ module _ (l : Layout) (z : ZoneState) (x whole size n at : ℕ) (held : Held l z
   front_possible =
       let long = front_long in let large = bounds in
       let over = length-drop n front_bytes in
-      subst (λ k. is_possible k (held_block w.here.role n front_bytes) ≡ true) (sym held.holds.heads)
-      (possible-from z.shape.heads (held_block w.here.role n front_bytes) size (size-held z.shape.heads w.here.role n front_bytes ∙ omega arith) r.fits.front (omega arith) (told _))
+      subst (λ k. is_possible k (held_block w.here.role n front_bytes) ≡ true) (sym raw_block.holds.heads)
+      (possible-from z.shape.heads (held_block w.here.role n front_bytes) size (size-raw_block z.shape.heads w.here.role n front_bytes ∙ omega arith) r.fits.front (omega arith) (told _))
 
   -- where bytes are over, they can be a block
   rest_is : size < whole → is_block_size z.shape (whole - size) ≡ true
@@ -151,14 +151,14 @@ module _ (l : Layout) (z : ZoneState) (x whole size n at : ℕ) (held : Held l z
   rest_large smaller = let large = size-head z.shape.heads (whole - size) (rest_is smaller) in omega arith
 
   -- how many they are
-  rest_long : size < whole → size_of z.shape.heads (free_held (drop size (body w.here))) ≡ whole - size
+  rest_long : size < whole → size_of z.shape.heads (free_raw_block (drop size (body w.here))) ≡ whole - size
   rest_long smaller =
       let large = rest_large smaller in let long = body_long in let over = length-drop size (body w.here) in omega arith
 
   -- they are possible
-  rest_possible : size < whole → is_possible l.heads (free_held (drop size (body w.here))) ≡ true
-  rest_possible smaller = subst (λ k. is_possible k (free_held (drop size (body w.here))) ≡ true) (sym held.holds.heads)
-      (possible-free z.shape.heads (free_held (drop size (body w.here))) (whole - size) (rest_long smaller) (rest_is smaller) refl refl)
+  rest_possible : size < whole → is_possible l.heads (free_raw_block (drop size (body w.here))) ≡ true
+  rest_possible smaller = subst (λ k. is_possible k (free_raw_block (drop size (body w.here))) ≡ true) (sym raw_block.holds.heads)
+      (possible-free z.shape.heads (free_raw_block (drop size (body w.here))) (whole - size) (rest_long smaller) (rest_is smaller) refl refl)
 
   -- it can be cut
   abbrev whole_fits : CanFit whole_layout at size n
@@ -183,7 +183,7 @@ module _ (l : Layout) (z : ZoneState) (x whole size n at : ℕ) (held : Held l z
 
   -- x names no other block
   none : NamesOne z x r.before (r.room ++ r.behind)
-  none = sized-one z x whole size n held.holds.fits r
+  none = sized-one z x whole size n raw_block.holds.fits r
 
   -- nor one behind the free ones
   none_far : none_named x r.behind ≡ true
@@ -191,11 +191,11 @@ module _ (l : Layout) (z : ZoneState) (x whole size n at : ℕ) (held : Held l z
 
   -- the master pointers stay
   same_pointers : (from to : ℕ) → SamePointers (owners_of z) (owners_of now) from to
-  same_pointers from to y low high = sized-pointers z x whole size n held.holds.fits r y
+  same_pointers from to y low high = sized-pointers z x whole size n raw_block.holds.fits r y
 
   -- so do the bytes of all others
   others : (y : ℕ) → (y == x) ≡ false → bytes_of now.heap.table y ≡ bytes_of z.heap.table y
-  others y apart = sized-other_bytes z x whole size n held.holds.fits r y (λ same. absurd (cc (apart, same, eqb_same x)))
+  others y apart = sized-other_bytes z x whole size n raw_block.holds.fits r y (λ same. absurd (cc (apart, same, eqb_same x)))
 
   -- the front with the bytes that x has then
   abbrev front : Block
@@ -207,7 +207,7 @@ module _ (l : Layout) (z : ZoneState) (x whole size n at : ℕ) (held : Held l z
       let own = owned_bytes (owners_of z) z.shape (here_at + head_size z.shape.heads) x r.here.kind w.first r.named w.owned in
       ap (λ bytes. resized n (take (length (bytes_of z.heap.table x)) bytes)) w.begins
       ∙ ap (resized n) (take_at w.first.contents w.more (length (bytes_of z.heap.table x)) (ap length own) ∙ own)
-      ∙ sym (sized-bytes z x whole size n held.holds.fits r)
+      ∙ sym (sized-bytes z x whole size n raw_block.holds.fits r)
 
   -- its size
   front_size : size_of z.shape.heads front ≡ size
@@ -218,7 +218,7 @@ module _ (l : Layout) (z : ZoneState) (x whole size n at : ℕ) (held : Held l z
       omega arith
 
   -- it is the block of the map
-  front_holds : HoldsBlock (owners_of now) z.shape here_at front (block r.here.kind size)
+  front_holds : IsBlockOf (owners_of now) z.shape here_at front (block r.here.kind size)
   front_holds = record {
     size = front_size;
     role = w.role;
@@ -226,11 +226,11 @@ module _ (l : Layout) (z : ZoneState) (x whole size n at : ℕ) (held : Held l z
   }
 
   -- the blocks behind stay
-  higher : HoldsBlocks (owners_of now) z.shape (here_at + whole) w.behind r.behind
+  higher : AreBlocksOf (owners_of now) z.shape (here_at + whole) w.behind r.behind
   higher = blocks-same (owners_of z) (owners_of now) z.shape (here_at + whole) w.behind r.behind (λ y. y == x) (same_pointers (here_at + whole) (here_at + whole + total_size r.behind)) others (none_left_out-named x r.behind none_far) w.higher
 
   -- what is over and the blocks behind are those of the map
-  rest_holds : HoldsBlocks (owners_of now) z.shape (here_at + size) (fitted_rest whole_layout whole_fits ++ w.behind) (free_block (whole - size) ++ r.behind)
+  rest_holds : AreBlocksOf (owners_of now) z.shape (here_at + size) (fitted_rest whole_layout whole_fits ++ w.behind) (free_block (whole - size) ++ r.behind)
   rest_holds =
       let long = whole_long in
       let within = r.fits.within in
@@ -251,39 +251,39 @@ module _ (l : Layout) (z : ZoneState) (x whole size n at : ℕ) (held : Held l z
       more_of a b h = grind (arith, nat_tests)
 
       by_test : (b : Bool) → nat_lt size (size_of l.heads w.here) ≡ b → ((size < whole → ⊥) → (whole - size == 0) ≡ true) → (size < whole → (whole - size == 0) ≡ false)
-          → HoldsBlocks (owners_of now) z.shape (here_at + size) (cond b (free_held (drop size (body w.here)) ∷ []) [] ++ w.behind) (free_block (whole - size) ++ r.behind)
+          → AreBlocksOf (owners_of now) z.shape (here_at + size) (cond b (free_raw_block (drop size (body w.here)) ∷ []) [] ++ w.behind) (free_block (whole - size) ++ r.behind)
       by_test true is none some =
           let less = less_of _ _ is in
           let long = whole_long in
           let smaller : size < whole = omega arith in
           let there : here_at + whole ≡ here_at + size + (whole - size) = omega arith in
-          let own : HoldsBlock (owners_of now) z.shape (here_at + size) (free_held (drop size (body w.here))) (block kind.Free (whole - size)) = record { size = rest_long smaller; role = refl; owned = tt } in
-          subst (λ c. HoldsBlocks (owners_of now) z.shape (here_at + size) (free_held (drop size (body w.here)) ∷ w.behind) (cond c [] (block kind.Free (whole - size) ∷ []) ++ r.behind)) (sym (some smaller))
-          (own, subst (λ a. HoldsBlocks (owners_of now) z.shape a w.behind r.behind) there higher)
+          let own : IsBlockOf (owners_of now) z.shape (here_at + size) (free_raw_block (drop size (body w.here))) (block kind.Free (whole - size)) = record { size = rest_long smaller; role = refl; owned = tt } in
+          subst (λ c. AreBlocksOf (owners_of now) z.shape (here_at + size) (free_raw_block (drop size (body w.here)) ∷ w.behind) (cond c [] (block kind.Free (whole - size) ∷ []) ++ r.behind)) (sym (some smaller))
+          (own, subst (λ a. AreBlocksOf (owners_of now) z.shape a w.behind r.behind) there higher)
       by_test false is none some =
           let more = more_of _ _ is in
           let long = whole_long in
           let within = r.fits.within in
           let there : here_at + whole ≡ here_at + size = omega arith in
-          subst (λ c. HoldsBlocks (owners_of now) z.shape (here_at + size) w.behind (cond c [] (block kind.Free (whole - size) ∷ []) ++ r.behind)) (sym (none (λ smaller. omega arith)))
-          (subst (λ a. HoldsBlocks (owners_of now) z.shape a w.behind r.behind) there higher)
+          subst (λ c. AreBlocksOf (owners_of now) z.shape (here_at + size) w.behind (cond c [] (block kind.Free (whole - size) ∷ []) ++ r.behind)) (sym (none (λ smaller. omega arith)))
+          (subst (λ a. AreBlocksOf (owners_of now) z.shape a w.behind r.behind) there higher)
 
   -- the blocks once the whole one is cut
   abbrev done : List Block
   done = w.before ++ front ∷ (fitted_rest whole_layout whole_fits ++ w.behind)
 
   -- they are those of the map
-  done_holds : HoldsBlocks (owners_of now) z.shape (address_behind z.shape []) done now.heap.map
+  done_holds : AreBlocksOf (owners_of now) z.shape (address_behind z.shape []) done now.heap.map
   done_holds =
       let start = address_behind z.shape [] in
       let lower = blocks-same (owners_of z) (owners_of now) z.shape start w.before r.before (λ y. y == x) (same_pointers start (start + total_size r.before)) others (none_left_out-named x r.before none.none_before) w.lower in
-      subst (λ m. HoldsBlocks (owners_of now) z.shape start done m) (sym (append_assoc r.before (block r.here.kind size ∷ free_block (whole - size)) r.behind))
+      subst (λ m. AreBlocksOf (owners_of now) z.shape start done m) (sym (append_assoc r.before (block r.here.kind size ∷ free_block (whole - size)) r.behind))
       (together (owners_of now) z.shape start w.before r.before (front ∷ (fitted_rest whole_layout whole_fits ++ w.behind)) (block r.here.kind size ∷ (free_block (whole - size) ++ r.behind)) lower (front_holds, rest_holds))
 
   -- all sizes are possible
   done_sizes : sized z.shape now.heap.map ≡ true
   done_sizes =
-      let apart = sizes-apart z r.before r.here (r.room ++ r.behind) held.sizes r.map in
+      let apart = sizes-apart z r.before r.here (r.room ++ r.behind) raw_block.sizes r.map in
       let far = (both_true (sized z.shape r.room) (sized z.shape r.behind) (sym (list_all-append _ r.room r.behind) ∙ apart.2)).1 in
       ap (sized z.shape) (append_assoc r.before (block r.here.kind size ∷ free_block (whole - size)) r.behind)
       ∙ sizes-together z.shape r.before (block r.here.kind size ∷ (free_block (whole - size) ++ r.behind)) apart.0
@@ -306,9 +306,9 @@ module _ (l : Layout) (z : ZoneState) (x whole size n at : ℕ) (held : Held l z
   sized-ends m k new kept_bytes count is same ends counted last =
       let here : (can : CanFit whole_layout at size n) → k ≡ fitted whole_layout can kept_bytes = subst (λ m. (can : CanFit m at size n) → k ≡ fitted m can kept_bytes) is ends in
       let there_is : k ≡ with_blocks done l = here whole_fits ∙ ap (fitted whole_layout whole_fits) same in
-      let total = sized-total z x whole size n held.holds.fits r in
-      let head = ap (λ xs. written xs 12 (big_bytes 4 count)) held.holds.header ∙ free-written (address_behind z.shape z.heap.map) (front_slot z.heap) (free_bytes z.heap.map) count
+      let total = sized-total z x whole size n raw_block.holds.fits r in
+      let head = ap (λ xs. written xs 12 (big_bytes 4 count)) raw_block.holds.header ∙ free-written (address_behind z.shape z.heap.map) (front_slot z.heap) (free_bytes z.heap.map) count
       ∙ (λ i. head_with (z.shape.base + zone_header + sym total i) (front_slot z.heap) (counted i)) in
       let form = last ∙ ap (λ (k : Layout). with_header (written k.header 12 (big_bytes 4 count)) k) there_is in
-      kept new now (subst (λ (k : Layout). Held k now) (sym form)
-      (held-changed l z now.heap done (written l.header 12 (big_bytes 4 count)) held (sized-fits z x whole size n held.holds.fits r) done_sizes total head done_holds))
+      kept new now (subst (λ (k : Layout). RawBlock k now) (sym form)
+      (held-changed l z now.heap done (written l.header 12 (big_bytes 4 count)) raw_block (sized-fits z x whole size n raw_block.holds.fits r) done_sizes total head done_holds))

@@ -11,17 +11,17 @@ use Rattle.mac_base.specs.ZoneMap.{ZoneMap, block, address_behind, total_size, f
 use Rattle.mac_base.specs.HandleTable.{bytes_of, is_pointer}
 use Rattle.mac_base.specs.Heap.{front_slot}
 use Rattle.mac_base.specs.ZoneState.{ZoneState}
-use Rattle.mac_base.proofs.Maps.{true_both}
+use Rattle.zone_laws.proofs.Maps.{true_both}
 use Rattle.zone_blocks.specs.declared.header.Header.{Header}
-use Rattle.zone_blocks.specs.Layout.{Held as Block, Layout, BlockAt, body, free_held, with_blocks, with_header, size_of, header_of}
+use Rattle.zone_blocks.specs.Layout.{RawBlock as Block, Layout, BlockAt, body, free_raw_block, with_blocks, with_header, size_of, header_of}
 use Rattle.zone_blocks.proofs.Changes.{size-body}
 use Rattle.master_ptrs.specs.Word.{master_pointer}
-use Rattle.master_ptrs.specs.Image.{owners_of, zone_head, HoldsBlock, HoldsBlocks}
+use Rattle.master_ptrs.specs.Image.{owners_of, zone_head, IsBlockOf, AreBlocksOf}
 use Rattle.master_ptrs.specs.Places.{NamedAt}
 use Rattle.master_ptrs.specs.Changes.{unfixed}
 use Rattle.master_ptrs.proofs.Heads.{head_with, free-written}
-use Rattle.master_ptrs.proofs.Held.{Held, Kept, kept}
-use Rattle.master_ptrs.proofs.Holding.{together}
+use Rattle.master_ptrs.proofs.Standing.{RawBlock, Kept, kept}
+use Rattle.master_ptrs.proofs.BlocksOf.{together}
 use Rattle.master_ptrs.proofs.Owning.{blocks-same, none_left_out-named}
 use Rattle.master_ptrs.proofs.Known.{free-range}
 use Rattle.master_ptrs.proofs.ChangeUnfixed as u
@@ -31,7 +31,7 @@ use Rattle.master_ptrs.proofs.Places.{EntryOf, entry-of, block-at, size-read, si
 pub head-below : (heads : HeadKind) (n : ℕ) → ((n % 4 == 0) && nat_le (smallest_block heads) n) ≡ true → head_size heads < n
 head-below Bits24 n possible = grind (arith, nat_tests)
 
-module _ (l : Layout) (z : ZoneState) (p at : ℕ) (held : Held l z) (live : is_pointer z.heap.table p ≡ true) (b : NamedAt z p at) where
+module _ (l : Layout) (z : ZoneState) (p at : ℕ) (held : RawBlock l z) (live : is_pointer z.heap.table p ≡ true) (b : NamedAt z p at) where
   -- the changed zone
   abbrev pub now : ZoneState
   now = unfixed p z
@@ -46,7 +46,7 @@ module _ (l : Layout) (z : ZoneState) (p at : ℕ) (held : Held l z) (live : is_
 
   -- the block, free
   abbrev pub fresh : Block
-  fresh = free_held (body there.here)
+  fresh = free_raw_block (body there.here)
 
   -- the blocks with it
   abbrev pub fresh_layout : Layout
@@ -76,7 +76,7 @@ module _ (l : Layout) (z : ZoneState) (p at : ℕ) (held : Held l z) (live : is_
   pointers = u.unfixed-others z p at held.holds.fits live b
 
   -- the blocks then are those of the changed map
-  fresh_holds : HoldsBlocks (owners_of now) z.shape (address_behind z.shape []) fresh_layout.blocks now.heap.map
+  fresh_holds : AreBlocksOf (owners_of now) z.shape (address_behind z.shape []) fresh_layout.blocks now.heap.map
   fresh_holds =
       let start = address_behind z.shape [] in
       let here = start + total_size b.before in
@@ -88,12 +88,12 @@ module _ (l : Layout) (z : ZoneState) (p at : ℕ) (held : Held l z) (live : is_
       (none_left_out-named p b.before (u.unfixed-none_before z p at fits live b)) there.parts.lower in
       let higher = blocks-same (owners_of z) (owners_of now) z.shape (here + b.here.size) there.behind b.behind (λ x. x == p) (λ x from to. pointers x (λ same. omega arith)) others
       (none_left_out-named p b.behind (u.unfixed-none_behind z p at fits live b)) there.parts.higher in
-      let own : HoldsBlock (owners_of now) z.shape here fresh (block kind.Free b.here.size) = record { size = fresh_size; role = refl; owned = tt } in
-      subst (HoldsBlocks (owners_of now) z.shape start fresh_layout.blocks) (sym map_is)
+      let own : IsBlockOf (owners_of now) z.shape here fresh (block kind.Free b.here.size) = record { size = fresh_size; role = refl; owned = tt } in
+      subst (AreBlocksOf (owners_of now) z.shape start fresh_layout.blocks) (sym map_is)
       (together (owners_of now) z.shape start there.before b.before (fresh ∷ there.behind) (block kind.Free b.here.size ∷ b.behind) lower (own, higher))
 
   -- they hold the changed zone, with its header
-  done_held : Held (record { heads = l.heads; base = l.base; header = zone_head now; blocks = fresh_layout.blocks; spare = l.spare }) now
+  done_held : RawBlock (record { heads = l.heads; base = l.base; header = zone_head now; blocks = fresh_layout.blocks; spare = l.spare }) now
   done_held =
       let fits = held.holds.fits in
       let apart = sizes-apart z b.before b.here b.behind held.sizes b.map in
@@ -118,11 +118,11 @@ module _ (l : Layout) (z : ZoneState) (p at : ℕ) (held : Held l z) (live : is_
       (omega arith, omega arith)
 
   -- then the pointer isn't live
-  pub unfix-ends : (m new : Layout) (count : ℕ) → ((b : BlockAt l at) → m ≡ with_blocks (b.before ++ free_held (body b.here) ∷ b.behind) l) → count ≡ free_bytes now.heap.map
+  pub unfix-ends : (m new : Layout) (count : ℕ) → ((b : BlockAt l at) → m ≡ with_blocks (b.before ++ free_raw_block (body b.here) ∷ b.behind) l) → count ≡ free_bytes now.heap.map
       → new ≡ with_header (written m.header 12 (big_bytes 4 count)) m → Kept new now
   unfix-ends m new count says counted last =
       let total = u.unfixed-total z p at held.holds.fits live b in
       let head = ap (λ xs. written xs 12 (big_bytes 4 count)) held.holds.header ∙ free-written (address_behind z.shape z.heap.map) (front_slot z.heap) (free_bytes z.heap.map) count
       ∙ (λ i. head_with (z.shape.base + zone_header + sym total i) (front_slot z.heap) (counted i)) in
       let form = last ∙ ap (λ (k : Layout). with_header (written k.header 12 (big_bytes 4 count)) k) (says unfix-at) ∙ ap (λ xs. with_header xs fresh_layout) head in
-      kept new now (subst (λ (k : Layout). Held k now) (sym form) done_held)
+      kept new now (subst (λ (k : Layout). RawBlock k now) (sym form) done_held)

@@ -4,7 +4,7 @@ use Rattle.std.proofs.lemmas.Bool.Decides.{nat_tests}
 use Rattle.std.proofs.lemmas.List.{take_all, take-take}
 use Rattle.mac_base.specs.HeadKind.{head_size}
 use Rattle.mac_base.specs.HandleTable.{resized}
-use Rattle.zone_blocks.specs.Layout.{Held, Layout, CanClear, CanResize, CanSplit, body, held, free_held, size_of, front_of, rest_of, cleared_from, is_possible, with_blocks}
+use Rattle.zone_blocks.specs.Layout.{RawBlock, Layout, CanClear, CanResize, CanSplit, body, raw_block, free_raw_block, size_of, front_of, rest_of, cleared_from, is_possible, with_blocks}
 use Rattle.zone_blocks.proofs.Changes.{size-body}
 use Rattle.master_ptrs.specs.Fitting.{CanFit, fitted, fitted_rest}
 
@@ -34,8 +34,8 @@ module _ (l : Layout) (at size n : ℕ) (can : CanFit l at size n) where
   fit_long = sym (size-body l.heads can.block.here)
 
   -- the block whose contents are the first of its bytes
-  abbrev pub cut_front : Held
-  cut_front = held can.block.here.role n (take (size - head_size l.heads) (body can.block.here))
+  abbrev pub cut_front : RawBlock
+  cut_front = raw_block can.block.here.role n (take (size - head_size l.heads) (body can.block.here))
 
   -- the zone with it
   abbrev pub cut_layout : Layout
@@ -58,16 +58,16 @@ module _ (l : Layout) (at size n : ℕ) (can : CanFit l at size n) where
       ends s ∙ ap (λ b. with_blocks (can.block.before ++ cut_front ∷ (cond b (rest_of l s ∷ []) [] ++ can.block.behind)) l) (sym test)
 
   -- or all of it stays
-  pub fit-resize : (m : Layout) → (size < size_of l.heads can.block.here → ⊥) → ((s : CanResize l at n) → m ≡ with_blocks (s.block.before ++ held s.block.here.role n (body s.block.here) ∷ s.block.behind) l) → m ≡ cut_layout
+  pub fit-resize : (m : Layout) → (size < size_of l.heads can.block.here → ⊥) → ((s : CanResize l at n) → m ≡ with_blocks (s.block.before ++ raw_block s.block.here.role n (body s.block.here) ∷ s.block.behind) l) → m ≡ cut_layout
   fit-resize m whole ends =
       let large = can.large in
       let within = can.within in
       let long = fit_long in
       let all : take (size - head_size l.heads) (body can.block.here) ≡ body can.block.here = take_all (size - head_size l.heads) (body can.block.here) (omega arith) in
-      let s : CanResize l at n = record { block = can.block; within = cut_long; possible = ap (λ xs. is_possible l.heads (held can.block.here.role n xs)) (sym all) ∙ can.front } in
+      let s : CanResize l at n = record { block = can.block; within = cut_long; possible = ap (λ xs. is_possible l.heads (raw_block can.block.here.role n xs)) (sym all) ∙ can.front } in
       let test : nat_lt size (size_of l.heads can.block.here) ≡ false = grind (arith, nat_tests) in
-      ends s ∙ ap (λ xs. with_blocks (can.block.before ++ held can.block.here.role n xs ∷ can.block.behind) l) (sym all)
-      ∙ ap (λ b. with_blocks (can.block.before ++ cut_front ∷ (cond b (free_held (drop size (body can.block.here)) ∷ []) [] ++ can.block.behind)) l) (sym test)
+      ends s ∙ ap (λ xs. with_blocks (can.block.before ++ raw_block can.block.here.role n xs ∷ can.block.behind) l) (sym all)
+      ∙ ap (λ b. with_blocks (can.block.before ++ cut_front ∷ (cond b (free_raw_block (drop size (body can.block.here)) ∷ []) [] ++ can.block.behind)) l) (sym test)
 
   -- it can be cleared
   abbrev cut_clear : (kept : ℕ) → kept < n → CanClear cut_layout at kept

@@ -11,13 +11,13 @@ use Rattle.mac_base.specs.HandleTable.{is_pointer}
 use Rattle.mac_base.specs.Heap.{front_slot}
 use Rattle.mac_base.specs.Suits.{slots}
 use Rattle.mac_base.specs.ZoneState.{ZoneState}
-use Rattle.mac_base.proofs.SlotPlaces.{has_room, Contains-here}
+use Rattle.zone_laws.proofs.SlotPlaces.{has_room, Contains-here}
 use Rattle.zone_blocks.specs.Layout.{Layout, WordAt}
 use Rattle.master_ptrs.specs.Word.{next_free, slot_of, slot_in, has_addresses, master_pointer}
 use Rattle.master_ptrs.specs.Image.{owners_of}
 use Rattle.master_ptrs.proofs.Heads.{front-read, free-read}
-use Rattle.master_ptrs.proofs.Held.{Held}
-use Rattle.master_ptrs.proofs.HeldRooms.{rooms-held}
+use Rattle.master_ptrs.proofs.Standing.{RawBlock}
+use Rattle.master_ptrs.proofs.BlockRooms.{rooms-held}
 use Rattle.master_ptrs.proofs.ReadWord.{slot_in-word}
 use Rattle.master_ptrs.proofs.ReadZone as read
 use Rattle.master_ptrs.proofs.Steps.{slot-of, word-at}
@@ -30,7 +30,7 @@ free_bytes-total (e ∷ es) = let rest = free_bytes-total es in let here = by_te
     by_test true = omega arith
     by_test false = omega arith
 
-module _ (l : Layout) (z : ZoneState) (held : Held l z) where
+module _ (l : Layout) (z : ZoneState) (held : RawBlock l z) where
   pub rooms : list_all (has_room (head_size z.shape.heads) slot_count) z.heap.map ≡ true
   rooms = rooms-held (owners_of z) z.shape (address_behind z.shape []) l.blocks z.heap.map held.holds.blocks held.sizes
 

@@ -25,11 +25,11 @@ pub mod EndsSized
 pub mod EndsUnfix
 pub mod Fitting
 pub mod Heads
-pub mod Held
-pub mod HeldRooms
-pub mod Holding
+pub mod Standing
+pub mod BlockRooms
+pub mod BlocksOf
 pub mod Known
-pub mod Lent
+pub mod WrittenBack
 pub mod Located
 pub mod Looking
 pub mod Named

@@ -13,9 +13,9 @@ use Rattle.zone_blocks.specs.Layout.{Layout, BlockAt, size_of, total_of}
 use Rattle.zone_blocks.specs.Finding as find
 use Rattle.zone_blocks.specs.Finding.{HoldsByte, LiesOutside, LowestFree, NoneFree, has_room}
 use Rattle.zone_blocks.proofs.ReadBlocks.{head_size-positive}
-use Rattle.master_ptrs.specs.Image.{Owners, role_of, owners_of, HoldsBlock, HoldsBlocks}
+use Rattle.master_ptrs.specs.Image.{Owners, role_of, owners_of, IsBlockOf, AreBlocksOf}
 use Rattle.master_ptrs.specs.Places.{EntryAt, LowestAt}
-use Rattle.master_ptrs.proofs.Held.{Held}
+use Rattle.master_ptrs.proofs.Standing.{RawBlock}
 use Rattle.master_ptrs.proofs.Located.{Both, of-entry, of-block, rank, one-block, within}
 
 -- what follows from what a clause says of `None`
@@ -45,12 +45,12 @@ free-role s (kind.Ptr p) = refl
 free-role s (kind.Rel h) = refl
 
 -- a block is free and has so many bytes where its entry is and has
-room-same : (o : Owners) (s : Shape) (at k : ℕ) (b : layout.Held) (e : Entry) → HoldsBlock o s at b e → has_room s.heads k b ≡ has_free k e
+room-same : (o : Owners) (s : Shape) (at k : ℕ) (b : layout.RawBlock) (e : Entry) → IsBlockOf o s at b e → has_room s.heads k b ≡ has_free k e
 room-same o s at k b e h =
     ap (λ r. find.is_free r && nat_le k (size_of s.heads b)) h.role ∙ ap (λ t. t && nat_le k (size_of s.heads b)) (free-role s e.kind) ∙ ap (λ n. is_free e.kind && nat_le k n) h.size
 
 -- so of all blocks
-rooms-same : (o : Owners) (s : Shape) (at k : ℕ) (bs : List layout.Held) (es : ZoneMap) → HoldsBlocks o s at bs es
+rooms-same : (o : Owners) (s : Shape) (at k : ℕ) (bs : List layout.RawBlock) (es : ZoneMap) → AreBlocksOf o s at bs es
     → list_all (λ b. not (has_room s.heads k b)) bs ≡ list_all (λ (e : Entry). not (has_free k e)) es
 rooms-same o s at k [] [] h = refl
 rooms-same o s at k [] (e ∷ es) h = absurd h
@@ -60,12 +60,12 @@ rooms-same o s at k (b ∷ bs) (e ∷ es) h =
     ∙ ap (λ t. not (has_free k e) && t) (rooms-same o s (at + e.size) k bs es h.1)
 
 -- where there are no entries there are no blocks
-pub no-entries : (o : Owners) (s : Shape) (at : ℕ) (bs : List layout.Held) (es : ZoneMap) → HoldsBlocks o s at bs es → bs ≡ [] → es ≡ []
+pub no-entries : (o : Owners) (s : Shape) (at : ℕ) (bs : List layout.RawBlock) (es : ZoneMap) → AreBlocksOf o s at bs es → bs ≡ [] → es ≡ []
 no-entries o s at [] [] h none = refl
 no-entries o s at [] (e ∷ es) h none = absurd h
 no-entries o s at (b ∷ bs) es h none = absurd (cc none)
 
-module _ (l : Layout) (z : ZoneState) (held : Held l z) where
+module _ (l : Layout) (z : ZoneState) (held : RawBlock l z) where
   -- the lowest free block of the blocks is that of the map
   pub lowest-at : (k at : ℕ) → LowestFree l k at → LowestAt z k at
   lowest-at k at low =
@@ -134,7 +134,7 @@ module _ (l : Layout) (z : ZoneState) (held : Held l z) where
         | inr above ↦ absurd (omega arith)
       ])
     where
-      first : (bs : List layout.Held) → total_of l.heads bs ≡ 0 → bs ≡ []
+      first : (bs : List layout.RawBlock) → total_of l.heads bs ≡ 0 → bs ≡ []
       first [] none = refl
       first (b ∷ bs) none = let positive = head_size-positive l.heads in absurd (omega arith)
 

@@ -10,20 +10,20 @@ use Rattle.mac_base.specs.ZoneMap.{ZoneMap, block, is_named, addresses, addresse
 use Rattle.mac_base.specs.HandleTable.{Live, EmptyHandle, FullHandle, Pointer, live_at, live_full, is_full, is_pointer, has_block, bytes_of}
 use Rattle.mac_base.specs.Suits.{is_handle_block, is_pointer_block}
 use Rattle.mac_base.specs.ZoneState.{ZoneState}
-use Rattle.mac_base.proofs.GapAppend.{addresses_from-append}
-use Rattle.mac_base.proofs.Maps.{not_true, true_both}
-use Rattle.mac_base.proofs.Owners.{none_named, nothing_passes, no_length}
-use Rattle.mac_base.proofs.Tables.{eqb_same, eqb-true-is, pointer_no_handle}
+use Rattle.zone_laws.proofs.GapAppend.{addresses_from-append}
+use Rattle.zone_laws.proofs.Maps.{not_true, true_both}
+use Rattle.zone_laws.proofs.Owners.{none_named, nothing_passes, no_length}
+use Rattle.zone_laws.proofs.Tables.{eqb_same, eqb-true-is, pointer_no_handle}
 use Rattle.zone_blocks.specs.Layout as layout
 use Rattle.zone_blocks.specs.Layout.{Layout, BlockAt}
 use Rattle.master_ptrs.specs.Word.{says_full, contents_said, slot_of, slot_of_live, next_free}
 use Rattle.master_ptrs.specs.Fit.{Fits}
-use Rattle.master_ptrs.specs.Image.{Owners, owners_of, HoldsOwned}
+use Rattle.master_ptrs.specs.Image.{Owners, owners_of, IsOwnedBy}
 use Rattle.master_ptrs.specs.Places.{BlockOf, EntryAt, NamedAt}
 use Rattle.master_ptrs.specs.Changes.{freed}
 use Rattle.master_ptrs.proofs.ChangeBlock.{contents_of-first}
 use Rattle.master_ptrs.proofs.ChangeEmptied.{freed-none}
-use Rattle.master_ptrs.proofs.Held.{Held}
+use Rattle.master_ptrs.proofs.Standing.{RawBlock}
 use Rattle.master_ptrs.proofs.Located.{of-entry}
 use Rattle.master_ptrs.proofs.PointerBlocks.{pointer_block}
 
@@ -183,21 +183,21 @@ module _ (z : ZoneState) (x : ℕ) (fits : Fits z) (has : has_block z.heap.table
 -- ---- what it has
 
 -- its bytes are the number's
-pub named-owned : (o : Owners) (s : Shape) (at x : ℕ) (k : Kind) (b : layout.Held) → is_named x k ≡ true → HoldsOwned o s at k b → b.contents ≡ o.bytes x
+pub named-owned : (o : Owners) (s : Shape) (at x : ℕ) (k : Kind) (b : layout.RawBlock) → is_named x k ≡ true → IsOwnedBy o s at k b → b.contents ≡ o.bytes x
 named-owned o s at x kind.Free b named owned = absurd (cc named)
 named-owned o s at x kind.Master b named owned = absurd (cc named)
 named-owned o s at x (kind.Ptr p) b named owned = owned.1 ∙ ap o.bytes (eqb-true-is p x named)
 named-owned o s at x (kind.Rel h) b named owned = owned.1 ∙ ap o.bytes (eqb-true-is h x named)
 
 -- and it is the number's with other bytes where these are
-pub named-refilled : (o p : Owners) (s : Shape) (at x : ℕ) (k : Kind) (b c : layout.Held) → is_named x k ≡ true → HoldsOwned o s at k b → c.contents ≡ p.bytes x → HoldsOwned p s at k c
+pub named-refilled : (o p : Owners) (s : Shape) (at x : ℕ) (k : Kind) (b c : layout.RawBlock) → is_named x k ≡ true → IsOwnedBy o s at k b → c.contents ≡ p.bytes x → IsOwnedBy p s at k c
 named-refilled o p s at x kind.Free b c named owned is = tt
 named-refilled o p s at x kind.Master b c named owned is = absurd (cc named)
 named-refilled o p s at x (kind.Ptr q) b c named owned is = (owned.0, is ∙ ap p.bytes (sym (eqb-true-is q x named)))
 named-refilled o p s at x (kind.Rel h) b c named owned is = (owned.0, is ∙ ap p.bytes (sym (eqb-true-is h x named)))
 
 -- the bytes of a number are the contents of its block
-pub named-bytes : (l : Layout) (z : ZoneState) → Held l z → (x at : ℕ) → (place : NamedAt z x at) → (bytes : List ℕ) → ((b : BlockAt l at) → bytes ≡ b.here.contents) → bytes ≡ bytes_of z.heap.table x
+pub named-bytes : (l : Layout) (z : ZoneState) → RawBlock l z → (x at : ℕ) → (place : NamedAt z x at) → (bytes : List ℕ) → ((b : BlockAt l at) → bytes ≡ b.here.contents) → bytes ≡ bytes_of z.heap.table x
 named-bytes l z held x at place bytes is =
     let mine = of-entry l z held at (named-entry z x at place) in
     is mine.block ∙ named-owned (owners_of z) z.shape (at + head_size z.shape.heads) x place.here.kind mine.block.here place.named mine.both.block.owned

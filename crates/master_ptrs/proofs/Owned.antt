@@ -8,18 +8,18 @@ use Rattle.mac_base.specs.ZoneMap.{ZoneMap, block, addresses_from, address_behin
 use Rattle.mac_base.specs.HandleTable.{is_full, is_handle}
 use Rattle.mac_base.specs.Suits.{is_handle_block, wanted_length}
 use Rattle.mac_base.specs.ZoneState.{ZoneState}
-use Rattle.mac_base.proofs.Owners.{nothing_passes, no_length}
-use Rattle.mac_base.proofs.Tables.{eqb_same, full_handle}
+use Rattle.zone_laws.proofs.Owners.{nothing_passes, no_length}
+use Rattle.zone_laws.proofs.Tables.{eqb_same, full_handle}
 use Rattle.zone_blocks.specs.declared.header.Header.{Header}
 use Rattle.zone_blocks.specs.declared.header.Role.TheVariants as role
 use Rattle.zone_blocks.specs.Finding.{is_free}
 use Rattle.zone_blocks.specs.Layout as layout
 use Rattle.zone_blocks.specs.Layout.{Layout, BlockAt, size_of, header_of}
-use Rattle.master_ptrs.specs.Image.{Owners, owners_of, role_of, HoldsOwned, HoldsBlock}
+use Rattle.master_ptrs.specs.Image.{Owners, owners_of, role_of, IsOwnedBy, IsBlockOf}
 use Rattle.master_ptrs.specs.Reading.{kind_in}
 use Rattle.master_ptrs.specs.Places.{EntryAt, HasOwner}
-use Rattle.master_ptrs.proofs.Held.{Held}
-use Rattle.master_ptrs.proofs.Holding.{length-pointers, total-held}
+use Rattle.master_ptrs.proofs.Standing.{RawBlock}
+use Rattle.master_ptrs.proofs.BlocksOf.{length-pointers, total-held}
 use Rattle.master_ptrs.proofs.Known.{slot-range, end-range}
 use Rattle.master_ptrs.proofs.Located.{of-entry, within}
 use Rattle.master_ptrs.proofs.ReadMap.{map_in-held}
@@ -30,10 +30,10 @@ passes-not at test [] e behind none = (nothing_passes (test e.kind) at (addresse
 passes-not at test (f ∷ before) e behind none = passes-not (at + f.size) test before e behind (nothing_passes (test f.kind) at (addresses_from (at + f.size) test (before ++ e ∷ behind)) none).1
 
 -- the entry of a block is read off its role and size
-said : (o : Owners) (s : Shape) (at : ℕ) (b : layout.Held) (e : Entry) → HoldsBlock o s at b e → block (kind_in s (at + head_size s.heads) b.role) (size_of s.heads b) ≡ e
+said : (o : Owners) (s : Shape) (at : ℕ) (b : layout.RawBlock) (e : Entry) → IsBlockOf o s at b e → block (kind_in s (at + head_size s.heads) b.role) (size_of s.heads b) ≡ e
 said o s at b e h = let one = map_in-held o s at (b ∷ []) (e ∷ []) (h, tt) in cc one
 
-module _ (l : Layout) (z : ZoneState) (held : Held l z) where
+module _ (l : Layout) (z : ZoneState) (held : RawBlock l z) where
   -- the entry at an address is read off the header there
   pub entry-said : (at : ℕ) (header : Header) → ((b : BlockAt l at) → header ≡ header_of l.heads b.here) → (e : EntryAt z at) → block (kind_in z.shape (at + head_size z.shape.heads) header.role) header.size ≡ e.here
   entry-said at header is e =
@@ -105,7 +105,7 @@ module _ (l : Layout) (z : ZoneState) (held : Held l z) where
       let long : header.size - head_size l.heads - header.correction ≡ length b.here.contents = omega arith in
       long ∙ by_kind e.here.kind b.here (sym (ap is_free (ap (λ (h : Header). h.role) (is b) ∙ mine.both.block.role)) ∙ other) mine.both.block.owned
     where
-      by_kind : (k : Kind) (b : layout.Held) → is_free (role_of z.shape k) ≡ false → HoldsOwned (owners_of z) z.shape (at + head_size z.shape.heads) k b → length b.contents ≡ wanted_length z.heap.table k
+      by_kind : (k : Kind) (b : layout.RawBlock) → is_free (role_of z.shape k) ≡ false → IsOwnedBy (owners_of z) z.shape (at + head_size z.shape.heads) k b → length b.contents ≡ wanted_length z.heap.table k
       by_kind kind.Free b other owned = absurd (cc other)
       by_kind kind.Master b other owned = ap length owned ∙ length-pointers (owners_of z) slot_count (at + head_size z.shape.heads)
       by_kind (kind.Ptr p) b other owned = ap length owned.1

@@ -13,13 +13,13 @@ use Rattle.mac_base.specs.declared.block.Kind.TheVariants as kind
 use Rattle.mac_base.specs.HeadKind.{Shape, head_size, slot_count}
 use Rattle.mac_base.specs.ZoneMap.{ZoneMap, total_size, is_named, is_master, addresses_from}
 use Rattle.mac_base.specs.Suits.{slots_from}
-use Rattle.mac_base.proofs.Maps.{both_true, true_not}
-use Rattle.mac_base.proofs.SlotPlaces.{slots_at, Contains-none, Contains-cons_cases}
+use Rattle.zone_laws.proofs.Maps.{both_true, true_not}
+use Rattle.zone_laws.proofs.SlotPlaces.{slots_at, Contains-none, Contains-cons_cases}
 use Rattle.std.proofs.lemmas.List.Elements.{Contains-append_cases}
 use Rattle.std.proofs.lemmas.List.{take_all}
-use Rattle.zone_blocks.specs.Layout.{Held, size_of, total_of, with_word}
-use Rattle.master_ptrs.specs.Image.{Owners, pointers_from, HoldsOwned, HoldsBlock, HoldsBlocks}
-use Rattle.master_ptrs.proofs.Holding.{length-pointers}
+use Rattle.zone_blocks.specs.Layout.{RawBlock, size_of, total_of, with_word}
+use Rattle.master_ptrs.specs.Image.{Owners, pointers_from, IsOwnedBy, IsBlockOf, AreBlocksOf}
+use Rattle.master_ptrs.proofs.BlocksOf.{length-pointers}
 
 -- ---- owners that agree
 
@@ -51,7 +51,7 @@ is_left_out test (kind.Rel h) = test h
 abbrev pub none_left_out : (ℕ → Bool) → ZoneMap → Bool
 none_left_out test es = list_all (λ (e : Entry). not (is_left_out test e.kind)) es
 
-owned-same : (o p : Owners) (s : Shape) (at : ℕ) (k : Kind) (b : Held) (test : ℕ → Bool) → SamePointers o p at (at + length b.contents) → SameBytes o p test → is_left_out test k ≡ false → HoldsOwned o s at k b → HoldsOwned p s at k b
+owned-same : (o p : Owners) (s : Shape) (at : ℕ) (k : Kind) (b : RawBlock) (test : ℕ → Bool) → SamePointers o p at (at + length b.contents) → SameBytes o p test → is_left_out test k ≡ false → IsOwnedBy o s at k b → IsOwnedBy p s at k b
 owned-same o p s at kind.Free b test pointers bytes none h = tt
 owned-same o p s at kind.Master b test pointers bytes none h =
     let long : length b.contents ≡ 4 * slot_count = ap length h ∙ length-pointers o slot_count at in
@@ -59,14 +59,14 @@ owned-same o p s at kind.Master b test pointers bytes none h =
 owned-same o p s at (kind.Ptr q) b test pointers bytes none h = (h.0, h.1 ∙ sym (bytes q none))
 owned-same o p s at (kind.Rel q) b test pointers bytes none h = (h.0, h.1 ∙ sym (bytes q none))
 
-pub block-same : (o p : Owners) (s : Shape) (at : ℕ) (b : Held) (e : Entry) (test : ℕ → Bool) → SamePointers o p at (at + e.size) → SameBytes o p test → is_left_out test e.kind ≡ false → HoldsBlock o s at b e → HoldsBlock p s at b e
+pub block-same : (o p : Owners) (s : Shape) (at : ℕ) (b : RawBlock) (e : Entry) (test : ℕ → Bool) → SamePointers o p at (at + e.size) → SameBytes o p test → is_left_out test e.kind ≡ false → IsBlockOf o s at b e → IsBlockOf p s at b e
 block-same o p s at b e test pointers bytes none h = record {
   size = h.size;
   role = h.role;
   owned = owned-same o p s (at + head_size s.heads) e.kind b test (λ x low high. let size = h.size in pointers x (omega arith) (omega arith)) bytes none h.owned;
 }
 
-pub blocks-same : (o p : Owners) (s : Shape) (at : ℕ) (bs : List Held) (es : ZoneMap) (test : ℕ → Bool) → SamePointers o p at (at + total_size es) → SameBytes o p test → none_left_out test es ≡ true → HoldsBlocks o s at bs es → HoldsBlocks p s at bs es
+pub blocks-same : (o p : Owners) (s : Shape) (at : ℕ) (bs : List RawBlock) (es : ZoneMap) (test : ℕ → Bool) → SamePointers o p at (at + total_size es) → SameBytes o p test → none_left_out test es ≡ true → AreBlocksOf o s at bs es → AreBlocksOf p s at bs es
 blocks-same o p s at [] [] test pointers bytes none h = tt
 blocks-same o p s at [] (e ∷ es) test pointers bytes none h = h
 blocks-same o p s at (b ∷ bs) [] test pointers bytes none h = h
@@ -87,7 +87,7 @@ none-anywhere (e ∷ es) = ap (λ b. not b && none_left_out (λ x. false) es) (n
     no_one (kind.Ptr p) = refl
     no_one (kind.Rel h) = refl
 
-pub blocks-agree : (o p : Owners) (s : Shape) (at : ℕ) (bs : List Held) (es : ZoneMap) → ((x : ℕ) → p.pointer x ≡ o.pointer x) → ((x : ℕ) → p.bytes x ≡ o.bytes x) → HoldsBlocks o s at bs es → HoldsBlocks p s at bs es
+pub blocks-agree : (o p : Owners) (s : Shape) (at : ℕ) (bs : List RawBlock) (es : ZoneMap) → ((x : ℕ) → p.pointer x ≡ o.pointer x) → ((x : ℕ) → p.bytes x ≡ o.bytes x) → AreBlocksOf o s at bs es → AreBlocksOf p s at bs es
 blocks-agree o p s at bs es pointers bytes h = blocks-same o p s at bs es (λ x. false) (λ x low high. pointers x) (λ x out. bytes x) (none-anywhere es) h
 
 -- where the bytes of h alone differ, and no block is h's
@@ -194,27 +194,27 @@ slots-cons head n at e es = by_test (is_master e.kind)
     by_test false = refl
 
 -- the four bytes of the slot h among blocks of a map, the first at an address
-pub record SlotAt (o : Owners) (s : Shape) (at : ℕ) (bs : List Held) (es : ZoneMap) (h : ℕ) : Type 0 where
-  pub before : List Held
-  pub here : Held
-  pub behind : List Held
+pub record SlotAt (o : Owners) (s : Shape) (at : ℕ) (bs : List RawBlock) (es : ZoneMap) (h : ℕ) : Type 0 where
+  pub before : List RawBlock
+  pub here : RawBlock
+  pub behind : List RawBlock
   pub offset : ℕ
   pub blocks : bs ≡ before ++ here ∷ behind
   pub place : h ≡ at + total_of s.heads before + head_size s.heads + offset
   pub inside : offset + 4 ≤ length here.contents
   -- what stands there, and what it is to write there
   pub reads : part here.contents offset 4 ≡ big_bytes 4 (o.pointer h)
-  pub writes : (w : ℕ) → HoldsBlocks (with_pointer o h w) s at (before ++ with_word here offset w ∷ behind) es
+  pub writes : (w : ℕ) → AreBlocksOf (with_pointer o h w) s at (before ++ with_word here offset w ∷ behind) es
 
 -- the block that has the slot in front
-in_front : (o : Owners) (s : Shape) (at : ℕ) (b : Held) (bs : List Held) (e : Entry) (es : ZoneMap) (h : ℕ) → HoldsBlocks o s at (b ∷ bs) (e ∷ es) → e.kind ≡ kind.Master → IsSlot slot_count (at + head_size s.heads) h → SlotAt o s at (b ∷ bs) (e ∷ es) h
+in_front : (o : Owners) (s : Shape) (at : ℕ) (b : RawBlock) (bs : List RawBlock) (e : Entry) (es : ZoneMap) (h : ℕ) → AreBlocksOf o s at (b ∷ bs) (e ∷ es) → e.kind ≡ kind.Master → IsSlot slot_count (at + head_size s.heads) h → SlotAt o s at (b ∷ bs) (e ∷ es) h
 in_front o s at b bs e es h holds master slot =
     let first = at + head_size s.heads in
     let i = slot.index in
     let is = slot.is in
     let within = slot.within in
     let size = holds.0.size in
-    let contents : b.contents ≡ pointers_from o slot_count first = subst (λ k. HoldsOwned o s first k b) master holds.0.owned in
+    let contents : b.contents ≡ pointers_from o slot_count first = subst (λ k. IsOwnedBy o s first k b) master holds.0.owned in
     let long : length b.contents ≡ 4 * slot_count = ap length contents ∙ length-pointers o slot_count first in
     record {
       before = [];
@@ -233,7 +233,7 @@ in_front o s at b bs e es h holds master slot =
             record {
               size = (let q : head_size s.heads + (length (written b.contents (4 * i) (big_bytes 4 w)) + length b.slack) ≡ e.size = omega arith in q);
               role = holds.0.role;
-              owned = subst (λ k. HoldsOwned p s first k (with_word b (4 * i) w)) (sym master) new;
+              owned = subst (λ k. IsOwnedBy p s first k (with_word b (4 * i) w)) (sym master) new;
             },
             blocks-same o p s (at + e.size) bs es (λ x. false) (λ x low high. other w x (let q : h < x = omega arith in q)) (λ x out. refl) (none-anywhere es) holds.1,
           );
@@ -258,7 +258,7 @@ slot-low s at (e ∷ es) h c = by_cases (is_master e.kind) (Contains-append_case
     by_cases false (inl c) rest = absurd (Contains-none h c)
     by_cases b (inr c) rest = let low = rest c in omega arith
 
-pub slot-at : (o : Owners) (s : Shape) (at : ℕ) (bs : List Held) (es : ZoneMap) (h : ℕ) → HoldsBlocks o s at bs es → Contains (slots_at (head_size s.heads) slot_count at es) h → SlotAt o s at bs es h
+pub slot-at : (o : Owners) (s : Shape) (at : ℕ) (bs : List RawBlock) (es : ZoneMap) (h : ℕ) → AreBlocksOf o s at bs es → Contains (slots_at (head_size s.heads) slot_count at es) h → SlotAt o s at bs es h
 slot-at o s at [] [] h holds c = absurd (Contains-none h c)
 slot-at o s at [] (e ∷ es) h holds c = absurd holds
 slot-at o s at (b ∷ bs) [] h holds c = absurd holds
@@ -277,7 +277,7 @@ slot-at o s at (b ∷ bs) (e ∷ es) h holds c = by_cases (is_master e.kind) ref
           here = r.here;
           behind = r.behind;
           offset = r.offset;
-          blocks = ap (λ (xs : List Held). b ∷ xs) r.blocks;
+          blocks = ap (λ (xs : List RawBlock). b ∷ xs) r.blocks;
           place = (let q : h ≡ at + (size_of s.heads b + total_of s.heads r.before) + head_size s.heads + r.offset = omega arith in q);
           inside = r.inside;
           reads = r.reads;

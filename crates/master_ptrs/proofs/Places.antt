@@ -10,29 +10,29 @@ use Rattle.mac_base.specs.ZoneMap.{ZoneMap, address_behind, total_size}
 use Rattle.mac_base.specs.Heap.{Heap}
 use Rattle.mac_base.specs.Suits.{is_block_size}
 use Rattle.mac_base.specs.ZoneState.{ZoneState}
-use Rattle.mac_base.proofs.GapAppend.{total_size-append}
-use Rattle.mac_base.proofs.Maps.{both_true, true_both}
+use Rattle.zone_laws.proofs.GapAppend.{total_size-append}
+use Rattle.zone_laws.proofs.Maps.{both_true, true_both}
 use Rattle.zone_blocks.specs.declared.header.Header.{Header}
 use Rattle.zone_blocks.specs.declared.header.Role.TheVariants as role
 use Rattle.zone_blocks.specs.Layout as layout
-use Rattle.zone_blocks.specs.Layout.{Held as Block, Layout, BlockAt, size_of, total_of, header_of, is_possible, can_be_told}
-use Rattle.master_ptrs.specs.Image.{Owners, owners_of, zone_head, HoldsBlock, HoldsBlocks}
+use Rattle.zone_blocks.specs.Layout.{RawBlock as Block, Layout, BlockAt, size_of, total_of, header_of, is_possible, can_be_told}
+use Rattle.master_ptrs.specs.Image.{Owners, owners_of, zone_head, IsBlockOf, AreBlocksOf}
 use Rattle.master_ptrs.specs.Fit.{Fits, HasSizes}
 use Rattle.master_ptrs.specs.Changes.{with_heap}
-use Rattle.master_ptrs.proofs.Held.{Held}
-use Rattle.master_ptrs.proofs.Holding.{AtEntry, apart-entry, total-held}
+use Rattle.master_ptrs.proofs.Standing.{RawBlock}
+use Rattle.master_ptrs.proofs.BlocksOf.{AtEntry, apart-entry, total-held}
 
 -- the blocks around the one at a place of the map
 abbrev pub EntryOf : Layout → ZoneState → ZoneMap → Entry → ZoneMap → Type 0
 EntryOf l z low e high = AtEntry (owners_of z) z.shape (address_behind z.shape []) l.blocks (low ++ e ∷ high) low e high
 
 -- each place of the map has them
-pub entry-of : (l : Layout) (z : ZoneState) (low : ZoneMap) (e : Entry) (high : ZoneMap) → Held l z → z.heap.map ≡ low ++ e ∷ high → EntryOf l z low e high
+pub entry-of : (l : Layout) (z : ZoneState) (low : ZoneMap) (e : Entry) (high : ZoneMap) → RawBlock l z → z.heap.map ≡ low ++ e ∷ high → EntryOf l z low e high
 entry-of l z low e high held is =
-    apart-entry (owners_of z) z.shape (address_behind z.shape []) l.blocks low e high (subst (λ m. HoldsBlocks (owners_of z) z.shape (address_behind z.shape []) l.blocks m) is held.holds.blocks)
+    apart-entry (owners_of z) z.shape (address_behind z.shape []) l.blocks low e high (subst (λ m. AreBlocksOf (owners_of z) z.shape (address_behind z.shape []) l.blocks m) is held.holds.blocks)
 
 -- what lies before it begins as far behind the zone's header in both
-pub place-of : (l : Layout) (z : ZoneState) (at : ℕ) (low : ZoneMap) (e : Entry) (high : ZoneMap) → Held l z → (there : EntryOf l z low e high) → at ≡ address_behind z.shape low → at ≡ layout.address_behind l there.before
+pub place-of : (l : Layout) (z : ZoneState) (at : ℕ) (low : ZoneMap) (e : Entry) (high : ZoneMap) → RawBlock l z → (there : EntryOf l z low e high) → at ≡ address_behind z.shape low → at ≡ layout.address_behind l there.before
 place-of l z at low e high held there place =
     let total = total-held (owners_of z) z.shape (address_behind z.shape []) there.before low there.parts.lower in
     let heads = ap (λ k. total_of k there.before) held.holds.heads in
@@ -40,7 +40,7 @@ place-of l z at low e high held there place =
     omega arith
 
 -- its header stands at the address that the map says
-abbrev pub block-at : (l : Layout) (z : ZoneState) (at : ℕ) (low : ZoneMap) (e : Entry) (high : ZoneMap) → Held l z → (there : EntryOf l z low e high) → at ≡ address_behind z.shape low → BlockAt l at
+abbrev pub block-at : (l : Layout) (z : ZoneState) (at : ℕ) (low : ZoneMap) (e : Entry) (high : ZoneMap) → RawBlock l z → (there : EntryOf l z low e high) → at ≡ address_behind z.shape low → BlockAt l at
 block-at l z at low e high held there place = record {
   before = there.before;
   here = there.here;
@@ -50,14 +50,14 @@ block-at l z at low e high held there place = record {
 }
 
 -- what its header says of its size
-pub size-read : (l : Layout) (z : ZoneState) (at : ℕ) (low : ZoneMap) (e : Entry) (high : ZoneMap) → Held l z → z.heap.map ≡ low ++ e ∷ high → at ≡ address_behind z.shape low
+pub size-read : (l : Layout) (z : ZoneState) (at : ℕ) (low : ZoneMap) (e : Entry) (high : ZoneMap) → RawBlock l z → z.heap.map ≡ low ++ e ∷ high → at ≡ address_behind z.shape low
     → (h : Header) → ((b : BlockAt l at) → h ≡ header_of l.heads b.here) → h.size ≡ e.size
 size-read l z at low e high held is place h says =
     let there = entry-of l z low e high held is in
     ap (λ (h : Header). h.size) (says (block-at l z at low e high held there place)) ∙ ap (λ k. size_of k there.here) held.holds.heads ∙ there.parts.block.size
 
 -- it ends within 24 bits
-pub entry-range : (l : Layout) (z : ZoneState) (at : ℕ) (low : ZoneMap) (e : Entry) (high : ZoneMap) → Held l z → z.heap.map ≡ low ++ e ∷ high → at ≡ address_behind z.shape low → at + e.size ≤ 0x100_0000
+pub entry-range : (l : Layout) (z : ZoneState) (at : ℕ) (low : ZoneMap) (e : Entry) (high : ZoneMap) → RawBlock l z → z.heap.map ≡ low ++ e ∷ high → at ≡ address_behind z.shape low → at + e.size ≤ 0x100_0000
 entry-range l z at low e high held is place =
     let all = ap total_size is ∙ total_size-append low (e ∷ high) in
     let limit = held.holds.limit in
@@ -69,11 +69,11 @@ pub record FirstOf (o : Owners) (s : Shape) (at : ℕ) (bs : List Block) (e : En
   pub here : Block
   pub behind : List Block
   pub blocks : bs ≡ here ∷ behind
-  pub block : HoldsBlock o s at here e
-  pub higher : HoldsBlocks o s (at + e.size) behind high
+  pub block : IsBlockOf o s at here e
+  pub higher : AreBlocksOf o s (at + e.size) behind high
 
 -- there is one
-pub first-of : (o : Owners) (s : Shape) (at : ℕ) (bs : List Block) (e : Entry) (high : ZoneMap) → HoldsBlocks o s at bs (e ∷ high) → FirstOf o s at bs e high
+pub first-of : (o : Owners) (s : Shape) (at : ℕ) (bs : List Block) (e : Entry) (high : ZoneMap) → AreBlocksOf o s at bs (e ∷ high) → FirstOf o s at bs e high
 first-of o s at [] e high h = absurd h
 first-of o s at (b ∷ bs) e high h = record { here = b; behind = bs; blocks = refl; block = h.0; higher = h.1 }
 
@@ -115,9 +115,9 @@ possible-free heads b n size possible free none =
 -- ---- a zone with another heap
 
 -- the blocks, and another header, hold a changed zone of the same size
-pub held-changed : (l : Layout) (z : ZoneState) (heap : Heap) (bs : List Block) (header : List ℕ) → Held l z → Fits (with_heap heap z) → HasSizes (with_heap heap z) → total_size heap.map ≡ total_size z.heap.map
-    → header ≡ zone_head (with_heap heap z) → HoldsBlocks (owners_of (with_heap heap z)) z.shape (address_behind z.shape []) bs heap.map
-    → Held (record { heads = l.heads; base = l.base; header = header; blocks = bs; spare = l.spare }) (with_heap heap z)
+pub held-changed : (l : Layout) (z : ZoneState) (heap : Heap) (bs : List Block) (header : List ℕ) → RawBlock l z → Fits (with_heap heap z) → HasSizes (with_heap heap z) → total_size heap.map ≡ total_size z.heap.map
+    → header ≡ zone_head (with_heap heap z) → AreBlocksOf (owners_of (with_heap heap z)) z.shape (address_behind z.shape []) bs heap.map
+    → RawBlock (record { heads = l.heads; base = l.base; header = header; blocks = bs; spare = l.spare }) (with_heap heap z)
 held-changed l z heap bs header held fits sizes total head blocks = record {
   holds = record {
     heads = held.holds.heads;

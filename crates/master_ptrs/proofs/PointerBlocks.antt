@@ -9,8 +9,8 @@ use Rattle.mac_base.specs.ZoneMap.{ZoneMap, addresses, addresses_from, address_b
 use Rattle.mac_base.specs.HandleTable.{is_pointer}
 use Rattle.mac_base.specs.Suits.{is_pointer_block}
 use Rattle.mac_base.specs.ZoneState.{ZoneState}
-use Rattle.mac_base.proofs.SlotPlaces.{Contains-none, Contains-here, Contains-cons_cases}
-use Rattle.mac_base.proofs.Tables.{eqb_same, eqb-true-is}
+use Rattle.zone_laws.proofs.SlotPlaces.{Contains-none, Contains-here, Contains-cons_cases}
+use Rattle.zone_laws.proofs.Tables.{eqb_same, eqb-true-is}
 use Rattle.zone_blocks.specs.declared.header.Header.{Header}
 use Rattle.zone_blocks.specs.declared.header.Role.TheVariants as role
 use Rattle.zone_blocks.specs.Layout.{Layout, BlockAt, header_of}
@@ -19,7 +19,7 @@ use Rattle.master_ptrs.specs.Reading.{kind_in}
 use Rattle.master_ptrs.specs.Fit.{Fits}
 use Rattle.master_ptrs.specs.Places.{EntryAt}
 use Rattle.master_ptrs.proofs.ChangeParts.{Contains-map, no_map}
-use Rattle.master_ptrs.proofs.Held.{Held}
+use Rattle.master_ptrs.proofs.Standing.{RawBlock}
 use Rattle.master_ptrs.proofs.Located.{of-entry, of-block}
 use Rattle.master_ptrs.proofs.Owned.{passes-not, entry-said}
 
@@ -88,7 +88,7 @@ pointer_named z at p fits e is = by_test (is_pointer z.heap.table p) refl
         let passes = passes-not (address_behind z.shape []) (is_pointer_block p) e.before e.here e.behind (ap (addresses_from (address_behind z.shape []) (is_pointer_block p)) (sym e.map) ∙ none) in
         absurd (cc (passes, ap (is_pointer_block p) is, eqb_same p))
 
-module _ (l : Layout) (z : ZoneState) (held : Held l z) where
+module _ (l : Layout) (z : ZoneState) (held : RawBlock l z) where
   -- where a nonrelocatable block's contents begin is a pointer
   pub pointer-made : (at p : ℕ) (header : Header) → (b : BlockAt l at) → ((b : BlockAt l at) → header ≡ header_of l.heads b.here) → header.role ≡ role.Fixed → p ≡ at + head_size z.shape.heads → is_pointer z.heap.table p ≡ true
   pointer-made at p header b is fixed number =

@@ -11,10 +11,10 @@ use Rattle.mac_base.specs.ZoneMap.{total_size, free_bytes, address_behind}
 use Rattle.mac_base.specs.Heap.{front_slot}
 use Rattle.mac_base.specs.Suits.{is_block_size}
 use Rattle.mac_base.specs.ZoneState.{ZoneState}
-use Rattle.mac_base.proofs.SlotPlaces.{has_room}
-use Rattle.zone_blocks.specs.Layout.{Held, Layout, total_of, is_possible}
-use Rattle.master_ptrs.specs.Image.{zone_head, owners_of, HoldsBlocks}
-use Rattle.master_ptrs.specs.Reading.{Holds, state_in, map_in, all_words, lives_in, chain}
+use Rattle.zone_laws.proofs.SlotPlaces.{has_room}
+use Rattle.zone_blocks.specs.Layout.{RawBlock, Layout, total_of, is_possible}
+use Rattle.master_ptrs.specs.Image.{zone_head, owners_of, AreBlocksOf}
+use Rattle.master_ptrs.specs.Reading.{StandsFor, state_in, map_in, all_words, lives_in, chain}
 use Rattle.master_ptrs.specs.Fit.{Fits}
 use Rattle.master_ptrs.proofs.ReadPlaces.{rooms-held, sizes-held}
 use Rattle.master_ptrs.proofs.ReadMap.{total_of-held, map_in-held}
@@ -28,7 +28,7 @@ front-read z small =
     ap (big_number 4) there ∙ big_from-take 0 4 4 (big_bytes 4 (front_slot z.heap) ++ behind) (omega arith) ∙ big_number-reads_back 4 (front_slot z.heap) behind small
 
 -- a zone of this shape as its header and its blocks are read
-abbrev read : Shape → List ℕ → List Held → ZoneState
+abbrev read : Shape → List ℕ → List RawBlock → ZoneState
 read s header bs = let words = all_words s (address_behind s []) bs in record {
   shape = s;
   heap = record {
@@ -39,7 +39,7 @@ read s header bs = let words = all_words s (address_behind s []) bs in record {
 }
 
 -- the zone that blocks hold is read off its header and them
-read-held : (z : ZoneState) (bs : List Held) → HoldsBlocks (owners_of z) z.shape (address_behind z.shape []) bs z.heap.map → Fits z → 0x1000 ≤ z.shape.base → address_behind z.shape z.heap.map ≤ 0x100_0000
+read-held : (z : ZoneState) (bs : List RawBlock) → AreBlocksOf (owners_of z) z.shape (address_behind z.shape []) bs z.heap.map → Fits z → 0x1000 ≤ z.shape.base → address_behind z.shape z.heap.map ≤ 0x100_0000
     → list_all (has_room (head_size z.shape.heads) slot_count) z.heap.map ≡ true → read z.shape (zone_head z) bs ≡ z
 read-held z bs held fits low high room =
     let front = front-read z (front-range z bs held fits low high room) in
@@ -49,8 +49,8 @@ read-held z bs held fits low high room =
     λ i. record { shape = z.shape; heap = record { table = record { live = table i; lent = sym fits.unlent i }; map = map i; free_slots = free i } }
 
 -- reading gives back what blocks hold
-pub state_in-held : (l : Layout) (z : ZoneState) → Holds l z → 0x1000 ≤ l.base → l.base + z.shape.limit ≤ 0x100_0000 → IsTrue (list_all (λ (e : Entry). is_block_size z.shape e.size) z.heap.map) → state_in l ≡ z
-state_in-held l z h low high possible =
+pub state_in-stands : (l : Layout) (z : ZoneState) → StandsFor l z → 0x1000 ≤ l.base → l.base + z.shape.limit ≤ 0x100_0000 → IsTrue (list_all (λ (e : Entry). is_block_size z.shape e.size) z.heap.map) → state_in l ≡ z
+state_in-stands l z h low high possible =
     let base : l.base ≡ z.shape.base = h.base in
     let limit : zone_header + total_size z.heap.map + length l.spare ≡ z.shape.limit = h.limit in
     let total : total_of l.heads l.blocks ≡ total_size z.heap.map = ap (λ heads. total_of heads l.blocks) h.heads ∙ total_of-held (owners_of z) z.shape (address_behind z.shape []) l.blocks z.heap.map h.blocks in
@@ -64,6 +64,6 @@ state_in-held l z h low high possible =
     ∙ read-held z l.blocks h.blocks h.fits low_base high_end room
 
 -- the same by what the blocks may be
-pub state_in-held_possible : (l : Layout) (z : ZoneState) → Holds l z → 0x1000 ≤ l.base → l.base + z.shape.limit ≤ 0x100_0000 → IsTrue (list_all (is_possible l.heads) l.blocks) → state_in l ≡ z
+pub state_in-held_possible : (l : Layout) (z : ZoneState) → StandsFor l z → 0x1000 ≤ l.base → l.base + z.shape.limit ≤ 0x100_0000 → IsTrue (list_all (is_possible l.heads) l.blocks) → state_in l ≡ z
 state_in-held_possible l z h low high possible =
-    state_in-held l z h low high (sizes-held (owners_of z) z.shape (address_behind z.shape []) l.blocks z.heap.map h.blocks (ap (λ heads. list_all (is_possible heads) l.blocks) (sym h.heads) ∙ possible))
+    state_in-stands l z h low high (sizes-held (owners_of z) z.shape (address_behind z.shape []) l.blocks z.heap.map h.blocks (ap (λ heads. list_all (is_possible heads) l.blocks) (sym h.heads) ∙ possible))

@@ -8,8 +8,8 @@ use Rattle.std.specs.FinMap.{find}
 use Rattle.std.proofs.lemmas.Bool.Decides.{nat_tests}
 use Rattle.std.proofs.lemmas.Map.Made.{length-le_from_is_member}
 use Rattle.std.proofs.lemmas.Map.Views.{list_any-from_Contains, Contains-from_any}
-use Rattle.mac_base.proofs.Tables.{eqb_same, eqb_swap, eqb-true-is}
-use Rattle.mac_base.proofs.SlotPlaces.{Contains-cons_cases, Contains-here, Contains-later, Contains-none}
+use Rattle.zone_laws.proofs.Tables.{eqb_same, eqb_swap, eqb-true-is}
+use Rattle.zone_laws.proofs.SlotPlaces.{Contains-cons_cases, Contains-here, Contains-later, Contains-none}
 use Rattle.master_ptrs.specs.Word.{next_free}
 use Rattle.master_ptrs.specs.Reading.{chain}
 

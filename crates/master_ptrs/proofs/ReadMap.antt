@@ -10,28 +10,28 @@ use Rattle.mac_base.specs.declared.block.Kind.TheVariants.{Free, Master, Ptr, Re
 use Rattle.mac_base.specs.HeadKind.{Shape, head_size, slot_count}
 use Rattle.mac_base.specs.ZoneMap.{ZoneMap, block, is_master, total_size}
 use Rattle.mac_base.specs.Suits.{slots_from}
-use Rattle.mac_base.proofs.SlotPlaces.{Contains-here, Contains-later, slots_at}
-use Rattle.zone_blocks.specs.Layout.{Held, size_of, total_of}
-use Rattle.master_ptrs.specs.Image.{Owners, pointers_from, role_of, HoldsOwned, HoldsBlocks}
+use Rattle.zone_laws.proofs.SlotPlaces.{Contains-here, Contains-later, slots_at}
+use Rattle.zone_blocks.specs.Layout.{RawBlock, size_of, total_of}
+use Rattle.master_ptrs.specs.Image.{Owners, pointers_from, role_of, IsOwnedBy, AreBlocksOf}
 use Rattle.master_ptrs.specs.Reading.{kind_in, map_in, words_in, words_of, all_words}
 use Rattle.master_ptrs.proofs.ReadNumbers.{slots_at-first}
 
 -- all sizes together are those of the map
-pub total_of-held : (o : Owners) (s : Shape) (at : ℕ) (bs : List Held) (m : ZoneMap) → HoldsBlocks o s at bs m → total_of s.heads bs ≡ total_size m
+pub total_of-held : (o : Owners) (s : Shape) (at : ℕ) (bs : List RawBlock) (m : ZoneMap) → AreBlocksOf o s at bs m → total_of s.heads bs ≡ total_size m
 total_of-held o s at [] [] h = refl
 total_of-held o s at [] (e ∷ es) h = absurd h
 total_of-held o s at (b ∷ bs) [] h = absurd h
 total_of-held o s at (b ∷ bs) (e ∷ es) h = let here = h.0.size in let rest = total_of-held o s (at + e.size) bs es h.1 in omega arith
 
 -- a block's kind is said by its role and where its contents begin
-kind_in-role : (o : Owners) (s : Shape) (at : ℕ) (b : Held) (k : Kind) → HoldsOwned o s at k b → kind_in s at (role_of s k) ≡ k
+kind_in-role : (o : Owners) (s : Shape) (at : ℕ) (b : RawBlock) (k : Kind) → IsOwnedBy o s at k b → kind_in s at (role_of s k) ≡ k
 kind_in-role o s at b Free owned = refl
 kind_in-role o s at b Master owned = refl
 kind_in-role o s at b (Ptr p) owned = ap (λ n. Ptr n) (sym owned.0)
 kind_in-role o s at b (Rel h) owned = let low = owned.0 in ap (λ n. Rel n) (let e : s.base + (h - s.base) ≡ h = omega arith in e)
 
 -- the map is read off
-pub map_in-held : (o : Owners) (s : Shape) (at : ℕ) (bs : List Held) (m : ZoneMap) → HoldsBlocks o s at bs m → map_in s at bs ≡ m
+pub map_in-held : (o : Owners) (s : Shape) (at : ℕ) (bs : List RawBlock) (m : ZoneMap) → AreBlocksOf o s at bs m → map_in s at bs ≡ m
 map_in-held o s at [] [] h = refl
 map_in-held o s at [] (e ∷ es) h = absurd h
 map_in-held o s at (b ∷ bs) [] h = absurd h
@@ -54,7 +54,7 @@ words_in-pointers o (suc n) at small =
     ∙ ap (λ ws. (at, o.pointer at) ∷ ws) rest
 
 -- so are those of one block
-pub words_of-block : (o : Owners) (s : Shape) (at : ℕ) (b : Held) (k : Kind) → HoldsOwned o s at k b → ((a : ℕ) → Contains (cond (is_master k) (slots_from slot_count at) []) a → o.pointer a < 256 ^ 4)
+pub words_of-block : (o : Owners) (s : Shape) (at : ℕ) (b : RawBlock) (k : Kind) → IsOwnedBy o s at k b → ((a : ℕ) → Contains (cond (is_master k) (slots_from slot_count at) []) a → o.pointer a < 256 ^ 4)
     → words_of at (role_of s k) b.contents ≡ map (λ a. (a, o.pointer a)) (cond (is_master k) (slots_from slot_count at) [])
 words_of-block o s at b Free owned small = refl
 words_of-block o s at b Master owned small = ap (words_in slot_count at) owned ∙ words_in-pointers o slot_count at small
@@ -62,7 +62,7 @@ words_of-block o s at b (Ptr p) owned small = refl
 words_of-block o s at b (Rel h) owned small = refl
 
 -- so are all words
-pub all_words-held : (o : Owners) (s : Shape) (at : ℕ) (bs : List Held) (m : ZoneMap) → HoldsBlocks o s at bs m
+pub all_words-held : (o : Owners) (s : Shape) (at : ℕ) (bs : List RawBlock) (m : ZoneMap) → AreBlocksOf o s at bs m
     → ((a : ℕ) → Contains (slots_at (head_size s.heads) slot_count at m) a → o.pointer a < 256 ^ 4)
     → all_words s at bs ≡ map (λ a. (a, o.pointer a)) (slots_at (head_size s.heads) slot_count at m)
 all_words-held o s at [] [] h small = refl

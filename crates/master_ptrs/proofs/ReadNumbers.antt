@@ -13,9 +13,9 @@ use Rattle.mac_base.specs.declared.block.Kind.TheVariants.{Free, Master, Ptr, Re
 use Rattle.mac_base.specs.ZoneMap.{ZoneMap, is_master, addresses_from}
 use Rattle.mac_base.specs.Suits.{slots_from, is_pointer_block}
 use Rattle.mac_base.specs.HandleTable.{Live}
-use Rattle.mac_base.proofs.Maps.{both_true, true_both}
-use Rattle.mac_base.proofs.Tables.{eqb-true-is}
-use Rattle.mac_base.proofs.SlotPlaces.{Contains-cons_cases, Contains-here, Contains-later, Contains-none, has_room, slots_at}
+use Rattle.zone_laws.proofs.Maps.{both_true, true_both}
+use Rattle.zone_laws.proofs.Tables.{eqb-true-is}
+use Rattle.zone_laws.proofs.SlotPlaces.{Contains-cons_cases, Contains-here, Contains-later, Contains-none, has_room, slots_at}
 
 -- the slots of a map's first block, and those of the others
 pub slots_at-first : (head n at : ℕ) (e : Entry) (es : ZoneMap) → slots_at head n at (e ∷ es) ≡ cond (is_master e.kind) (slots_from n (at + head)) [] ++ slots_at head n (at + e.size) es

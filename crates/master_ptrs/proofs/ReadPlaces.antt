@@ -12,13 +12,13 @@ use Rattle.mac_base.specs.declared.block.Kind.TheVariants.{Free, Master, Ptr, Re
 use Rattle.mac_base.specs.HeadKind.{Shape, head_size, smallest_block, slot_count}
 use Rattle.mac_base.specs.ZoneMap.{ZoneMap, is_named, total_size, addresses_from, contents_of, address_behind}
 use Rattle.mac_base.specs.Suits.{is_block_size, is_handle_block}
-use Rattle.mac_base.proofs.Maps.{both_true, true_both}
-use Rattle.mac_base.proofs.Owners.{nothing_passes}
-use Rattle.mac_base.proofs.SlotPlaces.{Contains-cons_cases, Contains-here, Contains-none, has_room, slots_at, slot_cases}
+use Rattle.zone_laws.proofs.Maps.{both_true, true_both}
+use Rattle.zone_laws.proofs.Owners.{nothing_passes}
+use Rattle.zone_laws.proofs.SlotPlaces.{Contains-cons_cases, Contains-here, Contains-none, has_room, slots_at, slot_cases}
 use Rattle.raw_region.proofs.Numbers.{length-big_bytes}
-use Rattle.zone_blocks.specs.Layout.{Held, size_of, is_possible, can_be_told}
+use Rattle.zone_blocks.specs.Layout.{RawBlock, size_of, is_possible, can_be_told}
 use Rattle.byteorder.specs.Endian.{big_bytes}
-use Rattle.master_ptrs.specs.Image.{Owners, pointers_from, HoldsOwned, HoldsBlocks}
+use Rattle.master_ptrs.specs.Image.{Owners, pointers_from, IsOwnedBy, AreBlocksOf}
 use Rattle.master_ptrs.proofs.ReadNumbers.{room_some}
 
 -- a slot's four bytes lie within the blocks
@@ -86,7 +86,7 @@ length-pointers_from o (suc n) at =
     length-append (big_bytes 4 (o.pointer at)) (pointers_from o n (at + 4)) ∙ omega arith
 
 -- a block that holds what its owner has is as large as that
-room_of : (o : Owners) (s : Shape) (at : ℕ) (b : Held) (kind : Kind) (size : ℕ) → size_of s.heads b ≡ size → HoldsOwned o s (at + head_size s.heads) kind b → is_block_size s size ≡ true → has_room (head_size s.heads) slot_count (record { size = size; kind = kind }) ≡ true
+room_of : (o : Owners) (s : Shape) (at : ℕ) (b : RawBlock) (kind : Kind) (size : ℕ) → size_of s.heads b ≡ size → IsOwnedBy o s (at + head_size s.heads) kind b → is_block_size s size ≡ true → has_room (head_size s.heads) slot_count (record { size = size; kind = kind }) ≡ true
 room_of o s at b kind size as_large owned possible = by_kind kind owned
   where
     by_size : (heads : HeadKind) (n : ℕ) → ((n % 4 == 0) && nat_le (smallest_block heads) n) ≡ true → nat_lt (head_size heads) n ≡ true
@@ -95,7 +95,7 @@ room_of o s at b kind size as_large owned possible = by_kind kind owned
     as_much : (n k : ℕ) → n ≤ k → nat_le n k ≡ true
     as_much n k h = grind (arith, nat_tests)
 
-    by_kind : (kind : Kind) → HoldsOwned o s (at + head_size s.heads) kind b → has_room (head_size s.heads) slot_count (record { size = size; kind = kind }) ≡ true
+    by_kind : (kind : Kind) → IsOwnedBy o s (at + head_size s.heads) kind b → has_room (head_size s.heads) slot_count (record { size = size; kind = kind }) ≡ true
     by_kind Free owned = true_both _ true (by_size s.heads size possible) refl
     by_kind Master owned =
         let long : length b.contents ≡ 4 * slot_count = ap length owned ∙ length-pointers_from o slot_count (at + head_size s.heads) in
@@ -104,7 +104,7 @@ room_of o s at b kind size as_large owned possible = by_kind kind owned
     by_kind (Rel h) owned = true_both _ true (by_size s.heads size possible) refl
 
 -- each block has room for its header, and a master block for its slots
-pub rooms-held : (o : Owners) (s : Shape) (at : ℕ) (bs : List Held) (m : ZoneMap) → HoldsBlocks o s at bs m → list_all (λ (e : Entry). is_block_size s e.size) m ≡ true → list_all (has_room (head_size s.heads) slot_count) m ≡ true
+pub rooms-held : (o : Owners) (s : Shape) (at : ℕ) (bs : List RawBlock) (m : ZoneMap) → AreBlocksOf o s at bs m → list_all (λ (e : Entry). is_block_size s e.size) m ≡ true → list_all (has_room (head_size s.heads) slot_count) m ≡ true
 rooms-held o s at [] [] h possible = refl
 rooms-held o s at [] (e ∷ es) h possible = absurd h
 rooms-held o s at (b ∷ bs) [] h possible = absurd h
@@ -113,7 +113,7 @@ rooms-held o s at (b ∷ bs) (e ∷ es) h possible =
     true_both (has_room (head_size s.heads) slot_count e) _ (room_of o s at b e.kind e.size h.0.size h.0.owned parts.0) (rooms-held o s (at + e.size) bs es h.1 parts.1)
 
 -- blocks that may be there have sizes that may be
-pub sizes-held : (o : Owners) (s : Shape) (at : ℕ) (bs : List Held) (m : ZoneMap) → HoldsBlocks o s at bs m → list_all (is_possible s.heads) bs ≡ true → list_all (λ (e : Entry). is_block_size s e.size) m ≡ true
+pub sizes-held : (o : Owners) (s : Shape) (at : ℕ) (bs : List RawBlock) (m : ZoneMap) → AreBlocksOf o s at bs m → list_all (is_possible s.heads) bs ≡ true → list_all (λ (e : Entry). is_block_size s e.size) m ≡ true
 sizes-held o s at [] [] h possible = refl
 sizes-held o s at [] (e ∷ es) h possible = absurd h
 sizes-held o s at (b ∷ bs) [] h possible = absurd h

@@ -11,19 +11,19 @@ use Rattle.mac_base.specs.HeadKind.{Shape, head_size, slot_count}
 use Rattle.mac_base.specs.ZoneMap.{ZoneMap, is_master, addresses_from}
 use Rattle.mac_base.specs.HandleTable.{HandleTable, Live, EmptyHandle, FullHandle, Pointer, live_at, bytes_of, live_bytes, live_pointer, is_pointer}
 use Rattle.mac_base.specs.Suits.{slots_from, is_handle_block, is_pointer_block}
-use Rattle.mac_base.proofs.Maps.{both_true, true_both}
-use Rattle.mac_base.proofs.Owners.{nothing_passes}
-use Rattle.mac_base.proofs.Tables.{eqb_same, eqb-true-is}
-use Rattle.mac_base.proofs.SlotPlaces.{Contains-here, Contains-later, slots_at}
-use Rattle.zone_blocks.specs.Layout.{Held, size_of}
+use Rattle.zone_laws.proofs.Maps.{both_true, true_both}
+use Rattle.zone_laws.proofs.Owners.{nothing_passes}
+use Rattle.zone_laws.proofs.Tables.{eqb_same, eqb-true-is}
+use Rattle.zone_laws.proofs.SlotPlaces.{Contains-here, Contains-later, slots_at}
+use Rattle.zone_blocks.specs.Layout.{RawBlock, size_of}
 use Rattle.master_ptrs.specs.Word.{slot_in}
-use Rattle.master_ptrs.specs.Image.{Owners, role_of, HoldsOwned, HoldsBlocks}
+use Rattle.master_ptrs.specs.Image.{Owners, role_of, IsOwnedBy, AreBlocksOf}
 use Rattle.master_ptrs.specs.Reading.{contents_in, is_at_slot, live_in, handles_in, live_of, lives_in}
 use Rattle.master_ptrs.proofs.ReadNumbers.{slots_at-first, numbers_of, numbers, entry_of}
 use Rattle.master_ptrs.proofs.ReadMap.{words_of-block}
 
 -- a block is the one of the handle x, or it is passed over
-contents_in-block : (o : Owners) (s : Shape) (at : ℕ) (b : Held) (k : Kind) (x : ℕ) (rest : List ℕ) → HoldsOwned o s at k b → s.base ≤ x → (is_handle_block x k ≡ false → rest ≡ o.bytes x)
+contents_in-block : (o : Owners) (s : Shape) (at : ℕ) (b : RawBlock) (k : Kind) (x : ℕ) (rest : List ℕ) → IsOwnedBy o s at k b → s.base ≤ x → (is_handle_block x k ≡ false → rest ≡ o.bytes x)
     → cond (is_at_slot (x - s.base) (role_of s k)) b.contents rest ≡ o.bytes x
 contents_in-block o s at b Free x rest owned low later = later refl
 contents_in-block o s at b Master x rest owned low later = later refl
@@ -42,7 +42,7 @@ contents_in-block o s at b (Rel h) x rest owned low later = elim (eqb h x) as (�
     differs h x base test above low = grind (arith, nat_tests)
 
 -- the bytes of a handle that has a block are found
-pub contents_in-held : (o : Owners) (s : Shape) (at : ℕ) (bs : List Held) (m : ZoneMap) (x : ℕ) → HoldsBlocks o s at bs m → s.base ≤ x → (addresses_from at (is_handle_block x) m ≡ [] → ⊥) → contents_in (x - s.base) bs ≡ o.bytes x
+pub contents_in-held : (o : Owners) (s : Shape) (at : ℕ) (bs : List RawBlock) (m : ZoneMap) (x : ℕ) → AreBlocksOf o s at bs m → s.base ≤ x → (addresses_from at (is_handle_block x) m ≡ [] → ⊥) → contents_in (x - s.base) bs ≡ o.bytes x
 contents_in-held o s at [] [] x h low some = absurd (some refl)
 contents_in-held o s at [] (e ∷ es) x h low some = absurd h
 contents_in-held o s at (b ∷ bs) [] x h low some = absurd h
@@ -90,7 +90,7 @@ abbrev pub entries_at : HandleTable → List ℕ → List (ℕ × Live)
 entries_at t ns = flat_map (λ x. entry_of x (live_at t x)) ns
 
 -- slots say what the table has at each of them
-handles_in-said : (s : Shape) (t : HandleTable) (all : List Held) (f : ℕ → ℕ) (xs : List ℕ)
+handles_in-said : (s : Shape) (t : HandleTable) (all : List RawBlock) (f : ℕ → ℕ) (xs : List ℕ)
     → ((x : ℕ) → Contains xs x → live_in (contents_in (x - s.base) all) x (slot_in (f x)) ≡ entry_of x (live_at t x)) → handles_in s all (map (λ a. (a, f a)) xs) ≡ entries_at t xs
 handles_in-said s t all f [] says = refl
 handles_in-said s t all f (x ∷ xs) says =
@@ -98,7 +98,7 @@ handles_in-said s t all f (x ∷ xs) says =
     ∙ ap (λ (es : List (ℕ × Live)). entry_of x (live_at t x) ++ es) (handles_in-said s t all f xs (λ y c. says y (Contains-later x xs y c)))
 
 -- so does each block
-live_of-block : (o : Owners) (s : Shape) (t : HandleTable) (all : List Held) (at : ℕ) (b : Held) (k : Kind) → HoldsOwned o s at k b → ((x : ℕ) → o.bytes x ≡ bytes_of t x) → pointer_lives t k ≡ true
+live_of-block : (o : Owners) (s : Shape) (t : HandleTable) (all : List RawBlock) (at : ℕ) (b : RawBlock) (k : Kind) → IsOwnedBy o s at k b → ((x : ℕ) → o.bytes x ≡ bytes_of t x) → pointer_lives t k ≡ true
     → ((x : ℕ) → Contains (cond (is_master k) (slots_from slot_count at) []) x → o.pointer x < 256 ^ 4)
     → ((x : ℕ) → Contains (cond (is_master k) (slots_from slot_count at) []) x → live_in (contents_in (x - s.base) all) x (slot_in (o.pointer x)) ≡ entry_of x (live_at t x))
     → live_of s all at (role_of s k) b.contents ≡ entries_at t (numbers_of slot_count at k)
@@ -111,7 +111,7 @@ live_of-block o s t all at b (Ptr p) owned same live small says =
 live_of-block o s t all at b (Rel h) owned same live small says = refl
 
 -- so do all blocks
-pub lives_in-held : (o : Owners) (s : Shape) (t : HandleTable) (all : List Held) (at : ℕ) (bs : List Held) (m : ZoneMap) → HoldsBlocks o s at bs m
+pub lives_in-held : (o : Owners) (s : Shape) (t : HandleTable) (all : List RawBlock) (at : ℕ) (bs : List RawBlock) (m : ZoneMap) → AreBlocksOf o s at bs m
     → ((x : ℕ) → o.bytes x ≡ bytes_of t x) → list_all (λ (e : Entry). pointer_lives t e.kind) m ≡ true
     → ((x : ℕ) → Contains (slots_at (head_size s.heads) slot_count at m) x → o.pointer x < 256 ^ 4)
     → ((x : ℕ) → Contains (slots_at (head_size s.heads) slot_count at m) x → live_in (contents_in (x - s.base) all) x (slot_in (o.pointer x)) ≡ entry_of x (live_at t x))

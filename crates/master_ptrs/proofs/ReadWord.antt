@@ -3,8 +3,8 @@ use Rattle.std.proofs.Common.{◌≡◌, ◌≢◌, ℕ, ◌+◌, ◌*◌, ◌/�
 use Rattle.std.specs.Prelude.{IsTrue}
 use Rattle.std.proofs.lemmas.Bool.Decides.{nat_tests}
 use Rattle.mac_base.specs.declared.block.Flags.{Flags}
-use Rattle.mac_base.specs.Reply.{state_of}
-use Rattle.mac_base.proofs.Maps.{both_true}
+use Rattle.mac_base.specs.FlagState.{state_of}
+use Rattle.zone_laws.proofs.Maps.{both_true}
 use Rattle.master_ptrs.specs.declared.word.Slot.{Slot}
 use Rattle.master_ptrs.specs.declared.word.Slot.TheVariants.{Free, Empty, Full}
 use Rattle.master_ptrs.specs.Word.{slot_word, slot_in, flags_in, has_addresses}

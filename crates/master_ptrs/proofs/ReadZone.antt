@@ -13,13 +13,13 @@ use Rattle.mac_base.specs.ZoneMap.{is_master, addresses_from, addresses, content
 use Rattle.mac_base.specs.HandleTable.{Live, EmptyHandle, FullHandle, Pointer, live_at, live_bytes, live_full, live_handle, live_pointer, is_full, is_handle, is_pointer}
 use Rattle.mac_base.specs.Suits.{is_handle_block, is_pointer_block, slots}
 use Rattle.mac_base.specs.ZoneState.{ZoneState}
-use Rattle.mac_base.proofs.Maps.{true_both}
-use Rattle.mac_base.proofs.Tables.{not_live}
-use Rattle.mac_base.proofs.SlotOwners.{false_from}
-use Rattle.mac_base.proofs.SlotPlaces.{Contains-here, has_room, slots_at-above, slot_no_contents}
-use Rattle.zone_blocks.specs.Layout.{Held}
+use Rattle.zone_laws.proofs.Maps.{true_both}
+use Rattle.zone_laws.proofs.Tables.{not_live}
+use Rattle.zone_laws.proofs.SlotOwners.{false_from}
+use Rattle.zone_laws.proofs.SlotPlaces.{Contains-here, has_room, slots_at-above, slot_no_contents}
+use Rattle.zone_blocks.specs.Layout.{RawBlock}
 use Rattle.master_ptrs.specs.Word.{slot_word, slot_in, has_addresses, next_free, slot_of_live, slot_of, master_pointer}
-use Rattle.master_ptrs.specs.Image.{owners_of, HoldsBlocks}
+use Rattle.master_ptrs.specs.Image.{owners_of, AreBlocksOf}
 use Rattle.master_ptrs.specs.Reading.{contents_in, live_in, lives_in, all_words, chain}
 use Rattle.master_ptrs.specs.Fit.{Fits}
 use Rattle.master_ptrs.proofs.ReadWord.{slot_in-word, slot_word-below}
@@ -67,7 +67,7 @@ handle_or_pointer (Some EmptyHandle) l is other = absurd (cc other)
 handle_or_pointer (Some (FullHandle flags bytes)) l is other = absurd (cc other)
 handle_or_pointer (Some (Pointer bytes)) l is other = refl
 
-module _ (z : ZoneState) (bs : List Held) (held : HoldsBlocks (owners_of z) z.shape (address_behind z.shape []) bs z.heap.map) (fits : Fits z)
+module _ (z : ZoneState) (bs : List RawBlock) (held : AreBlocksOf (owners_of z) z.shape (address_behind z.shape []) bs z.heap.map) (fits : Fits z)
     (low : 0x1000 ≤ z.shape.base) (high : address_behind z.shape z.heap.map ≤ 0x100_0000) (room : list_all (has_room (head_size z.shape.heads) slot_count) z.heap.map ≡ true) where
   -- slots have 24 bits and lie behind the base
   pub slot_range : (x : ℕ) → Contains (slots z.shape z.heap.map) x → (z.shape.base ≤ x) × (x < 0x100_0000)

@@ -11,14 +11,14 @@ use Rattle.mac_base.specs.HeadKind.{head_size, slot_count}
 use Rattle.mac_base.specs.ZoneMap.{ZoneMap, total_size, address_behind}
 use Rattle.mac_base.specs.HandleTable.{HandleTable}
 use Rattle.mac_base.specs.Suits.{wanted_length}
-use Rattle.mac_base.specs.Reply.{block_flags, reports_from, report_at}
+use Rattle.mac_base.specs.BlockReport.{block_flags, reports_from, report_at}
 use Rattle.mac_base.specs.ZoneState.{ZoneState}
-use Rattle.mac_base.proofs.Maps.{both_true}
-use Rattle.mac_base.proofs.SlotPlaces.{has_room}
-use Rattle.mac_base.proofs.Tables.{eqb-true-is}
+use Rattle.zone_laws.proofs.Maps.{both_true}
+use Rattle.zone_laws.proofs.SlotPlaces.{has_room}
+use Rattle.zone_laws.proofs.Tables.{eqb-true-is}
 use Rattle.zone_blocks.specs.Layout.{Layout, BlockAt}
 use Rattle.master_ptrs.specs.Places.{EntryAt}
-use Rattle.master_ptrs.proofs.Held.{Held}
+use Rattle.master_ptrs.proofs.Standing.{RawBlock}
 use Rattle.master_ptrs.proofs.Known.{rooms}
 use Rattle.master_ptrs.proofs.Located.{of-entry}
 use Rattle.master_ptrs.proofs.ReadNumbers.{room_some}
@@ -55,7 +55,7 @@ report-here t head n x at (f ∷ before) e behind room place =
     apart : (at x size more : ℕ) → 0 < size → x ≡ at + (size + more) → (at == x) ≡ false
     apart at x size more some is = grind (arith, nat_tests)
 
-module _ (l : Layout) (z : ZoneState) (held : Held l z) where
+module _ (l : Layout) (z : ZoneState) (held : RawBlock l z) where
   -- no block is reported at an address where no entry stands
   nothing-reported : (at : ℕ) → (EntryAt z at → ⊥) → None ≡ report_at z.shape z.heap at
   nothing-reported at none = sym (report-none z.heap.table at (address_behind z.shape []) z.heap.map (λ before e behind map place. none (record { before = before; here = e; behind = behind; map = map; place = omega arith })))

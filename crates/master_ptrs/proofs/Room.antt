@@ -10,11 +10,11 @@ use Rattle.mac_base.specs.Suits.{is_block_size}
 use Rattle.mac_base.specs.ZoneState.{ZoneState}
 use Rattle.zone_blocks.specs.declared.header.Header.{Header}
 use Rattle.zone_blocks.specs.declared.header.Role.{Role}
-use Rattle.zone_blocks.specs.Layout.{Layout, BlockAt, WordAt, CanBe, body, held as held_block, with_word, size_of, total_of, with_blocks, is_possible, can_be_told, header_of}
-use Rattle.zone_blocks.proofs.Changes.{size-body, size-held}
+use Rattle.zone_blocks.specs.Layout.{Layout, BlockAt, WordAt, CanBe, body, raw_block as held_block, with_word, size_of, total_of, with_blocks, is_possible, can_be_told, header_of}
+use Rattle.zone_blocks.proofs.Changes.{size-body, size-raw_block}
 use Rattle.master_ptrs.specs.Image.{Owners}
 use Rattle.master_ptrs.specs.Places.{RoomFor}
-use Rattle.master_ptrs.proofs.Held.{Held}
+use Rattle.master_ptrs.proofs.Standing.{RawBlock}
 use Rattle.master_ptrs.proofs.Owning.{SlotAt}
 use Rattle.master_ptrs.proofs.Places.{EntryOf, entry-of, block-at, size-read, entry-range, sizes-apart, possible-from}
 
@@ -25,18 +25,18 @@ room-bounds Bits24 size n fits = by_number size n ((n + 8 + 3) / 4) (omega arith
     by_number : (size n k : ℕ) → n + 8 ≤ 4 * k → 4 * k ≤ n + 11 → (nat_le (max 12 (4 * k)) size && nat_lt size (max 12 (4 * k) + 12)) ≡ true → (8 + n ≤ size) × (size ≤ 8 + n + 15)
     by_number size n k low high fits = (grind (arith, nat_tests), grind (arith, nat_tests))
 
-module _ (l : Layout) (z : ZoneState) (at n : ℕ) (held : Held l z) (r : RoomFor z at n) where
+module _ (l : Layout) (z : ZoneState) (at n : ℕ) (raw_block : RawBlock l z) (r : RoomFor z at n) where
   -- the free block
   abbrev pub room_there : EntryOf l z r.free.before (block kind.Free r.free.size) r.free.behind
-  room_there = entry-of l z r.free.before (block kind.Free r.free.size) r.free.behind held r.free.map
+  room_there = entry-of l z r.free.before (block kind.Free r.free.size) r.free.behind raw_block r.free.map
 
   -- its header stands at the address that the map says
   abbrev pub room_at : BlockAt l at
-  room_at = block-at l z at r.free.before (block kind.Free r.free.size) r.free.behind held room_there r.free.place
+  room_at = block-at l z at r.free.before (block kind.Free r.free.size) r.free.behind raw_block room_there r.free.place
 
   -- what its header says
   pub room-read : (h : Header) → ((b : BlockAt l at) → h ≡ header_of l.heads b.here) → h.size ≡ r.free.size
-  room-read h says = size-read l z at r.free.before (block kind.Free r.free.size) r.free.behind held r.free.map r.free.place h says
+  room-read h says = size-read l z at r.free.before (block kind.Free r.free.size) r.free.behind raw_block r.free.map r.free.place h says
 
   -- its size
   pub room-fits : (head_size z.shape.heads + n ≤ r.free.size) × (r.free.size ≤ head_size z.shape.heads + n + 15)
@@ -44,11 +44,11 @@ module _ (l : Layout) (z : ZoneState) (at n : ℕ) (held : Held l z) (r : RoomFo
 
   -- its size is possible
   pub room-possible : is_block_size z.shape r.free.size ≡ true
-  room-possible = (sizes-apart z r.free.before (block kind.Free r.free.size) r.free.behind held.sizes r.free.map).1
+  room-possible = (sizes-apart z r.free.before (block kind.Free r.free.size) r.free.behind raw_block.sizes r.free.map).1
 
   -- it ends within 24 bits
   pub room-range : at + r.free.size ≤ 0x100_0000
-  room-range = entry-range l z at r.free.before (block kind.Free r.free.size) r.free.behind held r.free.map r.free.place
+  room-range = entry-range l z at r.free.before (block kind.Free r.free.size) r.free.behind raw_block r.free.map r.free.place
 
   -- it is larger than its header
   pub room-head : head_size z.shape.heads < r.free.size
@@ -71,11 +71,11 @@ module _ (l : Layout) (z : ZoneState) (at n : ℕ) (held : Held l z) (r : RoomFo
 
   -- its size stays
   pub room-size : (role : Role) → size_of z.shape.heads (held_block role n (body room_there.here)) ≡ r.free.size
-  room-size role = size-held z.shape.heads role n (body room_there.here) ∙ room-long
+  room-size role = size-raw_block z.shape.heads role n (body room_there.here) ∙ room-long
 
   -- it is possible for any owner whose role a header can say
   pub room-is : (role : Role) → ((k : ℕ) → can_be_told role k ≡ true) → is_possible l.heads (held_block role n (body room_there.here)) ≡ true
-  room-is role told = subst (λ k. is_possible k (held_block role n (body room_there.here)) ≡ true) (sym held.holds.heads)
+  room-is role told = subst (λ k. is_possible k (held_block role n (body room_there.here)) ≡ true) (sym raw_block.holds.heads)
       (possible-from z.shape.heads (held_block role n (body room_there.here)) r.free.size (room-size role) room-possible
       (let over = length-drop n (body room_there.here) in let long = room-long in let fits = room-fits.1 in omega arith) (told _))
 

@@ -8,16 +8,16 @@ use Rattle.mac_base.specs.HeadKind.{head_size, slot_count}
 use Rattle.mac_base.specs.ZoneMap.{ZoneMap, is_master, total_size, address_behind}
 use Rattle.mac_base.specs.Suits.{slots, slots_from}
 use Rattle.mac_base.specs.ZoneState.{ZoneState}
-use Rattle.mac_base.proofs.SlotPlaces.{Contains-none, slots_at}
+use Rattle.zone_laws.proofs.SlotPlaces.{Contains-none, slots_at}
 use Rattle.zone_blocks.specs.declared.header.Role.TheVariants as role
 use Rattle.zone_blocks.specs.Layout.{Layout, BlockAt, size_of}
 use Rattle.zone_blocks.specs.Layout as layout
 use Rattle.zone_blocks.specs.Finding.{HoldsByte, LiesOutside}
-use Rattle.master_ptrs.specs.Image.{owners_of, role_of, HoldsOwned}
+use Rattle.master_ptrs.specs.Image.{owners_of, role_of, IsOwnedBy}
 use Rattle.master_ptrs.specs.Places.{EntryAt}
 use Rattle.master_ptrs.proofs.ChangeMaster.{slots_from-at}
-use Rattle.master_ptrs.proofs.Held.{Held}
-use Rattle.master_ptrs.proofs.Holding.{length-pointers}
+use Rattle.master_ptrs.proofs.Standing.{RawBlock}
+use Rattle.master_ptrs.proofs.BlocksOf.{length-pointers}
 use Rattle.master_ptrs.proofs.Located.{of-entry, of-block, one-block, within}
 use Rattle.master_ptrs.proofs.Looking.{master-kind}
 use Rattle.master_ptrs.proofs.Owning.{slot-place}
@@ -80,7 +80,7 @@ record SlotBlock (l : Layout) (x : ℕ) : Type 0 where
   place : x ≡ start + head_size l.heads + 4 * index
   inside : x < start + size_of l.heads block.here
 
-module _ (l : Layout) (z : ZoneState) (held : Held l z) where
+module _ (l : Layout) (z : ZoneState) (held : RawBlock l z) where
   slot-block : (x : ℕ) → Contains (slots z.shape z.heap.map) x → SlotBlock l x
   slot-block x c =
       let s = slot-in (head_size z.shape.heads) slot_count (address_behind z.shape []) z.heap.map x c in
@@ -89,7 +89,7 @@ module _ (l : Layout) (z : ZoneState) (held : Held l z) where
       let mine = of-entry l z held at e in
       let b = mine.block in
       let master : b.here.role ≡ role.Master = mine.both.block.role ∙ ap (role_of z.shape) s.master in
-      let owned : HoldsOwned (owners_of z) z.shape (at + head_size z.shape.heads) kind.Master b.here = subst (λ k. HoldsOwned (owners_of z) z.shape (at + head_size z.shape.heads) k b.here) s.master mine.both.block.owned in
+      let owned : IsOwnedBy (owners_of z) z.shape (at + head_size z.shape.heads) kind.Master b.here = subst (λ k. IsOwnedBy (owners_of z) z.shape (at + head_size z.shape.heads) k b.here) s.master mine.both.block.owned in
       let long : length b.here.contents ≡ 4 * slot_count = ap length owned ∙ length-pointers (owners_of z) slot_count (at + head_size z.shape.heads) in
       let heads = ap head_size held.holds.heads in
       let place = s.place in
@@ -118,7 +118,7 @@ module _ (l : Layout) (z : ZoneState) (held : Held l z) where
       let one = one-block l start s.start x h.block s.block h.low h.high (omega arith) inside in
       let same = one.0 in
       let four : x - first ≡ 4 * s.index = omega arith in
-      (ap (λ (b : layout.Held). b.role) one.1 ∙ s.master, omega arith, omega arith, ap (λ n. n % 4) four ∙ omega arith)
+      (ap (λ (b : layout.RawBlock). b.role) one.1 ∙ s.master, omega arith, omega arith, ap (λ n. n % 4) four ∙ omega arith)
 
   -- and each such number is a slot
   pub slot-made : (x start first : ℕ) (h : HoldsByte l x start) → first ≡ start + head_size l.heads → h.block.here.role ≡ role.Master → first ≤ x → x < first + 256 → (x - first) % 4 ≡ 0

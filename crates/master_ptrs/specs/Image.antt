@@ -12,7 +12,7 @@ use Rattle.mac_base.specs.Heap.{front_slot}
 use Rattle.mac_base.specs.ZoneState.{ZoneState}
 use Rattle.zone_blocks.specs.declared.header.Role.{Role}
 use Rattle.zone_blocks.specs.declared.header.Role.TheVariants as role
-use Rattle.zone_blocks.specs.Layout.{Held, size_of, is_possible, rendered}
+use Rattle.zone_blocks.specs.Layout.{RawBlock, size_of, is_possible, rendered}
 use Rattle.master_ptrs.specs.Word.{master_pointer}
 
 -- the zone's header: bkLim at 0, hFstFree at 8, zcbFree at 12, moreMast at 20, and zeros
@@ -43,28 +43,28 @@ role_of s (kind.Ptr p) = role.Fixed
 role_of s (kind.Rel h) = role.Relocatable (h - s.base)
 
 -- a block whose contents begin at an address has in it what the owner of a block of this kind has
-abbrev pub HoldsOwned : Owners → Shape → ℕ → Kind → Held → Type 0
-HoldsOwned o s at kind.Free b = ⊤
-HoldsOwned o s at kind.Master b = b.contents ≡ pointers_from o slot_count at
-HoldsOwned o s at (kind.Ptr p) b = (p ≡ at) × (b.contents ≡ o.bytes p)
-HoldsOwned o s at (kind.Rel h) b = (s.base ≤ h) × (b.contents ≡ o.bytes h)
+abbrev pub IsOwnedBy : Owners → Shape → ℕ → Kind → RawBlock → Type 0
+IsOwnedBy o s at kind.Free b = ⊤
+IsOwnedBy o s at kind.Master b = b.contents ≡ pointers_from o slot_count at
+IsOwnedBy o s at (kind.Ptr p) b = (p ≡ at) × (b.contents ≡ o.bytes p)
+IsOwnedBy o s at (kind.Rel h) b = (s.base ≤ h) × (b.contents ≡ o.bytes h)
 
 -- a block of bytes at an address is a block of a zone map
-pub record HoldsBlock (o : Owners) (s : Shape) (at : ℕ) (b : Held) (e : Entry) : Type 0 where
+pub record IsBlockOf (o : Owners) (s : Shape) (at : ℕ) (b : RawBlock) (e : Entry) : Type 0 where
   pub size : size_of s.heads b ≡ e.size
   pub role : b.role ≡ role_of s e.kind
-  pub owned : HoldsOwned o s (at + head_size s.heads) e.kind b
+  pub owned : IsOwnedBy o s (at + head_size s.heads) e.kind b
 
 -- blocks of bytes, the first at an address, are those of a zone map
-abbrev pub HoldsBlocks : Owners → Shape → ℕ → List Held → ZoneMap → Type 0
-HoldsBlocks o s at [] [] = ⊤
-HoldsBlocks o s at [] (e ∷ es) = ⊥
-HoldsBlocks o s at (b ∷ bs) [] = ⊥
-HoldsBlocks o s at (b ∷ bs) (e ∷ es) = HoldsBlock o s at b e × HoldsBlocks o s (at + e.size) bs es
+abbrev pub AreBlocksOf : Owners → Shape → ℕ → List RawBlock → ZoneMap → Type 0
+AreBlocksOf o s at [] [] = ⊤
+AreBlocksOf o s at [] (e ∷ es) = ⊥
+AreBlocksOf o s at (b ∷ bs) [] = ⊥
+AreBlocksOf o s at (b ∷ bs) (e ∷ es) = IsBlockOf o s at b e × AreBlocksOf o s (at + e.size) bs es
 
 -- the bytes are those of the zone: its header, and then the blocks of its map, possible ones, with what their owners have in them
 pub record IsImage (z : ZoneState) (bytes : List ℕ) : Type 0 where
-  pub blocks : List Held
+  pub blocks : List RawBlock
   pub form : bytes ≡ zone_head z ++ rendered z.shape.heads z.shape.base blocks
   pub possible : IsTrue (list_all (is_possible z.shape.heads) blocks)
-  pub holds : HoldsBlocks (owners_of z) z.shape (address_behind z.shape []) blocks z.heap.map
+  pub holds : AreBlocksOf (owners_of z) z.shape (address_behind z.shape []) blocks z.heap.map

@@ -6,4 +6,4 @@ pub mod Places
 pub mod Sizes
 pub mod Changes
 pub mod Fitting
-pub mod Lending
+pub mod WritingBack

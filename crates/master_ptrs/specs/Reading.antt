@@ -12,12 +12,12 @@ use Rattle.mac_base.specs.HandleTable.{Live, EmptyHandle, FullHandle, Pointer}
 use Rattle.mac_base.specs.ZoneState.{ZoneState}
 use Rattle.zone_blocks.specs.declared.header.Role.{Role}
 use Rattle.zone_blocks.specs.declared.header.Role.TheVariants as role
-use Rattle.zone_blocks.specs.Layout.{Held, Layout, size_of, total_of}
+use Rattle.zone_blocks.specs.Layout.{RawBlock, Layout, size_of, total_of}
 use Rattle.master_ptrs.specs.declared.pointers.MasterPointers.TheInside.{Inside}
 use Rattle.master_ptrs.specs.declared.word.Slot.{Slot}
 use Rattle.master_ptrs.specs.declared.word.Slot.TheVariants as slot
 use Rattle.master_ptrs.specs.Word.{slot_in}
-use Rattle.master_ptrs.specs.Image.{zone_head, owners_of, HoldsBlocks}
+use Rattle.master_ptrs.specs.Image.{zone_head, owners_of, AreBlocksOf}
 use Rattle.master_ptrs.specs.Fit.{Fits, HasSizes}
 
 -- the kind of a block whose contents begin at an address
@@ -28,7 +28,7 @@ kind_in s at role.Master = kind.Master
 kind_in s at (role.Relocatable offset) = kind.Rel (s.base + offset)
 
 -- the zone map that blocks are, the first at an address
-abbrev pub map_in : Shape → ℕ → List Held → ZoneMap
+abbrev pub map_in : Shape → ℕ → List RawBlock → ZoneMap
 map_in s at [] = []
 map_in s at (b ∷ bs) = block (kind_in s (at + head_size s.heads) b.role) (size_of s.heads b) ∷ map_in s (at + size_of s.heads b) bs
 
@@ -45,7 +45,7 @@ is_at_slot offset role.Master = false
 is_at_slot offset (role.Relocatable slot) = slot == offset
 
 -- the contents of the block of the handle whose slot stands at an offset
-abbrev pub contents_in : ℕ → List Held → List ℕ
+abbrev pub contents_in : ℕ → List RawBlock → List ℕ
 contents_in offset [] = []
 contents_in offset (b ∷ bs) = if is_at_slot offset b.role then b.contents else contents_in offset bs
 
@@ -56,18 +56,18 @@ live_in bytes h slot.Empty = (h, EmptyHandle) ∷ []
 live_in bytes h (slot.Full flags contents) = (h, FullHandle flags bytes) ∷ []
 
 -- what slots say of their handles, where the blocks are these
-abbrev pub handles_in : Shape → List Held → List (ℕ × ℕ) → List (ℕ × Live)
+abbrev pub handles_in : Shape → List RawBlock → List (ℕ × ℕ) → List (ℕ × Live)
 handles_in s all words = flat_map (λ (w : ℕ × ℕ). live_in (contents_in (w.0 - s.base) all) w.0 (slot_in w.1)) words
 
 -- what a block whose contents begin at an address says is live
-abbrev pub live_of : Shape → List Held → ℕ → Role → List ℕ → List (ℕ × Live)
+abbrev pub live_of : Shape → List RawBlock → ℕ → Role → List ℕ → List (ℕ × Live)
 live_of s all at role.Free contents = []
 live_of s all at role.Fixed contents = (at, Pointer contents) ∷ []
 live_of s all at role.Master contents = handles_in s all (words_in slot_count at contents)
 live_of s all at (role.Relocatable offset) contents = []
 
 -- what blocks say is live, the first at an address, in order of number
-abbrev pub lives_in : Shape → List Held → ℕ → List Held → List (ℕ × Live)
+abbrev pub lives_in : Shape → List RawBlock → ℕ → List RawBlock → List (ℕ × Live)
 lives_in s all at [] = []
 lives_in s all at (b ∷ bs) = live_of s all (at + head_size s.heads) b.role b.contents ++ lives_in s all (at + size_of s.heads b) bs
 
@@ -79,7 +79,7 @@ words_of at role.Master contents = words_in slot_count at contents
 words_of at (role.Relocatable offset) contents = []
 
 -- all slots with their master pointers, where the first block stands at an address
-abbrev pub all_words : Shape → ℕ → List Held → List (ℕ × ℕ)
+abbrev pub all_words : Shape → ℕ → List RawBlock → List (ℕ × ℕ)
 all_words s at [] = []
 all_words s at (b ∷ bs) = words_of (at + head_size s.heads) b.role b.contents ++ all_words s (at + size_of s.heads b) bs
 
@@ -107,17 +107,17 @@ abbrev pub state_of_fields : Inside → ZoneState
 state_of_fields z = state_in z.blocks
 
 -- blocks hold a zone: its header, the blocks of its map with what their owners have in them, and as many bytes as its limit
-pub record Holds (l : Layout) (z : ZoneState) : Type 0 where
+pub record StandsFor (l : Layout) (z : ZoneState) : Type 0 where
   pub heads : l.heads ≡ z.shape.heads
   pub base : l.base ≡ z.shape.base
   pub limit : zone_header + total_size z.heap.map + length l.spare ≡ z.shape.limit
   pub header : l.header ≡ zone_head z
-  pub blocks : HoldsBlocks (owners_of z) z.shape (address_behind z.shape []) l.blocks z.heap.map
+  pub blocks : AreBlocksOf (owners_of z) z.shape (address_behind z.shape []) l.blocks z.heap.map
   pub fits : Fits z
 
 -- the fields hold the zone that they stand for; sizes are possible, addresses have 24 bits, and none is 0
-pub record IsHolding (z : Inside) : Type 0 where
-  pub holds : Holds z.blocks (state_in z.blocks)
+pub record StandsAsRead (z : Inside) : Type 0 where
+  pub holds : StandsFor z.blocks (state_in z.blocks)
   pub sizes : HasSizes (state_in z.blocks)
   pub low : 0x1000 ≤ z.blocks.base
   pub high : z.blocks.base + (state_in z.blocks).shape.limit ≤ 0x100_0000

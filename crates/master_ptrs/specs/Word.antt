@@ -4,7 +4,7 @@ use Rattle.mac_base.specs.declared.block.Flags.{Flags}
 use Rattle.mac_base.specs.HandleTable.{Live, EmptyHandle, FullHandle, Pointer, live_at, no_flags}
 use Rattle.mac_base.specs.ZoneMap.{contents_of}
 use Rattle.mac_base.specs.ZoneState.{ZoneState}
-use Rattle.mac_base.specs.Reply.{state_of}
+use Rattle.mac_base.specs.FlagState.{state_of}
 use Rattle.master_ptrs.specs.declared.word.Slot.{Slot}
 use Rattle.master_ptrs.specs.declared.word.Slot.TheVariants.{Free, Empty, Full}
 

@@ -34,11 +34,11 @@ impl Model for MasterPointers {
 
     ghost Value = { ZoneState };
 
-    ghost use Rattle.master_ptrs.specs.Reading.{state_of_fields, IsHolding};
+    ghost use Rattle.master_ptrs.specs.Reading.{state_of_fields, StandsAsRead};
 
     ghost view = { state_of_fields };
 
-    ghost invariant = { IsHolding };
+    ghost invariant = { StandsAsRead };
 }
 
 impl MasterPointers {
@@ -48,11 +48,11 @@ impl MasterPointers {
     ghost use Rattle.mac_base.specs.HandleTable.{EmptyHandle, has_block, is_handle, is_full, is_pointer, live_at, bytes_of, flags_of};
     ghost use Rattle.mac_base.specs.HeadKind.{master_length, head_size};
     ghost use Rattle.mac_base.specs.Suits.{slots, wanted_length};
-    ghost use Rattle.mac_base.specs.Reply.{report_at, block_flags};
+    ghost use Rattle.mac_base.specs.BlockReport.{report_at, block_flags};
     ghost use Rattle.mac_base.specs.ZoneMap.{has_free, contents_of};
     ghost use Rattle.master_ptrs.specs.Changes.{bare_zone, taken, given_back, pointed, without_block, fixed, unfixed, held_there, enlarged, cut_in_two, joined_pair, with_master, flagged};
     ghost use Rattle.master_ptrs.specs.Image.{IsImage};
-    ghost use Rattle.master_ptrs.specs.Lending.{LendsBytes};
+    ghost use Rattle.master_ptrs.specs.WritingBack.{WritesBackBytes};
     ghost use Rattle.master_ptrs.specs.Places.{EntryAt, HasOwner, FreeAt, BlockOf, NamedAt, LowestAt, RoomFor, CanCut, CanHold, CanGrow, FreePair};
     ghost use Rattle.master_ptrs.specs.Sizes.{sizes_of};
     ghost use Rattle.zone_blocks.specs.Walk.{Walks};
@@ -319,7 +319,7 @@ impl MasterPointers {
     /// The bytes of a handle or a pointer that has a block, to be written.
     pub fn contents_mut(&mut self, block: u32) -> &mut [u8]
         requires block { IsTrue (has_block self.old.heap.table block) }
-        ensures* writes_back { sem 𝓛 (LendsBytes self.entry block result) }
+        ensures* writes_back { sem 𝓛 (WritesBackBytes self.entry block result) }
         ensures value { result.now ≡ bytes_of self.old.heap.table block }
     {
         let at = self.place_of(block);

@@ -99,7 +99,7 @@ impl Slot {
 }
 
 ghost use Rattle.std.specs.Prelude.{◌≡◌};
-ghost use Rattle.mac_base.specs.Reply.{state_of};
+ghost use Rattle.mac_base.specs.FlagState.{state_of};
 ghost use Rattle.master_ptrs.specs.Word.{flags_in};
 
 /// The high byte of the master pointer of a handle with these flags: lock 128, purgeable 64, resource 32.

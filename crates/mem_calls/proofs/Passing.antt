@@ -3,10 +3,11 @@ use Rattle.std.proofs.Common.{◌≡◌, ℕ, not, nat_le, eqb, List, [], ◌∷
 use Rattle.std.specs.List.{list_any}
 use Rattle.std.specs.Option.{option_or}
 use Rattle.mac_base.specs.declared.error.OsErr.TheVariants.{ParamErr, MemLockedErr}
-use Rattle.mac_base.specs.HeadKind.{Shape}
+use Rattle.mac_base.specs.HeadKind.{Shape, max_size}
 use Rattle.mac_base.specs.Heap.{Heap}
-use Rattle.mac_base.specs.MemoryCall.{Test, IsHandle, IsPointer, NotEmpty, NotLent, IsSize, SetHandleSize, SetPtrSize, max_size, first_refusal, refusal, unless_passed}
-use Rattle.mac_base.proofs.Refusals.{first_passed, later_refusal}
+use Rattle.mac_calls.specs.Tests.{Test, IsHandle, IsPointer, NotEmpty, NotLent, IsSize, first_refusal, refusal, unless_passed}
+use Rattle.mac_calls.specs.declared.memory_call.MemoryCall.TheVariants.{SetHandleSize, SetPtrSize}
+use Rattle.call_laws.proofs.Refusals.{first_passed, later_refusal}
 
 -- tests pass where the first of them do, and the others
 pub passed-both : (s : Shape) (heap : Heap) (tests more : List Test) → first_refusal s heap tests ≡ None → first_refusal s heap more ≡ None → first_refusal s heap (tests ++ more) ≡ None

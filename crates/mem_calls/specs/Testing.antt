@@ -2,7 +2,8 @@
 use Rattle.std.specs.Prelude.{◌≡◌, ℕ, nat_le, List, [], Option, Some, None, Result, MatchResult, IfOk}
 use Rattle.mac_base.specs.declared.error.OsErr.{OsErr}
 use Rattle.mac_base.specs.declared.error.OsErr.TheVariants.{ParamErr}
-use Rattle.mac_base.specs.MemoryCall.{Test, first_refusal, unless_passed, max_size}
+use Rattle.mac_calls.specs.Tests.{Test, first_refusal, unless_passed}
+use Rattle.mac_base.specs.HeadKind.{max_size}
 use Rattle.mac_base.specs.ZoneState.{ZoneState}
 
 -- an error is the refusal, if there is one

@@ -31,17 +31,18 @@ impl MemoryManager {
     ghost use Rattle.std.specs.Prelude.{◌≡◌, ◌+◌, ◌≤◌, ◌∷◌, IfOk, [], length};
     ghost use Rattle.std.specs.Borrow.{sem};
     ghost use Rattle.mac_base.specs.BlockStatus.{status_of};
-    ghost use Rattle.mac_base.specs.FirstRuns.{UnmovedRun};
+    ghost use Rattle.mac_calls.specs.FirstRuns.{UnmovedRun};
     ghost use Rattle.mac_base.specs.HandleTable.{bytes_of, flags_of};
     ghost use Rattle.mac_base.specs.Heap.{new_heap};
-    ghost use Rattle.mac_base.specs.MemoryCall.{NewHandle, NewEmptyHandle, NewPtr, DisposeHandle, DisposePtr, EmptyHandle, SetHandleSize, GetHandleSize, SetPtrSize, GetPtrSize, HLock, HUnlock, HPurge, HNoPurge, HSetRBit, HClrRBit, HGetState, HSetState, Deref};
-    ghost use Rattle.mac_base.specs.MemoryCall.{IsHandle, IsPointer, NotEmpty};
-    ghost use Rattle.mac_base.specs.MemoryStep.{StepBy};
-    ghost use Rattle.mac_base.specs.Reply.{number_reply, done_reply, report_at};
+    ghost use Rattle.mac_calls.specs.declared.memory_call.MemoryCall.TheVariants as call;
+    ghost use Rattle.mac_calls.specs.Tests.{IsHandle, IsPointer, NotEmpty};
+    ghost use Rattle.mac_calls.specs.MemoryStep.{StepBy};
+    ghost use Rattle.mac_calls.specs.Outcomes.{handle_outcome, pointer_outcome, address_outcome, number_outcome, done_outcome};
+    ghost use Rattle.mac_base.specs.BlockReport.{report_at};
     ghost use Rattle.mac_base.specs.Sound.{Sound};
     ghost use Rattle.mac_base.specs.ZoneSizes.{shape_of};
     ghost use Rattle.mac_base.specs.ZoneMap.{address_behind};
-    ghost use Rattle.mem_calls.specs.Lending.{LendsContents};
+    ghost use Rattle.mem_calls.specs.WritingBack.{WritesBackContents};
     ghost use Rattle.mem_calls.specs.Testing.{Tests, FindsUnlent};
 
     /// A new zone: a master block with 64 free slots, and the rest free. It takes all the memory that the zone will
@@ -58,7 +59,7 @@ impl MemoryManager {
     /// paramErr where `size` is over 8,388,608; memFullErr where no free block has room or no slot is free (Inside
     /// Macintosh: Memory, Allocating and Releasing Relocatable Blocks of Memory).
     pub fn new_handle(&mut self, size: u32) -> Result<Handle, OsErr>
-        ensures step { StepBy UnmovedRun self.old.shape self.old.heap (NewHandle size) [] (number_reply result) self.new.heap }
+        ensures step { StepBy UnmovedRun self.old.shape self.old.heap (call.NewHandle size) [] (handle_outcome result) self.new.heap }
         ensures shape { self.new.shape ≡ self.old.shape }
     {
         test_size(size)?;
@@ -68,7 +69,7 @@ impl MemoryManager {
     /// NewEmptyHandle: a new handle without a block. memFullErr where no slot is free (Inside Macintosh: Memory,
     /// Allocating and Releasing Relocatable Blocks of Memory).
     pub fn new_empty_handle(&mut self) -> Result<Handle, OsErr>
-        ensures step { StepBy UnmovedRun self.old.shape self.old.heap NewEmptyHandle [] (number_reply result) self.new.heap }
+        ensures step { StepBy UnmovedRun self.old.shape self.old.heap call.NewEmptyHandle [] (handle_outcome result) self.new.heap }
         ensures shape { self.new.shape ≡ self.old.shape }
     {
         self.zone.place_empty().map_err(no_room)
@@ -78,7 +79,7 @@ impl MemoryManager {
     /// `size` is over 8,388,608; memFullErr where no free block has room (Inside Macintosh: Memory, Allocating and
     /// Releasing Nonrelocatable Blocks of Memory).
     pub fn new_ptr(&mut self, size: u32) -> Result<Ptr, OsErr>
-        ensures step { StepBy UnmovedRun self.old.shape self.old.heap (NewPtr size) [] (number_reply result) self.new.heap }
+        ensures step { StepBy UnmovedRun self.old.shape self.old.heap (call.NewPtr size) [] (pointer_outcome result) self.new.heap }
         ensures shape { self.new.shape ≡ self.old.shape }
     {
         test_size(size)?;
@@ -89,7 +90,7 @@ impl MemoryManager {
     /// where the handle is 0, memWZErr where it isn't live (Inside Macintosh: Memory, Allocating and Releasing
     /// Relocatable Blocks of Memory).
     pub fn dispose_handle(&mut self, handle: Handle) -> Result<(), OsErr>
-        ensures step { StepBy UnmovedRun self.old.shape self.old.heap (DisposeHandle handle) [] (done_reply result) self.new.heap }
+        ensures step { StepBy UnmovedRun self.old.shape self.old.heap (call.DisposeHandle handle) [] (done_outcome result) self.new.heap }
         ensures shape { self.new.shape ≡ self.old.shape }
     {
         self.test_handle(handle)?;
@@ -100,7 +101,7 @@ impl MemoryManager {
     /// DisposePtr: the pointer's block is free. memWZErr where the pointer isn't live (Inside Macintosh: Memory,
     /// Allocating and Releasing Nonrelocatable Blocks of Memory).
     pub fn dispose_ptr(&mut self, pointer: Ptr) -> Result<(), OsErr>
-        ensures step { StepBy UnmovedRun self.old.shape self.old.heap (DisposePtr pointer) [] (done_reply result) self.new.heap }
+        ensures step { StepBy UnmovedRun self.old.shape self.old.heap (call.DisposePtr pointer) [] (done_outcome result) self.new.heap }
         ensures shape { self.new.shape ≡ self.old.shape }
     {
         self.test_pointer(pointer)?;
@@ -112,7 +113,7 @@ impl MemoryManager {
     /// where the handle is 0, memWZErr where it isn't live, memPurErr where it is locked (Inside Macintosh: Memory,
     /// Managing Relocatable Blocks).
     pub fn empty_handle(&mut self, handle: Handle) -> Result<(), OsErr>
-        ensures step { StepBy UnmovedRun self.old.shape self.old.heap (EmptyHandle handle) [] (done_reply result) self.new.heap }
+        ensures step { StepBy UnmovedRun self.old.shape self.old.heap (call.EmptyHandle handle) [] (done_outcome result) self.new.heap }
         ensures shape { self.new.shape ≡ self.old.shape }
     {
         self.test_handle(handle)?;
@@ -128,7 +129,7 @@ impl MemoryManager {
     /// where the block has too few bytes, also with those of the free one right behind it (Inside Macintosh: Memory,
     /// Changing the Sizes of Relocatable and Nonrelocatable Blocks).
     pub fn set_handle_size(&mut self, handle: Handle, size: u32) -> Result<(), OsErr>
-        ensures step { StepBy UnmovedRun self.old.shape self.old.heap (SetHandleSize handle size) [] (done_reply result) self.new.heap }
+        ensures step { StepBy UnmovedRun self.old.shape self.old.heap (call.SetHandleSize handle size) [] (done_outcome result) self.new.heap }
         ensures shape { self.new.shape ≡ self.old.shape }
     {
         self.test_full(handle)?;
@@ -139,7 +140,7 @@ impl MemoryManager {
     /// GetHandleSize: the bytes of the handle's block. nilHandleErr where the handle is 0 or empty, memWZErr where it
     /// isn't live (Inside Macintosh: Memory, Changing the Sizes of Relocatable and Nonrelocatable Blocks).
     pub fn get_handle_size(&self, handle: Handle) -> Result<u32, OsErr>
-        ensures step { StepBy UnmovedRun self.now.shape self.now.heap (GetHandleSize handle) [] (number_reply result) self.now.heap }
+        ensures step { StepBy UnmovedRun self.now.shape self.now.heap (call.GetHandleSize handle) [] (number_outcome result) self.now.heap }
     {
         self.test_full(handle)?;
         Ok(self.zone.length(handle.number()))
@@ -150,7 +151,7 @@ impl MemoryManager {
     /// those of the free one right behind it (Inside Macintosh: Memory, Changing the Sizes of Relocatable and Nonrelocatable
     /// Blocks).
     pub fn set_ptr_size(&mut self, pointer: Ptr, size: u32) -> Result<(), OsErr>
-        ensures step { StepBy UnmovedRun self.old.shape self.old.heap (SetPtrSize pointer size) [] (done_reply result) self.new.heap }
+        ensures step { StepBy UnmovedRun self.old.shape self.old.heap (call.SetPtrSize pointer size) [] (done_outcome result) self.new.heap }
         ensures shape { self.new.shape ≡ self.old.shape }
     {
         self.test_pointer(pointer)?;
@@ -161,7 +162,7 @@ impl MemoryManager {
     /// GetPtrSize: the bytes of the pointer's block. memWZErr where the pointer isn't live (Inside Macintosh: Memory,
     /// Changing the Sizes of Relocatable and Nonrelocatable Blocks).
     pub fn get_ptr_size(&self, pointer: Ptr) -> Result<u32, OsErr>
-        ensures step { StepBy UnmovedRun self.now.shape self.now.heap (GetPtrSize pointer) [] (number_reply result) self.now.heap }
+        ensures step { StepBy UnmovedRun self.now.shape self.now.heap (call.GetPtrSize pointer) [] (number_outcome result) self.now.heap }
     {
         self.test_pointer(pointer)?;
         Ok(self.zone.length(pointer.number()))
@@ -170,7 +171,7 @@ impl MemoryManager {
     /// HLock: the block stays where it is while it is locked. nilHandleErr where the handle is 0 or empty, memWZErr where it
     /// isn't live (Inside Macintosh: Memory, Setting the Properties of Relocatable Blocks).
     pub fn hlock(&mut self, handle: Handle) -> Result<(), OsErr>
-        ensures step { StepBy UnmovedRun self.old.shape self.old.heap (HLock handle) [] (done_reply result) self.new.heap }
+        ensures step { StepBy UnmovedRun self.old.shape self.old.heap (call.HLock handle) [] (done_outcome result) self.new.heap }
         ensures shape { self.new.shape ≡ self.old.shape }
     {
         let mut flags = self.flags(handle)?;
@@ -182,7 +183,7 @@ impl MemoryManager {
     /// HUnlock: the block may be moved again. nilHandleErr where the handle is 0 or empty, memWZErr where it isn't live
     /// (Inside Macintosh: Memory, Setting the Properties of Relocatable Blocks).
     pub fn hunlock(&mut self, handle: Handle) -> Result<(), OsErr>
-        ensures step { StepBy UnmovedRun self.old.shape self.old.heap (HUnlock handle) [] (done_reply result) self.new.heap }
+        ensures step { StepBy UnmovedRun self.old.shape self.old.heap (call.HUnlock handle) [] (done_outcome result) self.new.heap }
         ensures shape { self.new.shape ≡ self.old.shape }
     {
         let mut flags = self.flags(handle)?;
@@ -194,7 +195,7 @@ impl MemoryManager {
     /// HPurge: the block may be purged where it isn't locked. nilHandleErr where the handle is 0 or empty, memWZErr where
     /// it isn't live (Inside Macintosh: Memory, Setting the Properties of Relocatable Blocks).
     pub fn hpurge(&mut self, handle: Handle) -> Result<(), OsErr>
-        ensures step { StepBy UnmovedRun self.old.shape self.old.heap (HPurge handle) [] (done_reply result) self.new.heap }
+        ensures step { StepBy UnmovedRun self.old.shape self.old.heap (call.HPurge handle) [] (done_outcome result) self.new.heap }
         ensures shape { self.new.shape ≡ self.old.shape }
     {
         let mut flags = self.flags(handle)?;
@@ -206,7 +207,7 @@ impl MemoryManager {
     /// HNoPurge: the block may not be purged. nilHandleErr where the handle is 0 or empty, memWZErr where it isn't live
     /// (Inside Macintosh: Memory, Setting the Properties of Relocatable Blocks).
     pub fn hno_purge(&mut self, handle: Handle) -> Result<(), OsErr>
-        ensures step { StepBy UnmovedRun self.old.shape self.old.heap (HNoPurge handle) [] (done_reply result) self.new.heap }
+        ensures step { StepBy UnmovedRun self.old.shape self.old.heap (call.HNoPurge handle) [] (done_outcome result) self.new.heap }
         ensures shape { self.new.shape ≡ self.old.shape }
     {
         let mut flags = self.flags(handle)?;
@@ -218,7 +219,7 @@ impl MemoryManager {
     /// HSetRBit: the block has the contents of a resource. nilHandleErr where the handle is 0 or empty, memWZErr where it
     /// isn't live (Inside Macintosh: Memory, Setting the Properties of Relocatable Blocks).
     pub fn hset_rbit(&mut self, handle: Handle) -> Result<(), OsErr>
-        ensures step { StepBy UnmovedRun self.old.shape self.old.heap (HSetRBit handle) [] (done_reply result) self.new.heap }
+        ensures step { StepBy UnmovedRun self.old.shape self.old.heap (call.HSetRBit handle) [] (done_outcome result) self.new.heap }
         ensures shape { self.new.shape ≡ self.old.shape }
     {
         let mut flags = self.flags(handle)?;
@@ -230,7 +231,7 @@ impl MemoryManager {
     /// HClrRBit: the block has the contents of no resource. nilHandleErr where the handle is 0 or empty, memWZErr where
     /// it isn't live (Inside Macintosh: Memory, Setting the Properties of Relocatable Blocks).
     pub fn hclr_rbit(&mut self, handle: Handle) -> Result<(), OsErr>
-        ensures step { StepBy UnmovedRun self.old.shape self.old.heap (HClrRBit handle) [] (done_reply result) self.new.heap }
+        ensures step { StepBy UnmovedRun self.old.shape self.old.heap (call.HClrRBit handle) [] (done_outcome result) self.new.heap }
         ensures shape { self.new.shape ≡ self.old.shape }
     {
         let mut flags = self.flags(handle)?;
@@ -243,7 +244,7 @@ impl MemoryManager {
     /// the handle is 0 or empty, memWZErr where it isn't live (Inside Macintosh: Memory, Setting the Properties of
     /// Relocatable Blocks).
     pub fn hget_state(&self, handle: Handle) -> Result<u32, OsErr>
-        ensures step { StepBy UnmovedRun self.now.shape self.now.heap (HGetState handle) [] (number_reply result) self.now.heap }
+        ensures step { StepBy UnmovedRun self.now.shape self.now.heap (call.HGetState handle) [] (number_outcome result) self.now.heap }
     {
         let flags = self.flags(handle)?;
         Ok(state_of(flags))
@@ -253,7 +254,7 @@ impl MemoryManager {
     /// 0 or empty, memWZErr where it isn't live, paramErr where `state` is over 255 (Inside Macintosh: Memory, Setting
     /// the Properties of Relocatable Blocks).
     pub fn hset_state(&mut self, handle: Handle, state: u32) -> Result<(), OsErr>
-        ensures step { StepBy UnmovedRun self.old.shape self.old.heap (HSetState handle state) [] (done_reply result) self.new.heap }
+        ensures step { StepBy UnmovedRun self.old.shape self.old.heap (call.HSetState handle state) [] (done_outcome result) self.new.heap }
         ensures shape { self.new.shape ≡ self.old.shape }
     {
         self.test_full(handle)?;
@@ -268,7 +269,7 @@ impl MemoryManager {
     /// nilHandleErr where the handle is 0 or empty, memWZErr where it isn't live (Inside Macintosh: Memory, Relocatable
     /// Blocks).
     pub fn deref(&self, handle: Handle) -> Result<u32, OsErr>
-        ensures step { StepBy UnmovedRun self.now.shape self.now.heap (Deref handle) [] (number_reply result) self.now.heap }
+        ensures step { StepBy UnmovedRun self.now.shape self.now.heap (call.Deref handle) [] (address_outcome result) self.now.heap }
     {
         self.test_full(handle)?;
         Ok(self.zone.contents_address(handle))
@@ -298,7 +299,7 @@ impl MemoryManager {
     /// The bytes of a block that is live, not empty and not lent, to be written.
     pub fn contents_mut(&mut self, block: u32) -> &mut [u8]
         requires { status_of self.old.heap.table block ≡ Status.Full }
-        ensures* writes_back { sem 𝓛 (LendsContents self.entry block result) }
+        ensures* writes_back { sem 𝓛 (WritesBackContents self.entry block result) }
         ensures value { result.now ≡ bytes_of self.old.heap.table block }
     {
         self.zone.bytes_mut(block)

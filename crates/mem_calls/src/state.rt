@@ -1,8 +1,7 @@
 //! The flags of a handle as the number that HGetState gives.
 
 ghost use Rattle.std.specs.Prelude.{◌≡◌};
-ghost use Rattle.mac_base.specs.Effect.{flags_from};
-ghost use Rattle.mac_base.specs.Reply.{state_of};
+ghost use Rattle.mac_base.specs.FlagState.{flags_from, state_of};
 
 use mac_base::block::Flags;
 

@@ -2,6 +2,6 @@ pub mod Bytes
 pub mod Span
 pub mod Ownership
 pub mod State
-pub mod CellsLending
-pub mod Lending
+pub mod CellsWritingBack
+pub mod WritingBack
 pub mod Memory

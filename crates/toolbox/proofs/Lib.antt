@@ -1,3 +1,2 @@
-pub mod Memory
 pub mod Quiet
 pub mod Walk

@@ -1,37 +1,34 @@
 -- The steps of calls that make no request.
-use Rattle.std.proofs.Common.{◌≡◌, ℕ, ◌+◌, ◌-◌, ◌≤◌, List, [], ◌++◌, length, map, take, drop, refl, sym, ap, subst, ◌∙◌, Some, None, Ok, Err, arith, append_assoc, length-append, length-take, length-drop}
+use Rattle.std.proofs.Common.{◌≡◌, ℕ, ◌+◌, ◌-◌, ◌≤◌, List, [], ◌++◌, length, take, drop, refl, sym, ap, subst, ◌∙◌, Some, None, Ok, Err, arith, append_assoc, length-append, length-take, length-drop}
 use Rattle.std.proofs.Math.Nat.{add-sub_cancel_left}
 use Rattle.std.proofs.Math.Seq.{take-length, drop-length}
 use Rattle.std.proofs.lemmas.List.{append-nil, drop-drop}
 use borrow.Rule.Slice.PartMut.{post_of}
 use Rattle.mac_base.specs.declared.error.OsErr.{OsErr}
-use Rattle.mac_base.specs.Effect.{written}
+use Rattle.mac_calls.specs.Effect.{written}
 use Rattle.mac_base.specs.HandleTable.{bytes_of, with_bytes}
-use Rattle.mac_base.specs.MemoryCall.{MemoryCall, Poke, Peek, ZoneMap, refusal}
-use Rattle.mac_base.specs.Reply.{Refused, Done, Bytes, Blocks, reports_from}
-use Rattle.mac_base.specs.ZoneMap.{address_behind}
+use Rattle.mac_calls.specs.declared.memory_call.MemoryCall.{MemoryCall}
+use Rattle.mac_calls.specs.declared.memory_call.MemoryCall.TheVariants.{Poke, Peek}
+use Rattle.mac_calls.specs.Tests.{refusal}
+use Rattle.mac_calls.specs.declared.reply.Results.TheVariants.{Nothing, Bytes}
+use Rattle.mac_calls.specs.Outcomes.{Outcome}
 use Rattle.mac_base.specs.ZoneState.{ZoneState, overwritten, with_contents}
-use Rattle.toolbox.specs.declared.reply.BlockLine.{BlockLine}
-use Rattle.toolbox.specs.declared.reply.Results.TheVariants as results
 use Rattle.toolbox.specs.Steps.{MemorySteps}
-use Rattle.toolbox.specs.Told.{line_of}
 
 -- a call that is refused
 pub refused_step : (zone : ZoneState) (call : MemoryCall) (code : OsErr) → refusal zone.shape zone.heap call ≡ Some code → MemorySteps zone call (Err code) zone
-refused_step zone call code refused = (Refused code, rw refused (refl, refl, record { table = refl; map = refl }), refl, refl)
+refused_step zone call code refused = (rw refused (refl, refl, record { table = refl; map = refl }), refl)
+
+-- bytes as an outcome
+shows : List ℕ → Outcome
+shows bytes = Ok (Bytes bytes)
 
 -- a Peek that isn't refused
-pub peek_step : (zone : ZoneState) (x at n : ℕ) (contents bytes : List ℕ) → refusal zone.shape zone.heap (Peek x at n) ≡ None → contents ≡ bytes_of zone.heap.table x → bytes ≡ take (at + n - at) (drop at contents) → MemorySteps zone (Peek x at n) (Ok (results.Bytes bytes)) zone
-peek_step zone x at n contents bytes passed whole is = (
-  Bytes (take n (drop at (bytes_of zone.heap.table x))),
-  rw passed (refl, (record { table = refl; map = refl }, refl)),
-  rw (← whole, ← add-sub_cancel_left at n) is,
-  refl,
-)
-
--- a ZoneMap
-pub zone_step : (zone : ZoneState) (lines : List BlockLine) → lines ≡ map line_of (reports_from zone.heap.table (address_behind zone.shape []) zone.heap.map) → MemorySteps zone ZoneMap (Ok (results.Blocks lines)) zone
-zone_step zone lines is = (Blocks (reports_from zone.heap.table (address_behind zone.shape []) zone.heap.map), (refl, (record { table = refl; map = refl }, refl)), is, refl)
+pub peek_step : (zone : ZoneState) (x at n : ℕ) (contents bytes : List ℕ) → refusal zone.shape zone.heap (Peek x at n) ≡ None → contents ≡ bytes_of zone.heap.table x → bytes ≡ take (at + n - at) (drop at contents) → MemorySteps zone (Peek x at n) (Ok (Bytes bytes)) zone
+unfolding shows
+peek_step zone x at n contents bytes passed whole is =
+    let shown : bytes ≡ take n (drop at (bytes_of zone.heap.table x)) = rw (← whole, ← add-sub_cancel_left at n) is in
+    (rw passed (refl, (record { table = refl; map = refl }, ap shows shown)), refl)
 
 -- bytes written over all others
 overwritten-whole : (old new : List ℕ) → length new ≡ length old → overwritten old new ≡ new
@@ -48,9 +45,10 @@ part_written old bytes at within =
     let whole : length (take at old ++ (bytes ++ drop (at + length bytes) old)) ≡ length old = simp (length-append, length-drop) (omega arith) in
     rw behind (overwritten-whole old (take at old ++ (bytes ++ drop (at + length bytes) old)) whole ∙ sym (append_assoc (take at old) bytes (drop (at + length bytes) old)))
 
--- a Poke that isn't refused: the zone is seen through the memory
-pub poke_step : (zone memory : ZoneState) (x at : ℕ) (bytes contents copied : List ℕ) → memory ≡ zone → refusal zone.shape zone.heap (Peek x at (length bytes)) ≡ None → at + length bytes ≤ length (bytes_of zone.heap.table x) → contents ≡ bytes_of memory.heap.table x → copied ≡ bytes → MemorySteps zone (Poke x at bytes) (Ok results.Nothing) (with_contents memory x (take at contents ++ (copied ++ post_of at (at + length bytes - at) contents)))
-poke_step zone memory x at bytes contents copied is passed within whole all =
-    let same : with_contents memory x (take at contents ++ (copied ++ post_of at (at + length bytes - at) contents)) ≡ with_contents zone x (take at (bytes_of zone.heap.table x) ++ (bytes ++ drop (length bytes) (drop at (bytes_of zone.heap.table x)))) = rw (whole, all, is, add-sub_cancel_left at (length bytes)) refl in
-    let P : ZoneState → Type 0 = λ new. MemorySteps zone (Poke x at bytes) (Ok results.Nothing) new in
-    subst P (sym same) (Done, rw passed (refl, (record { table = ap (λ (bs : List ℕ). with_bytes x bs zone.heap.table) (part_written (bytes_of zone.heap.table x) bytes at within); map = refl }, refl)), tt, refl)
+-- a Poke that isn't refused
+pub poke_step : (zone : ZoneState) (x at : ℕ) (bytes contents copied : List ℕ) → refusal zone.shape zone.heap (Peek x at (length bytes)) ≡ None → at + length bytes ≤ length (bytes_of zone.heap.table x) → contents ≡ bytes_of zone.heap.table x → copied ≡ bytes
+    → MemorySteps zone (Poke x at bytes) (Ok Nothing) (with_contents zone x (take at contents ++ (copied ++ post_of at (at + length bytes - at) contents)))
+poke_step zone x at bytes contents copied passed within whole all =
+    let same : with_contents zone x (take at contents ++ (copied ++ post_of at (at + length bytes - at) contents)) ≡ with_contents zone x (take at (bytes_of zone.heap.table x) ++ (bytes ++ drop (length bytes) (drop at (bytes_of zone.heap.table x)))) = rw (whole, all, add-sub_cancel_left at (length bytes)) refl in
+    let P : ZoneState → Type 0 = λ new. MemorySteps zone (Poke x at bytes) (Ok Nothing) new in
+    subst P (sym same) (rw passed (refl, (record { table = ap (λ (bs : List ℕ). with_bytes x bs zone.heap.table) (part_written (bytes_of zone.heap.table x) bytes at within); map = refl }, refl)), refl)

@@ -1,10 +1,10 @@
 -- A walk over the blocks of a zone, from header to header.
 use Rattle.std.specs.Prelude.{find, nat_le, ◌==◌}
 use Rattle.std.specs.List.{list_all}
-use Rattle.std.proofs.Common.{◌≡◌, ℕ, ◌+◌, ◌%◌, ◌<◌, ◌≤◌, true, false, cond, List, [], ◌∷◌, ◌++◌, map, refl, sym, ap, subst, ◌∙◌, Some, None, arith, add_assoc, append_assoc}
+use Rattle.std.proofs.Common.{◌≡◌, ℕ, ◌+◌, ◌%◌, ◌<◌, ◌≤◌, true, false, cond, List, [], ◌∷◌, ◌++◌, refl, sym, ap, subst, ◌∙◌, Some, None, arith, add_assoc, append_assoc}
 use Rattle.std.proofs.lemmas.Bool.{and_parts, leb-true, ne_eqb}
-use Rattle.std.proofs.lemmas.List.{append-nil, map-append}
-use Rattle.mac_base.proofs.Tables.{eqb_same}
+use Rattle.std.proofs.lemmas.List.{append-nil}
+use Rattle.zone_laws.proofs.Tables.{eqb_same}
 use Rattle.mac_base.specs.declared.block.Block.{Block}
 use Rattle.mac_base.specs.declared.block.Entry.{Entry}
 use Rattle.mac_base.specs.declared.block.HeadKind.{HeadKind}
@@ -12,12 +12,10 @@ use Rattle.mac_base.specs.declared.block.HeadKind.TheVariants.{Bits24}
 use Rattle.mac_base.specs.HandleTable.{HandleTable}
 use Rattle.mac_base.specs.HeadKind.{Shape, smallest_block}
 use Rattle.mac_base.specs.Heap.{Heap}
-use Rattle.mac_base.specs.Reply.{reports_from, report_at, block_flags}
+use Rattle.mac_base.specs.BlockReport.{reports_from, report_at, block_flags}
 use Rattle.mac_base.specs.Sound.{Sound}
 use Rattle.mac_base.specs.Suits.{is_block_size, wanted_length}
 use Rattle.mac_base.specs.ZoneMap.{ZoneMap, address_behind, total_size}
-use Rattle.toolbox.specs.declared.reply.BlockLine.{BlockLine}
-use Rattle.toolbox.specs.Told.{line_of}
 
 -- each block has at least one byte
 AllPositive : ZoneMap → Type 0
@@ -93,47 +91,47 @@ unfolding AllPositive
 AllPositive-behind [] b positive = positive
 AllPositive-behind (e ∷ es) b positive = AllPositive-behind es b positive.1
 
--- A walk has come to an address: these are the lines of the blocks before it.
-pub record HasWalked (s : Shape) (heap : Heap) (at : ℕ) (lines : List BlockLine) : Type 0 where
+-- A walk has come to an address: these are the blocks before it.
+pub record HasWalked (s : Shape) (heap : Heap) (at : ℕ) (blocks : List Block) : Type 0 where
   pub before : ZoneMap
   pub rest : ZoneMap
   pub parts : heap.map ≡ before ++ rest
   pub here : at ≡ address_behind s before
-  pub shown : lines ≡ map line_of (reports_from heap.table (address_behind s []) before)
+  pub shown : blocks ≡ reports_from heap.table (address_behind s []) before
 
-pub HasWalked-start : (s : Shape) (heap : Heap) (at : ℕ) (lines : List BlockLine) → at ≡ address_behind s [] → lines ≡ [] → HasWalked s heap at lines
-HasWalked-start s heap at lines here none = record { before = []; rest = heap.map; parts = refl; here = here; shown = none }
+pub HasWalked-start : (s : Shape) (heap : Heap) (at : ℕ) (blocks : List Block) → at ≡ address_behind s [] → blocks ≡ [] → HasWalked s heap at blocks
+HasWalked-start s heap at blocks here none = record { before = []; rest = heap.map; parts = refl; here = here; shown = none }
 
 sized : (s : Shape) (heap : Heap) → Sound s heap → AllPositive heap.map
 sized s heap sound = AllPositive-sizes s heap.map sound.suits.sizes
 
 -- the block at the address is the first of those that are left
-report_at-left : (s : Shape) (heap : Heap) (at : ℕ) (lines : List BlockLine) (walk : HasWalked s heap at lines) → Sound s heap → report_at s heap at ≡ find (λ (b : Block). b.address == at) (reports_from heap.table at walk.rest)
-report_at-left s heap at lines walk sound =
+report_at-left : (s : Shape) (heap : Heap) (at : ℕ) (blocks : List Block) (walk : HasWalked s heap at blocks) → Sound s heap → report_at s heap at ≡ find (λ (b : Block). b.address == at) (reports_from heap.table at walk.rest)
+report_at-left s heap at blocks walk sound =
     let positive : AllPositive (walk.before ++ walk.rest) = let P : ZoneMap → Type 0 = λ m. AllPositive m in subst P walk.parts (sized s heap sound) in
     ap (λ m. find (λ (b : Block). b.address == at) (reports_from heap.table (address_behind s []) m)) walk.parts
     ∙ find-behind heap.table (address_behind s []) at walk.before walk.rest (AllPositive-front walk.before walk.rest positive) (walk.here ∙ omega arith)
 
--- where no block stands at the address, the lines are those of all blocks
-pub HasWalked-end : (s : Shape) (heap : Heap) (at : ℕ) (lines : List BlockLine) → HasWalked s heap at lines → Sound s heap → report_at s heap at ≡ None → lines ≡ map line_of (reports_from heap.table (address_behind s []) heap.map)
-HasWalked-end s heap at lines walk sound none =
-    let over : walk.rest ≡ [] = none_left heap.table at walk.rest (sym (report_at-left s heap at lines walk sound) ∙ none) in
+-- where no block stands at the address, these are all blocks
+pub HasWalked-end : (s : Shape) (heap : Heap) (at : ℕ) (blocks : List Block) → HasWalked s heap at blocks → Sound s heap → report_at s heap at ≡ None → blocks ≡ reports_from heap.table (address_behind s []) heap.map
+HasWalked-end s heap at blocks walk sound none =
+    let over : walk.rest ≡ [] = none_left heap.table at walk.rest (sym (report_at-left s heap at blocks walk sound) ∙ none) in
     let all : walk.before ≡ heap.map = sym (append-nil walk.before) ∙ ap (λ (m : ZoneMap). walk.before ++ m) (sym over) ∙ sym walk.parts in
-    walk.shown ∙ ap (λ m. map line_of (reports_from heap.table (address_behind s []) m)) all
+    walk.shown ∙ ap (λ m. reports_from heap.table (address_behind s []) m) all
 
 -- the block at the address, if there is one
-pub found_first : (s : Shape) (heap : Heap) (at : ℕ) (lines : List BlockLine) (walk : HasWalked s heap at lines) (block : Block) → Sound s heap → report_at s heap at ≡ Some block → IsFirst heap.table at walk.rest block
-found_first s heap at lines walk block sound found = first_left heap.table at walk.rest block (sym (report_at-left s heap at lines walk sound) ∙ found)
+pub found_first : (s : Shape) (heap : Heap) (at : ℕ) (blocks : List Block) (walk : HasWalked s heap at blocks) (block : Block) → Sound s heap → report_at s heap at ≡ Some block → IsFirst heap.table at walk.rest block
+found_first s heap at blocks walk block sound found = first_left heap.table at walk.rest block (sym (report_at-left s heap at blocks walk sound) ∙ found)
 
 -- a block on the walk has a size, and the zone ends behind it
 pub record EndsBehind (s : Shape) (heap : Heap) (at size : ℕ) : Type 0 where
   pub positive : 0 < size
   pub behind : at + size ≤ address_behind s heap.map
 
-pub block_ends : (s : Shape) (heap : Heap) (at : ℕ) (lines : List BlockLine) (block : Block) → HasWalked s heap at lines → Sound s heap → report_at s heap at ≡ Some block → EndsBehind s heap at block.entry.size
+pub block_ends : (s : Shape) (heap : Heap) (at : ℕ) (blocks : List Block) (block : Block) → HasWalked s heap at blocks → Sound s heap → report_at s heap at ≡ Some block → EndsBehind s heap at block.entry.size
 unfolding AllPositive
-block_ends s heap at lines block walk sound found =
-    let first = found_first s heap at lines walk block sound found in
+block_ends s heap at blocks block walk sound found =
+    let first = found_first s heap at blocks walk block sound found in
     let parts : heap.map ≡ walk.before ++ (block.entry ∷ first.others) = walk.parts ∙ ap (λ (m : ZoneMap). walk.before ++ m) first.parts in
     let P : ZoneMap → Type 0 = λ m. AllPositive m in
     let positive : AllPositive (block.entry ∷ first.others) = AllPositive-behind walk.before (block.entry ∷ first.others) (subst P parts (sized s heap sound)) in
@@ -142,19 +140,19 @@ block_ends s heap at lines block walk sound found =
     record { positive = positive.0; behind = omega arith }
 
 -- a walk goes on by one block
-pub HasWalked-step : (s : Shape) (heap : Heap) (at : ℕ) (lines : List BlockLine) (block : Block) → HasWalked s heap at lines → Sound s heap → report_at s heap at ≡ Some block → HasWalked s heap (at + block.entry.size) (lines ++ line_of block ∷ [])
-HasWalked-step s heap at lines block walk sound found =
-    let first = found_first s heap at lines walk block sound found in
+pub HasWalked-step : (s : Shape) (heap : Heap) (at : ℕ) (blocks : List Block) (block : Block) → HasWalked s heap at blocks → Sound s heap → report_at s heap at ≡ Some block → HasWalked s heap (at + block.entry.size) (blocks ++ block ∷ [])
+HasWalked-step s heap at blocks block walk sound found =
+    let first = found_first s heap at blocks walk block sound found in
     let parts : heap.map ≡ walk.before ++ (block.entry ∷ first.others) = walk.parts ∙ ap (λ (m : ZoneMap). walk.before ++ m) first.parts in
     let more : total_size (walk.before ++ block.entry ∷ []) ≡ total_size walk.before + (block.entry.size + 0) = total_size-append walk.before (block.entry ∷ []) in
     let here : at ≡ address_behind s walk.before = walk.here in
-    let line : line_of block ≡ line_of (report heap.table (address_behind s [] + total_size walk.before) block.entry) = ap line_of (first.is ∙ ap (λ n. report heap.table n block.entry) (omega arith)) in
+    let here_is : block ≡ report heap.table (address_behind s [] + total_size walk.before) block.entry = first.is ∙ ap (λ n. report heap.table n block.entry) (omega arith) in
     record {
       before = walk.before ++ block.entry ∷ [];
       rest = first.others;
       parts = parts ∙ sym (append_assoc walk.before (block.entry ∷ []) first.others);
       here = omega arith;
-      shown = ap (λ (front : List BlockLine). front ++ line_of block ∷ []) walk.shown
-          ∙ ap (λ (l : BlockLine). map line_of (reports_from heap.table (address_behind s []) walk.before) ++ l ∷ []) line
-          ∙ sym (ap (λ (bs : List Block). map line_of bs) (reports_from-push heap.table (address_behind s []) walk.before block.entry) ∙ map-append line_of (reports_from heap.table (address_behind s []) walk.before) _);
+      shown = ap (λ (front : List Block). front ++ block ∷ []) walk.shown
+          ∙ ap (λ (b : Block). reports_from heap.table (address_behind s []) walk.before ++ b ∷ []) here_is
+          ∙ sym (reports_from-push heap.table (address_behind s []) walk.before block.entry);
     }

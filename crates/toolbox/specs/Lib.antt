@@ -1,3 +1,2 @@
+pub mod ToolState
 pub mod Steps
-pub mod Told
-pub mod ToolCall

@@ -1,10 +1,7 @@
 //! The toolbox over one zone: one call, one reply.
 #![tactic(auto)]
 
-mod call;
-mod reply;
+mod memory;
 mod toolbox;
 
-pub use call::Call;
-pub use reply::{BlockKind, BlockLine, BlockLines, Outcome, Reply, Results};
 pub use toolbox::Toolbox;

@@ -2,6 +2,7 @@
 use Rattle.std.proofs.Common.{◌≡◌, ℕ, ◌+◌, ◌-◌, ◌/◌, ◌≤◌, List, [], ◌∷◌, ◌++◌, length, take, drop, sym, ap, ◌∙◌, arith, append_assoc, length-append, length-drop, drop-drop, take_at, drop_at, take-append-drop, IsTrue}
 use Rattle.std.specs.Prelude.{◌&&◌, ◌==◌, ◌%◌, nat_le}
 use Rattle.std.specs.List.{list_all}
+use Rattle.std.proofs.Math.ListN.{set}
 use Rattle.mac_base.specs.declared.block.HeadKind.{HeadKind}
 use Rattle.mac_base.specs.HeadKind.{head_size, smallest_block, zone_header}
 use Rattle.mac_base.specs.ZoneSizes.{ZoneSizes, ArePossible}
@@ -10,36 +11,36 @@ use Rattle.zone_blocks.specs.declared.header.Header.{Header}
 use Rattle.zone_blocks.specs.declared.header.Role.{Role}
 use Rattle.zone_blocks.specs.declared.blocks.Blocks.TheInside.{Inside}
 use Rattle.zone_blocks.specs.Head.{head_bytes}
-use Rattle.zone_blocks.specs.Layout.{Held, Layout, held, body, size_of, total_of, header_of, can_be_told, is_possible, rendered, image_of, with_blocks, with_header, joint_body, address_behind}
-use Rattle.zone_blocks.specs.Starts.{starts_of}
+use Rattle.zone_blocks.specs.Layout.{RawBlock, Layout, raw_block, body, size_of, total_of, header_of, can_be_told, is_possible, rendered, image_of, with_blocks, with_header, joint_body, address_behind}
+use Rattle.zone_blocks.specs.Starts.{mark_in, mark_of, starts_of}
 use Rattle.zone_blocks.specs.Reading.{blocks_in, layout_in, layout_of, IsLayout}
 use Rattle.zone_blocks.proofs.Heads.{length-head_bytes}
 use Rattle.zone_blocks.proofs.Rendered.{total_of-append, written-middle, written-within}
 use Rattle.zone_blocks.proofs.ReadBlocks.{and-true, IsPossible-from, IsRead}
-use Rattle.zone_blocks.proofs.Starts.{mark-set, mark-cleared}
+use Rattle.zone_blocks.proofs.Starts.{mark-written, mark-set, mark-cleared}
 use Rattle.zone_blocks.proofs.Parts.{front, rear, head, image-parts, length-front, length-header, IsIn, IsIn-from, possible-with, possible-more, marked-parts, marked-same, changed}
 
 -- the bytes of a body taken apart are that body
-pub body-held : (role : Role) (n : ℕ) (bytes : List ℕ) → body (held role n bytes) ≡ bytes
-body-held role n bytes = take-append-drop n bytes
+pub body-raw_block : (role : Role) (n : ℕ) (bytes : List ℕ) → body (raw_block role n bytes) ≡ bytes
+body-raw_block role n bytes = take-append-drop n bytes
 
 -- the size of a block by its body
-pub size-body : (heads : HeadKind) (b : Held) → size_of heads b ≡ head_size heads + length (body b)
+pub size-body : (heads : HeadKind) (b : RawBlock) → size_of heads b ≡ head_size heads + length (body b)
 size-body heads b = let e = length-append b.contents b.slack in omega arith
 
 -- the size of a block with this body
-pub size-held : (heads : HeadKind) (role : Role) (n : ℕ) (bytes : List ℕ) → size_of heads (held role n bytes) ≡ head_size heads + length bytes
-size-held heads role n bytes = size-body heads (held role n bytes) ∙ ap (λ (l : List ℕ). head_size heads + length l) (body-held role n bytes)
+pub size-raw_block : (heads : HeadKind) (role : Role) (n : ℕ) (bytes : List ℕ) → size_of heads (raw_block role n bytes) ≡ head_size heads + length bytes
+size-raw_block heads role n bytes = size-body heads (raw_block role n bytes) ∙ ap (λ (l : List ℕ). head_size heads + length l) (body-raw_block role n bytes)
 
 -- its header
-pub header-held : (heads : HeadKind) (role : Role) (n size : ℕ) (bytes : List ℕ) → size ≡ head_size heads + length bytes
-    → record { size = size; role = role; correction = size - head_size heads - n } ≡ header_of heads (held role n bytes)
-header-held heads role n size bytes is = let e = size-held heads role n bytes in let e' = length-drop n bytes in
-    let a : size ≡ size_of heads (held role n bytes) = omega arith in let b : size - head_size heads - n ≡ length (drop n bytes) = omega arith in
+pub header-raw_block : (heads : HeadKind) (role : Role) (n size : ℕ) (bytes : List ℕ) → size ≡ head_size heads + length bytes
+    → record { size = size; role = role; correction = size - head_size heads - n } ≡ header_of heads (raw_block role n bytes)
+header-raw_block heads role n size bytes is = let e = size-raw_block heads role n bytes in let e' = length-drop n bytes in
+    let a : size ≡ size_of heads (raw_block role n bytes) = omega arith in let b : size - head_size heads - n ≡ length (drop n bytes) = omega arith in
     λ i. record { size = a i; role = role; correction = b i }
 
 -- a header that is written over another
-pub head-written : (z : Inside) (before : List Held) (old : Header) (bytes : List ℕ) → length (layout_of z).header ≡ zone_header
+pub head-written : (z : Inside) (before : List RawBlock) (old : Header) (bytes : List ℕ) → length (layout_of z).header ≡ zone_header
     → z.memory ≡ front (layout_of z) before ++ (head_bytes z.spec.heads z.spec.base old ++ bytes)
     → (place : ℕ) (heads : HeadKind) (base : ℕ) (new h : Header) → place ≡ zone_header + total_of z.spec.heads before → heads ≡ z.spec.heads → base ≡ z.spec.base → new ≡ h
     → written z.memory place (head_bytes heads base new) ≡ front (layout_of z) before ++ (head_bytes z.spec.heads z.spec.base h ++ bytes)
@@ -49,29 +50,31 @@ head-written z before old bytes long is place heads base new h here heads_is bas
     (λ i. written (is i) place (head_bytes (heads_is i) (base_is i) (new_is i)))
     ∙ written-middle (front (layout_of z) before) (head_bytes z.spec.heads z.spec.base old) bytes (head_bytes z.spec.heads z.spec.base h) place (omega arith) (omega arith)
 
-module _ (z : Inside) (whole : IsLayout z) (small : ArePossible z.spec) (before : List Held) (here : Held) (behind : List Held) (is : (layout_of z).blocks ≡ before ++ here ∷ behind) where
+module _ (z : Inside) (whole : IsLayout z) (small : ArePossible z.spec) (before : List RawBlock) (here : RawBlock) (behind : List RawBlock) (is : (layout_of z).blocks ≡ before ++ here ∷ behind) where
   -- the block is in the list
   inside : IsIn z before here behind
   inside = IsIn-from z whole before here behind is
 
   -- another header for the same body
-  pub head-changed : (b : Held) (memory : List ℕ) → body b ≡ body here → IsTrue (is_possible z.spec.heads b)
+  pub head-changed : (b : RawBlock) (memory index : List ℕ) → body b ≡ body here → IsTrue (is_possible z.spec.heads b)
       → memory ≡ front (layout_of z) before ++ (head (layout_of z) b ++ (body here ++ rear (layout_of z) behind))
-      → IsRead (record z { memory = memory }) (with_blocks (before ++ b ∷ behind) (layout_of z))
-  head-changed b memory same possible bytes =
+      → (place : ℕ) → place ≡ (zone_header + total_of z.spec.heads before) / 4 → index ≡ set z.index place (mark_of z.spec.heads b)
+      → IsRead (record z { memory = memory; index = index }) (with_blocks (before ++ b ∷ behind) (layout_of z))
+  head-changed b memory index same possible bytes place there marks =
       let i = inside in let old = size-body z.spec.heads here in let new = size-body z.spec.heads b in let long : length (body b) ≡ length (body here) = ap length same in
       let sum = total_of-append z.spec.heads before (b ∷ behind) in let sum' = i.sum in
-      changed z whole small (before ++ b ∷ behind) memory z.starts
+      changed z whole small (before ++ b ∷ behind) memory index
       (bytes ∙ ap (λ (l : List ℕ). front (layout_of z) before ++ (head (layout_of z) b ++ (l ++ rear (layout_of z) behind))) (sym same) ∙ sym (image-parts (layout_of z) before b behind))
       (omega arith)
       (possible-with z.spec.heads before (b ∷ behind) i.before_possible (possible-more z.spec.heads b behind possible i.behind_possible))
-      (marked-same z whole before here behind is b (omega arith))
+      (marks ∙ ap (λ (ms : List ℕ). set ms place (mark_of z.spec.heads b)) (marked-parts z whole before here behind is)
+      ∙ mark-written (layout_of z) before here b behind i.before_possible (omega arith) place there)
 
   -- bytes written in the contents
   pub contents-changed : (offset place : ℕ) (ws : List ℕ) → place ≡ zone_header + total_of z.spec.heads before + head_size z.spec.heads + offset → offset + length ws ≤ length here.contents
       → IsRead (record z { memory = written z.memory place ws }) (with_blocks (before ++ (record here { contents = written here.contents offset ws }) ∷ behind) (layout_of z))
   contents-changed offset place ws there fits =
-      let i = inside in let l = layout_of z in let cs = written here.contents offset ws in let b : Held = record { role = here.role; contents = cs; slack = here.slack } in
+      let i = inside in let l = layout_of z in let cs = written here.contents offset ws in let b : RawBlock = record { role = here.role; contents = cs; slack = here.slack } in
       let long : length cs ≡ length here.contents = length-written here.contents offset ws in
       let pre = front l before ++ head l here in let post = here.slack ++ rear l behind in
       let e = length-front l before i.header_long in let e' = length-head_bytes z.spec.heads z.spec.base (header_of z.spec.heads here) in let e'' = length-append (front l before) (head l here) in
@@ -84,21 +87,22 @@ module _ (z : Inside) (whole : IsLayout z) (small : ArePossible z.spec) (before 
       ap (λ (m : List ℕ). written m place ws) parts ∙ written-within pre here.contents post place offset ws (omega arith) fits
       ∙ append_assoc (front l before) (head l here) (cs ++ post) ∙ ap (λ (h : List ℕ). front l before ++ (h ++ (cs ++ post))) same
       ∙ ap (λ (m : List ℕ). front l before ++ (head l b ++ m)) (sym (append_assoc cs here.slack (rear l behind))) ∙ sym (image-parts l before b behind) in
-      changed z whole small (before ++ b ∷ behind) (written z.memory place ws) z.starts bytes (omega arith)
+      changed z whole small (before ++ b ∷ behind) (written z.memory place ws) z.index bytes (omega arith)
       (possible-with z.spec.heads before (b ∷ behind) i.before_possible (possible-more z.spec.heads b behind (ap (λ (n : ℕ). (n % 4 == 0) && (nat_le (smallest_block z.spec.heads) n && (nat_le (length here.slack) 15 && can_be_told here.role (length here.slack)))) size ∙ i.is_possible_here) i.behind_possible))
-      (marked-same z whole before here behind is b size)
+      (marked-same z whole before here behind is b size (ap (λ (n : ℕ). mark_in (record { size = n; role = here.role; correction = length here.slack })) size))
 
-module _ (z : Inside) (whole : IsLayout z) (small : ArePossible z.spec) (before : List Held) (here next : Held) (behind : List Held) (is : (layout_of z).blocks ≡ before ++ here ∷ next ∷ behind) where
+module _ (z : Inside) (whole : IsLayout z) (small : ArePossible z.spec) (before : List RawBlock) (here next : RawBlock) (behind : List RawBlock) (is : (layout_of z).blocks ≡ before ++ here ∷ next ∷ behind) where
   -- the first of two neighbours is in the list
   first-inside : IsIn z before here (next ∷ behind)
   first-inside = IsIn-from z whole before here (next ∷ behind) is
 
   -- one header for the bodies of two neighbours
-  pub merge-changed : (b : Held) (memory starts : List ℕ) → body b ≡ joint_body (layout_of z) here next → IsTrue (is_possible z.spec.heads b)
+  pub merge-changed : (b : RawBlock) (memory index : List ℕ) → body b ≡ joint_body (layout_of z) here next → IsTrue (is_possible z.spec.heads b)
       → memory ≡ front (layout_of z) before ++ (head (layout_of z) b ++ (body here ++ rear (layout_of z) (next ∷ behind)))
-      → (place : ℕ) → place ≡ (zone_header + total_of z.spec.heads before + size_of z.spec.heads here) / 4 → starts ≡ written z.starts place (0 ∷ [])
-      → IsRead (record z { memory = memory; starts = starts }) (with_blocks (before ++ b ∷ behind) (layout_of z))
-  merge-changed b memory starts same possible bytes place there marks =
+      → (place next_place : ℕ) → place ≡ (zone_header + total_of z.spec.heads before) / 4 → next_place ≡ (zone_header + total_of z.spec.heads before + size_of z.spec.heads here) / 4
+      → index ≡ set (set z.index place (mark_of z.spec.heads b)) next_place 0
+      → IsRead (record z { memory = memory; index = index }) (with_blocks (before ++ b ∷ behind) (layout_of z))
+  merge-changed b memory index same possible bytes place next_place there there' marks =
       let i = first-inside in let l = layout_of z in
       let long : length (body b) ≡ length (joint_body l here next) = ap length same in
       let e = length-append (body here) (head l next ++ body next) in let e' = length-append (head l next) (body next) in let e'' = length-head_bytes z.spec.heads z.spec.base (header_of z.spec.heads next) in
@@ -106,16 +110,16 @@ module _ (z : Inside) (whole : IsLayout z) (small : ArePossible z.spec) (before 
       let sum = total_of-append z.spec.heads before (b ∷ behind) in let sum' = i.sum in
       let joint : body here ++ rear l (next ∷ behind) ≡ joint_body l here next ++ rear l behind = simp append_assoc in
       let rest = and-true (is_possible z.spec.heads next) (list_all (is_possible z.spec.heads) behind) i.behind_possible in
-      changed z whole small (before ++ b ∷ behind) memory starts
+      changed z whole small (before ++ b ∷ behind) memory index
       (bytes ∙ ap (λ (m : List ℕ). front l before ++ (head l b ++ m)) (joint ∙ ap (λ (m : List ℕ). m ++ rear l behind) (sym same)) ∙ sym (image-parts l before b behind))
       (omega arith)
       (possible-with z.spec.heads before (b ∷ behind) i.before_possible
       (possible-more z.spec.heads b behind possible rest.1))
-      (marks ∙ ap (λ (ms : List ℕ). written ms place (0 ∷ [])) (marked-parts z whole before here (next ∷ behind) is)
-      ∙ mark-cleared l before b here next behind (omega arith) i.before_possible i.here_possible (IsPossible-from z.spec.heads next rest.0) place there)
+      (marks ∙ ap (λ (ms : List ℕ). set (set ms place (mark_of z.spec.heads b)) next_place 0) (marked-parts z whole before here (next ∷ behind) is)
+      ∙ mark-cleared l before b here next behind (omega arith) i.before_possible i.here_possible (IsPossible-from z.spec.heads next rest.0) place next_place there there')
 
-module _ (z : Inside) (whole : IsLayout z) (small : ArePossible z.spec) (before : List Held) (here : Held) (behind : List Held) (is : (layout_of z).blocks ≡ before ++ here ∷ behind)
-    (first second : Held) (cut : List ℕ) (apart : body here ≡ body first ++ (cut ++ body second)) (cut-long : length cut ≡ head_size z.spec.heads) where
+module _ (z : Inside) (whole : IsLayout z) (small : ArePossible z.spec) (before : List RawBlock) (here : RawBlock) (behind : List RawBlock) (is : (layout_of z).blocks ≡ before ++ here ∷ behind)
+    (first second : RawBlock) (cut : List ℕ) (apart : body here ≡ body first ++ (cut ++ body second)) (cut-long : length cut ≡ head_size z.spec.heads) where
   -- a header within a body, behind another header for it
   pub split-written : (place : ℕ) → place ≡ zone_header + total_of z.spec.heads before + size_of z.spec.heads first
       → written (front (layout_of z) before ++ (head (layout_of z) first ++ (body here ++ rear (layout_of z) behind))) place (head (layout_of z) second)
@@ -132,24 +136,25 @@ module _ (z : Inside) (whole : IsLayout z) (small : ArePossible z.spec) (before 
       ∙ written-middle pre cut (body second ++ rear l behind) (head l second) place (omega arith) (omega arith) ∙ simp append_assoc
 
   -- two headers for one body
-  pub split-changed : (memory starts : List ℕ) → IsTrue (is_possible z.spec.heads first) → IsTrue (is_possible z.spec.heads second)
+  pub split-changed : (memory index : List ℕ) → IsTrue (is_possible z.spec.heads first) → IsTrue (is_possible z.spec.heads second)
       → memory ≡ front (layout_of z) before ++ (head (layout_of z) first ++ (body first ++ (head (layout_of z) second ++ (body second ++ rear (layout_of z) behind))))
-      → (place : ℕ) → place ≡ (zone_header + total_of z.spec.heads before + size_of z.spec.heads first) / 4 → starts ≡ written z.starts place (1 ∷ [])
-      → IsRead (record z { memory = memory; starts = starts }) (with_blocks (before ++ first ∷ second ∷ behind) (layout_of z))
-  split-changed memory starts possible possible' bytes place there marks =
+      → (place next : ℕ) → place ≡ (zone_header + total_of z.spec.heads before) / 4 → next ≡ (zone_header + total_of z.spec.heads before + size_of z.spec.heads first) / 4
+      → index ≡ set (set z.index place (mark_of z.spec.heads first)) next (mark_of z.spec.heads second)
+      → IsRead (record z { memory = memory; index = index }) (with_blocks (before ++ first ∷ second ∷ behind) (layout_of z))
+  split-changed memory index possible possible' bytes place next there there' marks =
       let i = IsIn-from z whole before here behind is in let l = layout_of z in
       let long : length (body here) ≡ length (body first ++ (cut ++ body second)) = ap length apart in
       let e = length-append (body first) (cut ++ body second) in let e' = length-append cut (body second) in
       let old = size-body z.spec.heads here in let one = size-body z.spec.heads first in let two = size-body z.spec.heads second in
       let sum = total_of-append z.spec.heads before (first ∷ second ∷ behind) in let sum' = i.sum in
       let parts : body first ++ rear l (second ∷ behind) ≡ body first ++ (head l second ++ (body second ++ rear l behind)) = simp append_assoc in
-      changed z whole small (before ++ first ∷ second ∷ behind) memory starts
+      changed z whole small (before ++ first ∷ second ∷ behind) memory index
       (bytes ∙ ap (λ (m : List ℕ). front l before ++ (head l first ++ m)) (sym parts) ∙ sym (image-parts l before first (second ∷ behind)))
       (omega arith)
       (possible-with z.spec.heads before (first ∷ second ∷ behind) i.before_possible
       (possible-more z.spec.heads first (second ∷ behind) possible (possible-more z.spec.heads second behind possible' i.behind_possible)))
-      (marks ∙ ap (λ (ms : List ℕ). written ms place (1 ∷ [])) (marked-parts z whole before here behind is)
-      ∙ mark-set l before here first second behind (omega arith) i.before_possible (IsPossible-from z.spec.heads first possible) (IsPossible-from z.spec.heads second possible') place there)
+      (marks ∙ ap (λ (ms : List ℕ). set (set ms place (mark_of z.spec.heads first)) next (mark_of z.spec.heads second)) (marked-parts z whole before here behind is)
+      ∙ mark-set l before here first second behind (omega arith) i.before_possible (IsPossible-from z.spec.heads first possible) (IsPossible-from z.spec.heads second possible') place next there there')
 
 -- the zone that bytes are read as, with another header in front
 layout_in-header : (spec : ZoneSizes) (end : ℕ) (old new bytes : List ℕ) → length old ≡ zone_header → length new ≡ zone_header → zone_header ≤ end

@@ -4,7 +4,7 @@ use Rattle.mac_base.specs.HeadKind.{head_size, zone_header}
 use Rattle.zone_blocks.specs.Head.{head_bytes}
 use Rattle.zone_blocks.specs.declared.header.Header.{Header}
 use Rattle.zone_blocks.specs.declared.blocks.Blocks.TheInside.{Inside}
-use Rattle.zone_blocks.specs.Layout.{Held, Layout, BlockAt, CanMerge, held, body, size_of, header_of, joint_body}
+use Rattle.zone_blocks.specs.Layout.{RawBlock, Layout, BlockAt, CanMerge, raw_block, body, size_of, header_of, joint_body}
 use Rattle.zone_blocks.specs.Reading.{layout_of, IsLayout}
 use Rattle.zone_blocks.proofs.Heads.{length-head_bytes}
 use Rattle.zone_blocks.proofs.Rendered.{total_of-append}
@@ -19,7 +19,7 @@ pub record IsHere (z : Inside) (at : ℕ) (h : Header) : Type 0 where
   pub headed : head_size z.spec.heads + h.correction ≤ h.size
   pub within : z.spec.size ≤ z.spec.limit
   pub all_bytes : length z.memory ≡ z.spec.limit
-  pub marks : z.spec.size ≤ 4 * length z.starts
+  pub marks : z.spec.size ≤ 4 * length z.index
 
 -- a block of the list that the fields stand for
 here_itself : (z : Inside) → IsLayout z → (at : ℕ) (h : Header) (b : BlockAt (layout_of z) at) → h ≡ header_of z.spec.heads b.here → IsHere z at h
@@ -47,7 +47,7 @@ abbrev pub first-block : (l : Layout) (at n : ℕ) → CanMerge l at n → Block
 first-block l at n can = record { before = can.before; here = can.here; behind = can.next ∷ can.behind; blocks = can.blocks; place = can.place }
 
 -- the size of a block with the bodies of two neighbours
-pub size-joint : (l : Layout) (b c : Held) → head_size l.heads + length (joint_body l b c) ≡ size_of l.heads b + size_of l.heads c
+pub size-joint : (l : Layout) (b c : RawBlock) → head_size l.heads + length (joint_body l b c) ≡ size_of l.heads b + size_of l.heads c
 size-joint l b c =
     let head = length-head_bytes l.heads l.base (header_of l.heads c) in let first = size-body l.heads b in let second = size-body l.heads c in
     let sum = length-append (body b) (head_bytes l.heads l.base (header_of l.heads c) ++ body c) in let sum' = length-append (head_bytes l.heads l.base (header_of l.heads c)) (body c) in omega arith
@@ -61,6 +61,6 @@ pub record IsMerge (l : Layout) (n : ℕ) (first second : Header) : Type 0 where
 pub IsMerge-from : (l : Layout) (at n : ℕ) (can : CanMerge l at n) (first second : Header) → first ≡ header_of l.heads can.here → second ≡ header_of l.heads can.next → IsMerge l n first second
 IsMerge-from l at n can first second is is' =
     let size : first.size ≡ size_of l.heads can.here = ap (λ (h : Header). h.size) is in let size' : second.size ≡ size_of l.heads can.next = ap (λ (h : Header). h.size) is' in
-    let joint = size-joint l can.here can.next in let p = IsPossible-from l.heads (held can.here.role n (joint_body l can.here can.next)) can.possible in
+    let joint = size-joint l can.here can.next in let p = IsPossible-from l.heads (raw_block can.here.role n (joint_body l can.here can.next)) can.possible in
     let e = length-drop n (joint_body l can.here can.next) in let q = p.few in let within = can.within in
     record { long = omega arith; few = omega arith }

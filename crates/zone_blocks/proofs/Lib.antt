@@ -2,7 +2,8 @@ pub mod Changes
 pub mod Heads
 pub mod Here
 pub mod Holders
-pub mod Lent
+pub mod LowestFree
+pub mod WrittenBack
 pub mod NewZone
 pub mod Parts
 pub mod ReadBlocks

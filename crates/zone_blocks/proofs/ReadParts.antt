@@ -6,13 +6,13 @@ use Rattle.raw_region.specs.Bytes.{part}
 use Rattle.raw_region.proofs.Moved.{part-append-first, part-append-second}
 use Rattle.zone_blocks.specs.declared.blocks.Blocks.TheInside.{Inside}
 use Rattle.zone_blocks.specs.Head.{header_in}
-use Rattle.zone_blocks.specs.Layout.{Held, body, total_of, header_of}
+use Rattle.zone_blocks.specs.Layout.{RawBlock, body, total_of, header_of}
 use Rattle.zone_blocks.specs.Reading.{layout_of, IsLayout}
 use Rattle.zone_blocks.proofs.Heads.{length-head_bytes, header_in-head_bytes}
 use Rattle.zone_blocks.proofs.Rendered.{part-middle}
 use Rattle.zone_blocks.proofs.Parts.{front, rear, head, length-front, IsIn-from}
 
-module _ (z : Inside) (whole : IsLayout z) (before : List Held) (here : Held) (behind : List Held) (is : (layout_of z).blocks ≡ before ++ here ∷ behind) where
+module _ (z : Inside) (whole : IsLayout z) (before : List RawBlock) (here : RawBlock) (behind : List RawBlock) (is : (layout_of z).blocks ≡ before ++ here ∷ behind) where
   -- its header
   pub header-read : ArePossible z.spec → (place : ℕ) → place ≡ zone_header + total_of z.spec.heads before → header_in z.spec.heads (drop place z.memory) ≡ header_of z.spec.heads here
   header-read small place there =

@@ -3,16 +3,16 @@ use Rattle.std.proofs.Common.{◌≡◌, ℕ, zero, suc, ◌+◌, ◌≤◌, Lis
 use Rattle.mac_base.specs.declared.block.HeadKind.{HeadKind}
 use Rattle.raw_region.specs.Bytes.{part, written}
 use Rattle.zone_blocks.specs.Head.{head_bytes}
-use Rattle.zone_blocks.specs.Layout.{Held, total_of, header_of, rendered}
+use Rattle.zone_blocks.specs.Layout.{RawBlock, total_of, header_of, rendered}
 use Rattle.zone_blocks.proofs.Heads.{length-head_bytes}
 
 -- sizes add up
-pub total_of-append : (heads : HeadKind) (xs ys : List Held) → total_of heads (xs ++ ys) ≡ total_of heads xs + total_of heads ys
+pub total_of-append : (heads : HeadKind) (xs ys : List RawBlock) → total_of heads (xs ++ ys) ≡ total_of heads xs + total_of heads ys
 total_of-append heads [] ys = omega arith
 total_of-append heads (b ∷ bs) ys = let more = total_of-append heads bs ys in omega arith
 
 -- a list of blocks has as many bytes as its blocks
-pub length-rendered : (heads : HeadKind) (base : ℕ) (bs : List Held) → length (rendered heads base bs) ≡ total_of heads bs
+pub length-rendered : (heads : HeadKind) (base : ℕ) (bs : List RawBlock) → length (rendered heads base bs) ≡ total_of heads bs
 length-rendered heads base [] = refl
 length-rendered heads base (b ∷ bs) =
     let head = head_bytes heads base (header_of heads b) in let rest = rendered heads base bs in let more = length-rendered heads base bs in
@@ -20,7 +20,7 @@ length-rendered heads base (b ∷ bs) =
     let long = length-head_bytes heads base (header_of heads b) in omega arith
 
 -- the bytes of two lists of blocks, one behind the other
-pub rendered-append : (heads : HeadKind) (base : ℕ) (xs ys : List Held) → rendered heads base (xs ++ ys) ≡ rendered heads base xs ++ rendered heads base ys
+pub rendered-append : (heads : HeadKind) (base : ℕ) (xs ys : List RawBlock) → rendered heads base (xs ++ ys) ≡ rendered heads base xs ++ rendered heads base ys
 rendered-append heads base [] ys = refl
 rendered-append heads base (b ∷ bs) ys =
     ap (λ (l : List ℕ). head_bytes heads base (header_of heads b) ++ (b.contents ++ (b.slack ++ l))) (rendered-append heads base bs ys) ∙ simp append_assoc

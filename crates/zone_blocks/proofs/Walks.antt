@@ -8,9 +8,9 @@ use Rattle.byteorder.specs.Numbers.{big_from-take}
 use Rattle.mac_base.specs.declared.block.HeadKind.{HeadKind}
 use Rattle.mac_base.specs.declared.block.HeadKind.TheVariants.{Bits24}
 use Rattle.mac_base.specs.HeadKind.{head_size, smallest_block}
-use Rattle.mac_base.proofs.Maps.{both_true}
+use Rattle.zone_laws.proofs.Maps.{both_true}
 use Rattle.zone_blocks.specs.Head.{head_bytes, header_in}
-use Rattle.zone_blocks.specs.Layout.{Held, size_of, total_of, header_of, is_possible, can_be_told, rendered}
+use Rattle.zone_blocks.specs.Layout.{RawBlock, size_of, total_of, header_of, is_possible, can_be_told, rendered}
 use Rattle.zone_blocks.specs.Walk.{size_at, is_block, Follows}
 use Rattle.zone_blocks.proofs.Heads.{header_in-head_bytes, length-head_bytes}
 
@@ -19,7 +19,7 @@ size-header : (heads : HeadKind) (image : List ℕ) (at : ℕ) → size_at heads
 size-header Bits24 image at = ap (λ n. n % 0x100_0000) (big_from-take 0 4 4 (drop at image) (omega arith))
 
 -- the first of some blocks says its size
-first_size : (heads : HeadKind) (base : ℕ) (pre rest : List ℕ) (b : Held) (at : ℕ) → at ≡ length pre → size_of heads b < 2 ^ 24 → base < 2 ^ 32 → is_possible heads b ≡ true
+first_size : (heads : HeadKind) (base : ℕ) (pre rest : List ℕ) (b : RawBlock) (at : ℕ) → at ≡ length pre → size_of heads b < 2 ^ 24 → base < 2 ^ 32 → is_possible heads b ≡ true
     → size_at heads (pre ++ (head_bytes heads base (header_of heads b) ++ rest)) at ≡ size_of heads b
 first_size heads base pre rest b at is small low possible =
     let a = both_true (size_of heads b % 4 == 0) (nat_le (smallest_block heads) (size_of heads b) && (nat_le (length b.slack) 15 && can_be_told b.role (length b.slack))) possible in
@@ -33,7 +33,7 @@ first_size heads base pre rest b at is small low possible =
     few n h = grind (arith, nat_tests)
 
 -- possible blocks behind other bytes follow one another, and end where the bytes do
-pub follows-rendered : (heads : HeadKind) (base : ℕ) (pre : List ℕ) (bs : List Held) (at : ℕ) → at ≡ length pre → total_of heads bs < 2 ^ 24 → base < 2 ^ 32 → list_all (is_possible heads) bs ≡ true
+pub follows-rendered : (heads : HeadKind) (base : ℕ) (pre : List ℕ) (bs : List RawBlock) (at : ℕ) → at ≡ length pre → total_of heads bs < 2 ^ 24 → base < 2 ^ 32 → list_all (is_possible heads) bs ≡ true
     → Follows heads (pre ++ rendered heads base bs) at (map (size_of heads) bs)
 follows-rendered heads base pre [] at is small low possible = is ∙ ap length (sym (append-nil pre))
 follows-rendered heads base pre (b ∷ bs) at is small low possible =

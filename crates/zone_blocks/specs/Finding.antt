@@ -4,7 +4,7 @@ use Rattle.std.specs.List.{list_all}
 use Rattle.mac_base.specs.declared.block.HeadKind.{HeadKind}
 use Rattle.zone_blocks.specs.declared.header.Role.{Role}
 use Rattle.zone_blocks.specs.declared.header.Role.TheVariants.{Free, Fixed, Master, Relocatable}
-use Rattle.zone_blocks.specs.Layout.{Held, Layout, BlockAt, size_of, address_behind}
+use Rattle.zone_blocks.specs.Layout.{RawBlock, Layout, BlockAt, size_of, address_behind}
 
 -- the block at `start` has the byte at an address, in its header or behind it
 pub record HoldsByte (l : Layout) (at start : ℕ) : Type 0 where
@@ -24,7 +24,7 @@ is_free Master = false
 is_free (Relocatable slot) = false
 
 -- whether a block is free and has so many bytes, its header among them
-abbrev pub has_room : HeadKind → ℕ → Held → Bool
+abbrev pub has_room : HeadKind → ℕ → RawBlock → Bool
 has_room heads k b = is_free b.role && nat_le k (size_of heads b)
 
 -- the block at an address is the lowest free one with so many bytes

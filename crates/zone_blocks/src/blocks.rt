@@ -13,6 +13,7 @@ use crate::memory::Memory;
 use mac_base::error::HostFull;
 use mac_base::size::ZONE_HEADER;
 use mac_base::zone_spec::ZoneSpec;
+use place_numbers::Numbers;
 use std::alloc::Global;
 use std::marker::Model;
 
@@ -23,8 +24,8 @@ use std::marker::Model;
 pub struct Blocks {
     spec: ZoneSpec,
     memory: Memory,
-    /// For each four bytes of the zone one byte: 1 where a block's header begins with them, or else 0.
-    starts: Memory,
+    /// For each four bytes of the zone a number: where a block begins with them its size if it is free, and else 1; or 0.
+    index: Numbers,
 }
 
 impl Model for Blocks {
@@ -48,9 +49,9 @@ impl Blocks {
     ghost use Rattle.mac_base.specs.ZoneSizes.{shape_of};
     ghost use Rattle.raw_region.specs.Bytes.{part, written};
     ghost use Rattle.zone_blocks.specs.declared.header.Role.TheVariants.{Free};
-    ghost use Rattle.zone_blocks.specs.Layout.{Held, Layout, BlockAt, WordAt, CanBe, CanResize, CanSplit, CanMerge, front_of, rest_of, with_word, cleared, cleared_from, CanClear, body, held, free_held, size_of, header_of, is_possible, joint_body, zone_bytes, with_blocks, with_header, address_behind};
+    ghost use Rattle.zone_blocks.specs.Layout.{RawBlock, Layout, BlockAt, WordAt, CanBe, CanResize, CanSplit, CanMerge, front_of, rest_of, with_word, cleared, cleared_from, CanClear, body, raw_block, free_raw_block, size_of, header_of, is_possible, joint_body, zone_bytes, with_blocks, with_header, address_behind};
     ghost use Rattle.zone_blocks.specs.Finding.{HoldsByte, LiesOutside, LowestFree, NoneFree};
-    ghost use Rattle.zone_blocks.specs.Lending.{LendsContents};
+    ghost use Rattle.zone_blocks.specs.WritingBack.{WritesBackContents};
     ghost use Rattle.zone_blocks.specs.NewLayout.{new_layout};
     ghost use Rattle.zone_blocks.specs.Walk.{Walks};
 
@@ -60,18 +61,18 @@ impl Blocks {
     {
         let heads = spec.heads();
         let mut memory = Memory::create(alloc, spec.limit() as usize)?;
-        let mut starts = Memory::create(alloc, spec.limit() as usize / 4)?;
+        let mut index = Numbers::create(alloc, spec.limit() as usize / 4)?;
         let free = Header {
             size: spec.size() - ZONE_HEADER,
             role: Role::Free,
             correction: 0,
         };
         memory.set_header(heads, ZONE_HEADER as usize, spec.base(), free);
-        starts.set_byte(ZONE_HEADER as usize / 4, 1);
+        index.set(ZONE_HEADER as usize / 4, free.size);
         Ok(Blocks {
             spec,
             memory,
-            starts,
+            index,
         })
     }
 
@@ -127,7 +128,7 @@ impl Blocks {
             return false;
         }
         let offset = at - base;
-        offset < self.spec.size() && offset % 4 == 0 && self.starts.byte(offset as usize / 4) == 1
+        offset < self.spec.size() && offset % 4 == 0 && self.index.get(offset as usize / 4) != 0
     }
 
     /// What the header of the block at an address says.
@@ -151,8 +152,8 @@ impl Blocks {
     }
 
     /// The address of the block that a byte of the zone is part of, its header's bytes among them. There is none where
-    /// the byte lies before the first block or behind the last. No header is read: the search goes down from the byte,
-    /// four bytes at a time, to the first at which a block starts.
+    /// the byte lies before the first block or behind the last. No header is read: the index tells the last place up to
+    /// the byte at which a block begins.
     pub fn holder(&self, at: u32) -> Option<u32>
         ensures holds { IfSome result (λ start. HoldsByte self.now at start) }
         ensures outside { IfNone result (LiesOutside self.now at) }
@@ -161,35 +162,26 @@ impl Blocks {
         if at < first || self.end() <= at {
             return None;
         }
-        let mut start = at - at % 4;
-        while !self.is_block(start) {
-            start -= 4;
-        }
-        Some(start)
+        let offset = at - self.spec.base();
+        let place = self.index.last_at_least(1, offset as usize / 4 + 1)?;
+        Some(self.spec.base() + 4 * place as u32)
     }
 
-    /// The address of the lowest free block of at least so many bytes, its header among them.
+    /// The address of the lowest free block of at least so many bytes, its header among them. No header is read: the
+    /// index tells the first place whose number is as large, and no free block has a size below 2.
     pub fn lowest_free(&self, needed: u32) -> Option<u32>
         ensures lowest { IfSome result (λ at. LowestFree self.now needed at) }
         ensures none { IfNone result (NoneFree self.now needed) }
     {
-        let mut at = self.spec.base() + ZONE_HEADER;
-        let end = self.end();
-        while at < end {
-            let header = self.entry_at(at);
-            if header.role == Role::Free && needed <= header.size {
-                return Some(at);
-            }
-            at += header.size;
-        }
-        None
+        let place = self.index.first_at_least(needed.max(2), 0)?;
+        Some(self.spec.base() + 4 * place as u32)
     }
 
     /// Makes the block at an address one for this, with so many bytes of contents. All bytes behind its header stay.
     pub fn assign(&mut self, at: u32, role: Role, length: u32)
         requires { CanBe self.old at role length }
         ensures { (can : CanBe self.old at role length)
-            → self.new ≡ with_blocks (can.block.before ++ held role length (body can.block.here) ∷ can.block.behind) self.old }
+            → self.new ≡ with_blocks (can.block.before ++ raw_block role length (body can.block.here) ∷ can.block.behind) self.old }
     {
         let size = self.entry_at(at).size;
         let heads = self.spec.heads();
@@ -199,14 +191,15 @@ impl Blocks {
             role,
             correction: size - heads.head_size() - length,
         };
-        self.memory
-            .set_header(heads, (at - base) as usize, base, header);
+        let offset = at - base;
+        self.memory.set_header(heads, offset as usize, base, header);
+        self.index.set(offset as usize / 4, header.mark());
     }
 
     /// Makes the block at an address free. All bytes behind its header stay.
     pub fn set_free(&mut self, at: u32)
         requires { BlockAt self.old at }
-        ensures { (b : BlockAt self.old at) → self.new ≡ with_blocks (b.before ++ free_held (body b.here) ∷ b.behind) self.old }
+        ensures { (b : BlockAt self.old at) → self.new ≡ with_blocks (b.before ++ free_raw_block (body b.here) ∷ b.behind) self.old }
     {
         let length = self.entry_at(at).size - self.spec.heads().head_size();
         self.assign(at, Role::Free, length);
@@ -217,7 +210,7 @@ impl Blocks {
     pub fn resize(&mut self, at: u32, length: u32)
         requires { CanResize self.old at length }
         ensures { (can : CanResize self.old at length)
-            → self.new ≡ with_blocks (can.block.before ++ held can.block.here.role length (body can.block.here) ∷ can.block.behind) self.old }
+            → self.new ≡ with_blocks (can.block.before ++ raw_block can.block.here.role length (body can.block.here) ∷ can.block.behind) self.old }
     {
         let role = self.entry_at(at).role;
         self.assign(at, role, length);
@@ -246,7 +239,8 @@ impl Blocks {
         let second = offset + size as usize;
         self.memory.set_header(heads, offset, base, front);
         self.memory.set_header(heads, second, base, rest);
-        self.starts.set_byte(second / 4, 1);
+        self.index.set(offset / 4, front.mark());
+        self.index.set(second / 4, rest.size);
     }
 
     /// Makes the block at an address and the one behind it one block, for what the first is for, with so many bytes of
@@ -254,7 +248,7 @@ impl Blocks {
     pub fn merge(&mut self, at: u32, length: u32)
         requires { CanMerge self.old at length }
         ensures { (can : CanMerge self.old at length)
-            → self.new ≡ with_blocks (can.before ++ held can.here.role length (joint_body self.old can.here can.next) ∷ can.behind) self.old }
+            → self.new ≡ with_blocks (can.before ++ raw_block can.here.role length (joint_body self.old can.here can.next) ∷ can.behind) self.old }
     {
         let heads = self.spec.heads();
         let base = self.spec.base();
@@ -267,9 +261,10 @@ impl Blocks {
             role: first.role,
             correction: size - heads.head_size() - length,
         };
-        self.memory
-            .set_header(heads, (at - base) as usize, base, header);
-        self.starts.set_byte((next - base) as usize / 4, 0);
+        let offset = (at - base) as usize;
+        self.memory.set_header(heads, offset, base, header);
+        self.index.set(offset / 4, header.mark());
+        self.index.set((next - base) as usize / 4, 0);
     }
 
     /// The number in 4 bytes of a block's contents.
@@ -304,7 +299,7 @@ impl Blocks {
     /// The contents of the block at an address, to be written.
     pub fn contents_mut(&mut self, at: u32) -> &mut [u8]
         requires block { BlockAt self.old at }
-        ensures* writes_back { sem 𝓛 (LendsContents self.entry at result) }
+        ensures* writes_back { sem 𝓛 (WritesBackContents self.entry at result) }
         ensures value { (b : BlockAt self.old at) → result.now ≡ b.here.contents }
     {
         let header = self.entry_at(at);

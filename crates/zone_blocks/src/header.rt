@@ -72,3 +72,18 @@ pub struct Header {
     pub role: Role,
     pub correction: u32,
 }
+
+impl Header {
+    ghost use Rattle.std.specs.Prelude.{◌≡◌};
+    ghost use Rattle.zone_blocks.specs.Starts.{mark_in};
+
+    /// What the index has at the block's place: its size if it is free, or else 1.
+    pub(crate) fn mark(self) -> u32
+        ensures { result ≡ mark_in self }
+    {
+        match self.role {
+            Role::Free => self.size,
+            Role::Fixed | Role::Master | Role::Relocatable(_) => 1,
+        }
+    }
+}

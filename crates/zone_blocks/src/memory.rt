@@ -1,12 +1,12 @@
 //! The memory of a zone.
 
-ghost use Rattle.std.specs.Prelude.{◌≡◌, ◌+◌, ◌≤◌, ◌<◌, ◌^◌, [], ◌∷◌, length, replicate, drop, slice_index, IfOk};
+ghost use Rattle.std.specs.Prelude.{◌≡◌, ◌+◌, ◌≤◌, ◌<◌, ◌^◌, length, replicate, drop, IfOk};
 ghost use Rattle.std.specs.Borrow.{sem};
 ghost use Rattle.byteorder.specs.Endian.{big_bytes, big_number};
 ghost use Rattle.mac_base.specs.HeadKind.{head_size};
 ghost use Rattle.raw_region.specs.Bytes.{part, written};
 ghost use Rattle.zone_blocks.specs.Head.{head_bytes, header_in};
-ghost use Rattle.zone_blocks.specs.Lending.{LendsPart};
+ghost use Rattle.zone_blocks.specs.WritingBack.{WritesBackPart};
 
 use crate::header::{Header, Role};
 use mac_base::block::HeadKind;
@@ -67,7 +67,7 @@ impl Memory {
     /// The `count` bytes from `at` on, to be written.
     pub fn bytes_mut(&mut self, at: usize, count: usize) -> &mut [u8]
         requires inside { at + count ≤ length self.old }
-        ensures* writes_back { sem 𝓛 (LendsPart self.entry at count result) }
+        ensures* writes_back { sem 𝓛 (WritesBackPart self.entry at count result) }
         ensures value { result.now ≡ part self.old at count }
     {
         self.region.bytes_mut(at, count)
@@ -79,22 +79,6 @@ impl Memory {
         ensures { self.new ≡ written self.old at (replicate count 0) }
     {
         self.region.fill(at, count, 0);
-    }
-
-    /// The byte at `at`.
-    pub fn byte(&self, at: usize) -> u8
-        requires { at + 1 ≤ length self.now }
-        ensures { result ≡ slice_index self.now at }
-    {
-        self.region.get8(at)
-    }
-
-    /// Writes the byte at `at`.
-    pub fn set_byte(&mut self, at: usize, byte: u8)
-        requires { at + 1 ≤ length self.old }
-        ensures { self.new ≡ written self.old at (byte ∷ []) }
-    {
-        self.region.put8(at, byte);
     }
 
     /// The number in the 4 bytes from `at` on.

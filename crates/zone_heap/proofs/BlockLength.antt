@@ -14,9 +14,9 @@ use Rattle.mac_base.specs.HandleTable.{HandleTable, bytes_of, has_block, is_hand
 use Rattle.mac_base.specs.Sound.{Sound}
 use Rattle.mac_base.specs.Suits.{has_length, has_owners_length, wanted_length}
 use Rattle.mac_base.specs.ZoneMap.{ZoneMap, is_free, is_named, sizes, total_size}
-use Rattle.mac_base.proofs.Maps.{both_true}
-use Rattle.mac_base.proofs.SuitsNamed.{named_once}
-use Rattle.mac_base.proofs.Tables.{eqb-true-is}
+use Rattle.zone_laws.proofs.Maps.{both_true}
+use Rattle.zone_laws.proofs.SuitsNamed.{named_once}
+use Rattle.zone_laws.proofs.Tables.{eqb-true-is}
 
 need-more : (heads : HeadKind) (n : ℕ) → n ≤ need heads n
 need-more Bits24 n = omega arith

@@ -7,9 +7,9 @@ use Rattle.mac_base.specs.ZoneMap.{block, contents_of, total_size}
 use Rattle.mac_base.specs.HandleTable.{is_full, is_pointer}
 use Rattle.mac_base.specs.Sound.{Sound}
 use Rattle.mac_base.specs.ZoneState.{ZoneState}
-use Rattle.mac_base.proofs.Maps.{total_size-append}
-use Rattle.mac_base.proofs.ResizedBlocks.{contents_of-At}
-use Rattle.mac_base.proofs.Tables.{eqb_same}
+use Rattle.zone_laws.proofs.Maps.{total_size-append}
+use Rattle.zone_laws.proofs.ResizedBlocks.{contents_of-At}
+use Rattle.zone_laws.proofs.Tables.{eqb_same}
 use Rattle.master_ptrs.specs.Places.{BlockOf}
 use Rattle.zone_heap.proofs.Joining.{large-behind}
 use Rattle.zone_heap.proofs.Places.{all_large, large-sizes, large-first}

@@ -6,7 +6,7 @@ use Rattle.mac_base.specs.declared.block.Kind.TheVariants.{Free}
 use Rattle.mac_base.specs.HeadKind.{smallest_block}
 use Rattle.mac_base.specs.ZoneMap.{block}
 use Rattle.mac_base.specs.ZoneState.{ZoneState}
-use Rattle.mac_base.proofs.Taken.{head-below_smallest}
+use Rattle.zone_laws.proofs.Taken.{head-below_smallest}
 use Rattle.master_ptrs.specs.Changes.{with_map, cut_in_two}
 use Rattle.master_ptrs.specs.Places.{EntryAt, CanCut}
 use Rattle.zone_heap.specs.Joins.{CanTake, with_front}

@@ -11,14 +11,14 @@ use Rattle.mac_base.specs.ZoneMap.{ZoneMap, is_named, joined, released, sizes}
 use Rattle.mac_base.specs.HandleTable.{HandleTable, Live, EmptyHandle, FullHandle, Pointer, live_at, live_full, live_handle, live_pointer, has_block, is_full, is_handle, is_pointer, with_live, without}
 use Rattle.mac_base.specs.Suits.{Suits}
 use Rattle.mac_base.specs.Heap.{Heap}
-use Rattle.mac_base.specs.GrowZone.{heap_released, DisposesHandle, Empties}
+use Rattle.mac_base.specs.Releasing.{heap_released, DisposesHandle, Empties}
 use Rattle.mac_base.specs.Sound.{Sound}
 use Rattle.mac_base.specs.ZoneState.{ZoneState}
-use Rattle.mac_base.proofs.JoinedBlocks.{joined-apart}
-use Rattle.mac_base.proofs.ReleasedBlocks.{marked-none}
-use Rattle.mac_base.proofs.SoundReleased.{sound-disposed}
-use Rattle.mac_base.proofs.SuitsNamed.{length-sizes_of}
-use Rattle.mac_base.proofs.Tables.{live_at-with_live, in_order-with_live, eqb-true-is}
+use Rattle.zone_laws.proofs.JoinedBlocks.{joined-apart}
+use Rattle.zone_laws.proofs.ReleasedBlocks.{marked-none}
+use Rattle.zone_laws.proofs.SoundReleased.{sound-disposed}
+use Rattle.zone_laws.proofs.SuitsNamed.{length-sizes_of}
+use Rattle.zone_laws.proofs.Tables.{live_at-with_live, in_order-with_live, eqb-true-is}
 use Rattle.master_ptrs.specs.Changes.{given_back}
 use Rattle.zone_heap.proofs.Twice.{without-with_live}
 

@@ -12,8 +12,8 @@ use Rattle.mac_base.specs.ZoneMap.{ZoneMap, block, free_block, free_size, is_fre
 use Rattle.mac_base.specs.Serve.{taken, cut, free_in_front, behind_free}
 use Rattle.mac_base.specs.Suits.{is_block_size}
 use Rattle.mac_base.specs.ZoneState.{ZoneState}
-use Rattle.mac_base.proofs.Maps.{total_size-append}
-use Rattle.mac_base.proofs.ResizedBlocks.{free_in_front-is}
+use Rattle.zone_laws.proofs.Maps.{total_size-append}
+use Rattle.zone_laws.proofs.ResizedBlocks.{free_in_front-is}
 use Rattle.master_ptrs.specs.Changes.{enlarged}
 use Rattle.master_ptrs.specs.Places.{EntryAt, CanGrow}
 use Rattle.zone_heap.specs.Placed.{resized_there}

@@ -7,8 +7,8 @@ use Rattle.mac_base.specs.declared.block.Entry.{Entry}
 use Rattle.mac_base.specs.HeadKind.{Shape, smallest_block}
 use Rattle.mac_base.specs.ZoneMap.{ZoneMap, total_size}
 use Rattle.mac_base.specs.Suits.{is_block_size}
-use Rattle.mac_base.proofs.Maps.{both_true, true_both, total_size-append}
-use Rattle.mac_base.proofs.Taken.{head-below_smallest}
+use Rattle.zone_laws.proofs.Maps.{both_true, true_both, total_size-append}
+use Rattle.zone_laws.proofs.Taken.{head-below_smallest}
 
 -- whether each block has bytes
 abbrev pub all_large : ZoneMap → Bool

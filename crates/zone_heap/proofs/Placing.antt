@@ -9,15 +9,14 @@ use Rattle.mac_base.specs.ZoneMap.{ZoneMap, block, has_free}
 use Rattle.mac_base.specs.HandleTable.{HandleTable, EmptyHandle, FullHandle, no_flags, zeros, live_at, with_live}
 use Rattle.mac_base.specs.Suits.{is_block_size, has_length}
 use Rattle.mac_base.specs.Request.{NewBlock}
-use Rattle.mac_base.specs.Heap.{Heap, granted}
+use Rattle.mac_base.specs.Heap.{Heap, granted, has_none}
 use Rattle.mac_base.specs.Serve.{take_lowest, taken}
-use Rattle.mac_base.specs.ExactStep.{has_none}
 use Rattle.mac_base.specs.Sound.{Sound}
 use Rattle.mac_base.specs.ZoneState.{ZoneState}
-use Rattle.mac_base.proofs.Taken.{need-is_size}
-use Rattle.mac_base.proofs.SoundPlaced.{sound-placed}
-use Rattle.mac_base.proofs.SoundWritten.{sound-new_empty}
-use Rattle.mac_base.proofs.Tables.{live_at-with_live_same}
+use Rattle.zone_laws.proofs.Taken.{need-is_size}
+use Rattle.zone_laws.proofs.SoundPlaced.{sound-placed}
+use Rattle.zone_laws.proofs.SoundWritten.{sound-new_empty}
+use Rattle.zone_laws.proofs.Tables.{live_at-with_live_same}
 use Rattle.master_ptrs.specs.Changes.{with_map, pointed}
 use Rattle.master_ptrs.specs.Changes as change
 use Rattle.master_ptrs.specs.Places.{LowestAt, RoomFor}

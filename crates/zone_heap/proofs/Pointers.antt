@@ -13,9 +13,9 @@ use Rattle.mac_base.specs.Heap.{Heap, granted}
 use Rattle.mac_base.specs.Serve.{take_lowest, taken, lowest_before, lowest_contents}
 use Rattle.mac_base.specs.Sound.{Sound}
 use Rattle.mac_base.specs.ZoneState.{ZoneState}
-use Rattle.mac_base.proofs.Maps.{both_true, true_not}
-use Rattle.mac_base.proofs.Taken.{need-is_size}
-use Rattle.mac_base.proofs.SoundPointer.{sound-placed_pointer}
+use Rattle.zone_laws.proofs.Maps.{both_true, true_not}
+use Rattle.zone_laws.proofs.Taken.{need-is_size}
+use Rattle.zone_laws.proofs.SoundPointer.{sound-placed_pointer}
 use Rattle.master_ptrs.specs.Changes.{with_map, fixed}
 use Rattle.master_ptrs.specs.Places.{LowestAt, RoomFor}
 use Rattle.zone_heap.specs.Joins.{CanTake, with_front}

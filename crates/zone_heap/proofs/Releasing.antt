@@ -10,11 +10,11 @@ use Rattle.mac_base.specs.HandleTable.{HandleTable, has_block}
 use Rattle.mac_base.specs.Suits.{Suits, free_apart, is_block_size}
 use Rattle.mac_base.specs.Sound.{Sound}
 use Rattle.mac_base.specs.ZoneState.{ZoneState}
-use Rattle.mac_base.proofs.NamedPlace.{At, At-from}
-use Rattle.mac_base.proofs.ReleasedBlocks.{marked, marked-append, marked-none}
-use Rattle.mac_base.proofs.SuitsNamed.{named_once}
-use Rattle.mac_base.proofs.Tables.{eqb_same}
-use Rattle.mac_base.proofs.Taken.{free_apart-behind, free_apart-replaced}
+use Rattle.zone_laws.proofs.NamedPlace.{At, At-from}
+use Rattle.zone_laws.proofs.ReleasedBlocks.{marked, marked-append, marked-none}
+use Rattle.zone_laws.proofs.SuitsNamed.{named_once}
+use Rattle.zone_laws.proofs.Tables.{eqb_same}
+use Rattle.zone_laws.proofs.Taken.{free_apart-behind, free_apart-replaced}
 use Rattle.master_ptrs.specs.Changes.{freed}
 use Rattle.master_ptrs.specs.Places.{BlockOf, NamedAt}
 use Rattle.zone_heap.specs.Joins.{NewlyFree}

@@ -12,10 +12,10 @@ use Rattle.mac_base.specs.ZoneMap.{ZoneMap, block, free_block, is_free, joined}
 use Rattle.mac_base.specs.Serve.{taken, cut, free_in_front, behind_free}
 use Rattle.mac_base.specs.Suits.{free_apart, starts_free, is_block_size}
 use Rattle.mac_base.specs.ZoneState.{ZoneState}
-use Rattle.mac_base.proofs.Joined.{joined-apart, free_apart-joined, starts_free-joined}
-use Rattle.mac_base.proofs.JoinedBlocks.{joined-front}
-use Rattle.mac_base.proofs.Maps.{both_true, true_both, list_all-middle}
-use Rattle.mac_base.proofs.Taken.{need-is_size, free_apart-behind, free_apart-replaced, starts_free-taken, sizes-taken, head-below_smallest}
+use Rattle.zone_laws.proofs.Joined.{joined-apart, free_apart-joined, starts_free-joined}
+use Rattle.zone_laws.proofs.JoinedBlocks.{joined-front}
+use Rattle.zone_laws.proofs.Maps.{both_true, true_both, list_all-middle}
+use Rattle.zone_laws.proofs.Taken.{need-is_size, free_apart-behind, free_apart-replaced, starts_free-taken, sizes-taken, head-below_smallest}
 use Rattle.master_ptrs.specs.Changes.{held_there}
 use Rattle.master_ptrs.specs.Places.{CanHold}
 use Rattle.zone_heap.specs.Joins.{NewlyFree, all_joined}

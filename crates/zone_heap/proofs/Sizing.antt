@@ -14,14 +14,14 @@ use Rattle.mac_base.specs.Serve.{sized, resized_in_place}
 use Rattle.mac_base.specs.Sound.{Sound}
 use Rattle.mac_base.specs.Suits.{is_block_size, has_length}
 use Rattle.mac_base.specs.ZoneState.{ZoneState}
-use Rattle.mac_base.proofs.GapAppend.{sizes-append}
-use Rattle.mac_base.proofs.Maps.{total_size-append}
-use Rattle.mac_base.proofs.NamedPlace.{At, At-from, size_of-At}
-use Rattle.mac_base.proofs.OpenedGap.{resized_in_place-At}
-use Rattle.mac_base.proofs.PlacedParts.{option_map-Some}
-use Rattle.mac_base.proofs.SoundResized.{sound-resized}
-use Rattle.mac_base.proofs.SuitsNamed.{named_once}
-use Rattle.mac_base.proofs.Taken.{need-is_size, head-below_smallest}
+use Rattle.zone_laws.proofs.GapAppend.{sizes-append}
+use Rattle.zone_laws.proofs.Maps.{total_size-append}
+use Rattle.zone_laws.proofs.NamedPlace.{At, At-from, size_of-At}
+use Rattle.zone_laws.proofs.OpenedGap.{resized_in_place-At}
+use Rattle.zone_laws.proofs.PlacedParts.{option_map-Some}
+use Rattle.zone_laws.proofs.SoundResized.{sound-resized}
+use Rattle.zone_laws.proofs.SuitsNamed.{named_once}
+use Rattle.zone_laws.proofs.Taken.{need-is_size, head-below_smallest}
 use Rattle.master_ptrs.specs.Places.{EntryAt, NamedAt, CanFront}
 use Rattle.zone_heap.specs.Placed.{resized_there}
 use Rattle.zone_heap.proofs.Cutting.{rest_size}

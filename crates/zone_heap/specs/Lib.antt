@@ -1,4 +1,4 @@
 pub mod Joins
-pub mod LendingBytes
+pub mod WritingBack
 pub mod Placed
 pub mod Zone

@@ -59,6 +59,10 @@ fn a_locked_handle_is_marked_in_its_slot(rt: HostRuntime) {
         purge: false,
         resource: false,
     };
+    assert!(rt;
+        zone.is_live(handle) && zone.has_block(handle.number()),
+        "it has a block"
+    );
     zone.set_flags(handle, flags);
     let mut image = expected();
     put(&mut image, 0x3c, 0x8010_0144);

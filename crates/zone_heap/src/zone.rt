@@ -41,15 +41,15 @@ impl Zone {
     ghost use Rattle.mac_base.specs.BlockStatus.{status_of};
     ghost use Rattle.mac_base.specs.HandleTable.{has_block, is_full, is_handle, is_pointer, bytes_of, flags_of, with_flags};
     ghost use Rattle.mac_base.specs.Heap.{new_heap, with_table};
-    ghost use Rattle.mac_base.specs.MemoryCall.{max_size};
+    ghost use Rattle.mac_base.specs.HeadKind.{max_size};
     ghost use Rattle.mac_base.specs.Sound.{Sound};
-    ghost use Rattle.mac_base.specs.GrowZone.{heap_released, DisposesHandle, DisposesPtr, Empties};
+    ghost use Rattle.mac_base.specs.Releasing.{heap_released, DisposesHandle, DisposesPtr, Empties};
     ghost use Rattle.mac_base.specs.ZoneSizes.{shape_of};
     ghost use Rattle.zone_heap.specs.Placed.{placed_lowest, placed_empty, placed_pointer, resized_there};
-    ghost use Rattle.mac_base.specs.Reply.{report_at};
+    ghost use Rattle.mac_base.specs.BlockReport.{report_at};
     ghost use Rattle.master_ptrs.specs.Image.{IsImage};
     ghost use Rattle.zone_blocks.specs.Walk.{Walks};
-    ghost use Rattle.zone_heap.specs.LendingBytes.{LendsBytes};
+    ghost use Rattle.zone_heap.specs.WritingBack.{WritesBackBytes};
 
     /// A new zone: a master block with 64 free slots, and one free block.
     pub fn create(alloc: Global, spec: ZoneSpec) -> Result<Zone, HostFull>
@@ -245,7 +245,7 @@ impl Zone {
     /// The bytes of a handle or a pointer that has a block, to be written.
     pub fn bytes_mut(&mut self, block: u32) -> &mut [u8]
         requires full { status_of self.old.heap.table block ≡ Status.Full }
-        ensures* writes_back { sem 𝓛 (LendsBytes self.entry block result) }
+        ensures* writes_back { sem 𝓛 (WritesBackBytes self.entry block result) }
         ensures value { result.now ≡ bytes_of self.old.heap.table block }
     {
         self.pointers.contents_mut(block)

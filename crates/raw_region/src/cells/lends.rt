@@ -4,7 +4,7 @@ ghost use Rattle.std.specs.Prelude.{◌≡◌, ◌+◌, ◌≤◌, length};
 ghost use Rattle.std.specs.Borrow.{sem};
 ghost use Rattle.raw_region.specs.Bytes.{part};
 ghost use Rattle.raw_region.specs.Span.{IsFree};
-ghost use Rattle.raw_region.specs.CellsLending.{LendsPart};
+ghost use Rattle.raw_region.specs.CellsWritingBack.{WritesBackPart};
 
 use super::Cells;
 use std::slice;
@@ -30,7 +30,7 @@ impl Cells {
     pub(crate) fn bytes_mut(&mut self, at: usize, n: usize) -> &mut [u8]
         requires inside { at + n ≤ length self.old.bytes }
         requires free { IsFree self.old.lent at n }
-        ensures* writes_back { sem 𝓛 (LendsPart self.entry at n result) }
+        ensures* writes_back { sem 𝓛 (WritesBackPart self.entry at n result) }
         ensures value { result.now ≡ part self.old.bytes at n }
     {
         unsafe { slice::from_raw_parts_mut(self.at.add(at), n) }

@@ -2,7 +2,7 @@
 
 ghost use Rattle.std.specs.Prelude.{◌≡◌, length};
 ghost use Rattle.std.specs.Borrow.{sem};
-ghost use Rattle.raw_region.specs.Lending.{LendsLoan};
+ghost use Rattle.raw_region.specs.WritingBack.{WritesBackLoan};
 
 use super::Lent;
 
@@ -24,7 +24,7 @@ impl Lent {
 
     /// The bytes, to be written. What is written stands in the region once the range is given back.
     pub fn bytes_mut(&mut self) -> &mut [u8]
-        ensures* writes_back { sem 𝓛 (LendsLoan self.entry result) }
+        ensures* writes_back { sem 𝓛 (WritesBackLoan self.entry result) }
         ensures value { result.now ≡ self.old.bytes }
     {
         let n = self.cells.len();

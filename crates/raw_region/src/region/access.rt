@@ -5,7 +5,7 @@ ghost use Rattle.std.specs.Borrow.{sem};
 ghost use Rattle.byteorder.specs.Endian.{big_bytes, big_number};
 ghost use Rattle.raw_region.specs.Bytes.{part, written};
 ghost use Rattle.raw_region.specs.Span.{IsFree};
-ghost use Rattle.raw_region.specs.Lending.{LendsBytes};
+ghost use Rattle.raw_region.specs.WritingBack.{WritesBackBytes};
 
 use super::Region;
 use byteorder::{BigEndian, ByteOrder};
@@ -34,7 +34,7 @@ impl Region {
     pub fn bytes_mut(&mut self, at: usize, n: usize) -> &mut [u8]
         requires inside { at + n ≤ length self.old.bytes }
         requires free { IsFree self.old.lent at n }
-        ensures* writes_back { sem 𝓛 (LendsBytes self.entry at n result) }
+        ensures* writes_back { sem 𝓛 (WritesBackBytes self.entry at n result) }
         ensures value { result.now ≡ part self.old.bytes at n }
         ensures len { length result.now ≡ n }
     {

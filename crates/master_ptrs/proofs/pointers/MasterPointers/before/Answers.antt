@@ -1,5 +1,5 @@
 use Rattle.std.proofs.lemmas.Option.{IfSome_then}
-use Rattle.master_ptrs.proofs.Held.{held-now}
+use Rattle.master_ptrs.proofs.Standing.{held-now}
 use Rattle.master_ptrs.proofs.Located.{of-block}
 use Rattle.master_ptrs.proofs.Looking.{IfNone_then, ends-there, nothing-before}
 use Rattle.master_ptrs.proofs.pointers.MasterPointers.before.Goals as goal

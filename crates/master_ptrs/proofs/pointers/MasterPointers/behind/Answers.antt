@@ -1,6 +1,6 @@
 use Rattle.std.proofs.Common.{◌+◌, ◌∙◌, ap}
 use Rattle.std.proofs.lemmas.Option.{IfSome_then}
-use Rattle.master_ptrs.proofs.Held.{held-now}
+use Rattle.master_ptrs.proofs.Standing.{held-now}
 use Rattle.master_ptrs.proofs.Located.{of-entry, of-block}
 use Rattle.master_ptrs.proofs.Looking.{IfNone_then, size-is, nothing-behind}
 use Rattle.master_ptrs.proofs.pointers.MasterPointers.behind.Goals as goal

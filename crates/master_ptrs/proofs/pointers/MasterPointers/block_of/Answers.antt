@@ -4,7 +4,7 @@ use Rattle.mac_base.specs.ZoneMap.{contents_of}
 use Rattle.mac_base.specs.HandleTable.{Live, EmptyHandle, FullHandle, Pointer, live_at, live_full}
 use Rattle.master_ptrs.specs.Word.{contents_said, slot_of_live, next_free}
 use Rattle.master_ptrs.specs.Places.{BlockOf}
-use Rattle.master_ptrs.proofs.Held.{held-now}
+use Rattle.master_ptrs.proofs.Standing.{held-now}
 use Rattle.master_ptrs.proofs.Known.{word-at_by, word-is_by}
 use Rattle.master_ptrs.proofs.ChangeEmptied.{emptied-slot, own_block, own_block-at}
 use Rattle.master_ptrs.proofs.pointers.MasterPointers.block_of.Goals as goal

@@ -4,7 +4,7 @@ use Rattle.mac_base.specs.HeadKind.{head_size, master_length}
 use Rattle.mac_base.specs.ZoneMap.{free_bytes}
 use Rattle.master_ptrs.specs.Places.{RoomFor}
 use Rattle.master_ptrs.specs.Changes.{with_master}
-use Rattle.master_ptrs.proofs.Held.{Kept, held-now}
+use Rattle.master_ptrs.proofs.Standing.{Kept, held-now}
 use Rattle.master_ptrs.proofs.Known.{free-is, front-is}
 use Rattle.master_ptrs.proofs.Room.{room_at, room-read}
 use Rattle.master_ptrs.proofs.EndsMaster.{master-can, master-starts, master-range, master-word_at, master-more, master-free, master-ends}

@@ -1,4 +1,4 @@
-use Rattle.master_ptrs.proofs.Held.{held-now}
+use Rattle.master_ptrs.proofs.Standing.{held-now}
 use Rattle.master_ptrs.proofs.Located.{of-entry}
 use Rattle.master_ptrs.proofs.Named.{named-entry, named-bytes}
 use Rattle.master_ptrs.proofs.pointers.MasterPointers.contents.Goals as goal

@@ -1,8 +1,8 @@
 use Rattle.std.proofs.Common.{refl, subst}
 use Rattle.mac_base.specs.ZoneState.{ZoneState}
 use Rattle.master_ptrs.specs.Places.{NamedAt}
-use Rattle.master_ptrs.proofs.Held.{held-now}
-use Rattle.master_ptrs.proofs.Lent.{lent-kept}
+use Rattle.master_ptrs.proofs.Standing.{held-now}
+use Rattle.master_ptrs.proofs.WrittenBack.{lent-kept}
 use Rattle.master_ptrs.proofs.Located.{of-entry}
 use Rattle.master_ptrs.proofs.Named.{named-entry, named-bytes}
 use Rattle.master_ptrs.proofs.pointers.MasterPointers.contents_mut.Goals as goal

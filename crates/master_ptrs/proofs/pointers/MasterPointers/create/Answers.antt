@@ -1,6 +1,6 @@
 use Rattle.std.proofs.Common.{◌+◌, ◌-◌, ap}
 use Rattle.master_ptrs.specs.Changes.{bare_zone}
-use Rattle.master_ptrs.proofs.Held.{Kept}
+use Rattle.master_ptrs.proofs.Standing.{Kept}
 use Rattle.master_ptrs.proofs.EndsCreate.{create-ends}
 use Rattle.master_ptrs.proofs.pointers.MasterPointers.create.Goals as goal
 

@@ -1,7 +1,7 @@
 use Rattle.std.proofs.Common.{◌≡◌, ◌+◌, ◌<◌, ◌∙◌, arith}
 use Rattle.mac_base.specs.ZoneMap.{free_bytes}
 use Rattle.master_ptrs.specs.Changes.{without_block}
-use Rattle.master_ptrs.proofs.Held.{Kept, held-now}
+use Rattle.master_ptrs.proofs.Standing.{Kept, held-now}
 use Rattle.master_ptrs.proofs.Known.{free-is}
 use Rattle.master_ptrs.proofs.EndsEmpty.{empty-at, empty-read, empty-word_at, empty-free, empty-ends}
 use Rattle.master_ptrs.proofs.pointers.MasterPointers.empty.Goals as goal

@@ -1,7 +1,7 @@
 use Rattle.std.proofs.Common.{sym, ◌∙◌, subst}
 use Rattle.mac_base.specs.declared.block.Entry.{Entry}
 use Rattle.master_ptrs.specs.Places.{HasOwner}
-use Rattle.master_ptrs.proofs.Held.{held-now}
+use Rattle.master_ptrs.proofs.Standing.{held-now}
 use Rattle.master_ptrs.proofs.Located.{of-block}
 use Rattle.master_ptrs.proofs.Owned.{has-owner}
 use Rattle.master_ptrs.proofs.Reported.{reported-none, reported-here}

@@ -3,7 +3,7 @@ use Rattle.mac_base.specs.declared.block.Kind.TheVariants.{Ptr, Rel}
 use Rattle.mac_base.specs.HeadKind.{head_size}
 use Rattle.mac_base.specs.ZoneMap.{block}
 use Rattle.master_ptrs.specs.Reading.{kind_in}
-use Rattle.master_ptrs.proofs.Held.{held-now}
+use Rattle.master_ptrs.proofs.Standing.{held-now}
 use Rattle.master_ptrs.proofs.Located.{of-entry}
 use Rattle.master_ptrs.proofs.Owned.{entry-said, entry-range, offset-range}
 use Rattle.master_ptrs.proofs.pointers.MasterPointers.entry_at.Goals as goal

@@ -3,7 +3,7 @@ use Rattle.mac_base.specs.HeadKind.{head_size}
 use Rattle.mac_base.specs.ZoneMap.{free_bytes}
 use Rattle.master_ptrs.specs.Places.{RoomFor}
 use Rattle.master_ptrs.specs.Changes.{fixed}
-use Rattle.master_ptrs.proofs.Held.{Kept, held-now}
+use Rattle.master_ptrs.proofs.Standing.{Kept, held-now}
 use Rattle.master_ptrs.proofs.Known.{free-is}
 use Rattle.master_ptrs.proofs.Room.{room_at, room-read, room-range, room-head}
 use Rattle.master_ptrs.proofs.EndsFix.{fix-can, fix-given, fix-clear_at, fix-blank, fix-free, fix-ends}

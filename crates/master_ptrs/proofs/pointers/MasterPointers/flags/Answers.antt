@@ -2,7 +2,7 @@ use Rattle.std.proofs.Common.{◌≡◌, ℕ, refl, ap, ◌∙◌, Option, Some,
 use Rattle.mac_base.specs.ZoneMap.{contents_of}
 use Rattle.mac_base.specs.HandleTable.{Live, EmptyHandle, FullHandle, Pointer, live_at, live_flags}
 use Rattle.master_ptrs.specs.Word.{flags_said, slot_of_live, next_free}
-use Rattle.master_ptrs.proofs.Held.{held-now}
+use Rattle.master_ptrs.proofs.Standing.{held-now}
 use Rattle.master_ptrs.proofs.Known.{word-at_by, word-is_by}
 use Rattle.master_ptrs.proofs.pointers.MasterPointers.flags.Goals as goal
 

@@ -5,7 +5,7 @@ use Rattle.master_ptrs.specs.Places.{CanGrow}
 use Rattle.master_ptrs.specs.Changes.{enlarged}
 use Rattle.master_ptrs.proofs.EndsHeld.{named-kept}
 use Rattle.master_ptrs.proofs.EndsGrown.{grow-block, grow-at, grow-read, grow-range, grow-head, grow-second, grow-second_read, grow-merge, grow-can_fit, grow-free, grow-ends}
-use Rattle.master_ptrs.proofs.Held.{Kept, held-now}
+use Rattle.master_ptrs.proofs.Standing.{Kept, held-now}
 use Rattle.master_ptrs.proofs.Known.{free-is}
 use Rattle.master_ptrs.proofs.pointers.MasterPointers.grow.Goals as goal
 

@@ -2,7 +2,7 @@ use Rattle.std.proofs.Common.{refl, ap, sym, ◌∙◌, subst, Contains}
 use Rattle.mac_base.specs.HandleTable.{is_pointer}
 use Rattle.mac_base.specs.Suits.{slots}
 use Rattle.master_ptrs.specs.Word.{says_full}
-use Rattle.master_ptrs.proofs.Held.{held-now}
+use Rattle.master_ptrs.proofs.Standing.{held-now}
 use Rattle.master_ptrs.proofs.Known.{word-at_by, word-is_by}
 use Rattle.master_ptrs.proofs.Named.{slot-full, has-other}
 use Rattle.master_ptrs.proofs.pointers.MasterPointers.has_block.Goals as goal

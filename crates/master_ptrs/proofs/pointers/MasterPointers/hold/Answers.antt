@@ -3,7 +3,7 @@ use Rattle.mac_base.specs.ZoneMap.{free_bytes}
 use Rattle.master_ptrs.specs.Places.{CanHold}
 use Rattle.master_ptrs.specs.Changes.{held_there}
 use Rattle.master_ptrs.proofs.EndsHeld.{named-kept, hold-block, hold-at, hold-read, hold-can_fit, hold-within, hold-free, hold-ends}
-use Rattle.master_ptrs.proofs.Held.{Kept, held-now}
+use Rattle.master_ptrs.proofs.Standing.{Kept, held-now}
 use Rattle.master_ptrs.proofs.Known.{free-is}
 use Rattle.master_ptrs.proofs.pointers.MasterPointers.hold.Goals as goal
 

@@ -3,7 +3,7 @@ use Rattle.std.specs.List.{list_all}
 use Rattle.zone_blocks.specs.Layout.{is_possible, rendered}
 use Rattle.zone_blocks.specs.Walk.{Walks}
 use Rattle.master_ptrs.specs.Image.{zone_head}
-use Rattle.master_ptrs.proofs.Held.{held-now}
+use Rattle.master_ptrs.proofs.Standing.{held-now}
 use Rattle.master_ptrs.proofs.pointers.MasterPointers.image.Goals as goal
 
 pub returns-clause-form : goal.returns-clause-form

@@ -1,6 +1,6 @@
 use Rattle.std.proofs.Common.{◌∙◌, ap}
 use Rattle.master_ptrs.specs.Word.{says_live}
-use Rattle.master_ptrs.proofs.Held.{held-now}
+use Rattle.master_ptrs.proofs.Standing.{held-now}
 use Rattle.master_ptrs.proofs.Known.{word-at_by, word-is_by}
 use Rattle.master_ptrs.proofs.SlotLive.{slot-live}
 use Rattle.master_ptrs.proofs.pointers.MasterPointers.is_live.Goals as goal

@@ -2,10 +2,10 @@ use Rattle.std.proofs.Common.{rules, ◌≡◌, ◌-◌, ◌∙◌, Bool, true, 
 use Rattle.std.proofs.lemmas.Bool.Decides.{nat_tests}
 use Rattle.mac_base.specs.HeadKind.{head_size}
 use Rattle.mac_base.specs.HandleTable.{is_pointer}
-use Rattle.mac_base.proofs.SlotOwners.{false_from}
+use Rattle.zone_laws.proofs.SlotOwners.{false_from}
 use Rattle.zone_blocks.specs.declared.header.Header.{Header}
 use Rattle.zone_blocks.specs.declared.header.Role.TheVariants.{Fixed}
-use Rattle.master_ptrs.proofs.Held.{held-now}
+use Rattle.master_ptrs.proofs.Standing.{held-now}
 use Rattle.master_ptrs.proofs.PointerBlocks.{pointer-made, pointer-said}
 use Rattle.master_ptrs.proofs.pointers.MasterPointers.is_pointer.Goals as goal
 use Rattle.master_ptrs.proofs.pointers.MasterPointers.is_pointer.Goals.{then-number-head_size, else-number-head_size}

@@ -2,10 +2,10 @@ use Rattle.std.proofs.Common.{rules, ◌≡◌, ◌+◌, ◌-◌, ◌%◌, ◌�
 use Rattle.std.proofs.lemmas.Bool.Decides.{nat_tests}
 use Rattle.mac_base.specs.HeadKind.{head_size}
 use Rattle.mac_base.specs.Suits.{slots}
-use Rattle.mac_base.proofs.Tables.{eqb-true-is}
+use Rattle.zone_laws.proofs.Tables.{eqb-true-is}
 use Rattle.zone_blocks.specs.declared.header.Header.{Header}
 use Rattle.zone_blocks.specs.declared.header.Role.TheVariants.{Master}
-use Rattle.master_ptrs.proofs.Held.{held-now}
+use Rattle.master_ptrs.proofs.Standing.{held-now}
 use Rattle.master_ptrs.proofs.Located.{of-block}
 use Rattle.master_ptrs.proofs.Owned.{entry-range}
 use Rattle.master_ptrs.proofs.SlotFound.{no-slot_outside, slot-said, slot-made}

@@ -3,7 +3,7 @@ use Rattle.std.proofs.lemmas.Bool.Decides.{nat_tests}
 use Rattle.mac_base.specs.HeadKind.{head_size}
 use Rattle.zone_blocks.specs.declared.header.Role.TheVariants.{Free}
 use Rattle.zone_blocks.specs.Finding.{is_free}
-use Rattle.master_ptrs.proofs.Held.{held-now}
+use Rattle.master_ptrs.proofs.Standing.{held-now}
 use Rattle.master_ptrs.proofs.Located.{of-entry}
 use Rattle.master_ptrs.proofs.Owned.{free-wanted, header-parts, owned-wanted}
 use Rattle.master_ptrs.proofs.pointers.MasterPointers.length_at.Goals as goal

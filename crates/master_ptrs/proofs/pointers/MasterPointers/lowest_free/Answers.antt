@@ -1,5 +1,5 @@
 use Rattle.std.proofs.lemmas.Option.{IfSome_then}
-use Rattle.master_ptrs.proofs.Held.{held-now}
+use Rattle.master_ptrs.proofs.Standing.{held-now}
 use Rattle.master_ptrs.proofs.Looking.{IfNone_then, lowest-at, none-free}
 use Rattle.master_ptrs.proofs.pointers.MasterPointers.lowest_free.Goals as goal
 

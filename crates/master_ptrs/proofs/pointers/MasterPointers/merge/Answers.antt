@@ -2,7 +2,7 @@ use Rattle.std.proofs.Common.{◌≡◌, ◌+◌, ◌-◌, ◌∙◌, ap, arith}
 use Rattle.mac_base.specs.HeadKind.{head_size}
 use Rattle.master_ptrs.specs.Places.{FreePair}
 use Rattle.master_ptrs.specs.Changes.{joined_pair}
-use Rattle.master_ptrs.proofs.Held.{Kept, held-now}
+use Rattle.master_ptrs.proofs.Standing.{Kept, held-now}
 use Rattle.master_ptrs.proofs.EndsMap.{pair-first, pair-first_size, pair-second, pair-second_size, pair-range, pair-head, can-merge, merge-ends}
 use Rattle.master_ptrs.proofs.pointers.MasterPointers.merge.Goals as goal
 

@@ -4,7 +4,7 @@ use Rattle.mac_base.specs.ZoneMap.{contents_of}
 use Rattle.mac_base.specs.HandleTable.{is_full, is_pointer}
 use Rattle.master_ptrs.specs.Word.{contents_said}
 use Rattle.master_ptrs.specs.Places.{BlockOf, NamedAt}
-use Rattle.master_ptrs.proofs.Held.{held-now}
+use Rattle.master_ptrs.proofs.Standing.{held-now}
 use Rattle.master_ptrs.proofs.Known.{word-at_by, word-is_by}
 use Rattle.master_ptrs.proofs.ChangeEmptied.{emptied-slot, own_block, own_block-at}
 use Rattle.master_ptrs.proofs.Named.{slot-contents, full-other, pointer-place, handle-place}

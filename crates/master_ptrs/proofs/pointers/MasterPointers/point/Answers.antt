@@ -3,7 +3,7 @@ use Rattle.mac_base.specs.HeadKind.{head_size}
 use Rattle.mac_base.specs.ZoneMap.{free_bytes}
 use Rattle.master_ptrs.specs.Places.{RoomFor}
 use Rattle.master_ptrs.specs.Changes.{pointed}
-use Rattle.master_ptrs.proofs.Held.{Kept, held-now}
+use Rattle.master_ptrs.proofs.Standing.{Kept, held-now}
 use Rattle.master_ptrs.proofs.Known.{free-is}
 use Rattle.master_ptrs.proofs.Room.{room_at, room-read, room-range, room-head}
 use Rattle.master_ptrs.proofs.EndsPoint.{point-slot_range, point-can, point-given, point-clear_at, point-blank, point-word_at, point-addresses, point-free, point-ends, given_layout, blank_layout}

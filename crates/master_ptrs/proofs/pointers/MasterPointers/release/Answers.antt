@@ -1,7 +1,7 @@
 use Rattle.std.proofs.Common.{◌∙◌, arith}
 use Rattle.std.proofs.lemmas.Bool.Decides.{nat_tests}
 use Rattle.master_ptrs.specs.Changes.{given_back}
-use Rattle.master_ptrs.proofs.Held.{Kept, held-now}
+use Rattle.master_ptrs.proofs.Standing.{Kept, held-now}
 use Rattle.master_ptrs.proofs.Known.{front-is, front-range, word-at_by}
 use Rattle.master_ptrs.proofs.Ends.{release-ends}
 use Rattle.master_ptrs.proofs.ChangeGivenBack.{given_back-slot}

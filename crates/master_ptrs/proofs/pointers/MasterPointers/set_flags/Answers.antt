@@ -2,13 +2,13 @@ use Rattle.std.proofs.Common.{◌≡◌, ℕ, ◌+◌, ◌*◌, ◌<◌, true, n
 use Rattle.std.specs.Prelude.{IsTrue, ◌==◌}
 use Rattle.std.proofs.lemmas.Bool.Decides.{nat_tests}
 use Rattle.mac_base.specs.HeadKind.{head_size}
-use Rattle.mac_base.specs.Reply.{state_of}
+use Rattle.mac_base.specs.FlagState.{state_of}
 use Rattle.mac_base.specs.ZoneMap.{contents_of}
 use Rattle.mac_base.specs.HandleTable.{Live, EmptyHandle, FullHandle, Pointer, live_at, live_full}
-use Rattle.mac_base.proofs.Maps.{both_true}
+use Rattle.zone_laws.proofs.Maps.{both_true}
 use Rattle.master_ptrs.specs.Word.{slot_of_live, next_free, has_addresses}
 use Rattle.master_ptrs.specs.Changes.{flagged}
-use Rattle.master_ptrs.proofs.Held.{Kept, held-now}
+use Rattle.master_ptrs.proofs.Standing.{Kept, held-now}
 use Rattle.master_ptrs.proofs.Known.{word-at_by, slot-addresses}
 use Rattle.master_ptrs.proofs.ChangeEmptied.{emptied-slot, emptied-contents}
 use Rattle.master_ptrs.proofs.Ends.{flags-end}

@@ -2,7 +2,7 @@ use Rattle.std.proofs.Common.{◌≡◌, ◌-◌, ◌∙◌, ap}
 use Rattle.mac_base.specs.HeadKind.{head_size}
 use Rattle.master_ptrs.specs.Places.{CanCut}
 use Rattle.master_ptrs.specs.Changes.{cut_in_two}
-use Rattle.master_ptrs.proofs.Held.{Kept, held-now}
+use Rattle.master_ptrs.proofs.Standing.{Kept, held-now}
 use Rattle.master_ptrs.proofs.EndsMap.{can-split, split-ends}
 use Rattle.master_ptrs.proofs.pointers.MasterPointers.split.Goals as goal
 

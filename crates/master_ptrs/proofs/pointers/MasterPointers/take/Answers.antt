@@ -1,7 +1,7 @@
 use Rattle.std.proofs.Common.{◌≡◌, ap, sym, ◌∙◌, subst, refl, ◌∷◌, drop, ℕ}
 use Rattle.master_ptrs.specs.Word.{next_said}
 use Rattle.master_ptrs.specs.Changes.{taken}
-use Rattle.master_ptrs.proofs.Held.{Kept, held-now}
+use Rattle.master_ptrs.proofs.Standing.{Kept, held-now}
 use Rattle.master_ptrs.proofs.Known.{front-is, front-none, word-at_by, word-is_by}
 use Rattle.master_ptrs.proofs.Ends.{front-first, front-slot, take-ends}
 use Rattle.master_ptrs.proofs.pointers.MasterPointers.take.Goals as goal

@@ -2,7 +2,7 @@ use Rattle.std.proofs.Common.{◌≡◌, ◌+◌, ◌<◌, ◌∙◌, subst, ari
 use Rattle.mac_base.specs.ZoneMap.{free_bytes}
 use Rattle.master_ptrs.specs.Places.{NamedAt}
 use Rattle.master_ptrs.specs.Changes.{unfixed}
-use Rattle.master_ptrs.proofs.Held.{Kept, held-now}
+use Rattle.master_ptrs.proofs.Standing.{Kept, held-now}
 use Rattle.master_ptrs.proofs.Known.{free-is}
 use Rattle.master_ptrs.proofs.EndsUnfix.{unfix-at, unfix-read, unfix-free, unfix-ends}
 use Rattle.master_ptrs.proofs.pointers.MasterPointers.unfix.Goals as goal

@@ -33,7 +33,7 @@ use Rattle.std.proofs.VecSteps.Shapes.{after}
 use Rattle.raw_region.specs.Bytes.{part}
 use Rattle.raw_region.specs.Span.{is_here, IsFree}
 use Rattle.raw_region.specs.Ownership.{cells}
-use Rattle.raw_region.specs.CellsLending.{with_written, with_part}
+use Rattle.raw_region.specs.CellsWritingBack.{with_written, with_part}
 use Rattle.raw_region.specs.declared.cells.Cells.{Cells}
 use Rattle.raw_region.proofs.Places.{free_here}
 use Rattle.raw_region.proofs.Rows.{to_row, of_row, run_out, run_in, run_long, Around}

@@ -4,7 +4,7 @@ use Rattle.raw_region.specs.Bytes.{written}
 use Rattle.zone_blocks.specs.Layout.{Layout, BlockAt, header_of, cleared, with_blocks}
 use Rattle.zone_blocks.proofs.ReadBlocks.{IsRead}
 use Rattle.zone_blocks.proofs.Here.{IsHere-from}
-use Rattle.zone_blocks.proofs.Lent.{cleared-read}
+use Rattle.zone_blocks.proofs.WrittenBack.{cleared-read}
 use Rattle.zone_blocks.proofs.blocks.Blocks.clear.Goals as goal
 
 pub clear-requires : goal.clear-requires

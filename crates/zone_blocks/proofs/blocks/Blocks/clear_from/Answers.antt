@@ -5,7 +5,7 @@ use Rattle.zone_blocks.specs.declared.header.Header.{Header}
 use Rattle.zone_blocks.specs.Layout.{Layout, BlockAt, CanClear, header_of, cleared_from, with_blocks}
 use Rattle.zone_blocks.proofs.ReadBlocks.{IsRead}
 use Rattle.zone_blocks.proofs.Here.{IsHere-from}
-use Rattle.zone_blocks.proofs.Lent.{cleared-part}
+use Rattle.zone_blocks.proofs.WrittenBack.{cleared-part}
 use Rattle.zone_blocks.proofs.blocks.Blocks.clear_from.Goals as goal
 
 -- how many bytes of contents there are

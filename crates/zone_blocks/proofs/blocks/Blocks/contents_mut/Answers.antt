@@ -3,10 +3,10 @@ use Rattle.mac_base.specs.HeadKind.{head_size}
 use Rattle.zone_blocks.specs.declared.header.Header.{Header}
 use Rattle.zone_blocks.specs.Layout.{Layout, BlockAt, size_of}
 use Rattle.zone_blocks.specs.Reading.{layout_of}
-use Rattle.zone_blocks.specs.Lending.{with_contents_at}
+use Rattle.zone_blocks.specs.WritingBack.{with_contents_at}
 use Rattle.zone_blocks.proofs.Here.{IsHere-from}
 use Rattle.zone_blocks.proofs.ReadParts.{contents-read}
-use Rattle.zone_blocks.proofs.Lent.{lent-read}
+use Rattle.zone_blocks.proofs.WrittenBack.{lent-read}
 use Rattle.zone_blocks.proofs.blocks.Blocks.contents_mut.Goals as goal
 
 pub overflow_sub-length : goal.overflow_sub-length

@@ -1,20 +1,33 @@
-use Rattle.std.proofs.Common.{◌≡◌, ◌%◌, ap, sym, subst, arith, IsTrue}
-use Rattle.std.specs.List.{list_all}
-use Rattle.zone_blocks.specs.Layout.{Layout, is_possible}
-use Rattle.zone_blocks.proofs.Holders.{held-somewhere, holds-rounded, holds-there}
+use Rattle.std.proofs.Common.{◌≡◌, ◌+◌, ◌*◌, ◌-◌, ◌/◌, ◌<◌, ℕ, slice_index, ap, ◌∙◌, sym, subst, arith}
+use Rattle.place_numbers.specs.Numbers.{LastAtLeast}
+use Rattle.zone_blocks.specs.Layout.{Layout, address_behind}
+use Rattle.zone_blocks.specs.Reading.{layout_of}
+use Rattle.zone_blocks.specs.Finding.{HoldsByte}
+use Rattle.zone_blocks.specs.declared.blocks.Blocks.TheInside.{Inside}
+use Rattle.zone_blocks.proofs.Parts.{length-starts}
+use Rattle.zone_blocks.proofs.Holders.{holds-at, some-at}
 use Rattle.zone_blocks.proofs.blocks.Blocks.holder.Goals as goal
 
-pub loop-start-init : goal.loop-start-init
-loop-start-init c =
-    let l = c.args.self.now in
-    let base : l.base ≡ c.self.inside.spec.base = ap (λ (l : Layout). l.base) (sym c.self.view_is) in
-    let even : l.base % 4 ≡ 0 = let e = c.base-first.ensures.possible.even_base in omega arith in
-    let possible = subst (λ (l : Layout). IsTrue (list_all (is_possible l.heads) l.blocks)) c.self.view_is c.self.invariant.possible in
-    record {
-      holds = holds-rounded l c.args.at (held-somewhere l c.args.at even possible (let value = c.base-first.ensures.value in omega arith) (let end = c.end.ensures in omega arith));
-      low = omega arith;
-      even = omega arith;
-    }
+-- where the blocks of the value end
+end_is : (z : Inside) (l : Layout) → layout_of z ≡ l → address_behind (layout_of z) (layout_of z).blocks ≡ z.spec.base + z.spec.size → (end : ℕ) → end ≡ address_behind l l.blocks → end ≡ z.spec.base + z.spec.size
+end_is z l is ends end that = that ∙ sym (ap (λ (m : Layout). address_behind m m.blocks) is) ∙ ends
+
+pub last_at_least-requires : goal.last_at_least-requires
+last_at_least-requires c =
+    let z = c.self.inside in let end = end_is z c.args.self.now c.self.view_is c.self.invariant.ends c.end.result c.end.ensures in
+    let marks = length-starts z c.self.invariant in let value = c.base.ensures.value in omega arith
+
+pub returns-in_err-place-clause-outside : goal.returns-in_err-place-clause-outside
+returns-in_err-place-clause-outside c =
+    let z = c.self.inside in let end = end_is z c.args.self.now c.self.view_is c.self.invariant.ends c.end.result c.end.ensures in
+    let first = c.base-first.ensures.value in
+    absurd (some-at z c.self.invariant c.args.at (omega arith) (omega arith)
+    (subst (λ (n : ℕ). (j : ℕ) → j < (c.args.at - n) / 4 + 1 → slice_index z.index j < 1) c.base.ensures.value c.in_err-place.ensures.none))
 
 pub returns-clause-holds : goal.returns-clause-holds
-returns-clause-holds c = holds-there c.args.self.now c.args.at c.loop-start.start c.loop-start.invariant.holds (c.is_block.ensures.0 c.loop-start-test.false) c.loop-start.invariant.low
+returns-clause-holds c =
+    let z = c.self.inside in let end = end_is z c.args.self.now c.self.view_is c.self.invariant.ends c.end.result c.end.ensures in
+    let first = c.base-first.ensures.value in let p = c.in_ok-place.place in
+    subst (λ (l : Layout). HoldsByte l c.args.at (c.base-2.result + 4 * p)) c.self.view_is
+    (subst (λ (n : ℕ). HoldsByte (layout_of z) c.args.at (n + 4 * p)) (sym c.base-2.ensures.value)
+    (holds-at z c.self.invariant c.args.at (omega arith) (omega arith) p (subst (λ (n : ℕ). LastAtLeast z.index 1 ((c.args.at - n) / 4 + 1) p) c.base.ensures.value c.in_ok-place.ensures.last)))

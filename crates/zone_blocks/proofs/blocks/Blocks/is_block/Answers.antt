@@ -1,15 +1,16 @@
-use Rattle.std.proofs.Common.{◌≡◌, ◌≢◌, ◌-◌, ◌/◌, ◌%◌, ℕ, Bool, true, false, List, ltb-true, slice_index, ap, sym, ◌∙◌, subst, arith, IsTrue}
+use Rattle.std.proofs.Common.{◌≡◌, ◌≢◌, ◌-◌, ◌/◌, ◌%◌, ◌<◌, ℕ, zero, suc, not, Bool, true, false, List, ltb-true, slice_index, ap, sym, ◌∙◌, subst, arith, IsTrue}
 use Rattle.std.specs.Prelude.{◌==◌}
 use Rattle.std.proofs.lemmas.Bool.Decides.{nat_tests}
 use Rattle.zone_blocks.specs.Layout.{Layout, BlockAt}
+use Rattle.zone_blocks.specs.Starts.{starts_of}
 use Rattle.zone_blocks.specs.Reading.{layout_of}
 use Rattle.zone_blocks.proofs.Parts.{total-ends, length-starts}
 use Rattle.zone_blocks.proofs.Starts.{block-marked, marked-block}
 use Rattle.zone_blocks.proofs.blocks.Blocks.is_block.Goals as goal
 use Rattle.zone_blocks.proofs.blocks.Blocks.is_block.Goals.{then-offset-size, else-offset-size}
 
-pub byte-requires : goal.byte-requires
-byte-requires c = let marks = length-starts c.self.inside c.self.invariant in omega arith
+pub get-requires : goal.get-requires
+get-requires c = let marks = length-starts c.self.inside c.self.invariant in omega arith
 
 -- what passes a test on a number is that number
 test_true : (n m : ℕ) → IsTrue (n == m) → n ≡ m
@@ -18,6 +19,16 @@ test_true n m test = grind (arith, nat_tests)
 -- and what doesn't isn't
 test_false : (n m : ℕ) → (n == m) ≡ false → n ≢ m
 test_false n m test = grind (arith, nat_tests)
+
+-- what isn't 0 is above it
+above_zero : (n : ℕ) → not (n == 0) ≡ true → 0 < n
+above_zero zero is = let no : false ≡ true = is in cc
+above_zero (suc n) is = omega arith
+
+-- and the other way round
+not_zero : (n : ℕ) → 0 < n → not (n == 0) ≡ true
+not_zero zero some = absurd (omega arith)
+not_zero (suc n) some = grind (arith, nat_tests)
 
 -- no test is passed and not passed
 never_both : (b : Bool) → b ≡ true → b ≡ false → ⊥
@@ -29,13 +40,14 @@ returns-then-offset-eq0 c = let z = c.self.inside in let at = c.args.at in let k
       | then-offset-size w ↦ test_true ((at - c.base-base.result) % 4) 0 (sym w.value-is ∙ c.if-offset-eq0.true)
       | else-offset-size w ↦ absurd (let below = ltb-true (at - c.base-base.result) c.size.result (sym w.value-is ∙ c.if-offset-eq0.true) in omega arith)
     ] in
-    let mark : c.byte.result ≡ slice_index z.starts k = c.byte.ensures in (
+    let mark : c.get.result ≡ slice_index (starts_of (layout_of z)) k = c.get.ensures ∙ ap (λ (ms : List ℕ). slice_index ms k) c.self.invariant.marked in (
       λ is. subst (λ (l : Layout). BlockAt l at) c.self.view_is
-          (block-marked (layout_of z) c.self.invariant.possible at k (omega arith) (omega arith) (ap (λ (ms : List ℕ). slice_index ms k) (sym c.self.invariant.marked) ∙ sym mark ∙ test_true c.byte.result 1 is)),
+          (block-marked (layout_of z) c.self.invariant.possible at k (omega arith) (let some = above_zero c.get.result is in omega arith)),
       λ b.
           let m = marked-block (layout_of z) c.self.invariant.possible at (subst (λ (l : Layout). BlockAt l at) (sym c.self.view_is) b) in
-          let place : k ≡ (at - z.spec.base) / 4 = omega arith in
-          ap (λ (n : ℕ). n == 1) (mark ∙ (λ i. slice_index (c.self.invariant.marked i) (place i)) ∙ m.mark),
+          let place : slice_index (starts_of (layout_of z)) k ≡ slice_index (starts_of (layout_of z)) ((at - z.spec.base) / 4) =
+          ap (λ (i : ℕ). slice_index (starts_of (layout_of z)) i) (let e : k ≡ (at - z.spec.base) / 4 = omega arith in e) in
+          let there = m.mark in let some = m.some in not_zero c.get.result (omega arith),
     )
 
 pub returns-else-offset-eq0 : goal.returns-else-offset-eq0

@@ -2,7 +2,7 @@ use Rattle.std.proofs.Common.{◌≡◌, ◌-◌, ◌++◌, ◌∷◌, ap, subst
 use Rattle.std.specs.List.{list_all}
 use Rattle.mac_base.specs.HeadKind.{head_size}
 use Rattle.zone_blocks.specs.declared.header.Role.TheVariants.{Free}
-use Rattle.zone_blocks.specs.Layout.{Layout, CanBe, body, held, is_possible, with_blocks}
+use Rattle.zone_blocks.specs.Layout.{Layout, CanBe, body, raw_block, is_possible, with_blocks}
 use Rattle.zone_blocks.proofs.Walking.{block-passes, held-free, possible-free, length-body}
 use Rattle.zone_blocks.proofs.blocks.Blocks.set_free.Goals as goal
 
@@ -21,4 +21,4 @@ returns c = λ b.
     let all = subst (λ (l : Layout). IsTrue (list_all (is_possible l.heads) l.blocks)) c.self.view_is c.self.invariant.possible in
     let able : CanBe c.args.self.now c.args.at Free (c.entry_at.result.size - c.head_size.result) =
     record { block = b; within = omega arith; possible = possible-free c.args.self.now.heads b.here (c.entry_at.result.size - c.head_size.result) long (block-passes c.args.self.now c.args.at (is_possible c.args.self.now.heads) b all) } in
-    c.assign.ensures able ∙ ap (λ h. with_blocks (b.before ++ h ∷ b.behind) c.args.self.now) (ap (λ n. held Free n (body b.here)) long ∙ held-free (body b.here))
+    c.assign.ensures able ∙ ap (λ h. with_blocks (b.before ++ h ∷ b.behind) c.args.self.now) (ap (λ n. raw_block Free n (body b.here)) long ∙ held-free (body b.here))

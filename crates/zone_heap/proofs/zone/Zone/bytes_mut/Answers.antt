@@ -3,7 +3,7 @@ use Rattle.std.proofs.Common.{◌≡◌, sym, subst}
 use Rattle.mac_base.specs.BlockStatus.{status_of}
 use Rattle.mac_base.specs.declared.block.Status.TheVariants.{Full}
 use Rattle.mac_base.specs.HandleTable.{bytes_of}
-use Rattle.mac_base.proofs.SoundWritten.{sound-written}
+use Rattle.zone_laws.proofs.SoundWritten.{sound-written}
 use Rattle.zone_heap.proofs.Writing.{full-has_block, length-overwritten}
 use Rattle.zone_heap.proofs.zone.Zone.bytes_mut.Goals as goal
 

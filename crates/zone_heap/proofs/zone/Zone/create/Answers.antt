@@ -1,7 +1,7 @@
 use Rattle.std.proofs.Common.{ap, sym, subst}
 use Rattle.mac_base.specs.ZoneState.{ZoneState}
 use Rattle.mac_base.specs.Sound.{Sound}
-use Rattle.mac_base.proofs.SoundNew.{sound-new}
+use Rattle.zone_laws.proofs.SoundNew.{sound-new}
 use Rattle.zone_heap.proofs.NewZone.{Begun, new-cut, new-room, new-heap}
 use Rattle.zone_heap.proofs.zone.Zone.create.Goals as goal
 use Rattle.zone_heap.proofs.zone.Zone.create.Goals.{After-need}

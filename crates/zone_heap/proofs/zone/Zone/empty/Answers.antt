@@ -3,7 +3,7 @@ use Rattle.mac_base.specs.HandleTable.{emptied, has_block, is_handle}
 use Rattle.mac_base.specs.Heap.{with_emptied}
 use Rattle.mac_base.specs.Sound.{Sound}
 use Rattle.mac_base.specs.ZoneState.{ZoneState}
-use Rattle.mac_base.proofs.SoundReleased.{sound-emptied}
+use Rattle.zone_laws.proofs.SoundReleased.{sound-emptied}
 use Rattle.zone_heap.specs.Joins.{NewlyFree, all_joined}
 use Rattle.zone_heap.proofs.Releasing.{block_named, newly-free}
 use Rattle.zone_heap.proofs.Emptying.{emptied-again}

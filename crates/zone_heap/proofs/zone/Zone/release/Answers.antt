@@ -3,7 +3,7 @@ use Rattle.mac_base.specs.Heap.{Heap}
 use Rattle.mac_base.specs.HandleTable.{EmptyHandle, live_at}
 use Rattle.mac_base.specs.Sound.{Sound}
 use Rattle.mac_base.specs.ZoneState.{ZoneState}
-use Rattle.mac_base.proofs.Tables.{live_at-with_live_same}
+use Rattle.zone_laws.proofs.Tables.{live_at-with_live_same}
 use Rattle.zone_heap.proofs.Emptying.{disposed, given_back-sound}
 use Rattle.zone_heap.proofs.zone.Zone.release.Goals as goal
 use Rattle.zone_heap.proofs.zone.Zone.release.Goals.{After-self}

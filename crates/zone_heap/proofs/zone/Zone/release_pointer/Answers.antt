@@ -1,10 +1,10 @@
 use Rattle.std.proofs.Common.{◌≡◌, ◌∙◌, sym, ap, subst}
 use Rattle.std.proofs.lemmas.Bool.{or_right}
 use Rattle.mac_base.specs.HandleTable.{is_full, is_pointer, without}
-use Rattle.mac_base.specs.GrowZone.{heap_released, DisposesPtr}
+use Rattle.mac_base.specs.Releasing.{heap_released, DisposesPtr}
 use Rattle.mac_base.specs.Sound.{Sound}
 use Rattle.mac_base.specs.ZoneState.{ZoneState}
-use Rattle.mac_base.proofs.SoundReleased.{sound-disposed_pointer}
+use Rattle.zone_laws.proofs.SoundReleased.{sound-disposed_pointer}
 use Rattle.master_ptrs.specs.Places.{NamedAt}
 use Rattle.zone_heap.specs.Joins.{NewlyFree, all_joined}
 use Rattle.zone_heap.proofs.Releasing.{newly-free}

@@ -2,7 +2,7 @@ use Rattle.std.proofs.Common.{◌∙◌, sym, ap, subst}
 use Rattle.mac_base.specs.HandleTable.{is_full}
 use Rattle.mac_base.specs.Sound.{Sound}
 use Rattle.mac_base.specs.ZoneState.{ZoneState}
-use Rattle.mac_base.proofs.SoundWritten.{sound-flags}
+use Rattle.zone_laws.proofs.SoundWritten.{sound-flags}
 use Rattle.zone_heap.proofs.zone.Zone.set_flags.Goals as goal
 
 pub invariant_of-self : goal.invariant_of-self

@@ -1,0 +1,13 @@
+pub mod FittingResize
+pub mod FreshNumbers
+pub mod RearrangedSuits
+pub mod RearrangingAll
+pub mod ServedBase
+pub mod ServedMaster
+pub mod ServedPlaces
+pub mod ServedRequests
+pub mod ServedResize
+pub mod SlotBounds
+pub mod SoundGrown
+pub mod SoundPurged
+pub mod SuitsNil

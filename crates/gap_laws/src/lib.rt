@@ -1,0 +1,2 @@
+//! Laws of gaps: what their arrangements keep, when a request fits, and how it is then served.
+#![tactic(auto)]

@@ -1,0 +1,49 @@
+-- No two calls have one name, and the table has each call.
+use Rattle.std.proofs.Common.{◌≡◌, ◌≢◌, ℕ, suc, ◌<◌, Bool, true, false, cond, List, [], ◌∷◌, length, get_or, Option, Some, refl, sym, ap, ◌∙◌, arith}
+use Rattle.std.specs.Prelude.{find}
+use Rattle.std.specs.Str.{bytes_eq}
+use Rattle.std.proofs.lemmas.Slice.Eq.{bytes_eq-Decides}
+use Rattle.mac_calls.specs.declared.table.CallName.{CallName}
+use Rattle.mac_calls.specs.declared.table.CallName.TheVariants.{NewHandle}
+use Rattle.mac_calls.specs.declared.table.TheConstants.{ALL_CALLS}
+use Rattle.mac_calls.specs.Calls.{signature}
+
+-- whether a call has the name
+abbrev has_name : List ℕ → CallName → Bool
+has_name word call = bytes_eq (signature call).name word
+
+-- the first call that has the name
+abbrev call_named : List ℕ → Option CallName
+call_named word = find (has_name word) ALL_CALLS
+
+-- each call is the first that has its name
+named_again : (call : CallName) → call_named (signature call).name ≡ Some call
+named_again NewHandle = refl
+named_again _ = refl
+
+-- no two calls have one name
+pub one_call : (a b : CallName) → (signature a).name ≡ (signature b).name → a ≡ b
+one_call a b e = let same : Some a ≡ Some b = sym (named_again a) ∙ ap call_named e ∙ named_again b in cc
+
+-- where a call stands that was found
+record StandsAt (test : CallName → Bool) (calls : List CallName) : Type 0 where
+  place : ℕ
+  within : place < length calls
+  passes : test (get_or calls place NewHandle) ≡ true
+
+further : (test : CallName → Bool) (first : CallName) (calls : List CallName) → StandsAt test calls → StandsAt test (first ∷ calls)
+further test first calls s = let w = s.within in record { place = suc s.place; within = omega arith; passes = s.passes }
+
+stands_by : (test : CallName → Bool) (first : CallName) (calls : List CallName) (call : CallName) (b : Bool) → test first ≡ b → cond b (Some first) (find test calls) ≡ Some call → (find test calls ≡ Some call → StandsAt test calls) → StandsAt test (first ∷ calls)
+stands_by test first calls call true passes e more = record { place = 0; within = omega arith; passes = passes }
+stands_by test first calls call false fails e more = further test first calls (more e)
+
+stands_at : (test : CallName → Bool) (calls : List CallName) (call : CallName) → find test calls ≡ Some call → StandsAt test calls
+stands_at test [] call e = absurd cc
+stands_at test (first ∷ calls) call e = stands_by test first calls call (test first) refl e (stands_at test calls call)
+
+-- a word that is the name of no call in the table is the name of none
+pub unnamed : (word : List ℕ) → ((k : ℕ) → k < length ALL_CALLS → (signature (get_or ALL_CALLS k NewHandle)).name ≢ word) → (call : CallName) → (signature call).name ≢ word
+unnamed word none call e =
+    let found = stands_at (has_name word) ALL_CALLS call (ap call_named (sym e) ∙ named_again call) in
+    none found.place found.within ((bytes_eq-Decides (signature (get_or ALL_CALLS found.place NewHandle)).name word).0 found.passes)

@@ -1,0 +1,52 @@
+-- How each call is written.
+use Rattle.std.specs.Prelude.{ℕ, Bool, true, false, List, [], ◌∷◌, codes}
+use Rattle.mac_calls.specs.declared.table.CallName.{CallName}
+use Rattle.mac_calls.specs.declared.table.CallName.TheVariants as call_name
+use Rattle.mac_calls.specs.declared.table.OperandKind.{OperandKind}
+use Rattle.mac_calls.specs.declared.table.OperandKind.TheVariants.{Number, Bytes, OptionalBytes, OptionalNumber}
+
+-- whether an operand of this kind may be missing, behind the last one that is written
+abbrev pub may_be_missing : OperandKind → Bool
+may_be_missing OptionalBytes = true
+may_be_missing OptionalNumber = true
+may_be_missing kind = false
+
+-- a call's name, its operands in order, and whether a line may assign its first result
+pub record Signature : Type 0 where
+  pub name : List ℕ
+  pub operands : List OperandKind
+  pub is_assignable : Bool
+
+-- a call that gives a number, a handle or an address first, so that a line may assign it
+abbrev pub gives : List ℕ → List OperandKind → Signature
+gives name operands = record { name = name; operands = operands; is_assignable = true }
+
+-- a call that gives nothing that a line may assign
+abbrev pub does : List ℕ → List OperandKind → Signature
+does name operands = record { name = name; operands = operands; is_assignable = false }
+
+-- the table of calls
+abbrev pub signature : CallName → Signature
+signature call_name.NewHandle = gives (codes "NewHandle") (Number ∷ [])
+signature call_name.NewEmptyHandle = gives (codes "NewEmptyHandle") []
+signature call_name.NewPtr = gives (codes "NewPtr") (Number ∷ [])
+signature call_name.DisposeHandle = does (codes "DisposeHandle") (Number ∷ [])
+signature call_name.DisposePtr = does (codes "DisposePtr") (Number ∷ [])
+signature call_name.EmptyHandle = does (codes "EmptyHandle") (Number ∷ [])
+signature call_name.GetHandleSize = gives (codes "GetHandleSize") (Number ∷ [])
+signature call_name.SetHandleSize = does (codes "SetHandleSize") (Number ∷ Number ∷ [])
+signature call_name.GetPtrSize = gives (codes "GetPtrSize") (Number ∷ [])
+signature call_name.SetPtrSize = does (codes "SetPtrSize") (Number ∷ Number ∷ [])
+signature call_name.HLock = does (codes "HLock") (Number ∷ [])
+signature call_name.HUnlock = does (codes "HUnlock") (Number ∷ [])
+signature call_name.HPurge = does (codes "HPurge") (Number ∷ [])
+signature call_name.HNoPurge = does (codes "HNoPurge") (Number ∷ [])
+signature call_name.HSetRBit = does (codes "HSetRBit") (Number ∷ [])
+signature call_name.HClrRBit = does (codes "HClrRBit") (Number ∷ [])
+signature call_name.HGetState = gives (codes "HGetState") (Number ∷ [])
+signature call_name.HSetState = does (codes "HSetState") (Number ∷ Number ∷ [])
+signature call_name.Deref = gives (codes "Deref") (Number ∷ [])
+signature call_name.Poke = does (codes "Poke") (Number ∷ Number ∷ Bytes ∷ [])
+signature call_name.Peek = does (codes "Peek") (Number ∷ Number ∷ Number ∷ [])
+signature call_name.ZoneMap = gives (codes "ZoneMap") []
+signature call_name.MemError = does (codes "MemError") []

@@ -1,0 +1,11 @@
+pub mod Calls
+pub mod Built
+pub mod Tests
+pub mod GrowZone
+pub mod ExactRequest
+pub mod Outcomes
+pub mod Effect
+pub mod ExactStep
+pub mod RequestRun
+pub mod MemoryStep
+pub mod FirstRuns

@@ -1,0 +1,81 @@
+-- What calls give, read off the heap as the call leaves it.
+use Rattle.std.specs.Prelude.{Result, Ok, Err, ℕ, ◌+◌, ◌-◌, max, List, [], length, map, fold, sum_by, take, drop, unwrap_or}
+use Rattle.mac_base.specs.declared.error.OsErr.{OsErr}
+use Rattle.mac_base.specs.HeadKind.{Shape, zone_header}
+use Rattle.mac_base.specs.ZoneMap.{ZoneMap, address_behind, total_size, free_bytes, largest_free, contents_of, handle_at}
+use Rattle.mac_base.specs.HandleTable.{HandleTable, bytes_of, flags_of}
+use Rattle.mac_base.specs.Gap.{Gap, gaps, room}
+use Rattle.mac_base.specs.Request.{candidates_in, size_of}
+use Rattle.mac_base.specs.Heap.{Heap}
+use Rattle.mac_base.specs.FlagState.{state_of}
+use Rattle.mac_base.specs.BlockReport.{reports_from}
+use Rattle.mac_calls.specs.declared.memory_call.MemoryCall.{MemoryCall}
+use Rattle.mac_calls.specs.declared.memory_call.MemoryCall.TheVariants as memory_call
+use Rattle.mac_calls.specs.declared.reply.Results.{Results}
+use Rattle.mac_calls.specs.declared.reply.Results.TheVariants.{Nothing, Handle, Pointer, Address, Number, TwoNumbers, Bytes, Blocks}
+
+-- how a call ends: with its results, or with the code of its refusal
+abbrev pub Outcome : Type 0
+Outcome = Result Results OsErr
+
+-- the bytes by which the zone may still grow
+abbrev pub growth_left : Shape → ZoneMap → ℕ
+growth_left s m = s.limit - (zone_header + total_size m)
+
+-- the largest of some numbers, and 0 of none
+abbrev pub largest : List ℕ → ℕ
+largest ns = fold max 0 ns
+
+-- the free bytes of these blocks together with those of the handles among them that may be purged
+abbrev pub purge_space : HandleTable → ZoneMap → ℕ
+purge_space t m = free_bytes m + sum_by (λ h. size_of h m) (candidates_in t [] m)
+
+-- The outcome of a call that is not refused and makes no request.
+abbrev pub outcome_of : Shape → Heap → MemoryCall → Outcome
+outcome_of s heap (memory_call.GetHandleSize h) = Ok (Number (length (bytes_of heap.table h)))
+outcome_of s heap (memory_call.GetPtrSize p) = Ok (Number (length (bytes_of heap.table p)))
+outcome_of s heap (memory_call.HGetState h) = Ok (Number (state_of (flags_of heap.table h)))
+outcome_of s heap (memory_call.RecoverHandle a) = Ok (Handle (unwrap_or (handle_at s a heap.map) 0))
+outcome_of s heap (memory_call.Deref h) = Ok (Address (contents_of s h heap.map))
+outcome_of s heap (memory_call.Peek x at n) = Ok (Bytes (take n (drop at (bytes_of heap.table x))))
+outcome_of s heap (memory_call.CompactMem n) = Ok (Number (largest_free heap.map))
+outcome_of s heap memory_call.MaxMem = Ok (TwoNumbers (largest_free heap.map) (growth_left s heap.map))
+outcome_of s heap memory_call.PurgeSpace = Ok (TwoNumbers (purge_space heap.table heap.map) (largest (map (λ (g : Gap). purge_space heap.table g.blocks) (gaps heap.table heap.map))))
+outcome_of s heap memory_call.MaxBlock = Ok (Number (largest (map room (gaps heap.table heap.map))))
+outcome_of s heap memory_call.FreeMem = Ok (Number (free_bytes heap.map))
+outcome_of s heap memory_call.ZoneMap = Ok (Blocks (reports_from heap.table (address_behind s []) heap.map))
+outcome_of s heap _ = Ok Nothing
+
+-- the results of a call whose request gave the number x
+abbrev pub given_results : MemoryCall → ℕ → Results
+given_results (memory_call.NewHandle n) x = Handle x
+given_results memory_call.NewEmptyHandle x = Handle x
+given_results (memory_call.NewPtr n) x = Pointer x
+given_results (memory_call.HandToHand h) x = Handle x
+given_results (memory_call.PtrToHand p n) x = Handle x
+given_results _ x = Nothing
+
+-- the outcome of a call that gives a handle
+abbrev pub handle_outcome : Result ℕ OsErr → Outcome
+handle_outcome (Ok handle) = Ok (Handle handle)
+handle_outcome (Err code) = Err code
+
+-- of one that gives a pointer
+abbrev pub pointer_outcome : Result ℕ OsErr → Outcome
+pointer_outcome (Ok pointer) = Ok (Pointer pointer)
+pointer_outcome (Err code) = Err code
+
+-- of one that gives an address
+abbrev pub address_outcome : Result ℕ OsErr → Outcome
+address_outcome (Ok address) = Ok (Address address)
+address_outcome (Err code) = Err code
+
+-- of one that gives a number
+abbrev pub number_outcome : Result ℕ OsErr → Outcome
+number_outcome (Ok n) = Ok (Number n)
+number_outcome (Err code) = Err code
+
+-- of one without a result
+abbrev pub done_outcome : Result (Unit {0}) OsErr → Outcome
+done_outcome (Ok u) = Ok Nothing
+done_outcome (Err code) = Err code

@@ -1,0 +1,27 @@
+//! The calls of the toolbox.
+
+use crate::memory_call::MemoryCall;
+
+/// A call of the toolbox with its operands.
+#[derive(Debug, Drop)]
+pub enum Call<'a> {
+    /// A call of the Memory Manager.
+    Memory(MemoryCall<'a>),
+    /// The code of the last call other than MemError (Inside Macintosh: Memory, Errors).
+    MemError,
+}
+
+impl Call<'_> {
+    ghost use Rattle.std.specs.Prelude.{◌≡◌};
+    ghost use Rattle.mac_calls.specs.Built.{is_built};
+
+    /// Whether the call can be made yet.
+    pub fn is_built(&self) -> bool
+        ensures { result ≡ is_built self.now }
+    {
+        match self {
+            Call::Memory(call) => call.is_built(),
+            Call::MemError => true,
+        }
+    }
+}

@@ -1,0 +1,13 @@
+//! The vocabulary of calls: the calls of the Memory Manager with their operands, what a call gives, and how each call
+//! is written.
+#![tactic(auto)]
+
+mod call;
+mod memory_call;
+mod reply;
+mod table;
+
+pub use call::Call;
+pub use memory_call::{MemoryCall, Span};
+pub use reply::{BlockList, Outcome, Reply, Results};
+pub use table::{CallName, OperandKind, Signature};

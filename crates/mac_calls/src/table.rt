@@ -1,0 +1,175 @@
+//! The calls that can be made by name, and how each is written.
+
+ghost use Rattle.std.specs.Prelude.{◌≡◌, ◌≢◌, true, false, IfSome, IfNone};
+ghost use Rattle.mac_calls.specs.declared.table.CallName.{CallName};
+ghost use Rattle.mac_calls.specs.Calls as calls;
+
+/// The calls that can be made, by their names.
+#[derive(Clone, Copy, Debug, PartialEq, Eq)]
+pub enum CallName {
+    NewHandle,
+    NewEmptyHandle,
+    NewPtr,
+    DisposeHandle,
+    DisposePtr,
+    EmptyHandle,
+    GetHandleSize,
+    SetHandleSize,
+    GetPtrSize,
+    SetPtrSize,
+    HLock,
+    HUnlock,
+    HPurge,
+    HNoPurge,
+    HSetRBit,
+    HClrRBit,
+    HGetState,
+    HSetState,
+    Deref,
+    Poke,
+    Peek,
+    ZoneMap,
+    MemError,
+}
+
+/// All calls.
+const ALL_CALLS: [CallName; 23] = [
+    CallName::NewHandle,
+    CallName::NewEmptyHandle,
+    CallName::NewPtr,
+    CallName::DisposeHandle,
+    CallName::DisposePtr,
+    CallName::EmptyHandle,
+    CallName::GetHandleSize,
+    CallName::SetHandleSize,
+    CallName::GetPtrSize,
+    CallName::SetPtrSize,
+    CallName::HLock,
+    CallName::HUnlock,
+    CallName::HPurge,
+    CallName::HNoPurge,
+    CallName::HSetRBit,
+    CallName::HClrRBit,
+    CallName::HGetState,
+    CallName::HSetState,
+    CallName::Deref,
+    CallName::Poke,
+    CallName::Peek,
+    CallName::ZoneMap,
+    CallName::MemError,
+];
+
+/// How an operand is written.
+#[derive(Clone, Copy, Debug, PartialEq, Eq)]
+pub enum OperandKind {
+    /// A number, or the name of a variable: a size, an offset, a handle, an address.
+    Number,
+    /// Any bytes, in quotes.
+    Bytes,
+    /// A number from -32768 to 32767, or the name of a variable: the id of a resource, a signed number.
+    Id,
+    /// Four bytes, in single quotes or as hexadecimal digits: the type of a resource.
+    Type,
+    /// Bytes, or nothing behind the last operand.
+    OptionalBytes,
+    /// A number, or nothing behind the last operand.
+    OptionalNumber,
+}
+
+impl OperandKind {
+    /// Whether such an operand may be missing.
+    pub fn may_be_missing(self) -> bool
+        ensures { result ≡ calls.may_be_missing self }
+    {
+        matches!(
+            self,
+            OperandKind::OptionalBytes | OperandKind::OptionalNumber
+        )
+    }
+}
+
+/// How a call is written.
+#[derive(Clone, Copy, Debug)]
+pub struct Signature {
+    /// The call's name, in ASCII.
+    pub name: &'static [u8],
+    /// The kinds of its operands, in order.
+    pub operands: &'static [OperandKind],
+    /// Whether a line may assign the call's first result, which is a number, a handle or an address then.
+    pub is_assignable: bool,
+}
+
+/// A call whose first result may be assigned.
+fn gives(name: &'static [u8], operands: &'static [OperandKind]) -> Signature
+    ensures name { result.name.now ≡ name.now }
+    ensures operands { result.operands.now ≡ operands.now }
+    ensures is_assignable { result.is_assignable ≡ true }
+{
+    Signature {
+        name,
+        operands,
+        is_assignable: true,
+    }
+}
+
+/// A call that gives nothing that may be assigned.
+fn does(name: &'static [u8], operands: &'static [OperandKind]) -> Signature
+    ensures name { result.name.now ≡ name.now }
+    ensures operands { result.operands.now ≡ operands.now }
+    ensures is_assignable { result.is_assignable ≡ false }
+{
+    Signature {
+        name,
+        operands,
+        is_assignable: false,
+    }
+}
+
+impl CallName {
+    /// How the call is written: the table of calls.
+    pub fn signature(self) -> Signature
+        ensures name { result.name.now ≡ (calls.signature self).name }
+        ensures operands { result.operands.now ≡ (calls.signature self).operands }
+        ensures is_assignable { result.is_assignable ≡ (calls.signature self).is_assignable }
+    {
+        use OperandKind::{Bytes, Number};
+        match self {
+            CallName::NewHandle => gives(b"NewHandle", &[Number]),
+            CallName::NewEmptyHandle => gives(b"NewEmptyHandle", &[]),
+            CallName::NewPtr => gives(b"NewPtr", &[Number]),
+            CallName::DisposeHandle => does(b"DisposeHandle", &[Number]),
+            CallName::DisposePtr => does(b"DisposePtr", &[Number]),
+            CallName::EmptyHandle => does(b"EmptyHandle", &[Number]),
+            CallName::GetHandleSize => gives(b"GetHandleSize", &[Number]),
+            CallName::SetHandleSize => does(b"SetHandleSize", &[Number, Number]),
+            CallName::GetPtrSize => gives(b"GetPtrSize", &[Number]),
+            CallName::SetPtrSize => does(b"SetPtrSize", &[Number, Number]),
+            CallName::HLock => does(b"HLock", &[Number]),
+            CallName::HUnlock => does(b"HUnlock", &[Number]),
+            CallName::HPurge => does(b"HPurge", &[Number]),
+            CallName::HNoPurge => does(b"HNoPurge", &[Number]),
+            CallName::HSetRBit => does(b"HSetRBit", &[Number]),
+            CallName::HClrRBit => does(b"HClrRBit", &[Number]),
+            CallName::HGetState => gives(b"HGetState", &[Number]),
+            CallName::HSetState => does(b"HSetState", &[Number, Number]),
+            CallName::Deref => gives(b"Deref", &[Number]),
+            CallName::Poke => does(b"Poke", &[Number, Number, Bytes]),
+            CallName::Peek => does(b"Peek", &[Number, Number, Number]),
+            CallName::ZoneMap => gives(b"ZoneMap", &[]),
+            CallName::MemError => does(b"MemError", &[]),
+        }
+    }
+
+    /// The call of this name.
+    pub fn named(word: &[u8]) -> Option<CallName>
+        ensures found { IfSome result (λ call. (calls.signature call).name ≡ word.now) }
+        ensures none { IfNone result ((call : CallName) → (calls.signature call).name ≢ word.now) }
+    {
+        for call in ALL_CALLS {
+            if call.signature().name == word {
+                return Some(call);
+            }
+        }
+        None
+    }
+}

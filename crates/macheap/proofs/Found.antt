@@ -1,0 +1,78 @@
+-- What the words ask for, from what `clap` found in them.
+use Rattle.std.proofs.Common.{◌≡◌, ℕ, true, List, [], Option, Result, Ok, Err, refl, sym, ap, subst, ◌∙◌, inl, inr, false, ◌∷◌, ◌<◌, arith}
+use Rattle.std.specs.List.{list_all}
+use Rattle.std.specs.Char.{is_ascii_digit, digit_value}
+use Rattle.std.specs.Str.Parse.{AllDigits}
+use Rattle.std.proofs.lemmas.Str.Parse.{digit_from_value}
+use Rattle.std.proofs.lemmas.Bool.Decides.{nat_tests}
+use Rattle.std.specs.Result.{IsErrAnd}
+use Rattle.clap.specs.declared.builder.command.Command.{Command}
+use Rattle.clap.specs.declared.error.Error.{Error}
+use Rattle.clap.specs.declared.error.kind.ErrorKind.{ErrorKind}
+use Rattle.clap.specs.declared.parser.matches.ArgMatches.{ArgMatches}
+use Rattle.clap.specs.Words.{App, Text, HasKind, HasMatchesOf, IsAmong, app_of, fault_of, first_of, first_value, found_of, is_simple, is_simple_and_free, kind_of, matches_of}
+use Rattle.clap.proofs.OnLiterals.{clap_on_literals}
+use Rattle.clap.proofs.WalkLemmas.{first_value-rows}
+use Rattle.macheap.specs.declared.asked.Asked.{Asked}
+use Rattle.macheap.specs.declared.asked.Asked.TheVariants.{Run, Help}
+use Rattle.macheap.specs.declared.asked.NotAsked.{NotAsked}
+use Rattle.macheap.specs.declared.asked.NotAsked.TheVariants.{Words, NoNumber, Spec, HostFull}
+use Rattle.macheap.specs.Options.{options, faults, value_of, IsDecimal}
+use Rattle.macheap.specs.Asking.{Asks, GivesNoNumber, MeansNoRun, IsNoNumberFault}
+
+pub options_free : is_simple_and_free options ≡ true
+unfolding clap_on_literals
+options_free = refl
+
+pub options_simple : is_simple options ≡ true
+unfolding clap_on_literals
+options_simple = refl
+
+-- what `get_str` gives is the value that the words give the option
+pub value_found : (command : Command) (words : List Text) (m : ArgMatches) (name : Text) (got : Option Text) → app_of command ≡ options → HasMatchesOf (app_of command) words m → got ≡ first_value (found_of m) name → got ≡ value_of name words
+value_found command words m name got is has found =
+    found ∙ first_value-rows (found_of m) name ∙ ap (first_of name) ((has (ap is_simple is ∙ options_simple)).0 ∙ ap (λ (a : App). matches_of a words) is)
+
+-- where the words match, they have no fault
+pub matched : (command : Command) (words : List Text) → app_of command ≡ options → (is_simple_and_free (app_of command) ≡ true → fault_of (app_of command) words ≡ []) → faults words ≡ []
+matched command words is none = ap (λ (a : App). fault_of a words) (sym is) ∙ none (ap is_simple_and_free is ∙ options_free)
+
+-- an error of the parse asks for help, or says that the words don't match
+pub unmatched : (words : List Text) (e : Error) (r : Result Asked NotAsked) → HasKind (faults words) e → MeansNoRun (kind_of e) r → Asks words r
+unmatched words e (Ok (Run sizes)) has means = absurd means
+unmatched words e (Ok (Help text)) (inl full) means = let is = means.0 in absurd (cc)
+unmatched words e (Ok (Help text)) (inr among) means = (subst (λ (k : ErrorKind). IsAmong k (faults words)) means.0 among, means.1 ∙ means.0)
+unmatched words e (Err (Words fault)) (inl full) means = absurd (means.1 full)
+unmatched words e (Err (Words fault)) (inr among) means = (subst (λ (k : ErrorKind). IsAmong k (faults words)) (sym means.2) among, λ same. means.0 (sym means.2 ∙ same))
+unmatched words e (Err (NoNumber option)) has means = absurd means
+unmatched words e (Err (Spec fault)) has means = absurd means
+unmatched words e (Err HostFull) has means = tt
+
+pub error_kind : (command : Command) (words : List Text) (e : Error) → app_of command ≡ options → (is_simple_and_free (app_of command) ≡ true → HasKind (fault_of (app_of command) words) e) → HasKind (faults words) e
+error_kind command words e is has = subst (λ (a : App). HasKind (fault_of a words) e) is (has (ap is_simple_and_free is ∙ options_free))
+
+pub full_asks : (words : List Text) (r : Result Asked NotAsked) → IsErrAnd r (λ e. e ≡ HostFull) → Asks words r
+full_asks words (Ok asked) full = absurd full
+full_asks words (Err e) full = subst (λ (x : NotAsked). Asks words (Err x)) (sym full) tt
+
+-- a value that is no number
+pub no_number_asks : (words : List Text) (e : NotAsked) (name : Text) → IsNoNumberFault name e → GivesNoNumber words name → Asks words (Err e)
+no_number_asks words (NoNumber option) name is none = subst (λ (t : Text). GivesNoNumber words t) (sym is) none
+no_number_asks words (Words fault) name is none = absurd is
+no_number_asks words (Spec fault) name is none = absurd is
+no_number_asks words HostFull name is none = absurd is
+
+pub no_number_error : (words : List Text) (r : Result Asked NotAsked) (e : NotAsked) (name : Text) → IsErrAnd r (λ x. x ≡ e) → IsNoNumberFault name e → GivesNoNumber words name → Asks words r
+no_number_error words (Ok asked) e name fails is none = absurd fails
+no_number_error words (Err x) e name fails is none = subst (λ (y : NotAsked). Asks words (Err y)) (sym fails) (no_number_asks words e name is none)
+
+is_digit : (c : ℕ) → digit_value c < 10 → is_ascii_digit c ≡ true
+is_digit c small = let range = digit_from_value c small in grind (arith, nat_tests)
+
+digits_are : (text : List ℕ) → AllDigits 10 text → list_all is_ascii_digit text ≡ true
+digits_are [] all = refl
+digits_are (c ∷ cs) all = rw (is_digit c all.0) (digits_are cs all.1)
+
+-- a text with another byte than a digit is no number
+pub no_digits : (text : List ℕ) → list_all is_ascii_digit text ≡ false → ¬ IsDecimal text
+no_digits text other decimal = let all = digits_are text decimal.digits.1 in let both : true ≡ false = sym all ∙ other in cc

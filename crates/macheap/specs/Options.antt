@@ -1,0 +1,36 @@
+-- The options of the command line, and the numbers that they give.
+use Rattle.std.specs.Prelude.{◌≡◌, ℕ, ◌<◌, ◌^◌, List, Option, Some, None, codes}
+use Rattle.std.specs.Str.Parse.{IsNumeral, digits_value}
+use Rattle.clap.specs.Words.{App, Rule, Text, Kinds, new_app, new_rule, with_rule, matches_of, first_of, fault_of}
+use Rattle.clap.specs.declared.builder.ArgAction.TheVariants.{Set}
+
+-- an option that stands once at most, as `--name`, and takes a value
+abbrev pub option_named : Text → Rule
+option_named name = record (new_rule name) { long = Some name; action = Some Set; value_names = 1 }
+
+-- the program and its options
+abbrev pub options : App
+options = with_rule (with_rule (new_app (codes "macheap")) (option_named (codes "zone"))) (option_named (codes "base"))
+
+-- the ways in which the words don't match the options, of which `--help` is one; none where they do
+abbrev pub faults : List Text → Kinds
+faults words = fault_of options words
+
+-- the value that the words give an option
+abbrev pub value_of : Text → List Text → Option Text
+value_of name words = first_of name (matches_of options words)
+
+-- decimal digits, one or more, of a number below 2 ^ 32
+pub record IsDecimal (text : List ℕ) : Type 0 where
+  pub digits : IsNumeral 10 text
+  pub fits : digits_value 10 text < 2 ^ 32
+
+-- an option's value is this number; where the option doesn't stand, the number is the default
+abbrev pub IsNumberOf : Option Text → ℕ → ℕ → Type 0
+IsNumberOf None default n = n ≡ default
+IsNumberOf (Some text) default n = IsDecimal text × (n ≡ digits_value 10 text)
+
+-- an option has a value that is no number
+abbrev pub IsNoNumber : Option Text → Type 0
+IsNoNumber None = ⊥
+IsNoNumber (Some text) = ¬ IsDecimal text

@@ -1,0 +1,115 @@
+-- What bounds say of the numbers under them.
+use Rattle.std.proofs.Common.{◌≡◌, ◌≢◌, ℕ, zero, suc, [], ◌∷◌, ◌++◌, replicate, refl, sym, ap, ◌∙◌, append_assoc, length-append, ◌+◌, ◌-◌, ◌*◌, ◌/◌, ◌<◌, ◌≤◌, inl, inr, List, length, get_or, take, drop, subst, arith, get_or-set_same, get_or-set_other, get_or-take, get_or-drop, length-set, ◌⊎◌}
+use Rattle.std.proofs.Math.ListN.{set}
+use Rattle.std.proofs.lemmas.Bool.{cases_eq, cases_lt}
+use Rattle.std.proofs.lemmas.List.{get_or_default, get_or_past, length-replicate, replicate-append-replicate, set-append_left}
+use Rattle.place_numbers.specs.Bounds.{AreBounds, AreBoundsBut}
+use Rattle.place_numbers.specs.Levels.{numbers_of, IsBounded}
+use Rattle.place_numbers.specs.declared.Numbers.TheInside.{Inside}
+
+-- a bound that is written anew, over numbers of which it is one
+pub covered : (bs xs : List ℕ) (p end r : ℕ)
+    → p < length xs
+    → AreBoundsBut bs xs p
+    → ((i : ℕ) → p / 32 * 32 + i < length xs → i < 32 → p / 32 * 32 + i < end)
+    → ((i : ℕ) → get_or (take (end - p / 32 * 32) (drop (p / 32 * 32) xs)) i 0 ≤ r)
+    → AreBounds (set bs (p / 32) r) xs
+covered bs xs p end r inside others far most = record {
+  count = let count = others.count in rw length-set (omega arith);
+  above = λ j. elim (cases_eq (j / 32) (p / 32)) [
+    | inl same ↦ let count = others.count in let bound : p / 32 < length bs = omega arith in rw (same, get_or-set_same) (here j same (cases_lt j (length xs)))
+    | inr other ↦
+        let apart : j ≢ p = omega arith in
+        rw get_or-set_other (others.above j apart)
+  ];
+}
+  where
+    here : (j : ℕ) → j / 32 ≡ p / 32 → (j < length xs) ⊎ (length xs ≤ j) → get_or xs j 0 ≤ r
+    here j same place = elim place [
+      | inl within ↦
+          let at : p / 32 * 32 + (j - p / 32 * 32) ≡ j = omega arith in
+          let reached = far (j - p / 32 * 32) (omega arith) (omega arith) in
+          let near : j - p / 32 * 32 < end - p / 32 * 32 = omega arith in
+          rw (get_or-take, get_or-drop, at) at (most (j - p / 32 * 32))
+      | inr behind ↦ let none = get_or_past xs j 0 behind in omega arith
+    ]
+
+-- zeros behind a list are what is read there anyway
+zeros-at : (k j : ℕ) → get_or {A = ℕ} (replicate k 0) j 0 ≡ 0
+zeros-at zero j = refl
+zeros-at (suc k) zero = refl
+zeros-at (suc k) (suc j) = zeros-at k j
+
+pub padded-at : (xs : List ℕ) (k j : ℕ) → get_or (xs ++ replicate k 0) j 0 ≡ get_or xs j 0
+padded-at [] k j = zeros-at k j
+padded-at (x ∷ xs) k zero = refl
+padded-at (x ∷ xs) k (suc j) = padded-at xs k j
+
+-- as many as there are places
+pub length-numbers : (x : Inside) → IsBounded x → length (numbers_of x) ≡ x.count
+length-numbers x bounded =
+    let sum = length-append x.numbers.items (replicate (x.count - length x.numbers.items) 0) in
+    let zeros : length {A = ℕ} (replicate (x.count - length x.numbers.items) 0) ≡ x.count - length x.numbers.items = length-replicate {A = ℕ} (x.count - length x.numbers.items) 0 in
+    let fits = bounded.fits in omega arith
+
+-- behind those that were written all are 0
+pub beyond : (x : Inside) (k j : ℕ) → 0 < k → length x.numbers.items ≤ j → get_or (numbers_of x) j 0 < k
+beyond x k j some behind =
+    let same = padded-at x.numbers.items (x.count - length x.numbers.items) j in let none = get_or_past x.numbers.items j 0 behind in omega arith
+
+-- fewer zeros are left where some were put
+pub less-padded : (xs : List ℕ) (end count : ℕ) → end ≤ count → length xs ≤ count
+    → (xs ++ replicate (end - length xs) 0) ++ replicate (count - length (xs ++ replicate (end - length xs) 0)) 0 ≡ xs ++ replicate (count - length xs) 0
+less-padded xs end count within fits =
+    let sum = length-append xs (replicate (end - length xs) 0) in
+    let zeros : length {A = ℕ} (replicate (end - length xs) 0) ≡ end - length xs = length-replicate {A = ℕ} (end - length xs) 0 in
+    append_assoc xs (replicate (end - length xs) 0) (replicate (count - length (xs ++ replicate (end - length xs) 0)) 0)
+    ∙ ap (λ (ys : List ℕ). xs ++ ys) (replicate-append-replicate (end - length xs) (count - length (xs ++ replicate (end - length xs) 0)) 0)
+    ∙ ap (λ (k : ℕ). xs ++ replicate k 0) (let e : end - length xs + (count - length (xs ++ replicate (end - length xs) 0)) ≡ count - length xs = omega arith in e)
+
+-- a number that is written among those that are there then
+pub set-padded : (xs ys now : List ℕ) (p n count : ℕ) → ys ≡ xs ++ replicate (p + 1 - length xs) 0 → p < length now → length now ≡ count → length xs ≤ count
+    → xs ++ replicate (count - length xs) 0 ≡ now → set ys p n ++ replicate (count - length (set ys p n)) 0 ≡ set now p n
+set-padded xs ys now p n count is inside all fits view =
+    let long = ap length is in let sum = length-append xs (replicate (p + 1 - length xs) 0) in
+    let zeros : length {A = ℕ} (replicate (p + 1 - length xs) 0) ≡ p + 1 - length xs = length-replicate {A = ℕ} (p + 1 - length xs) 0 in
+    ap (λ (k : ℕ). set ys p n ++ replicate (count - k) 0) (length-set ys p n)
+    ∙ sym (set-append_left ys (replicate (count - length ys) 0) p n (omega arith))
+    ∙ ap (λ (l : List ℕ). set l p n) (ap (λ (l : List ℕ). l ++ replicate (count - length l) 0) is ∙ less-padded xs (p + 1) count (omega arith) fits ∙ view)
+
+module _ (x : Inside) (bounded : IsBounded x) (k at v j : ℕ) (low : v < k) where
+  -- what is below k where it is written is so where it is seen
+  seen : get_or x.numbers.items j 0 < k → get_or (numbers_of x) j 0 < k
+  seen below = let same = padded-at x.numbers.items (x.count - length x.numbers.items) j in omega arith
+
+  -- a number that was read is below k
+  pub read-below : at < length x.numbers.items → v ≡ get_or x.numbers.items at v → at ≡ j → get_or (numbers_of x) j 0 < k
+  read-below inside read here =
+      let same = get_or_default x.numbers.items at 0 v inside in let there : get_or x.numbers.items at 0 < k = omega arith in
+      seen (subst (λ (i : ℕ). get_or x.numbers.items i 0 < k) here there)
+
+  -- no number is at least k under a bound v below k of the lowest level
+  pub under-low : at < length x.low.items → v ≡ get_or x.low.items at v → j / 32 ≡ at → get_or (numbers_of x) j 0 < k
+  under-low inside read under =
+      let one : get_or x.numbers.items j 0 ≤ get_or x.low.items at 0 = rw under at (bounded.low.above j) in
+      let same = get_or_default x.low.items at 0 v inside in
+      seen (omega arith)
+
+  -- nor under one of the middle level
+  pub under-middle : at < length x.middle.items → v ≡ get_or x.middle.items at v → j / 1024 ≡ at → get_or (numbers_of x) j 0 < k
+  under-middle inside read under =
+      let up : j / 32 / 32 ≡ at = omega arith in
+      let one = bounded.low.above j in
+      let two : get_or x.low.items (j / 32) 0 ≤ get_or x.middle.items at 0 = rw up at (bounded.middle.above (j / 32)) in
+      let same = get_or_default x.middle.items at 0 v inside in
+      seen (omega arith)
+
+  -- nor under one of the highest
+  pub under-high : at < length x.high.items → v ≡ get_or x.high.items at v → j / 32768 ≡ at → get_or (numbers_of x) j 0 < k
+  under-high inside read under =
+      let up : j / 32 / 32 / 32 ≡ at = omega arith in
+      let one = bounded.low.above j in
+      let two = bounded.middle.above (j / 32) in
+      let three : get_or x.middle.items (j / 32 / 32) 0 ≤ get_or x.high.items at 0 = rw up at (bounded.high.above (j / 32 / 32)) in
+      let same = get_or_default x.high.items at 0 v inside in
+      seen (omega arith)

@@ -1,0 +1,9 @@
+//! The text of replies: what a run prints.
+#![tactic(auto)]
+
+mod printing;
+
+pub use printing::{NO_MEMORY, fault_line, render};
+
+#[cfg(test)]
+mod tests;

@@ -1,0 +1,253 @@
+//! What a run prints.
+
+ghost use Rattle.std.specs.Prelude.{◌≡◌, ◌<◌, ◌*◌, ◌++◌, ◌∷◌, [], true, decimal, codes, length, IfOk, OnOk};
+ghost use Rattle.std.specs.Fmt.{digit_glyph, signed_decimal};
+ghost use Rattle.std.specs.List.{flat_map, list_all};
+ghost use Rattle.reply_text.specs.Text as texts;
+
+use itoa::{Buffer, Integer};
+use mac_base::block::{Block, Flags, Kind};
+use mac_base::error::{HostFull, NO_ERR, OsErr};
+use mac_calls::{CallName, Reply, Results};
+use std::alloc::Global;
+
+/// The last line of a run for which the host had no memory.
+pub const NO_MEMORY: &[u8] = b"no memory\n";
+
+/// Adds a number in decimal, with a minus where it is negative.
+fn push_number<I: Integer>(text: &mut Vec<u8>, number: I) -> Result<(), HostFull>
+    ensures { OnOk result (text.new.items ≡ text.old.items ++ I.text number) }
+{
+    let mut buffer = Buffer::new();
+    text.extend_from_slice(buffer.format(number).as_bytes())?;
+    Ok(())
+}
+
+/// A digit below 16, in upper case.
+fn hexadecimal_digit(digit: u8) -> u8
+    requires { digit < 16 }
+    ensures { result ≡ digit_glyph true digit }
+{
+    if digit < 10 {
+        b'0' + digit
+    } else {
+        b'A' - 10 + digit
+    }
+}
+
+/// Writes bytes as upper-case hexadecimal digits, two for each, over other bytes.
+fn write_digits(digits: &mut [u8], bytes: &[u8])
+    requires { length digits.old ≡ 2 * length bytes.now }
+    ensures { digits.new ≡ texts.in_digits bytes.now }
+{
+    for (index, byte) in bytes.iter().enumerate() {
+        digits[2 * index] = hexadecimal_digit(*byte / 16);
+        digits[2 * index + 1] = hexadecimal_digit(*byte % 16);
+    }
+}
+
+/// Adds bytes as upper-case hexadecimal digits, two for each.
+fn push_digits(text: &mut Vec<u8>, bytes: &[u8]) -> Result<(), HostFull>
+    ensures { OnOk result (text.new.items ≡ text.old.items ++ texts.in_digits bytes.now) }
+{
+    let start = text.len();
+    let count = bytes.len().checked_mul(2).ok_or(HostFull)?;
+    let end = start.checked_add(count).ok_or(HostFull)?;
+    text.resize(end, 0)?;
+    write_digits(&mut text[start..], bytes);
+    Ok(())
+}
+
+/// Adds a handle or an address: `$` and eight hexadecimal digits.
+fn push_address(text: &mut Vec<u8>, address: u32) -> Result<(), HostFull>
+    ensures { OnOk result (text.new.items ≡ text.old.items ++ texts.address address) }
+{
+    let mut digits = [0u8; 8];
+    write_digits(&mut digits, &address.to_be_bytes());
+    text.push(b'$')?;
+    text.extend_from_slice(&digits)?;
+    Ok(())
+}
+
+/// Whether a byte stands for itself in double quotes.
+fn is_plain(byte: u8) -> bool
+    ensures { result ≡ texts.is_plain byte }
+{
+    matches!(byte, b' '..=b'~') && byte != b'"'
+}
+
+/// Whether all bytes stand for themselves in double quotes.
+fn are_plain(bytes: &[u8]) -> bool
+    ensures { result ≡ list_all texts.is_plain bytes.now }
+{
+    let mut all = true;
+    for byte in bytes {
+        all &= is_plain(*byte);
+    }
+    all
+}
+
+/// Adds bytes in double quotes where each can stand there, else as `$"`, hexadecimal digits and `"`.
+fn push_bytes(text: &mut Vec<u8>, bytes: &[u8]) -> Result<(), HostFull>
+    ensures { OnOk result (text.new.items ≡ text.old.items ++ texts.in_quotes bytes.now) }
+{
+    if are_plain(bytes) {
+        text.push(b'"')?;
+        text.extend_from_slice(bytes)?;
+    } else {
+        text.extend_from_slice(b"$\"")?;
+        push_digits(text, bytes)?;
+    }
+    text.push(b'"')?;
+    Ok(())
+}
+
+/// The number of the code of a call, which is noErr where it wasn't refused.
+fn code_number(refused: Option<OsErr>) -> i16
+    ensures { result ≡ texts.number_of refused }
+{
+    match refused {
+        Some(error) => error.code(),
+        None => NO_ERR,
+    }
+}
+
+/// Adds a space and what a call gave, if it gave something.
+fn push_results(text: &mut Vec<u8>, results: &Results) -> Result<(), HostFull>
+    ensures { OnOk result (text.new.items ≡ text.old.items ++ texts.results_text results.now) }
+{
+    if let Results::Nothing = results {
+        return Ok(());
+    }
+    text.push(b' ')?;
+    match results {
+        Results::Nothing => Ok(()),
+        Results::Handle(handle) => push_address(text, handle.number()),
+        Results::Pointer(pointer) => push_address(text, pointer.number()),
+        Results::Address(address) => push_address(text, *address),
+        Results::Number(number) => push_number(text, *number),
+        Results::TwoNumbers(one, other) => {
+            push_number(text, *one)?;
+            text.push(b' ')?;
+            push_number(text, *other)
+        }
+        Results::Code(refused) => push_number(text, code_number(*refused)),
+        Results::Bytes(bytes) => push_bytes(text, bytes.as_slice()),
+        Results::Blocks(blocks) => push_number(text, blocks.as_slice().len()),
+    }
+}
+
+/// Adds a reply's results and its code.
+fn push_outcome(text: &mut Vec<u8>, reply: &Reply) -> Result<(), HostFull>
+    ensures { OnOk result
+        (text.new.items ≡ text.old.items ++ texts.outcome_text reply.now.outcome) }
+{
+    match &reply.outcome {
+        Ok(results) => {
+            push_results(text, results)?;
+            text.extend_from_slice(b" 0")?;
+        }
+        Err(error) => {
+            text.push(b' ')?;
+            push_number(text, error.code())?;
+        }
+    }
+    Ok(())
+}
+
+/// The letters of the flags that are set, and `-` for each other.
+fn flag_letters(flags: Flags) -> [u8; 3]
+    ensures { result ≡ texts.flags_text flags }
+{
+    [
+        if flags.lock { b'L' } else { b'-' },
+        if flags.purge { b'P' } else { b'-' },
+        if flags.resource { b'R' } else { b'-' },
+    ]
+}
+
+/// Adds what stands in a block, whose owner has so many bytes and these flags.
+fn push_kind(text: &mut Vec<u8>, kind: Kind, length: u32, flags: Flags) -> Result<(), HostFull>
+    ensures { OnOk result (text.new.items ≡ text.old.items ++ texts.kind_text kind length flags) }
+{
+    match kind {
+        Kind::Free => text.extend_from_slice(b" free")?,
+        Kind::Master => text.extend_from_slice(b" master")?,
+        Kind::Ptr(_) => {
+            text.extend_from_slice(b" ptr ")?;
+            push_number(text, length)?;
+        }
+        Kind::Rel(handle) => {
+            text.extend_from_slice(b" rel ")?;
+            push_address(text, handle.number())?;
+            text.push(b' ')?;
+            push_number(text, length)?;
+            text.push(b' ')?;
+            text.extend_from_slice(&flag_letters(flags))?;
+        }
+    }
+    Ok(())
+}
+
+/// Adds the line of a block.
+fn push_block(text: &mut Vec<u8>, block: Block) -> Result<(), HostFull>
+    ensures { OnOk result (text.new.items ≡ text.old.items ++ texts.block_text block) }
+{
+    text.extend_from_slice(b"  ")?;
+    push_address(text, block.address)?;
+    text.push(b' ')?;
+    push_number(text, block.entry.size)?;
+    push_kind(text, block.entry.kind, block.length, block.flags)?;
+    text.push(b'\n')?;
+    Ok(())
+}
+
+/// Adds the lines of blocks.
+fn push_blocks(text: &mut Vec<u8>, blocks: &[Block]) -> Result<(), HostFull>
+    ensures { OnOk result
+        (text.new.items ≡ text.old.items ++ flat_map texts.block_text blocks.now) }
+{
+    for block in blocks {
+        push_block(text, *block)?;
+    }
+    Ok(())
+}
+
+/// Adds the lines of the blocks that a reply shows.
+fn push_shown(text: &mut Vec<u8>, reply: &Reply) -> Result<(), HostFull>
+    ensures { OnOk result (text.new.items ≡ text.old.items ++ texts.blocks_text reply.now.outcome) }
+{
+    match &reply.outcome {
+        Ok(Results::Blocks(blocks)) => push_blocks(text, blocks.as_slice()),
+        Ok(_) | Err(_) => Ok(()),
+    }
+}
+
+/// Adds what the reply to a line's call prints: the line's number, the call's name, its results and its code, and a
+/// line for each block that the call shows.
+pub fn render(
+    text: &mut Vec<u8>,
+    number: u32,
+    call: CallName,
+    reply: &Reply,
+) -> Result<(), HostFull>
+    ensures { OnOk result
+        (text.new.items ≡ text.old.items ++ texts.reply_text number call reply.now) }
+{
+    push_number(text, number)?;
+    text.push(b' ')?;
+    text.extend_from_slice(call.signature().name)?;
+    push_outcome(text, reply)?;
+    text.push(b'\n')?;
+    push_shown(text, reply)
+}
+
+/// The one line that is printed for a script that is none; `line` is the first line that is none.
+pub fn fault_line(alloc: Global, line: u32) -> Result<Vec<u8>, HostFull>
+    ensures { IfOk result (λ text. text.items ≡ texts.fault_text line) }
+{
+    let mut text = Vec::from_slice(alloc, b"script fault at line ")?;
+    push_number(&mut text, line)?;
+    text.push(b'\n')?;
+    Ok(text)
+}

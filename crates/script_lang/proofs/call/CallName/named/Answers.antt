@@ -1,6 +1,0 @@
-use Rattle.std.proofs.Common.{arith}
-use Rattle.script_lang.proofs.CallNames.{unnamed}
-use Rattle.script_lang.proofs.call.CallName.named.Goals as goal
-
-pub returns-clause-none : goal.returns-clause-none
-returns-clause-none c = unnamed c.args.word.now (λ k lt. c.loop-call.invariant k (omega arith))

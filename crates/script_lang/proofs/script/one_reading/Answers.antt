@@ -1,6 +1,0 @@
-use Rattle.script_lang.proofs.OneScript.{one_script}
-use Rattle.script_lang.proofs.OneFault.{one_fault, no_fault}
-use Rattle.script_lang.proofs.script.one_reading.Goals as goal
-
-pub returns : goal.returns
-returns c = record { script = one_script; fault = one_fault; not_both = no_fault }

@@ -1,0 +1,4 @@
+pub mod Counting
+pub mod End
+pub mod Line
+pub mod Run

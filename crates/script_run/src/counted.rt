@@ -1,0 +1,106 @@
+//! Readers and writers that count their failures.
+
+ghost use Rattle.std.specs.Prelude.{◌≡◌, ◌==◌, length, is_err, true, false};
+ghost use Rattle.std.specs.Io.{ReadsAtMost, WritesAtMost};
+ghost use Rattle.std.specs.Io.KnownBytes.{Keeps, ReadConsumes, WriteAppends};
+ghost use Rattle.script_run.specs.Counting.{counted, takes_nothing};
+
+use std::io;
+use std::io::{Read, Write};
+use std::marker::Model;
+
+/// A reader or a writer that counts its failures. A contract sees what is counted and the count, which stays at its
+/// last value.
+#[derive(Drop)]
+pub struct Counted<T> {
+    inner: T,
+    failures: u64,
+}
+
+impl<T> Model for Counted<T> {
+    ghost use Rattle.script_run.specs.Counting.{Counting};
+
+    ghost Value = { Counting T };
+
+    ghost view = { λ c. record { inner = c.inner; failures = c.failures } };
+}
+
+impl<T> Counted<T> {
+    /// Nothing has failed yet.
+    pub fn new(inner: T) -> Counted<T>
+        ensures inner { result.inner ≡ inner }
+        ensures failures { result.failures ≡ 0 }
+    {
+        Counted { inner, failures: 0 }
+    }
+
+    /// What is counted.
+    pub fn inner(&self) -> &T
+        ensures { result.now ≡ self.now.inner }
+    {
+        &self.inner
+    }
+
+    /// What was counted.
+    pub fn into_inner(self) -> T
+        ensures { result ≡ self.inner }
+    {
+        self.inner
+    }
+
+    /// How often it has failed.
+    pub fn failures(&self) -> u64
+        ensures { result ≡ self.now.failures }
+    {
+        self.failures
+    }
+}
+
+/// A read that fails counts once, and no other does.
+impl<R: Read> Read for Counted<R> {
+    ghost remaining = { λ c. R.remaining c.inner };
+
+    fn read(&mut self, buf: &mut [u8]) -> io::Result<usize>
+        ensures bound { ReadsAtMost result buf.new }
+        ensures bytes { ReadConsumes (R.remaining self.old.inner) (R.remaining self.new.inner) result buf.new }
+        ensures count { self.new.failures ≡ counted (is_err result) self.old.failures }
+    {
+        let result = self.inner.read(buf);
+        if result.is_err() {
+            self.failures = self.failures.saturating_add(1);
+        }
+        result
+    }
+}
+
+/// A write that fails counts once, and so does one that takes nothing of some bytes. No other does.
+impl<W: Write> Write for Counted<W> {
+    ghost contents = { λ c. W.contents c.inner };
+
+    fn write(&mut self, buf: &[u8]) -> io::Result<usize>
+        ensures bound { WritesAtMost result buf.now }
+        ensures bytes { WriteAppends (W.contents self.old.inner) (W.contents self.new.inner) result buf.now }
+        ensures count { self.new.failures ≡ counted (takes_nothing result buf.now) self.old.failures }
+    {
+        let result = self.inner.write(buf);
+        let has_failed = match &result {
+            Ok(count) => *count == 0 && !buf.is_empty(),
+            Err(_) => true,
+        };
+        if has_failed {
+            self.failures = self.failures.saturating_add(1);
+        }
+        result
+    }
+
+    fn flush(&mut self) -> io::Result<()>
+        ensures bytes { Keeps (W.contents self.old.inner) (W.contents self.new.inner) }
+        ensures count { self.new.failures ≡ counted (is_err result) self.old.failures }
+    {
+        let result = self.inner.flush();
+        if result.is_err() {
+            self.failures = self.failures.saturating_add(1);
+        }
+        result
+    }
+}

@@ -1,0 +1,16 @@
+//! A run of a script: from the bytes that a reader gives to those that a writer takes.
+#![tactic(auto)]
+
+mod counted;
+mod end;
+mod machine;
+mod reading;
+mod running;
+#[cfg(test)]
+mod tests;
+mod writing;
+
+pub use counted::Counted;
+pub use end::{RunEnd, status};
+pub use running::{run, tell_no_memory};
+pub use writing::write_whole;

@@ -1,0 +1,56 @@
+//! Reading a script.
+
+ghost use Rattle.std.specs.Prelude.{◌≡◌, ◌≢◌, ◌<◌, ◌≤◌, length, Err, IfOk, IfSome, IsErrOf};
+ghost use Rattle.script_text.specs.Script.{max_script};
+ghost use Rattle.script_run.specs.Counting.{Rose};
+ghost use Rattle.script_run.specs.declared.reading.ReadEnd.TheVariants.{Memory};
+
+use crate::counted::Counted;
+use script_text::MAX_SCRIPT;
+use std::alloc::{AllocError, Global};
+use std::io::Read;
+
+/// Why there is no script.
+#[derive(Clone, Copy, Debug, PartialEq, Eq)]
+pub enum ReadEnd {
+    /// The host had no memory.
+    Memory,
+    /// The reader failed.
+    Fault,
+    /// There are more bytes than a script may have.
+    TooLong,
+}
+
+impl From<AllocError> for ReadEnd {
+    ghost from_gives = { λ _ e. e ≡ Memory };
+
+    fn from(_: AllocError) -> ReadEnd {
+        ReadEnd::Memory
+    }
+}
+
+/// All that the reader gives, in at most two reads more than a script may have bytes.
+pub fn read_script<R: Read>(alloc: Global, reader: &mut Counted<R>) -> Result<Vec<u8>, ReadEnd>
+    ensures text { IfOk result (λ text. IfSome (R.remaining reader.old.inner)
+        (λ input. (text.items ≡ input) × (length input ≤ max_script))) }
+    ensures long { IsErrOf result ReadEnd.TooLong
+        → IfSome (R.remaining reader.old.inner) (λ input. max_script < length input) }
+    ensures fault { IsErrOf result ReadEnd.Fault → Rose reader.old.failures reader.new.failures }
+    ensures no_fault { result ≢ Err ReadEnd.Fault → reader.new.failures ≡ reader.old.failures }
+{
+    let mut text = Vec::new(alloc);
+    let mut buffer = [0u8; 4096];
+    for _ in 0..MAX_SCRIPT + 2 {
+        let Ok(count) = reader.read(&mut buffer) else {
+            return Err(ReadEnd::Fault);
+        };
+        if count == 0 {
+            return Ok(text);
+        }
+        text.extend_from_slice(&buffer[..count])?;
+        if text.len() > MAX_SCRIPT {
+            return Err(ReadEnd::TooLong);
+        }
+    }
+    Err(ReadEnd::TooLong)
+}

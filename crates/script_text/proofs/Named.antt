@@ -1,0 +1,48 @@
+-- Look-ups by the bytes of names, in sets whose keys own their bytes.
+use Rattle.std.proofs.Common.{◌≡◌, ℕ, ◌+◌, Bool, true, false, cond, List, [], ◌∷◌, ◌++◌, map, Some, refl, sym, ap, ◌∙◌}
+use Rattle.std.specs.Prelude.{◌||◌, not, position, Result, Ok, Err, OnOk}
+use Rattle.std.specs.List.{list_any, position_or_len}
+use Rattle.std.specs.Str.{bytes_eq}
+use Rattle.std.proofs.lemmas.List.{map_push, length-map}
+use Rattle.indexmap.specs.IndexSet.{insert_key}
+use Rattle.script_text.proofs.Fronts.{position_found}
+use Rattle.script_text.specs.Names.{is_named, place_of, place_for, with_name}
+
+-- whether a key spells the word
+pub is_named-map : {V : Type 0} (spelled : V → List ℕ) (word : List ℕ) (keys : List V) → is_named (map spelled keys) word ≡ list_any (λ k. bytes_eq word (spelled k)) keys
+is_named-map spelled word [] = refl
+is_named-map spelled word (key ∷ keys) = ap (λ (b : Bool). bytes_eq word (spelled key) || b) (is_named-map spelled word keys)
+
+-- the first key that spells the word, or their number
+pub place_for-map : {V : Type 0} (spelled : V → List ℕ) (word : List ℕ) (keys : List V) → place_for (map spelled keys) word ≡ position_or_len (λ k. bytes_eq word (spelled k)) keys
+place_for-map spelled word [] = refl
+place_for-map spelled word (key ∷ keys) = ap (λ (n : ℕ). cond (not (bytes_eq word (spelled key))) (1 + n) 0) (place_for-map spelled word keys)
+
+-- the first key that spells the word, if there is one
+pub place_of-map : {V : Type 0} (spelled : V → List ℕ) (word : List ℕ) (keys : List V) → place_of (map spelled keys) word ≡ position (λ k. bytes_eq word (spelled k)) keys
+place_of-map spelled word keys = rw (place_for-map spelled word keys, length-map keys spelled) refl
+
+with_name-cases : {V : Type 0} (spelled : V → List ℕ) (key : V) (keys : List V) (b : Bool) → map spelled (cond b keys (keys ++ key ∷ [])) ≡ cond b (map spelled keys) (map spelled keys ++ spelled key ∷ [])
+with_name-cases spelled key keys true = refl
+with_name-cases spelled key keys false = map_push spelled keys key
+
+-- the names after a key is inserted
+pub with_name-map : {V : Type 0} (spelled : V → List ℕ) (keys : List V) (key : V) → map spelled (insert_key (λ x y. bytes_eq (spelled x) (spelled y)) keys key) ≡ with_name (map spelled keys) (spelled key)
+with_name-map spelled keys key =
+    with_name-cases spelled key keys (list_any (λ k. bytes_eq (spelled key) (spelled k)) keys)
+    ∙ ap (λ (b : Bool). cond b (map spelled keys) (map spelled keys ++ spelled key ∷ [])) (sym (is_named-map spelled (spelled key) keys))
+
+-- a word that has a place stands there, and the names stay when it is assigned
+pub found_place : {V : Type 0} (spelled : V → List ℕ) (names : List (List ℕ)) (keys : List V) (word : List ℕ) (place : ℕ) → map spelled keys ≡ names → position (λ k. bytes_eq word (spelled k)) keys ≡ Some place → place ≡ place_for names word
+found_place spelled names keys word place view found =
+    sym (position_found (λ k. bytes_eq word (spelled k)) keys place found).0 ∙ sym (place_for-map spelled word keys) ∙ ap (λ (n : List (List ℕ)). place_for n word) view
+
+pub found_named : {V : Type 0} (spelled : V → List ℕ) (names : List (List ℕ)) (keys : List V) (word : List ℕ) → map spelled keys ≡ names → true ≡ list_any (λ k. bytes_eq word (spelled k)) keys → names ≡ with_name names word
+found_named spelled names keys word view found =
+    let named : is_named names word ≡ true = ap (λ (n : List (List ℕ)). is_named n word) (sym view) ∙ is_named-map spelled word keys ∙ sym found in
+    rw named refl
+
+-- a fact holds where a call succeeded
+pub on_ok : {X E : Type 0} (r : Result X E) (P : Type 0) → P → OnOk r P
+on_ok (Ok x) P h = h
+on_ok (Err e) P h = tt

@@ -1,0 +1,81 @@
+-- Bytes are the script of one list of lines at most.
+use Rattle.std.proofs.Common.{◌≡◌, ℕ, ◌+◌, List, [], ◌∷◌, ◌++◌, Option, Some, None, refl, sym, ap, subst, ◌∙◌}
+use Rattle.std.specs.Prelude.{option_map}
+use Rattle.std.specs.Str.Lines.{lines}
+use Rattle.mac_calls.specs.declared.table.CallName.{CallName}
+use Rattle.script_text.specs.declared.line.Name.{Name}
+use Rattle.script_text.specs.declared.line.Operand.{Operand}
+use Rattle.script_text.specs.declared.line.Line.{Line}
+use Rattle.script_text.specs.Tokens.{Token, Equals, Word}
+use Rattle.mac_calls.specs.Calls.{signature}
+use Rattle.script_text.specs.Operands.{AreOperands}
+use Rattle.script_text.specs.Names.{place_for}
+use Rattle.script_text.specs.Script.{assignment, IsLine, names_after, AreLines, AreParted, OneReading}
+use Rattle.script_text.proofs.TokenLaws.{one_tokens}
+use Rattle.mac_calls.proofs.CallNames.{one_call}
+use Rattle.script_text.proofs.OneOperand.{one_operands, operands_no_equals}
+
+-- a line of these parts
+abbrev made : ℕ → Option Name → CallName → List Operand → Line
+made number assigned call operands = record { number = number; assigned = assigned; call = call; operands = operands }
+
+one_made : (a b : Line) → a.number ≡ b.number → a.assigned ≡ b.assigned → a.call ≡ b.call → a.operands ≡ b.operands → a ≡ b
+one_made a b number assigned call operands =
+    ap (λ (x : ℕ). made x a.assigned a.call a.operands) number
+    ∙ ap (λ (x : Option Name). made b.number x a.call a.operands) assigned
+    ∙ ap (λ (x : CallName). made b.number b.assigned x a.operands) call
+    ∙ ap (λ (x : List Operand). made b.number b.assigned b.call x) operands
+
+-- what stands behind a name and `=`, and what stands behind a call
+one_assignment : (names : List (List ℕ)) (a b : Line) (p q : List Token) → AreOperands names (signature a.call).operands p a.operands → AreOperands names (signature b.call).operands q b.operands → (x y : Option (List ℕ)) → assignment x ++ Word (signature a.call).name ∷ p ≡ assignment y ++ Word (signature b.call).name ∷ q → (x ≡ y) × ((signature a.call).name ≡ (signature b.call).name) × (p ≡ q)
+one_assignment names a b p q here there None None e = (refl, cc, cc)
+one_assignment names a b p q here there (Some x) (Some y) e = (cc, cc, cc)
+one_assignment names a b p q here there None (Some y) e =
+    let begins : p ≡ Equals ∷ Word (signature b.call).name ∷ q = cc in
+    absurd (operands_no_equals names (signature a.call).operands (Word (signature b.call).name ∷ q) a.operands (subst (λ (t : List Token). AreOperands names (signature a.call).operands t a.operands) begins here))
+one_assignment names a b p q here there (Some x) None e =
+    let begins : q ≡ Equals ∷ Word (signature a.call).name ∷ p = cc in
+    absurd (operands_no_equals names (signature b.call).operands (Word (signature a.call).name ∷ p) b.operands (subst (λ (t : List Token). AreOperands names (signature b.call).operands t b.operands) begins there))
+
+-- tokens make the call of one line with a number at most
+one_line : (number : ℕ) (names : List (List ℕ)) (tokens : List Token) (a b : Line) → IsLine number names tokens a → IsLine number names tokens b → a ≡ b
+one_line number names tokens a b is other =
+    let p = is.2 in
+    let q = other.2 in
+    let parts = one_assignment names a b p.1 q.1 p.5 q.5 p.0 q.0 (sym p.2 ∙ q.2) in
+    let call = one_call a.call b.call parts.1 in
+    let there : AreOperands names (signature a.call).operands p.1 b.operands =
+    subst (λ (c : CallName). AreOperands names (signature c).operands p.1 b.operands) (sym call) (subst (λ (t : List Token). AreOperands names (signature b.call).operands t b.operands) (sym parts.2) q.5) in
+    let assigned : a.assigned ≡ b.assigned = p.4 ∙ ap (λ (n : Option (List ℕ)). option_map (place_for names) n) parts.0 ∙ sym q.4 in
+    one_made a b (is.1 ∙ sym other.1) assigned call (one_operands names (signature a.call).operands p.1 a.operands b.operands p.5 there)
+
+-- texts have one list of tokens each at most
+pub one_parted : (texts : List (List ℕ)) (a b : List (List Token)) → AreParted texts a → AreParted texts b → a ≡ b
+one_parted [] [] [] p q = refl
+one_parted [] [] (y ∷ b) p q = absurd q
+one_parted [] (x ∷ a) b p q = absurd p
+one_parted (text ∷ texts) [] b p q = absurd p
+one_parted (text ∷ texts) (x ∷ a) [] p q = absurd q
+one_parted (text ∷ texts) (x ∷ a) (y ∷ b) p q =
+    let head : x ≡ y = one_tokens text x y p.0 q.0 in
+    let tail : a ≡ b = one_parted texts a b p.1 q.1 in
+    cc
+
+-- lists of tokens are one list of lines at most
+one_lines : (number : ℕ) (names : List (List ℕ)) (parted : List (List Token)) (a b : List Line) → AreLines number names parted a → AreLines number names parted b → a ≡ b
+one_lines number names [] [] [] p q = refl
+one_lines number names [] [] (y ∷ b) p q = absurd q
+one_lines number names [] (x ∷ a) b p q = absurd p
+one_lines number names ([] ∷ parted) a b p q = one_lines (number + 1) names parted a b p.1 q.1
+one_lines number names ((token ∷ tokens) ∷ parted) [] b p q = absurd p
+one_lines number names ((token ∷ tokens) ∷ parted) (x ∷ a) [] p q = absurd q
+one_lines number names ((token ∷ tokens) ∷ parted) (x ∷ a) (y ∷ b) p q =
+    let head : x ≡ y = one_line number names (token ∷ tokens) x y p.0 q.0 in
+    let tail : a ≡ b = one_lines (number + 1) (names_after names (token ∷ tokens)) parted a b p.1 q.1 in
+    cc
+
+-- bytes are the script of one list of lines at most
+pub one_script : OneReading
+one_script text a b p q =
+    let same = one_parted (lines text) p.1 q.1 p.2 q.2 in
+    one_lines 1 [] p.1 a b p.3 (subst (λ (t : List (List Token)). AreLines 1 [] t b) (sym same) q.3)

@@ -1,0 +1,33 @@
+-- The tokens of a line, read one by one.
+use Rattle.std.proofs.Common.{◌≡◌, ℕ, List, [], ◌∷◌, ◌++◌, refl, sym, ap, subst, ◌∙◌, append_assoc, append-nil}
+use Rattle.script_text.specs.Tokens.{Token, AreTokens, TakesToken}
+
+-- the line begins with these tokens, and goes on with those of the rest
+pub record Reading (line rest : List ℕ) (read : List Token) : Type 0 where
+  pub there : (more : List Token) → AreTokens rest more → AreTokens line (read ++ more)
+  pub back : (all : List Token) → AreTokens line all → (more : List Token) × (all ≡ read ++ more) × AreTokens rest more
+
+-- at the start
+pub reading_none : (line : List ℕ) → Reading line line []
+reading_none line = record { there = λ more h. h; back = λ all h. (all, refl, h) }
+
+-- one token more
+pub reading_more : (line rest behind : List ℕ) (read : List Token) (token : Token) → Reading line rest read → TakesToken rest token behind → Reading line behind (read ++ token ∷ [])
+reading_more line rest behind read token r takes = record { there = there; back = back }
+  where
+    there : (more : List Token) → AreTokens behind more → AreTokens line ((read ++ token ∷ []) ++ more)
+    there more h = subst (λ (t : List Token). AreTokens line t) (sym (append_assoc read (token ∷ []) more)) (r.there (token ∷ more) ((takes (token ∷ more)).1 (more, refl, h)))
+
+    back : (all : List Token) → AreTokens line all → (more : List Token) × (all ≡ (read ++ token ∷ []) ++ more) × AreTokens behind more
+    back all h =
+        let found = r.back all h in
+        let next = (takes found.0).0 found.2 in
+        (next.0, found.1 ∙ ap (λ (t : List Token). read ++ t) next.1 ∙ sym (append_assoc read (token ∷ []) next.0), next.2)
+
+-- the end of the line
+pub reading_all : (line rest : List ℕ) (read : List Token) → Reading line rest read → AreTokens rest [] → AreTokens line read
+reading_all line rest read r h = subst (λ (t : List Token). AreTokens line t) (append-nil read) (r.there [] h)
+
+-- bytes that are no token
+pub reading_fails : (line rest : List ℕ) (read : List Token) → Reading line rest read → ((more : List Token) → ¬ AreTokens rest more) → (all : List Token) → ¬ AreTokens line all
+reading_fails line rest read r none all h = let found = r.back all h in none found.0 found.2

@@ -1,0 +1,7 @@
+pub mod Found
+pub mod Tokens
+pub mod Front
+pub mod Names
+pub mod Operands
+pub mod Script
+pub mod Reading

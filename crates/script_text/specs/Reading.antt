@@ -1,0 +1,29 @@
+-- What is read from one line.
+use Rattle.std.specs.Prelude.{◌≡◌, ℕ, ◌≤◌, List, [], ◌∷◌, Option, None, Some}
+use Rattle.script_text.specs.declared.line.Line.{Line}
+use Rattle.script_text.specs.declared.script.Fault.{Fault}
+use Rattle.script_text.specs.declared.script.Fault.TheVariants as fault
+use Rattle.script_text.specs.Tokens.{Token, AreTokens}
+use Rattle.script_text.specs.Script.{max_lines, IsCall, IsLine, IsNoLine, names_after}
+
+-- the tokens make the call of this line, which has this number
+abbrev pub IsNumbered : ℕ → List (List ℕ) → List Token → Line → Type 0
+IsNumbered number names tokens line = (line.number ≡ number) × IsCall names tokens line
+
+-- what the tokens of a text say: nothing, or the call of a line
+abbrev pub Says : ℕ → List (List ℕ) → List Token → Option Line → Type 0
+Says number names [] None = number ≤ max_lines
+Says number names (token ∷ tokens) (Some line) = IsLine number names (token ∷ tokens) line
+Says number names tokens found = ⊥
+
+-- what a text says, and the names that have been assigned behind it
+pub record Reads (number : ℕ) (names : List (List ℕ)) (text : List ℕ) (found : Option Line) (after : List (List ℕ)) : Type 0 where
+  pub tokens : List Token
+  pub are : AreTokens text tokens
+  pub says : Says number names tokens found
+  pub named : after ≡ names_after names tokens
+
+-- the reason why a text is no line with this number holds; want of memory may come at any time
+abbrev pub Fails : ℕ → List (List ℕ) → List ℕ → Fault → Type 0
+Fails number names text (fault.Line n) = (n ≡ number) × IsNoLine number names text
+Fails number names text fault.HostFull = Unit {0}

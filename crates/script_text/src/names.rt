@@ -1,0 +1,70 @@
+//! The names that a script has assigned so far.
+
+ghost use Rattle.script_text.specs.Names.{OnePlace, KeepsPlace, TakesPlace};
+
+use crate::line::Name;
+use indexmap::IndexSet;
+use mac_base::error::HostFull;
+use std::alloc::Global;
+use std::marker::Model;
+
+/// Names of variables, in order of first assignment. A contract sees the list.
+#[derive(Drop)]
+pub struct Names {
+    alloc: Global,
+    names: IndexSet<Vec<u8>>,
+}
+
+impl Model for Names {
+    ghost use Rattle.std.specs.Prelude.{List, ℕ, map};
+
+    ghost Value = { List (List ℕ) };
+
+    ghost view = { λ n. map (λ name. name.items) n.names.keys };
+}
+
+impl Names {
+    ghost use Rattle.std.specs.Prelude.{◌≡◌, [], IfOk, OnOk};
+    ghost use Rattle.script_text.specs.Names.{place_of, place_for, with_name};
+
+    /// No names.
+    pub fn new(alloc: Global) -> Names
+        ensures { result ≡ [] }
+    {
+        Names {
+            alloc,
+            names: IndexSet::new(alloc),
+        }
+    }
+
+    /// The name that a word is, if it has been assigned.
+    pub fn find(&self, word: &[u8]) -> Result<Option<Name>, HostFull>
+        ensures { IfOk result (λ found. found ≡ place_of self.now word.now) }
+    {
+        match self.names.get_index_of(word) {
+            Some(place) => Ok(Some(Name::at(place)?)),
+            None => Ok(None),
+        }
+    }
+
+    /// The name that a word is. It is added if it is new.
+    pub fn add(&mut self, word: &[u8]) -> Result<Name, HostFull>
+        ensures place { IfOk result (λ name. name ≡ place_for self.old word.now) }
+        ensures names { OnOk result (self.new ≡ with_name self.old word.now) }
+    {
+        if let Some(place) = self.names.get_index_of(word) {
+            return Name::at(place);
+        }
+        let name = Vec::from_slice(self.alloc, word)?;
+        let (place, _) = self.names.insert_full(name)?;
+        Name::at(place)
+    }
+}
+
+/// No two names have one place, a name keeps its place when another is assigned, and one that is assigned has its
+/// place from then on.
+pub fn names_have_places()
+    ensures one { OnePlace }
+    ensures kept { KeepsPlace }
+    ensures taken { TakesPlace }
+{}

@@ -1,0 +1,335 @@
+//! Operands: numbers, names, bytes, ids and types.
+
+ghost use Rattle.std.specs.Prelude.{◌≡◌, ℕ, ◌<◌, ◌≤◌, ◌^◌, List, IfOk, IfSome, IfNone, SomeIff, ◌∷◌, map, option_map};
+ghost use Rattle.std.specs.Char.{digit_value};
+ghost use Rattle.std.specs.List.{list_all};
+ghost use Rattle.std.specs.Option.{option_copied};
+ghost use Rattle.script_text.specs.Found.{Finds};
+ghost use Rattle.script_text.specs.Tokens.{Word, Single, Double, Hexadecimal};
+ghost use Rattle.script_text.specs.Front.{view};
+ghost use Rattle.script_text.specs.Operands.{IsNumeral, IsNumber, IsByte, AreDigitsOf, is_name, is_name_byte, is_printable, IsPositiveId, IsNegativeId, IsId, IsVariable, IsNumberOperand, IsBytesOperand, IsIdOperand, IsTypeOfBytes, IsTypeOperand, IsOperand, IsOperandAt, AreOperands};
+
+use crate::line::{Name, Operand, OperandBytes, Operands};
+use crate::names::Names;
+use crate::token::Token;
+use mac_base::error::HostFull;
+use mac_calls::OperandKind;
+use std::alloc::Global;
+
+/// The number of digits in a base, if it has at most 32 bits.
+fn numeral(word: &[u8], base: u32) -> Option<u32>
+    requires at_least { 2 ≤ base }
+    requires at_most { base ≤ 36 }
+    ensures found { IfSome result (λ n. IsNumeral base word.now n) }
+    ensures none { IfNone result ((n : ℕ) → n < 2 ^ 32 → IsNumeral base word.now n → ⊥) }
+{
+    if word.is_empty() {
+        return None;
+    }
+    let mut number: u32 = 0;
+    for byte in word {
+        let digit = char::from(*byte).to_digit(base)?;
+        number = number.checked_mul(base)?.checked_add(digit)?;
+    }
+    Some(number)
+}
+
+/// The number of a word: decimal, or `$` and one to eight hexadecimal digits.
+fn number(word: &[u8]) -> Option<u32>
+    ensures { Finds result (IsNumber word.now) }
+{
+    match word {
+        [b'$', digits @ ..] if digits.len() <= 8 => numeral(digits, 16),
+        _ => numeral(word, 10),
+    }
+}
+
+/// The id that decimal digits are.
+fn positive_id(digits: &[u8]) -> Option<i16>
+    ensures { Finds result (IsPositiveId digits.now) }
+{
+    match numeral(digits, 10) {
+        Some(number) if number < 0x8000 => Some(number as i16),
+        _ => None,
+    }
+}
+
+/// The id that decimal digits behind a `-` are.
+fn id_below_zero(digits: &[u8]) -> Option<i16>
+    ensures { Finds result (IsNegativeId (45 ∷ digits.now)) }
+{
+    match numeral(digits, 10) {
+        Some(number) if number <= 0x8000 => Some(-(number as i32) as i16),
+        _ => None,
+    }
+}
+
+/// The id that `-` and decimal digits are.
+fn negative_id(word: &[u8]) -> Option<i16>
+    ensures { Finds result (IsNegativeId word.now) }
+{
+    match word {
+        [b'-', digits @ ..] => id_below_zero(digits),
+        _ => None,
+    }
+}
+
+/// The id that a word is: decimal, with or without `-`.
+fn id(word: &[u8]) -> Option<i16>
+    ensures { Finds result (IsId word.now) }
+{
+    match positive_id(word) {
+        Some(id) => Some(id),
+        None => negative_id(word),
+    }
+}
+
+/// Whether a byte may stand in a name, behind its first letter.
+fn is_name_byte(byte: u8) -> bool
+    ensures { result ≡ is_name_byte byte }
+{
+    byte.is_ascii_alphanumeric() || byte == b'_'
+}
+
+/// Whether all bytes may stand in a name, behind its first letter.
+fn are_name_bytes(bytes: &[u8]) -> bool
+    ensures { result ≡ list_all is_name_byte bytes.now }
+{
+    bytes.iter().all(|byte| is_name_byte(*byte))
+}
+
+/// Whether a word may be the name of a variable.
+pub fn is_name(word: &[u8]) -> bool
+    ensures { result ≡ is_name word.now }
+{
+    match word {
+        [first, others @ ..] if first.is_ascii_alphabetic() => {
+            are_name_bytes(others) && others.len() <= 30
+        }
+        _ => false,
+    }
+}
+
+/// Whether a byte may stand in quotes.
+fn is_printable(byte: u8) -> bool
+    ensures { result ≡ is_printable byte }
+{
+    matches!(byte, b' '..=b'~')
+}
+
+/// Whether all bytes may stand in quotes.
+fn are_printable(bytes: &[u8]) -> bool
+    ensures { result ≡ list_all is_printable bytes.now }
+{
+    let mut all = true;
+    for byte in bytes {
+        all &= is_printable(*byte);
+    }
+    all
+}
+
+/// The variable of this name, if it has been assigned.
+fn variable(word: &[u8], names: &Names) -> Result<Option<Name>, HostFull>
+    ensures { IfOk result (λ found. Finds found (IsVariable names.now word.now)) }
+{
+    if !is_name(word) {
+        return Ok(None);
+    }
+    names.find(word)
+}
+
+/// A number, or the name of a variable that has been assigned.
+fn number_operand(word: &[u8], names: &Names) -> Result<Option<Operand>, HostFull>
+    ensures { IfOk result (λ found.
+        Finds found (IsNumberOperand names.now (Word word.now))) }
+{
+    if let Some(number) = number(word) {
+        return Ok(Some(Operand::Number(number)));
+    }
+    match variable(word, names)? {
+        Some(name) => Ok(Some(Operand::Variable(name))),
+        None => Ok(None),
+    }
+}
+
+/// An id, or the name of a variable that has been assigned.
+fn id_operand(word: &[u8], names: &Names) -> Result<Option<Operand>, HostFull>
+    ensures { IfOk result (λ found.
+        Finds found (IsIdOperand names.now (Word word.now))) }
+{
+    if let Some(id) = id(word) {
+        return Ok(Some(Operand::Id(id)));
+    }
+    match variable(word, names)? {
+        Some(name) => Ok(Some(Operand::Variable(name))),
+        None => Ok(None),
+    }
+}
+
+/// The bytes of a text in double quotes.
+fn quoted_bytes(alloc: Global, inner: &[u8]) -> Result<Option<Operand>, HostFull>
+    ensures { IfOk result (λ found.
+        Finds found (IsBytesOperand (Double inner.now))) }
+{
+    if !are_printable(inner) {
+        return Ok(None);
+    }
+    let bytes = OperandBytes::new(alloc, Vec::from_slice(alloc, inner)?)?;
+    Ok(Some(Operand::Bytes(bytes)))
+}
+
+/// The value of each byte as a hexadecimal digit of either case, and 255 where it is none.
+static DIGIT_VALUES: [u8; 256] = [
+    255, 255, 255, 255, 255, 255, 255, 255, 255, 255, 255, 255, 255, 255, 255, 255, 255, 255, 255,
+    255, 255, 255, 255, 255, 255, 255, 255, 255, 255, 255, 255, 255, 255, 255, 255, 255, 255, 255,
+    255, 255, 255, 255, 255, 255, 255, 255, 255, 255, 0, 1, 2, 3, 4, 5, 6, 7, 8, 9, 255, 255, 255,
+    255, 255, 255, 255, 10, 11, 12, 13, 14, 15, 255, 255, 255, 255, 255, 255, 255, 255, 255, 255,
+    255, 255, 255, 255, 255, 255, 255, 255, 255, 255, 255, 255, 255, 255, 255, 255, 10, 11, 12, 13,
+    14, 15, 255, 255, 255, 255, 255, 255, 255, 255, 255, 255, 255, 255, 255, 255, 255, 255, 255,
+    255, 255, 255, 255, 255, 255, 255, 255, 255, 255, 255, 255, 255, 255, 255, 255, 255, 255, 255,
+    255, 255, 255, 255, 255, 255, 255, 255, 255, 255, 255, 255, 255, 255, 255, 255, 255, 255, 255,
+    255, 255, 255, 255, 255, 255, 255, 255, 255, 255, 255, 255, 255, 255, 255, 255, 255, 255, 255,
+    255, 255, 255, 255, 255, 255, 255, 255, 255, 255, 255, 255, 255, 255, 255, 255, 255, 255, 255,
+    255, 255, 255, 255, 255, 255, 255, 255, 255, 255, 255, 255, 255, 255, 255, 255, 255, 255, 255,
+    255, 255, 255, 255, 255, 255, 255, 255, 255, 255, 255, 255, 255, 255, 255, 255, 255, 255, 255,
+    255, 255, 255, 255, 255, 255, 255, 255, 255, 255, 255, 255, 255, 255, 255, 255, 255, 255, 255,
+    255, 255, 255,
+];
+
+/// The value of a hexadecimal digit of either case.
+fn hexadecimal_digit(digit: u8) -> Option<u8>
+    ensures { SomeIff result (digit_value digit < 16) (digit_value digit) }
+{
+    let value = DIGIT_VALUES[digit as usize];
+    if value < 16 { Some(value) } else { None }
+}
+
+/// The byte of two hexadecimal digits.
+fn byte_of_digits(high: u8, low: u8) -> Option<u8>
+    ensures { Finds result (IsByte high low) }
+{
+    Some(16 * hexadecimal_digit(high)? + hexadecimal_digit(low)?)
+}
+
+/// The bytes of hexadecimal digits, two for each.
+fn bytes_of_digits(alloc: Global, digits: &[u8]) -> Result<Option<Vec<u8>>, HostFull>
+    ensures found { IfOk result (λ found. IfSome found (λ bytes. AreDigitsOf digits.now bytes.items)) }
+    ensures none { IfOk result (λ found. IfNone found ((bytes : List ℕ) → AreDigitsOf digits.now bytes → ⊥)) }
+{
+    let mut bytes = Vec::with_capacity(alloc, digits.len() / 2)?;
+    let mut rest = digits;
+    while let [high, low, behind @ ..] = rest {
+        let Some(byte) = byte_of_digits(*high, *low) else {
+            return Ok(None);
+        };
+        bytes.push(byte)?;
+        rest = behind;
+    }
+    if !rest.is_empty() {
+        return Ok(None);
+    }
+    Ok(Some(bytes))
+}
+
+/// The bytes of a text in quotes behind `$`.
+fn hexadecimal_bytes(alloc: Global, digits: &[u8]) -> Result<Option<Operand>, HostFull>
+    ensures { IfOk result (λ found.
+        Finds found (IsBytesOperand (Hexadecimal digits.now))) }
+{
+    match bytes_of_digits(alloc, digits)? {
+        Some(bytes) => Ok(Some(Operand::Bytes(OperandBytes::new(alloc, bytes)?))),
+        None => Ok(None),
+    }
+}
+
+/// The type that four bytes are.
+fn type_of_bytes(bytes: &[u8]) -> Option<Operand>
+    ensures { Finds result (IsTypeOfBytes bytes.now) }
+{
+    match bytes {
+        [first, second, third, fourth] => Some(Operand::Type([*first, *second, *third, *fourth])),
+        _ => None,
+    }
+}
+
+/// The type that a text in single quotes is.
+fn quoted_type(inner: &[u8]) -> Option<Operand>
+    ensures { Finds result (IsTypeOperand (Single inner.now)) }
+{
+    if !are_printable(inner) {
+        return None;
+    }
+    type_of_bytes(inner)
+}
+
+/// The type that a text in quotes behind `$` is.
+fn hexadecimal_type(alloc: Global, digits: &[u8]) -> Result<Option<Operand>, HostFull>
+    ensures { IfOk result (λ found.
+        Finds found (IsTypeOperand (Hexadecimal digits.now))) }
+{
+    match bytes_of_digits(alloc, digits)? {
+        Some(bytes) => Ok(type_of_bytes(&bytes)),
+        None => Ok(None),
+    }
+}
+
+/// The operand of this kind that a token is.
+fn operand(
+    alloc: Global,
+    kind: OperandKind,
+    token: Token<'_>,
+    names: &Names,
+) -> Result<Option<Operand>, HostFull>
+    ensures { IfOk result (λ found. Finds found (IsOperand names.now kind (view token.entry))) }
+{
+    use OperandKind::{Bytes, Id, Number, OptionalBytes, OptionalNumber, Type};
+    match (kind, token) {
+        (Number | OptionalNumber, Token::Word(word)) => number_operand(word, names),
+        (Bytes | OptionalBytes, Token::Double(inner)) => quoted_bytes(alloc, inner),
+        (Bytes | OptionalBytes, Token::Hexadecimal(digits)) => hexadecimal_bytes(alloc, digits),
+        (Id, Token::Word(word)) => id_operand(word, names),
+        (Type, Token::Single(inner)) => Ok(quoted_type(inner)),
+        (Type, Token::Hexadecimal(digits)) => hexadecimal_type(alloc, digits),
+        _ => Ok(None),
+    }
+}
+
+/// The operand of this kind that the token at a place is, which is missing where there is none and it may be.
+fn operand_at(
+    alloc: Global,
+    kind: OperandKind,
+    token: Option<&Token<'_>>,
+    names: &Names,
+) -> Result<Option<Operand>, HostFull>
+    ensures { IfOk result (λ found.
+        Finds found (IsOperandAt names.now kind (option_map view (option_copied token.entry)))) }
+{
+    match token {
+        Some(token) => operand(alloc, kind, *token, names),
+        None if kind.may_be_missing() => Ok(Some(Operand::Missing)),
+        None => Ok(None),
+    }
+}
+
+/// The operands of these kinds that the tokens are, one token for each kind but those that are missing.
+pub fn operands(
+    alloc: Global,
+    kinds: &[OperandKind],
+    tokens: &[Token<'_>],
+    names: &Names,
+) -> Result<Option<Operands>, HostFull>
+    ensures { IfOk result (λ found.
+        Finds found (AreOperands names.now kinds.now (map view tokens.now))) }
+{
+    if kinds.len() < tokens.len() {
+        return Ok(None);
+    }
+    let mut operands = Vec::with_capacity(alloc, kinds.len())?;
+    for (index, kind) in kinds.iter().enumerate() {
+        let Some(operand) = operand_at(alloc, *kind, tokens.get(index), names)? else {
+            return Ok(None);
+        };
+        operands.push(operand)?;
+    }
+    Ok(Some(Operands::new(operands)))
+}

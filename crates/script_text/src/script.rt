@@ -1,0 +1,126 @@
+//! The lines of a script.
+
+ghost use Rattle.std.specs.Prelude.{◌≡◌, [], ◌∷◌, ◌<◌, ◌==◌, length, position, IfOk, IfErr, IfSome, OnOk, MatchOption};
+ghost use Rattle.std.specs.Str.Lines.{lines, strip_carriage_return};
+ghost use Rattle.script_text.specs.Script as script;
+ghost use Rattle.script_text.specs.Reading.{Reads, Fails};
+
+use crate::line::Line;
+use crate::names::Names;
+use crate::statement::call_line;
+use crate::token::{Token, read_tokens};
+use mac_base::error::HostFull;
+use memchr::memchr;
+use std::alloc::Global;
+use thiserror::Error;
+
+/// A script has at most this many bytes.
+pub const MAX_SCRIPT: usize = 0x10_0000;
+
+/// A script has at most this many lines.
+pub const MAX_LINES: u32 = 65536;
+
+/// Why a text gives no lines.
+#[derive(Clone, Copy, Debug, PartialEq, Eq, Error)]
+pub enum Fault {
+    /// The first line that is none. It is 0 where the text has too many bytes, and one more than the largest
+    /// number of lines where it has too many of those.
+    #[error("script fault at line {0}")]
+    Line(u32),
+    /// The host refused memory.
+    #[error("the host has no memory")]
+    HostFull,
+}
+
+/// A line that a newline ends, without the carriage return before it.
+fn without_carriage_return(line: &[u8]) -> &[u8]
+    ensures { result.now ≡ strip_carriage_return line.now }
+{
+    match line {
+        [front @ .., b'\r'] => front,
+        _ => line,
+    }
+}
+
+/// Where the first newline stands.
+fn first_newline(text: &[u8]) -> Option<usize>
+    ensures { result ≡ position (λ byte. byte == 10) text.now }
+{
+    memchr(b'\n', text)
+}
+
+/// The first line of a text, and the text behind it.
+fn first_line(text: &[u8]) -> Option<(&[u8], &[u8])>
+    ensures lines { MatchOption result (lines text.now ≡ []) (λ parts.
+        lines text.now ≡ parts.0.now ∷ lines parts.1.now) }
+    ensures shorter { IfSome result (λ parts. length parts.1.now < length text.now) }
+{
+    if text.is_empty() {
+        return None;
+    }
+    match first_newline(text) {
+        Some(end) => Some((without_carriage_return(&text[..end]), &text[end + 1..])),
+        None => Some((text, &[])),
+    }
+}
+
+/// What the line of this number says, where these names have been assigned: nothing, or a call. The tokens are
+/// memory to be used again.
+fn read_line<'a>(
+    alloc: Global,
+    number: u32,
+    text: &'a [u8],
+    tokens: &mut Vec<Token<'a>>,
+    names: &mut Names,
+) -> Result<Option<Line>, Fault>
+    ensures line { IfOk result (λ found. Reads number names.old text.now found names.new) }
+    ensures fault { IfErr result (Fails number names.old text.now) }
+{
+    if number > MAX_LINES {
+        return Err(Fault::Line(number));
+    }
+    match read_tokens(text, tokens) {
+        Ok(true) => {}
+        Ok(false) => return Err(Fault::Line(number)),
+        Err(HostFull) => return Err(Fault::HostFull),
+    }
+    if tokens.is_empty() {
+        return Ok(None);
+    }
+    match call_line(alloc, number, tokens, names) {
+        Ok(Some(line)) => Ok(Some(line)),
+        Ok(None) => Err(Fault::Line(number)),
+        Err(HostFull) => Err(Fault::HostFull),
+    }
+}
+
+/// The lines of a script that make calls. The text is a script exactly where each of its lines makes a call or says
+/// nothing; a fault names the first that does neither.
+pub fn parse_script(alloc: Global, text: &[u8]) -> Result<Vec<Line>, Fault>
+    ensures script { IfOk result (λ lines. script.IsScript text.now lines.items) }
+    ensures fault { IfErr result (script.IsFault text.now) }
+{
+    if text.len() > MAX_SCRIPT {
+        return Err(Fault::Line(0));
+    }
+    let mut lines = Vec::new(alloc);
+    let mut names = Names::new(alloc);
+    let mut tokens = Vec::new(alloc);
+    let mut rest = text;
+    let mut number = 0;
+    while let Some((line, behind)) = first_line(rest) {
+        number += 1;
+        if let Some(line) = read_line(alloc, number, line, &mut tokens, &mut names)? {
+            lines.push(line).map_err(|_| Fault::HostFull)?;
+        }
+        rest = behind;
+    }
+    Ok(lines)
+}
+
+/// Any bytes are the script of one list of lines at most, and else they have one first line that is none.
+pub fn one_reading()
+    ensures script { script.OneReading }
+    ensures fault { script.OneFault }
+    ensures not_both { script.NoFault }
+{}

@@ -1,0 +1,89 @@
+//! What a line says, from its tokens.
+
+ghost use Rattle.std.specs.Prelude.{◌≡◌, List, ℕ, ◌++◌, ◌∷◌, map, option_map, IfOk, IfSome, IfNone, OnOk};
+ghost use Rattle.std.specs.Option.{option_copied};
+ghost use Rattle.script_text.specs.Found.{Finds};
+ghost use Rattle.script_text.specs.Tokens as tokens;
+ghost use Rattle.script_text.specs.Front.{view};
+ghost use Rattle.script_text.specs.Names.{place_for};
+ghost use Rattle.script_text.specs.Script.{assignment, assigned_by, HasNoFirstWord, IsCall, with_assigned, names_after};
+ghost use Rattle.script_text.specs.Reading.{IsNumbered};
+
+use crate::line::{Line, Name};
+use crate::names::Names;
+use crate::operand::{is_name, operands};
+use crate::token::Token;
+use mac_base::error::HostFull;
+use mac_calls::CallName;
+use std::alloc::Global;
+
+/// The name that a line assigns, if it begins so, and the tokens behind `name =`.
+fn assigned_name<'a, 'b>(line: &'b [Token<'a>]) -> (Option<&'a [u8]>, &'b [Token<'a>])
+    ensures parts { map view line.now
+        ≡ assignment (option_copied result.0) ++ map view result.1.now }
+    ensures name { option_copied result.0 ≡ assigned_by (map view line.now) }
+{
+    match line {
+        [Token::Word(name), Token::Equals, rest @ ..] => (Some(*name), rest),
+        _ => (None, line),
+    }
+}
+
+/// The word that the tokens begin with, and those behind it.
+fn first_word<'a, 'b>(line: &'b [Token<'a>]) -> Option<(&'a [u8], &'b [Token<'a>])>
+    ensures found { IfSome result (λ parts.
+        map view line.now ≡ tokens.Word parts.0.now ∷ map view parts.1.now) }
+    ensures none { IfNone result (HasNoFirstWord (map view line.now)) }
+{
+    match line {
+        [Token::Word(word), rest @ ..] => Some((*word, rest)),
+        _ => None,
+    }
+}
+
+/// The name that a line assigns, which is added to the names.
+fn add_assigned(names: &mut Names, word: Option<&[u8]>) -> Result<Option<Name>, HostFull>
+    ensures name { IfOk result (λ name. name ≡ option_map (place_for names.old) (option_copied word.entry)) }
+    ensures names { OnOk result (names.new ≡ with_assigned names.old (option_copied word.entry)) }
+{
+    match word {
+        Some(word) => Ok(Some(names.add(word)?)),
+        None => Ok(None),
+    }
+}
+
+/// The call that tokens make in a line with this number, where these names have been assigned.
+pub fn call_line(
+    alloc: Global,
+    number: u32,
+    line: &[Token<'_>],
+    names: &mut Names,
+) -> Result<Option<Line>, HostFull>
+    ensures line { IfOk result (λ found. Finds found (IsNumbered number names.old (map view line.now))) }
+    ensures names { IfOk result (λ found. IfSome found (λ _.
+        names.new ≡ names_after names.old (map view line.now))) }
+{
+    let (assigned, line) = assigned_name(line);
+    let Some((word, line)) = first_word(line) else {
+        return Ok(None);
+    };
+    let Some(call) = CallName::named(word) else {
+        return Ok(None);
+    };
+    let signature = call.signature();
+    if let Some(name) = assigned
+        && !(is_name(name) && signature.is_assignable)
+    {
+        return Ok(None);
+    }
+    let Some(operands) = operands(alloc, signature.operands, line, names)? else {
+        return Ok(None);
+    };
+    let assigned = add_assigned(names, assigned)?;
+    Ok(Some(Line {
+        number,
+        assigned,
+        call,
+        operands,
+    }))
+}

@@ -1,0 +1,167 @@
+//! The words, marks and texts in quotes of a line.
+
+ghost use Rattle.std.specs.Prelude.{◌≡◌, List, [], ◌<◌, length, map, position, MatchBool, IfOk, IfSome, IfNone, OnErr};
+ghost use Rattle.script_text.specs.Tokens as tokens;
+ghost use Rattle.script_text.specs.Front.{view, front, behind, is_no_blank, is_no_word_byte, is_quote, closed_at, Taken, Fault, Shows, first_front};
+
+use mac_base::error::HostFull;
+use memchr::memchr;
+
+/// A part of a line.
+#[derive(Clone, Copy, Debug)]
+pub enum Token<'a> {
+    Equals,
+    Semicolon,
+    /// A word without quotes.
+    Word(&'a [u8]),
+    /// What stands in '..', in ".." and in $"..".
+    Single(&'a [u8]),
+    Double(&'a [u8]),
+    Hexadecimal(&'a [u8]),
+}
+
+fn is_blank(byte: u8) -> bool
+    ensures { result ≡ tokens.is_blank byte }
+{
+    matches!(byte, b' ' | b'\t')
+}
+
+fn is_boundary(byte: u8) -> bool
+    ensures { result ≡ tokens.is_boundary byte }
+{
+    is_blank(byte) || matches!(byte, b'=' | b';' | b'#')
+}
+
+fn is_word_byte(byte: u8) -> bool
+    ensures { result ≡ tokens.is_word_byte byte }
+{
+    !is_boundary(byte) && !matches!(byte, b'\'' | b'"')
+}
+
+fn is_at_boundary(rest: &[u8]) -> bool
+    ensures { result ≡ tokens.is_at_boundary rest.now }
+{
+    match rest {
+        [] => true,
+        [byte, ..] => is_boundary(*byte),
+    }
+}
+
+/// The line has bytes that are no token.
+#[derive(Clone, Copy, Debug)]
+pub struct NotAToken;
+
+fn first_no_blank(line: &[u8]) -> Option<usize>
+    ensures { result ≡ position is_no_blank line.now }
+{
+    line.iter().position(|byte| !is_blank(*byte))
+}
+
+fn first_no_word_byte(line: &[u8]) -> Option<usize>
+    ensures { result ≡ position is_no_word_byte line.now }
+{
+    line.iter().position(|byte| !is_word_byte(*byte))
+}
+
+fn first_quote(line: &[u8], quote: u8) -> Option<usize>
+    ensures { result ≡ position (is_quote quote) line.now }
+{
+    memchr(quote, line)
+}
+
+fn after_blanks(line: &[u8]) -> &[u8]
+    ensures { result.now ≡ behind is_no_blank line.now }
+{
+    line.split_at(first_no_blank(line).unwrap_or(line.len())).1
+}
+
+fn split_word(line: &[u8]) -> (&[u8], &[u8])
+    ensures word { result.0.now ≡ front is_no_word_byte line.now }
+    ensures rest { result.1.now ≡ behind is_no_word_byte line.now }
+{
+    line.split_at(first_no_word_byte(line).unwrap_or(line.len()))
+}
+
+fn split_quote(line: &[u8], quote: u8) -> (&[u8], &[u8])
+    ensures inner { result.0.now ≡ front (is_quote quote) line.now }
+    ensures rest { result.1.now ≡ behind (is_quote quote) line.now }
+{
+    line.split_at(first_quote(line, quote).unwrap_or(line.len()))
+}
+
+/// The text up to its quote, and what follows the quote, where a boundary does.
+fn closed(line: &[u8], quote: u8) -> Result<(&[u8], &[u8]), NotAToken>
+    ensures inner { IfOk result (λ parts. parts.0.now ≡ front (is_quote quote) line.now) }
+    ensures rest { IfOk result (λ parts.
+        (token : tokens.Token) →
+        closed_at token (behind (is_quote quote) line.now) ≡ Taken token parts.1.now) }
+    ensures fault { OnErr result ((token : tokens.Token) →
+        closed_at token (behind (is_quote quote) line.now) ≡ Fault) }
+{
+    match split_quote(line, quote) {
+        (inner, [_, rest @ ..]) if is_at_boundary(rest) => Ok((inner, rest)),
+        _ => Err(NotAToken),
+    }
+}
+
+/// The first token of a line, and what follows it.
+fn read_token(line: &[u8]) -> Result<Option<(Token<'_>, &[u8])>, NotAToken>
+    ensures { Shows result (first_front line.now) }
+{
+    match after_blanks(line) {
+        [] | [b'#', ..] => Ok(None),
+        [b'=', rest @ ..] => Ok(Some((Token::Equals, rest))),
+        [b';', rest @ ..] => Ok(Some((Token::Semicolon, rest))),
+        [b'\'', rest @ ..] => {
+            let (inner, rest) = closed(rest, b'\'')?;
+            Ok(Some((Token::Single(inner), rest)))
+        }
+        [b'"', rest @ ..] => {
+            let (inner, rest) = closed(rest, b'"')?;
+            Ok(Some((Token::Double(inner), rest)))
+        }
+        [b'$', b'"', rest @ ..] => {
+            let (inner, rest) = closed(rest, b'"')?;
+            Ok(Some((Token::Hexadecimal(inner), rest)))
+        }
+        other => {
+            let (word, rest) = split_word(other);
+            if is_at_boundary(rest) {
+                Ok(Some((Token::Word(word), rest)))
+            } else {
+                Err(NotAToken)
+            }
+        }
+    }
+}
+
+/// The first token of a line, and what follows it.
+fn first_token(line: &[u8]) -> Result<Option<(Token<'_>, &[u8])>, NotAToken>
+    ensures token { IfOk result (λ found.
+        IfSome found (λ pair. tokens.TakesToken line.now (view pair.0) pair.1.now)) }
+    ensures end { IfOk result (λ found. IfNone found (tokens.AreTokens line.now [])) }
+    ensures none { OnErr result (tokens.HasNoTokens line.now) }
+    ensures shorter { IfOk result (λ found.
+        IfSome found (λ pair. length pair.1.now < length line.now)) }
+{
+    read_token(line)
+}
+
+/// Puts the tokens of a line in place of other tokens, and says whether the line has no bytes that are none.
+pub fn read_tokens<'a>(line: &'a [u8], read: &mut Vec<Token<'a>>) -> Result<bool, HostFull>
+    ensures { IfOk result (λ is_read. MatchBool is_read
+        (tokens.AreTokens line.now (map view read.new.items)) (tokens.HasNoTokens line.now)) }
+{
+    read.clear();
+    let mut rest = line;
+    loop {
+        let Ok(first) = first_token(rest) else {
+            return Ok(false);
+        };
+        let Some((token, behind)) = first else {
+            return Ok(true);
+        };
+        read.push(token)?;
+        rest = behind;
+    }
+}

@@ -1,0 +1,207 @@
+-- What the arrangements of a list of blocks keep: the used blocks, the bytes, the free bytes.
+use Rattle.std.proofs.Common.{◌≡◌, ℕ, ◌+◌, Bool, true, false, not, cond, [], ◌∷◌, ◌++◌, refl, ap, sym, ◌∙◌, inl, inr, append-nil, arith}
+use Rattle.std.specs.Prelude.{◌&&◌, ◌||◌, ◌⊎◌, ◌==◌, IsTrue}
+use Rattle.std.specs.List.{list_all}
+use Rattle.std.proofs.lemmas.Bool.{and_from, and_parts, not-true, eqb-true}
+use Rattle.std.proofs.lemmas.List.Folds.{list_all-append}
+use Rattle.std.proofs.lemmas.List.Elements.{filter-append}
+use Rattle.mac_base.specs.declared.block.Entry.{Entry}
+use Rattle.mac_base.specs.declared.block.Kind.{Kind}
+use Rattle.mac_base.specs.declared.block.Kind.TheVariants.{Free, Master, Ptr, Rel}
+use Rattle.mac_base.specs.ZoneMap.{ZoneMap, block, free_block, is_free, is_kind, is_named, total_size, free_bytes, sizes}
+use Rattle.mac_base.specs.Suits.{free_apart, starts_free}
+use Rattle.mac_base.specs.Gap.{has_named}
+use Rattle.mac_base.specs.Arrangement.{used_blocks, down, up}
+use Rattle.zone_laws.proofs.GapAppend.{total_size-append, free_bytes-append, sizes-append}
+
+-- a free block's kind
+pub free_is : (k : Kind) → is_free k ≡ true → k ≡ Free
+free_is Free h = refl
+free_is Master h = absurd (cc h)
+free_is (Ptr p) h = absurd (cc h)
+free_is (Rel g) h = absurd (cc h)
+
+-- a block that is named is not free
+pub named-used : (x : ℕ) (k : Kind) → is_named x k ≡ true → is_free k ≡ false
+named-used x Free h = absurd (cc h)
+named-used x Master h = refl
+named-used x (Ptr p) h = refl
+named-used x (Rel g) h = refl
+
+-- a free block is not of the kind of a block that is in use
+pub is_kind-free : (k : Kind) → is_free k ≡ false → is_kind k Free ≡ false
+is_kind-free Free h = absurd (cc h)
+is_kind-free Master h = refl
+is_kind-free (Ptr p) h = refl
+is_kind-free (Rel g) h = refl
+
+-- whether all these blocks are in use
+abbrev pub all_used : ZoneMap → Bool
+all_used blocks = list_all (λ (e : Entry). not (is_free e.kind)) blocks
+
+-- the blocks in use are in use
+pub used_blocks-all_used : (b : ZoneMap) → all_used (used_blocks b) ≡ true
+used_blocks-all_used [] = refl
+used_blocks-all_used (e ∷ es) = elim (is_free e.kind) as (λ b. is_free e.kind ≡ b → all_used (cond (not b) (e ∷ used_blocks es) (used_blocks es)) ≡ true) [
+  | true ↦ λ free. used_blocks-all_used es
+  | false ↦ λ used. and_from _ _ (ap not used) (used_blocks-all_used es)
+] refl
+
+-- blocks that are all in use
+pub used_blocks-same : (b : ZoneMap) → all_used b ≡ true → used_blocks b ≡ b
+used_blocks-same [] h = refl
+used_blocks-same (e ∷ es) h = let parts = and_parts _ _ h in
+    ap (λ b. cond b (e ∷ used_blocks es) (used_blocks es)) parts.0 ∙ ap (λ b. e ∷ b) (used_blocks-same es parts.1)
+
+-- what holds of each block holds of those in use
+pub list_all-used : (p : Entry → Bool) (b : ZoneMap) → list_all p b ≡ true → list_all p (used_blocks b) ≡ true
+list_all-used p [] h = refl
+list_all-used p (e ∷ es) h = let parts = and_parts _ _ h in elim (is_free e.kind) as (λ b. list_all p (cond (not b) (e ∷ used_blocks es) (used_blocks es)) ≡ true) [
+  | true ↦ list_all-used p es parts.1
+  | false ↦ and_from _ _ parts.0 (list_all-used p es parts.1)
+]
+
+-- a block that is named is in use
+pub has_named-used : (x : ℕ) (b : ZoneMap) → has_named x (used_blocks b) ≡ has_named x b
+has_named-used x [] = refl
+has_named-used x (e ∷ es) = elim (is_free e.kind) as (λ b. is_free e.kind ≡ b → has_named x (cond (not b) (e ∷ used_blocks es) (used_blocks es)) ≡ has_named x (e ∷ es)) [
+  | true ↦ λ free. has_named-used x es ∙ ap (λ k. is_named x k || has_named x es) (sym (free_is e.kind free))
+  | false ↦ λ used. ap (λ b. is_named x e.kind || b) (has_named-used x es)
+] refl
+
+-- the sizes of the blocks that pass a test which no free block passes
+pub sizes-used : (test : Kind → Bool) (b : ZoneMap) → test Free ≡ false → sizes test (used_blocks b) ≡ sizes test b
+sizes-used test [] h = refl
+sizes-used test (e ∷ es) h = elim (is_free e.kind) as (λ b. is_free e.kind ≡ b → sizes test (cond (not b) (e ∷ used_blocks es) (used_blocks es)) ≡ sizes test (e ∷ es)) [
+  | true ↦ λ free. sizes-used test es h ∙ sym (ap (λ b. cond b (e.size ∷ []) [] ++ sizes test es) (ap test (free_is e.kind free) ∙ h))
+  | false ↦ λ used. ap (λ ns. cond (test e.kind) (e.size ∷ []) [] ++ ns) (sizes-used test es h)
+] refl
+
+-- the bytes are those in use and those that are free
+pub total_size-used : (b : ZoneMap) → total_size b ≡ total_size (used_blocks b) + free_bytes b
+total_size-used [] = refl
+total_size-used (e ∷ es) = let rest = total_size-used es in
+    elim (is_free e.kind) as (λ b. e.size + total_size es ≡ total_size (cond (not b) (e ∷ used_blocks es) (used_blocks es)) + (cond b e.size 0 + free_bytes es)) [
+      | true ↦ omega arith
+      | false ↦ omega arith
+    ]
+
+-- blocks in use have no free bytes
+pub free_bytes-all_used : (b : ZoneMap) → all_used b ≡ true → free_bytes b ≡ 0
+free_bytes-all_used [] h = refl
+free_bytes-all_used (e ∷ es) h = let parts = and_parts _ _ h in ap (λ b. cond b e.size 0 + free_bytes es) (not-true _ parts.0) ∙ let rest = free_bytes-all_used es parts.1 in omega arith
+
+-- one free block of n bytes, or none where n is 0, has n bytes
+pub total_size-free_block : (n : ℕ) → total_size (free_block n) ≡ n
+total_size-free_block n = elim (n == 0) as (λ b. (n == 0) ≡ b → total_size (cond b [] (block Free n ∷ [])) ≡ n) [
+  | true ↦ λ none. let e = eqb-true n 0 none in omega arith
+  | false ↦ λ some. omega arith
+] refl
+
+-- they are free
+pub free_bytes-free_block : (n : ℕ) → free_bytes (free_block n) ≡ n
+free_bytes-free_block n = elim (n == 0) as (λ b. (n == 0) ≡ b → free_bytes (cond b [] (block Free n ∷ [])) ≡ n) [
+  | true ↦ λ none. let e = eqb-true n 0 none in omega arith
+  | false ↦ λ some. omega arith
+] refl
+
+-- it passes no test that a free block fails
+pub sizes-free_block : (test : Kind → Bool) (n : ℕ) → test Free ≡ false → sizes test (free_block n) ≡ []
+sizes-free_block test n h = elim (n == 0) as (λ b. sizes test (cond b [] (block Free n ∷ [])) ≡ []) [
+  | true ↦ refl
+  | false ↦ ap (λ b. cond b (n ∷ []) [] ++ []) h
+]
+
+-- it is not in use
+pub used_blocks-free_block : (n : ℕ) → used_blocks (free_block n) ≡ []
+used_blocks-free_block n = elim (n == 0) as (λ b. used_blocks (cond b [] (block Free n ∷ [])) ≡ []) [ true ↦ refl | false ↦ refl ]
+
+-- what holds of a free block of n bytes holds of it
+pub list_all-free_block : (p : Entry → Bool) (n : ℕ) → (n ≡ 0) ⊎ (p (block Free n) ≡ true) → list_all p (free_block n) ≡ true
+list_all-free_block p n (inl none) = ap (λ n. list_all p (free_block n)) none
+list_all-free_block p n (inr holds) = elim (n == 0) as (λ b. list_all p (cond b [] (block Free n ∷ [])) ≡ true) [ true ↦ refl | false ↦ and_from _ _ holds refl ]
+
+-- a block in use before others keeps free blocks apart
+apart-cons : (e : Entry) (m : ZoneMap) → is_free e.kind ≡ false → free_apart (e ∷ m) ≡ free_apart m
+apart-cons e m used = ap (λ b. not (b && starts_free m) && free_apart m) used
+
+-- and so do blocks in use
+pub free_apart-behind_used : (a b : ZoneMap) → all_used a ≡ true → free_apart (a ++ b) ≡ free_apart b
+free_apart-behind_used [] b h = refl
+free_apart-behind_used (e ∷ es) b h = let parts = and_parts _ _ h in apart-cons e (es ++ b) (not-true _ parts.0) ∙ free_apart-behind_used es b parts.1
+
+-- blocks in use do not begin with a free one
+pub starts_free-all_used : (b : ZoneMap) → all_used b ≡ true → starts_free b ≡ false
+starts_free-all_used [] h = refl
+starts_free-all_used (e ∷ es) h = not-true _ (and_parts _ _ h).0
+
+-- a free block before others that begin with none
+pub free_apart-free_block : (n : ℕ) (c : ZoneMap) → starts_free c ≡ false → free_apart (free_block n ++ c) ≡ free_apart c
+free_apart-free_block n c h = elim (n == 0) as (λ b. free_apart (cond b [] (block Free n ∷ []) ++ c) ≡ free_apart c) [
+  | true ↦ refl
+  | false ↦ ap (λ b. not b && free_apart c) h
+]
+
+free_apart-all_used : (b : ZoneMap) → all_used b ≡ true → free_apart b ≡ true
+free_apart-all_used b h = ap free_apart (sym (append-nil b)) ∙ free_apart-behind_used b [] h
+
+-- free blocks are apart where blocks in use lie on both sides of one
+pub free_apart-around : (a c : ZoneMap) (n : ℕ) → all_used a ≡ true → all_used c ≡ true → free_apart (a ++ (free_block n ++ c)) ≡ true
+free_apart-around a c n ha hc = free_apart-behind_used a (free_block n ++ c) ha ∙ free_apart-free_block n c (starts_free-all_used c hc) ∙ free_apart-all_used c hc
+
+-- An arrangement of blocks: those in use, kind by kind, and the free bytes in one block, if there are any.
+pub record IsArrangement (old new : ZoneMap) : Type 0 where
+  -- what holds of each block, and of one with all free bytes, holds of each block
+  pub kept : (p : Entry → Bool) → list_all p old ≡ true → (free_bytes old ≡ 0) ⊎ (p (block Free (free_bytes old)) ≡ true) → list_all p new ≡ true
+  pub same_sizes : (k : Kind) → is_free k ≡ false → sizes (is_kind k) new ≡ sizes (is_kind k) old
+  pub same_total : total_size new ≡ total_size old
+  pub same_free : free_bytes new ≡ free_bytes old
+  pub apart : IsTrue (free_apart new)
+
+-- down keeps the blocks in use, in order
+pub used_blocks-down : (b : ZoneMap) → used_blocks (down b) ≡ used_blocks b
+used_blocks-down b = filter-append _ (used_blocks b) (free_block (free_bytes b)) ∙ ap (λ c. used_blocks (used_blocks b) ++ c) (used_blocks-free_block (free_bytes b))
+    ∙ append-nil (used_blocks (used_blocks b)) ∙ used_blocks-same (used_blocks b) (used_blocks-all_used b)
+
+-- up keeps the blocks in use, in order
+pub used_blocks-up : (b : ZoneMap) → used_blocks (up b) ≡ used_blocks b
+used_blocks-up b = filter-append _ (free_block (free_bytes b)) (used_blocks b) ∙ ap (λ c. c ++ used_blocks (used_blocks b)) (used_blocks-free_block (free_bytes b))
+    ∙ used_blocks-same (used_blocks b) (used_blocks-all_used b)
+
+-- down is an arrangement
+pub down-IsArrangement : (b : ZoneMap) → IsArrangement b (down b)
+down-IsArrangement b =
+    let n : ℕ = free_bytes b in
+    let total = total_size-append (used_blocks b) (free_block n) in
+    let same = total_size-used b in
+    let free = total_size-free_block n in
+    let free_total = free_bytes-append (used_blocks b) (free_block n) in
+    let free_used = free_bytes-all_used (used_blocks b) (used_blocks-all_used b) in
+    let free_free = free_bytes-free_block n in
+    record {
+      kept = λ p h free. list_all-append p (used_blocks b) (free_block n) ∙ and_from _ _ (list_all-used p b h) (list_all-free_block p n free);
+      same_sizes = λ k used. sizes-append (is_kind k) (used_blocks b) (free_block n) ∙ ap (λ ns. sizes (is_kind k) (used_blocks b) ++ ns) (sizes-free_block (is_kind k) n (is_kind-free k used))
+          ∙ append-nil (sizes (is_kind k) (used_blocks b)) ∙ sizes-used (is_kind k) b (is_kind-free k used);
+      same_total = omega arith;
+      same_free = omega arith;
+      apart = ap (λ c. free_apart (used_blocks b ++ c)) (sym (append-nil (free_block n))) ∙ free_apart-around (used_blocks b) [] n (used_blocks-all_used b) refl;
+    }
+
+-- up is an arrangement
+pub up-IsArrangement : (b : ZoneMap) → IsArrangement b (up b)
+up-IsArrangement b =
+    let n : ℕ = free_bytes b in
+    let total = total_size-append (free_block n) (used_blocks b) in
+    let same = total_size-used b in
+    let free = total_size-free_block n in
+    let free_total = free_bytes-append (free_block n) (used_blocks b) in
+    let free_used = free_bytes-all_used (used_blocks b) (used_blocks-all_used b) in
+    let free_free = free_bytes-free_block n in
+    record {
+      kept = λ p h free. list_all-append p (free_block n) (used_blocks b) ∙ and_from _ _ (list_all-free_block p n free) (list_all-used p b h);
+      same_sizes = λ k used. sizes-append (is_kind k) (free_block n) (used_blocks b) ∙ ap (λ ns. ns ++ sizes (is_kind k) (used_blocks b)) (sizes-free_block (is_kind k) n (is_kind-free k used))
+          ∙ sizes-used (is_kind k) b (is_kind-free k used);
+      same_total = omega arith;
+      same_free = omega arith;
+      apart = free_apart-around [] (used_blocks b) n refl (used_blocks-all_used b);
+    }

@@ -1,0 +1,106 @@
+-- Which blocks a number names, and what their owners want once one of them changes.
+use Rattle.std.proofs.Common.{◌≡◌, ℕ, ◌+◌, Bool, true, false, not, ◌||◌, cond, eqb, List, [], ◌∷◌, ◌++◌, length, refl, ap, ◌∙◌, arith, IsTrue, map}
+use Rattle.std.specs.List.{list_all}
+use Rattle.std.proofs.lemmas.Bool.Decides.{nat_tests}
+use Rattle.mac_base.specs.declared.block.Entry.{Entry}
+use Rattle.mac_base.specs.declared.block.Kind.{Kind}
+use Rattle.mac_base.specs.declared.block.Kind.TheVariants.{Free, Master, Ptr, Rel}
+use Rattle.mac_base.specs.HeadKind.{Shape}
+use Rattle.mac_base.specs.ZoneMap.{ZoneMap, is_free, is_named, addresses_from, addresses, address_behind}
+use Rattle.mac_base.specs.HandleTable.{HandleTable, live_bytes, is_full, is_pointer}
+use Rattle.mac_base.specs.Suits.{Suits, is_handle_block, is_pointer_block, has_length, has_owners_length, wanted_length}
+use Rattle.zone_laws.proofs.Maps.{both_true, true_both, not_true, true_not}
+use Rattle.zone_laws.proofs.Tables.{AgreeBut}
+
+-- whether x names no block of a map
+abbrev pub none_named : ℕ → ZoneMap → Bool
+none_named x m = list_all (λ (e : Entry). not (is_named x e.kind)) m
+
+-- a number names the blocks of the handle and those of the pointer
+pub not_named : (x : ℕ) (kind : Kind) → is_handle_block x kind ≡ false → is_pointer_block x kind ≡ false → is_named x kind ≡ false
+not_named x Free h p = refl
+not_named x Master h p = refl
+not_named x (Ptr q) h p = p
+not_named x (Rel g) h p = h
+
+-- x names the block of the handle x
+pub named_handle : (x : ℕ) (kind : Kind) → is_handle_block x kind ≡ true → is_named x kind ≡ true
+named_handle x Free h = absurd (cc h)
+named_handle x Master h = absurd (cc h)
+named_handle x (Ptr q) h = absurd (cc h)
+named_handle x (Rel g) h = h
+
+-- x names the block of the pointer x
+pub named_pointer : (x : ℕ) (kind : Kind) → is_pointer_block x kind ≡ true → is_named x kind ≡ true
+named_pointer x Free h = absurd (cc h)
+named_pointer x Master h = absurd (cc h)
+named_pointer x (Ptr q) h = h
+named_pointer x (Rel g) h = absurd (cc h)
+
+-- an empty list in two parts, of which the first has an element where a test passes
+pub nothing_passes : (b : Bool) (a : ℕ) (rest : List ℕ) → cond b (a ∷ []) [] ++ rest ≡ [] → (b ≡ false) × (rest ≡ [])
+nothing_passes true a rest h = absurd (cc h)
+nothing_passes false a rest h = (refl, h)
+
+-- where neither a handle x nor a pointer x has a block, x names none
+pub none_named-from : (at x : ℕ) (m : ZoneMap) → addresses_from at (is_handle_block x) m ≡ [] → addresses_from at (is_pointer_block x) m ≡ [] → none_named x m ≡ true
+none_named-from at x [] h p = refl
+none_named-from at x (e ∷ es) h p =
+    let hs = nothing_passes (is_handle_block x e.kind) at (addresses_from (at + e.size) (is_handle_block x) es) h in
+    let ps = nothing_passes (is_pointer_block x e.kind) at (addresses_from (at + e.size) (is_pointer_block x) es) p in
+    true_both _ _ (not_true _ (not_named x e.kind hs.0 ps.0)) (none_named-from (at + e.size) x es hs.1 ps.1)
+
+-- a list without length is empty
+pub no_length : (xs : List ℕ) → length xs ≡ 0 → xs ≡ []
+no_length [] h = refl
+no_length (x ∷ xs) h = absurd (omega arith)
+
+-- only an empty list maps to one
+no_map : (f : ℕ → ℕ) (xs : List ℕ) → map f xs ≡ [] → xs ≡ []
+no_map f [] h = refl
+no_map f (x ∷ xs) h = absurd (cc h)
+
+-- no block of a handle or a pointer that has none
+pub no_handle_block : (s : Shape) (t : HandleTable) (m : ZoneMap) → Suits s t m → (x : ℕ) → is_full t x ≡ false → addresses s (is_handle_block x) m ≡ []
+no_handle_block s t m suits x h = no_length _ (suits.handles x ∙ ap (λ b. cond b 1 0) h)
+
+-- and a number that is no pointer has none as a pointer
+pub no_pointer_block : (s : Shape) (t : HandleTable) (m : ZoneMap) → Suits s t m → (x : ℕ) → is_pointer t x ≡ false → addresses s (is_pointer_block x) m ≡ []
+no_pointer_block s t m suits x h = no_map _ _ (suits.pointers x ∙ ap (λ b. cond b (x ∷ []) []) h)
+
+-- a number that is neither a full handle nor a pointer names no block
+pub none_named-suits : (s : Shape) (t : HandleTable) (m : ZoneMap) → Suits s t m → (x : ℕ) → is_full t x ≡ false → is_pointer t x ≡ false → none_named x m ≡ true
+none_named-suits s t m suits x full pointer = none_named-from (address_behind s []) x m (no_handle_block s t m suits x full) (no_pointer_block s t m suits x pointer)
+
+-- what a block's owner wants changes only where its bytes do
+pub wanted_length-agree : (x : ℕ) (old new : HandleTable) → AgreeBut x old new → (kind : Kind) → is_named x kind ≡ false → wanted_length new kind ≡ wanted_length old kind
+wanted_length-agree x old new a Free h = refl
+wanted_length-agree x old new a Master h = refl
+wanted_length-agree x old new a (Ptr p) h = ap (λ o. length (live_bytes o)) (a.others p h)
+wanted_length-agree x old new a (Rel g) h = ap (λ o. length (live_bytes o)) (a.others g h)
+
+-- so whether a block has its owner's length changes only there
+pub has_owners_length-agree : (s : Shape) (x : ℕ) (old new : HandleTable) → AgreeBut x old new → (e : Entry) → is_named x e.kind ≡ false → has_owners_length s new e ≡ has_owners_length s old e
+has_owners_length-agree s x old new a e h = ap (λ n. is_free e.kind || has_length s e.size n) (wanted_length-agree x old new a e.kind h)
+
+-- so the lengths of a map stay right where x names none of its blocks
+pub lengths-agree : (s : Shape) (x : ℕ) (old new : HandleTable) → AgreeBut x old new → (m : ZoneMap) → none_named x m ≡ true → IsTrue (list_all (has_owners_length s old) m) → IsTrue (list_all (has_owners_length s new) m)
+lengths-agree s x old new a [] none h = refl
+lengths-agree s x old new a (e ∷ es) none h =
+    let nones = both_true (not (is_named x e.kind)) (none_named x es) none in
+    let hs = both_true (has_owners_length s old e) (list_all (has_owners_length s old) es) h in
+    true_both (has_owners_length s new e) _ (has_owners_length-agree s x old new a e (true_not _ nones.0) ∙ hs.0) (lengths-agree s x old new a es nones.1 hs.1)
+
+-- the block of another handle is not named x
+pub other_handle : (x g : ℕ) → eqb g x ≡ false → (kind : Kind) → is_handle_block g kind ≡ true → is_named x kind ≡ false
+other_handle x g apart Free h = absurd (cc h)
+other_handle x g apart Master h = absurd (cc h)
+other_handle x g apart (Ptr q) h = absurd (cc h)
+other_handle x g apart (Rel f) h = grind (arith, nat_tests)
+
+-- the block of another pointer is not named x
+pub other_pointer : (x p : ℕ) → eqb p x ≡ false → (kind : Kind) → is_pointer_block p kind ≡ true → is_named x kind ≡ false
+other_pointer x p apart Free h = absurd (cc h)
+other_pointer x p apart Master h = absurd (cc h)
+other_pointer x p apart (Ptr q) h = grind (arith, nat_tests)
+other_pointer x p apart (Rel f) h = absurd (cc h)

@@ -1,0 +1,108 @@
+-- Where a map suits its table, no slot is a pointer, and no free block's contents begin where a live block's do.
+use Rattle.std.proofs.Common.{◌≡◌, ℕ, ◌+◌, ◌*◌, ◌≤◌, ◌%◌, ◌==◌, Bool, true, false, ◌&&◌, nat_le, nat_lt, cond, List, [], ◌∷◌, ◌++◌, map, refl, ap, sym, ◌∙◌, arith, IsTrue, Contains, subst}
+use Rattle.std.specs.List.{list_all}
+use Rattle.std.proofs.lemmas.List.Elements.{Contains-append_right}
+use Rattle.std.proofs.lemmas.Bool.Decides.{nat_tests}
+use Rattle.mac_base.specs.declared.block.Entry.{Entry}
+use Rattle.mac_base.specs.declared.block.HeadKind.{HeadKind}
+use Rattle.mac_base.specs.declared.block.HeadKind.TheVariants.{Bits24}
+use Rattle.mac_base.specs.declared.block.Kind.{Kind}
+use Rattle.mac_base.specs.declared.block.Kind.TheVariants.{Free, Master, Ptr, Rel}
+use Rattle.mac_base.specs.HeadKind.{Shape, need, head_size, smallest_block, slot_count, master_length}
+use Rattle.mac_base.specs.ZoneMap.{ZoneMap, block, is_free, is_master, total_size, address_behind, addresses, addresses_from}
+use Rattle.mac_base.specs.HandleTable.{HandleTable, is_pointer, is_handle}
+use Rattle.mac_base.specs.Suits.{Suits, is_block_size, is_pointer_block, has_owners_length, slots}
+use Rattle.zone_laws.proofs.Maps.{both_true, true_both, addresses_from-append}
+use Rattle.zone_laws.proofs.SlotPlaces.{has_room, slot_no_contents, one_block_at, Contains-here}
+
+large_master : (heads : HeadKind) → head_size heads + 4 * 64 ≤ need heads master_length
+large_master Bits24 = omega arith
+
+-- each block of a map that suits its table has room for its header, and a master block for its slots
+has_room-suits : (s : Shape) (t : HandleTable) (e : Entry) → is_block_size s e.size ≡ true → has_owners_length s t e ≡ true → has_room (head_size s.heads) slot_count e ≡ true
+has_room-suits s t e size long = by_kind e.kind e.size size long
+  where
+    by_size : (heads : HeadKind) (n : ℕ) → ((n % 4 == 0) && nat_le (smallest_block heads) n) ≡ true → nat_lt (head_size heads) n ≡ true
+    by_size Bits24 n h = grind (arith, nat_tests)
+
+    by_master : (head k n more : ℕ) → head + 4 * 64 ≤ k → (nat_le k n && nat_lt n more) ≡ true → nat_le (head + 4 * 64) n ≡ true
+    by_master head k n more large h = grind (arith, nat_tests)
+
+    by_kind : (kind : Kind) (n : ℕ) → is_block_size s n ≡ true → has_owners_length s t (block kind n) ≡ true → has_room (head_size s.heads) slot_count (block kind n) ≡ true
+    by_kind Free n size long = true_both _ true (by_size s.heads n size) refl
+    by_kind Master n size long = true_both _ _ (by_size s.heads n size) (by_master (head_size s.heads) (need s.heads master_length) n _ (large_master s.heads) long)
+    by_kind (Ptr p) n size long = true_both _ true (by_size s.heads n size) refl
+    by_kind (Rel h) n size long = true_both _ true (by_size s.heads n size) refl
+
+rooms_from : (s : Shape) (t : HandleTable) (m : ZoneMap) → IsTrue (list_all (λ (e : Entry). is_block_size s e.size) m) → IsTrue (list_all (has_owners_length s t) m) → list_all (has_room (head_size s.heads) slot_count) m ≡ true
+rooms_from s t [] sizes lengths = refl
+rooms_from s t (e ∷ es) sizes lengths =
+    let size = both_true (is_block_size s e.size) (list_all (λ (e : Entry). is_block_size s e.size) es) sizes in
+    let long = both_true (has_owners_length s t e) (list_all (has_owners_length s t) es) lengths in
+    true_both (has_room (head_size s.heads) slot_count e) _ (has_room-suits s t e size.0 long.0) (rooms_from s t es size.1 long.1)
+
+-- each block of such a map has that room
+pub rooms-suits : (s : Shape) (t : HandleTable) (m : ZoneMap) → Suits s t m → list_all (has_room (head_size s.heads) slot_count) m ≡ true
+rooms-suits s t m suits = rooms_from s t m suits.sizes suits.lengths
+
+-- where the block of a pointer is
+address_from_contents : (f : ℕ → ℕ) (xs : List ℕ) (y : ℕ) → map f xs ≡ y ∷ [] → (x : ℕ) × Contains xs x × (f x ≡ y)
+address_from_contents f [] y h = absurd (cc h)
+address_from_contents f (x ∷ xs) y h = (x, Contains-here x xs, cc h)
+
+pointer_not_master : (p : ℕ) (kind : Kind) → is_pointer_block p kind ≡ true → is_master kind ≡ false
+pointer_not_master p Free h = refl
+pointer_not_master p Master h = absurd (cc h)
+pointer_not_master p (Ptr q) h = refl
+pointer_not_master p (Rel g) h = refl
+
+pointer_not_free : (p : ℕ) (kind : Kind) → is_pointer_block p kind ≡ true → is_free kind ≡ false
+pointer_not_free p Free h = absurd (cc h)
+pointer_not_free p Master h = refl
+pointer_not_free p (Ptr q) h = refl
+pointer_not_free p (Rel g) h = refl
+
+free_not_master : (kind : Kind) → is_free kind ≡ true → is_master kind ≡ false
+free_not_master Free h = refl
+free_not_master Master h = absurd (cc h)
+free_not_master (Ptr q) h = refl
+free_not_master (Rel g) h = refl
+
+-- a test that can't pass fails
+pub false_from : (b : Bool) → (b ≡ true → ⊥) → b ≡ false
+false_from true h = absurd (h refl)
+false_from false h = refl
+
+-- no slot is a pointer
+pub slot_no_pointer : (s : Shape) (t : HandleTable) (m : ZoneMap) → Suits s t m → (h : ℕ) → Contains (slots s m) h → is_pointer t h ≡ false
+slot_no_pointer s t m suits h slot = false_from (is_pointer t h) (λ live.
+    let there = address_from_contents (λ a. a + head_size s.heads) (addresses s (is_pointer_block h) m) h (suits.pointers h ∙ ap (λ b. cond b (h ∷ []) []) live) in
+    slot_no_contents (head_size s.heads) slot_count (address_behind s []) (is_pointer_block h) (pointer_not_master h) m there.0 (rooms-suits s t m suits) there.1
+    (subst (λ a. Contains (slots s m) a) (sym there.2) slot))
+
+-- where a free block stands
+address-free : (s : Shape) (before behind : ZoneMap) (n : ℕ) → Contains (addresses s is_free (before ++ block Free n ∷ behind)) (address_behind s [] + total_size before)
+address-free s before behind n = subst (λ xs. Contains xs (address_behind s [] + total_size before)) (sym (addresses_from-append (address_behind s []) is_free before (block Free n ∷ behind)))
+    (Contains-append_right (addresses s is_free before) _ (address_behind s [] + total_size before)
+    (Contains-here (address_behind s [] + total_size before) (addresses_from ((address_behind s [] + total_size before) + n) is_free behind)))
+
+module _ (s : Shape) (t : HandleTable) (before behind : ZoneMap) (n p : ℕ) (suits : Suits s t (before ++ block Free n ∷ behind)) (here : p ≡ address_behind s before + head_size s.heads) where
+  there : p ≡ (address_behind s [] + total_size before) + head_size s.heads
+  there = omega arith
+
+  -- the contents of a free block begin at no slot
+  free_contents_no_slot : Contains (slots s (before ++ block Free n ∷ behind)) p → ⊥
+  free_contents_no_slot slot = slot_no_contents (head_size s.heads) slot_count (address_behind s []) is_free free_not_master (before ++ block Free n ∷ behind) (address_behind s [] + total_size before)
+      (rooms-suits s t _ suits) (address-free s before behind n) (subst (λ a. Contains (slots s (before ++ block Free n ∷ behind)) a) there slot)
+
+  -- nor at a live pointer
+  pub free_contents_no_pointer : is_pointer t p ≡ false
+  free_contents_no_pointer = false_from (is_pointer t p) (λ live.
+      let found = address_from_contents (λ a. a + head_size s.heads) (addresses s (is_pointer_block p) (before ++ block Free n ∷ behind)) p (suits.pointers p ∙ ap (λ b. cond b (p ∷ []) []) live) in
+      let same : found.0 ≡ address_behind s [] + total_size before = (let is = found.2 in omega arith) in
+      one_block_at (head_size s.heads) slot_count (address_behind s []) (is_pointer_block p) is_free (pointer_not_free p) (before ++ block Free n ∷ behind) (address_behind s [] + total_size before)
+      (rooms-suits s t _ suits) (subst (λ a. Contains (addresses s (is_pointer_block p) (before ++ block Free n ∷ behind)) a) same found.1) (address-free s before behind n))
+
+  -- nor at a live handle
+  pub free_contents_no_handle : is_handle t p ≡ false
+  free_contents_no_handle = false_from (is_handle t p) (λ live. free_contents_no_slot (suits.in_slots p live))

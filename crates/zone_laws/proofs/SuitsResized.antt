@@ -1,0 +1,209 @@
+-- A map suits its table once a block has another size in place, and its owner the bytes for it.
+use Rattle.std.proofs.Common.{◌≡◌, ℕ, ◌+◌, ◌%◌, ◌==◌, Bool, true, false, not, ◌&&◌, ◌||◌, nat_le, cond, eqb, List, [], ◌∷◌, ◌++◌, length, map, length-append, refl, ap, sym, ◌∙◌, arith, IsTrue, Contains, subst, ◌⊎◌, inl, inr}
+use Rattle.std.specs.List.{list_all}
+use Rattle.std.specs.Ordering.{nat_cmp}
+use Rattle.std.specs.FinMap.{is_sorted}
+use Rattle.std.proofs.lemmas.List.Folds.{list_all-append}
+use Rattle.std.proofs.lemmas.Bool.Decides.{nat_tests}
+use Rattle.mac_base.specs.declared.block.Entry.{Entry}
+use Rattle.mac_base.specs.declared.block.Kind.{Kind}
+use Rattle.mac_base.specs.declared.block.Kind.TheVariants.{Free, Master, Ptr, Rel}
+use Rattle.mac_base.specs.HeadKind.{Shape, need, head_size, smallest_block}
+use Rattle.mac_base.specs.ZoneMap.{ZoneMap, block, is_free, is_master, is_named, total_size, address_behind, addresses, addresses_from, joined}
+use Rattle.mac_base.specs.HandleTable.{HandleTable, bytes_of, is_full, is_handle, is_pointer}
+use Rattle.mac_base.specs.Suits.{Suits, free_apart, starts_free, is_block_size, is_handle_block, is_pointer_block, has_owners_length, wanted_length}
+use Rattle.mac_base.specs.Serve.{taken}
+use Rattle.zone_laws.proofs.Maps.{Exchanged, both_true, true_both, not_true, addresses_from-append, addresses_from-exchanged, addresses_from-old, addresses_from-skip, list_all-middle, total_size-append, total_size-exchanged}
+use Rattle.zone_laws.proofs.Tables.{AgreeBut, full_handle, handle_no_pointer, eqb-true-is}
+use Rattle.zone_laws.proofs.Joined.{free_kind, total_size-joined, addresses_from-joined, free_apart-joined, starts_free-joined, sizes-joined, lengths-joined}
+use Rattle.zone_laws.proofs.Owners.{none_named, lengths-agree, no_length, nothing_passes, no_handle_block, no_pointer_block}
+use Rattle.zone_laws.proofs.Taken.{need-is_size, total_size-taken, addresses_from-taken, free_apart-behind, free_apart-replaced, free_apart-taken, starts_free-taken, sizes-taken, lengths-taken}
+use Rattle.zone_laws.proofs.SuitsTaken.{slots-same, contents-same}
+use Rattle.zone_laws.proofs.Resized.{ResizedAt}
+
+-- ---- how many blocks a number names
+
+-- as many as it has as a handle and as a pointer
+count_named : (at x : ℕ) (m : ZoneMap) → length (addresses_from at (is_named x) m) ≡ length (addresses_from at (is_handle_block x) m) + length (addresses_from at (is_pointer_block x) m)
+count_named at x [] = refl
+count_named at x (e ∷ es) = by_kind e.kind (count_named (at + e.size) x es)
+  where
+    by_kind : (kind : Kind) → length (addresses_from (at + e.size) (is_named x) es) ≡ length (addresses_from (at + e.size) (is_handle_block x) es) + length (addresses_from (at + e.size) (is_pointer_block x) es)
+        → length (cond (is_named x kind) (at ∷ []) [] ++ addresses_from (at + e.size) (is_named x) es)
+        ≡ length (cond (is_handle_block x kind) (at ∷ []) [] ++ addresses_from (at + e.size) (is_handle_block x) es) + length (cond (is_pointer_block x kind) (at ∷ []) [] ++ addresses_from (at + e.size) (is_pointer_block x) es)
+    by_kind Free rest = rest
+    by_kind Master rest = rest
+    by_kind (Ptr q) rest = elim (eqb q x) as (λ b. length (cond b (at ∷ []) [] ++ addresses_from (at + e.size) (is_named x) es)
+        ≡ length (addresses_from (at + e.size) (is_handle_block x) es) + length (cond b (at ∷ []) [] ++ addresses_from (at + e.size) (is_pointer_block x) es)) [ true ↦ omega arith | false ↦ rest ]
+    by_kind (Rel g) rest = elim (eqb g x) as (λ b. length (cond b (at ∷ []) [] ++ addresses_from (at + e.size) (is_named x) es)
+        ≡ length (cond b (at ∷ []) [] ++ addresses_from (at + e.size) (is_handle_block x) es) + length (addresses_from (at + e.size) (is_pointer_block x) es)) [ true ↦ omega arith | false ↦ rest ]
+
+length_of_map : (f : ℕ → ℕ) (xs : List ℕ) → length (map f xs) ≡ length xs
+length_of_map f [] = refl
+length_of_map f (x ∷ xs) = let rest = length_of_map f xs in omega arith
+
+-- a handle that isn't empty names one block, and so does a pointer
+pub one_named : (s : Shape) (t : HandleTable) (m : ZoneMap) (x : ℕ) → Suits s t m → (is_full t x || is_pointer t x) ≡ true → length (addresses s (is_named x) m) ≡ 1
+one_named s t m x suits block = elim (is_full t x) as (λ b. is_full t x ≡ b → (b || is_pointer t x) ≡ true → length (addresses s (is_named x) m) ≡ 1) [
+  | true ↦ λ full _.
+      let one : length (addresses s (is_handle_block x) m) ≡ 1 = suits.handles x ∙ ap (λ b. cond b 1 0) full in
+      let none : length (addresses s (is_pointer_block x) m) ≡ 0 = ap length (no_pointer_block s t m suits x (handle_no_pointer t x (full_handle t x full))) in
+      omega (arith, count_named (address_behind s []) x m)
+  | false ↦ λ full pointer.
+      let one : length (addresses s (is_pointer_block x) m) ≡ 1 = sym (length_of_map (λ a. a + head_size s.heads) (addresses s (is_pointer_block x) m)) ∙ ap length (suits.pointers x ∙ ap (λ b. cond b (x ∷ []) []) pointer) in
+      let none : length (addresses s (is_handle_block x) m) ≡ 0 = ap length (no_handle_block s t m suits x full) in
+      omega (arith, count_named (address_behind s []) x m)
+] refl block
+
+none_named-empty : (at x : ℕ) (m : ZoneMap) → addresses_from at (is_named x) m ≡ [] → none_named x m ≡ true
+none_named-empty at x [] h = refl
+none_named-empty at x (e ∷ es) h =
+    let hs = nothing_passes (is_named x e.kind) at (addresses_from (at + e.size) (is_named x) es) h in
+    true_both (not (is_named x e.kind)) _ (not_true _ hs.0) (none_named-empty (at + e.size) x es hs.1)
+
+-- ---- what is named is neither free nor a master block
+
+-- what x names is not free
+named_used : (x : ℕ) (kind : Kind) → is_named x kind ≡ true → is_free kind ≡ false
+named_used x Free h = absurd (cc h)
+named_used x Master h = refl
+named_used x (Ptr p) h = refl
+named_used x (Rel g) h = refl
+
+-- its owner is x
+named_length : (x : ℕ) (t : HandleTable) (kind : Kind) → is_named x kind ≡ true → wanted_length t kind ≡ length (bytes_of t x)
+named_length x t Free h = absurd (cc h)
+named_length x t Master h = absurd (cc h)
+named_length x t (Ptr p) h = ap (λ y. length (bytes_of t y)) (eqb-true-is p x h)
+named_length x t (Rel g) h = ap (λ y. length (bytes_of t y)) (eqb-true-is g x h)
+
+free_only : (at : ℕ) (test : Kind → Bool) (m : ZoneMap) → test Free ≡ false → list_all (λ (e : Entry). is_free e.kind) m ≡ true → addresses_from at test m ≡ []
+free_only at test [] free h = refl
+free_only at test (e ∷ es) free h =
+    let hs = both_true (is_free e.kind) (list_all (λ (e : Entry). is_free e.kind) es) h in
+    addresses_from-skip at test e es (ap test (free_kind e.kind hs.0) ∙ free) ∙ free_only (at + e.size) test es free hs.1
+
+no_rest : (xs : List ℕ) → xs ++ [] ≡ xs
+no_rest [] = refl
+no_rest (x ∷ xs) = ap (λ ys. x ∷ ys) (no_rest xs)
+
+-- ---- the parts of a resized map
+
+module _ (s : Shape) (k x : ℕ) (old new : ZoneMap) (r : ResizedAt s k x old new) where
+  -- what is taken in place of the block
+  abbrev piece : ZoneMap
+  piece = taken s k (r.changed).kind ((r.changed).size + total_size r.room)
+
+  abbrev unjoined : ZoneMap
+  unjoined = r.before ++ (piece ++ r.behind)
+
+  abbrev exchange : Exchanged old unjoined
+  exchange = record { before = r.before; left = r.changed ∷ r.room; right = piece; behind = r.behind; was = r.was; is = refl; as_large = total_size-taken s k (r.changed).kind ((r.changed).size + total_size r.room) r.fits }
+
+  -- what holds of the map before any joining, and of what is joined behind some blocks, holds of the new one
+  by_join : (P : ZoneMap → Type 0) → P unjoined → (P unjoined → P (r.before ++ joined (piece ++ r.behind))) → P new
+  by_join P here join = subst P (sym r.is) (by_tail r.joins)
+    where
+      by_tail : ((r.tail ≡ joined (piece ++ r.behind)) ⊎ ((r.tail ≡ piece ++ r.behind) × (starts_free r.behind ≡ false))) → P (r.before ++ r.tail)
+      by_tail (inl same) = subst (λ tail. P (r.before ++ tail)) (sym same) (join here)
+      by_tail (inr same) = subst (λ tail. P (r.before ++ tail)) (sym same.0) here
+
+  -- resizing in place keeps the sum of the sizes
+  pub total_size-resized : total_size new ≡ total_size old
+  total_size-resized = by_join (λ m. total_size m ≡ total_size old) (total_size-exchanged old unjoined exchange) (λ same.
+      total_size-append r.before (joined (piece ++ r.behind)) ∙ ap (λ n. total_size r.before + n) (total_size-joined (piece ++ r.behind)) ∙ sym (total_size-append r.before (piece ++ r.behind)) ∙ same)
+
+  -- each block that isn't free keeps its address
+  pub addresses_from-resized : (at : ℕ) (test : Kind → Bool) → test Free ≡ false → addresses_from at test new ≡ addresses_from at test old
+  addresses_from-resized at test free = by_join (λ m. addresses_from at test m ≡ addresses_from at test old)
+      (addresses_from-exchanged old unjoined exchange at test (addresses_from-taken s k (r.changed).kind ((r.changed).size + total_size r.room) (at + total_size r.before) test free
+      ∙ sym (ap (λ found. cond (test (r.changed).kind) ((at + total_size r.before) ∷ []) [] ++ found) (free_only ((at + total_size r.before) + (r.changed).size) test r.room free r.all_free) ∙ no_rest _)))
+      (λ same. addresses_from-append at test r.before (joined (piece ++ r.behind)) ∙ ap (λ found. addresses_from at test r.before ++ found) (addresses_from-joined (at + total_size r.before) test (piece ++ r.behind) free)
+      ∙ sym (addresses_from-append at test r.before (piece ++ r.behind)) ∙ same)
+
+  -- what each block passes, also once two that pass are joined
+  list_all-resized : (p : Entry → Bool) → ((m : ZoneMap) → list_all p m ≡ true → list_all p (joined m) ≡ true) → list_all p r.before ≡ true → list_all p piece ≡ true → list_all p r.behind ≡ true → list_all p new ≡ true
+  list_all-resized p join before here behind = by_join (λ m. list_all p m ≡ true)
+      (list_all-middle p r.before piece r.behind ∙ true_both (list_all p r.before) _ before (true_both (list_all p piece) _ here behind))
+      (λ _. list_all-append p r.before (joined (piece ++ r.behind)) ∙ true_both (list_all p r.before) _ before (join (piece ++ r.behind) (list_all-append p piece r.behind ∙ true_both (list_all p piece) _ here behind)))
+
+  -- what each block of the old map passes: those before, the changed one with its room, those behind
+  parts_pass : (p : Entry → Bool) → list_all p old ≡ true → (list_all p r.before ≡ true) × (list_all p (r.changed ∷ r.room) ≡ true) × (list_all p r.behind ≡ true)
+  parts_pass p h =
+      let all = both_true (list_all p r.before) (list_all p (r.changed ∷ r.room) && list_all p r.behind) (sym (ap (list_all p) r.was ∙ list_all-middle p r.before (r.changed ∷ r.room) r.behind) ∙ h) in
+      let rest = both_true (list_all p (r.changed ∷ r.room)) (list_all p r.behind) all.1 in
+      (all.0, rest.0, rest.1)
+
+  used : is_free (r.changed).kind ≡ false
+  used = named_used x (r.changed).kind r.named
+
+  -- and no two neighbours are free
+  free_apart-resized : IsTrue (free_apart old) → IsTrue (free_apart new)
+  free_apart-resized h =
+      let apart : IsTrue (free_apart (r.before ++ ((r.changed ∷ r.room) ++ r.behind))) = sym (ap free_apart r.was) ∙ h in
+      ap free_apart r.is ∙ by_tail apart r.joins
+    where
+      never : (m : ZoneMap) → starts_free m ≡ is_free (r.changed).kind → starts_free m ≡ true → starts_free ((r.changed ∷ r.room) ++ r.behind) ≡ true
+      never m starts free = sym starts ∙ free
+
+      tail_apart : (room : ZoneMap) → IsTrue (free_apart (r.changed ∷ (room ++ r.behind))) → IsTrue (free_apart r.behind)
+      tail_apart room h = free_apart-behind (r.changed ∷ room) r.behind h
+
+      by_tail : IsTrue (free_apart (r.before ++ ((r.changed ∷ r.room) ++ r.behind)))
+          → ((r.tail ≡ joined (piece ++ r.behind)) ⊎ ((r.tail ≡ piece ++ r.behind) × (starts_free r.behind ≡ false))) → IsTrue (free_apart (r.before ++ r.tail))
+      by_tail apart (inl same) = free_apart-replaced r.before ((r.changed ∷ r.room) ++ r.behind) r.tail
+          (never r.tail (ap starts_free same ∙ starts_free-joined (piece ++ r.behind) ∙ starts_free-taken s k (r.changed).kind ((r.changed).size + total_size r.room) r.behind))
+          (ap free_apart same ∙ free_apart-joined (piece ++ r.behind)) apart
+      by_tail apart (inr same) = free_apart-replaced r.before ((r.changed ∷ r.room) ++ r.behind) r.tail
+          (never r.tail (ap starts_free same.0 ∙ starts_free-taken s k (r.changed).kind ((r.changed).size + total_size r.room) r.behind))
+          (ap free_apart same.0 ∙ free_apart-taken s k (r.changed).kind ((r.changed).size + total_size r.room) r.behind used (λ _. same.1) (tail_apart r.room (free_apart-behind r.before _ apart))) apart
+
+  -- where x names one block, it names none before and behind it
+  others_unnamed : (at : ℕ) → length (addresses_from at (is_named x) old) ≡ 1 → (none_named x r.before ≡ true) × (none_named x r.behind ≡ true)
+  others_unnamed at one =
+      let place = at + total_size r.before in
+      let front = addresses_from at (is_named x) r.before in
+      let room = addresses_from (place + (r.changed).size) (is_named x) r.room in
+      let back = addresses_from (place + ((r.changed).size + total_size r.room)) (is_named x) r.behind in
+      let all : length (front ++ ((place ∷ room) ++ back)) ≡ 1 = sym (ap length (addresses_from-old old unjoined exchange at (is_named x) ∙ ap (λ b. front ++ ((cond b (place ∷ []) [] ++ room) ++ back)) r.named)) ∙ one in (
+        none_named-empty at x r.before (no_length front (omega (arith, all, length-append front ((place ∷ room) ++ back)))),
+        none_named-empty (place + ((r.changed).size + total_size r.room)) x r.behind (no_length back (omega (arith, all, length-append front ((place ∷ room) ++ back), length-append (place ∷ room) back))),
+      )
+
+  sizes-room : (room : ZoneMap) (n : ℕ) → is_block_size s n ≡ true → list_all (λ (e : Entry). is_block_size s e.size) room ≡ true → is_block_size s (n + total_size room) ≡ true
+  sizes-room [] n h all = let same : n ≡ n + 0 = omega arith in sym (ap (is_block_size s) same) ∙ h
+  sizes-room (e ∷ es) n h all =
+      let hs = both_true (is_block_size s e.size) (list_all (λ (e : Entry). is_block_size s e.size) es) all in
+      let same : (n + e.size) + total_size es ≡ n + (e.size + total_size es) = omega arith in
+      sym (ap (is_block_size s) same) ∙ sizes-room es (n + e.size) (sum_size (smallest_block s.heads) n e.size h hs.0) hs.1
+    where
+      sum_size : (small m n : ℕ) → ((m % 4 == 0) && nat_le small m) ≡ true → ((n % 4 == 0) && nat_le small n) ≡ true → (((m + n) % 4 == 0) && nat_le small (m + n)) ≡ true
+      sum_size small m n a b = grind (arith, nat_tests)
+
+  sizes-resized : is_block_size s k ≡ true → IsTrue (list_all (λ (e : Entry). is_block_size s e.size) old) → IsTrue (list_all (λ (e : Entry). is_block_size s e.size) new)
+  sizes-resized size h =
+      let parts = parts_pass (λ (e : Entry). is_block_size s e.size) h in
+      let here = both_true (is_block_size s (r.changed).size) (list_all (λ (e : Entry). is_block_size s e.size) r.room) parts.1 in
+      list_all-resized (λ (e : Entry). is_block_size s e.size) (sizes-joined s) parts.0
+      (sizes-taken s k (r.changed).kind ((r.changed).size + total_size r.room) size (sizes-room r.room (r.changed).size here.0 here.1) r.fits) parts.2
+
+-- The block of x, a handle or a pointer, has the size for n bytes, and x has n bytes.
+pub Suits-resized : (s : Shape) (n x : ℕ) (old new : ZoneMap) (t u : HandleTable) → ResizedAt s (need s.heads n) x old new → Suits s t old → AgreeBut x t u → (is_full t x || is_pointer t x) ≡ true
+    → ((y : ℕ) → is_full u y ≡ is_full t y) → ((y : ℕ) → is_pointer u y ≡ is_pointer t y) → ((y : ℕ) → is_handle u y ≡ is_handle t y) → length (bytes_of u x) ≡ n
+    → IsTrue (is_sorted nat_cmp u.live) → Suits s u new
+Suits-resized s n x old new t u r suits agree block fulls pointers handles long rise =
+    let unnamed = others_unnamed s (need s.heads n) x old new r (address_behind s []) (one_named s t old x suits block) in
+    let parts = parts_pass s (need s.heads n) x old new r (has_owners_length s t) suits.lengths in
+    record {
+      apart = free_apart-resized s (need s.heads n) x old new r suits.apart;
+      sizes = sizes-resized s (need s.heads n) x old new r (need-is_size s n) suits.sizes;
+      handles = λ h. ap length (addresses_from-resized s (need s.heads n) x old new r (address_behind s []) (is_handle_block h) refl) ∙ suits.handles h ∙ sym (ap (λ b. cond b 1 0) (fulls h));
+      pointers = λ p. contents-same s (is_pointer_block p) old new (addresses_from-resized s (need s.heads n) x old new r (address_behind s []) (is_pointer_block p) refl)
+          ∙ suits.pointers p ∙ sym (ap (λ b. cond b (p ∷ []) []) (pointers p));
+      lengths = list_all-resized s (need s.heads n) x old new r (has_owners_length s u) (lengths-joined s u)
+          (lengths-agree s x t u agree r.before unnamed.0 parts.0)
+          (lengths-taken s u n (r.changed).kind ((r.changed).size + total_size r.room) (named_length x u (r.changed).kind r.named ∙ long) r.fits)
+          (lengths-agree s x t u agree r.behind unnamed.1 parts.2);
+      in_slots = λ h live. subst (λ xs. Contains xs h) (sym (slots-same s old new (addresses_from-resized s (need s.heads n) x old new r (address_behind s []) is_master refl))) (suits.in_slots h (sym (handles h) ∙ live));
+      in_order = rise;
+    }
