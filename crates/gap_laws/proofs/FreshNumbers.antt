@@ -8,7 +8,7 @@ use Rattle.std.proofs.lemmas.List.{map-append, length-map}
 use Rattle.std.proofs.lemmas.Grind.{flat_map-append}
 use Rattle.mac_base.specs.declared.block.Entry.{Entry}
 use Rattle.mac_base.specs.declared.block.HeadKind.{HeadKind}
-use Rattle.mac_base.specs.declared.block.HeadKind.TheVariants.{Bits24}
+use Rattle.mac_base.specs.declared.block.HeadKind.TheVariants.{Bits24, Bits32}
 use Rattle.mac_base.specs.declared.block.Kind.{Kind}
 use Rattle.mac_base.specs.declared.block.Kind.TheVariants.{Free, Master, Ptr, Rel}
 use Rattle.mac_base.specs.HeadKind.{Shape, head_size, smallest_block, slot_count, master_length, need}
@@ -103,6 +103,7 @@ slots_at-append s at a b =
 
 need-above : (heads : HeadKind) (n : ℕ) → head_size heads + n ≤ need heads n
 need-above Bits24 n = omega arith
+need-above Bits32 n = omega arith
 
 masters_whole-from : (s : Shape) (t : HandleTable) (m : ZoneMap) → list_all (has_owners_length s t) m ≡ true → masters_whole s m ≡ true
 masters_whole-from s t [] h = refl

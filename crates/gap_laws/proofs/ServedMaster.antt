@@ -7,7 +7,7 @@ use Rattle.std.proofs.lemmas.List.Elements.{Contains-append_right}
 use Rattle.std.proofs.lemmas.List.Folds.{list_all-append}
 use Rattle.mac_base.specs.declared.block.Entry.{Entry}
 use Rattle.mac_base.specs.declared.block.HeadKind.{HeadKind}
-use Rattle.mac_base.specs.declared.block.HeadKind.TheVariants.{Bits24}
+use Rattle.mac_base.specs.declared.block.HeadKind.TheVariants.{Bits24, Bits32}
 use Rattle.mac_base.specs.declared.block.Kind.{Kind}
 use Rattle.mac_base.specs.declared.block.Kind.TheVariants.{Free, Master}
 use Rattle.mac_base.specs.HeadKind.{Shape, head_size, smallest_block}
@@ -85,6 +85,7 @@ freed_at-above at x (e ∷ es) h = ap (λ c. cond c (block Free e.size) e ∷ fr
 
 smallest-positive : (heads : HeadKind) → 0 < smallest_block heads
 smallest-positive Bits24 = omega arith
+smallest-positive Bits32 = omega arith
 
 -- a possible size is not 0
 pub size-positive : (s : Shape) (n : ℕ) → is_block_size s n ≡ true → 0 < n

@@ -1,15 +1,17 @@
--- How large the parts of a zone are. A second kind of block header adds one line to each of the first two.
+-- How large the parts of a zone are.
 use Rattle.std.specs.Prelude.{ℕ, ◌+◌, ◌*◌, ◌/◌, max}
 use Rattle.mac_base.specs.declared.block.HeadKind.{HeadKind}
-use Rattle.mac_base.specs.declared.block.HeadKind.TheVariants.{Bits24}
+use Rattle.mac_base.specs.declared.block.HeadKind.TheVariants.{Bits24, Bits32}
 
 -- the bytes of a block header
 abbrev pub head_size : HeadKind → ℕ
 head_size Bits24 = 8
+head_size Bits32 = 12
 
 -- the bytes of the smallest block
 abbrev pub smallest_block : HeadKind → ℕ
 smallest_block Bits24 = 12
+smallest_block Bits32 = 16
 
 -- the bytes of the zone header; blocks begin behind it
 abbrev pub zone_header : ℕ

@@ -7,6 +7,8 @@ use crate::handle::{Handle, Ptr};
 pub enum HeadKind {
     /// 24-bit blocks: 8 bytes of header, 12 bytes at least.
     Bits24,
+    /// 32-bit blocks: 12 bytes of header, 16 bytes at least.
+    Bits32,
 }
 
 impl HeadKind {
@@ -19,6 +21,7 @@ impl HeadKind {
     {
         match self {
             HeadKind::Bits24 => 8,
+            HeadKind::Bits32 => 12,
         }
     }
 
@@ -28,6 +31,7 @@ impl HeadKind {
     {
         match self {
             HeadKind::Bits24 => 12,
+            HeadKind::Bits32 => 16,
         }
     }
 }

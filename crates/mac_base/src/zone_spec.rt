@@ -69,11 +69,21 @@ impl ZoneSpec {
     ghost use Rattle.mac_base.specs.declared.block.HeadKind.TheVariants.{Bits24};
     ghost use Rattle.mac_base.specs.ZoneSizes.{ZoneSizes, ArePossible, first_fault};
 
-    /// A zone of 24-bit blocks that begins at `base`, has `size` bytes and may grow to `limit` bytes. The sizes
-    /// are refused where a condition doesn't hold, by the first one in the order of `BadSpec`.
+    /// A zone of 24-bit blocks that begins at `base`, has `size` bytes and may grow to `limit` bytes: `with_kind` with
+    /// `Bits24`.
     pub fn new(base: u32, size: u32, limit: u32) -> Result<ZoneSpec, BadSpec>
         ensures possible { IsOk result ↔ ArePossible (record { heads = Bits24; base = base; size = size; limit = limit }) }
         ensures spec { IfOk result (λ spec. spec ≡ record { heads = Bits24; base = base; size = size; limit = limit }) }
+        ensures fault { result_err result ≡ first_fault base size limit }
+    {
+        ZoneSpec::with_kind(base, size, limit, HeadKind::Bits24)
+    }
+
+    /// A zone that begins at `base`, has `size` bytes, may grow to `limit` bytes, and has blocks of this kind. The sizes
+    /// are refused where a condition doesn't hold, by the first one in the order of `BadSpec`.
+    pub fn with_kind(base: u32, size: u32, limit: u32, heads: HeadKind) -> Result<ZoneSpec, BadSpec>
+        ensures possible { IsOk result ↔ ArePossible (record { heads = heads; base = base; size = size; limit = limit }) }
+        ensures spec { IfOk result (λ spec. spec ≡ record { heads = heads; base = base; size = size; limit = limit }) }
         ensures fault { result_err result ≡ first_fault base size limit }
     {
         let fault = if base % 4 != 0 {
@@ -96,7 +106,7 @@ impl ZoneSpec {
             BadSpec::HighEnd { base, limit }
         } else {
             return Ok(ZoneSpec {
-                heads: HeadKind::Bits24,
+                heads,
                 base,
                 size,
                 limit,

@@ -6,7 +6,7 @@ use Rattle.std.specs.List.{list_any}
 use Rattle.std.proofs.lemmas.Bool.{or_left, or_right, or_cases, le-leb, eqb-true}
 use Rattle.std.proofs.lemmas.List.Folds.{list_any-append}
 use Rattle.mac_base.specs.declared.block.HeadKind.{HeadKind}
-use Rattle.mac_base.specs.declared.block.HeadKind.TheVariants.{Bits24}
+use Rattle.mac_base.specs.declared.block.HeadKind.TheVariants.{Bits24, Bits32}
 use Rattle.mac_base.specs.declared.block.Kind.{Kind}
 use Rattle.mac_base.specs.declared.block.Kind.TheVariants.{Free, Master, Ptr, Rel}
 use Rattle.mac_base.specs.HeadKind.{Shape, need}
@@ -35,6 +35,7 @@ size_needed-positive s r = positive s.heads (length_asked r)
   where
     positive : (heads : HeadKind) (n : ℕ) → 0 < need heads n
     positive Bits24 n = omega arith
+    positive Bits32 n = omega arith
 
 -- a block is taken where a free one has k bytes
 pub is_some-take_lowest : (s : Shape) (k : ℕ) (kind : Kind) (m : ZoneMap) → is_some (take_lowest s k kind m) ≡ list_any (has_free k) m

@@ -5,7 +5,7 @@ use Rattle.std.proofs.lemmas.List.Elements.{Contains-append_right}
 use Rattle.std.proofs.lemmas.Bool.Decides.{nat_tests}
 use Rattle.mac_base.specs.declared.block.Entry.{Entry}
 use Rattle.mac_base.specs.declared.block.HeadKind.{HeadKind}
-use Rattle.mac_base.specs.declared.block.HeadKind.TheVariants.{Bits24}
+use Rattle.mac_base.specs.declared.block.HeadKind.TheVariants.{Bits24, Bits32}
 use Rattle.mac_base.specs.declared.block.Kind.{Kind}
 use Rattle.mac_base.specs.declared.block.Kind.TheVariants.{Free, Master, Ptr, Rel}
 use Rattle.mac_base.specs.HeadKind.{Shape, need, head_size, smallest_block, slot_count, master_length}
@@ -17,6 +17,7 @@ use Rattle.zone_laws.proofs.SlotPlaces.{has_room, slot_no_contents, one_block_at
 
 large_master : (heads : HeadKind) → head_size heads + 4 * 64 ≤ need heads master_length
 large_master Bits24 = omega arith
+large_master Bits32 = omega arith
 
 -- each block of a map that suits its table has room for its header, and a master block for its slots
 has_room-suits : (s : Shape) (t : HandleTable) (e : Entry) → is_block_size s e.size ≡ true → has_owners_length s t e ≡ true → has_room (head_size s.heads) slot_count e ≡ true
@@ -24,6 +25,7 @@ has_room-suits s t e size long = by_kind e.kind e.size size long
   where
     by_size : (heads : HeadKind) (n : ℕ) → ((n % 4 == 0) && nat_le (smallest_block heads) n) ≡ true → nat_lt (head_size heads) n ≡ true
     by_size Bits24 n h = grind (arith, nat_tests)
+    by_size Bits32 n h = grind (arith, nat_tests)
 
     by_master : (head k n more : ℕ) → head + 4 * 64 ≤ k → (nat_le k n && nat_lt n more) ≡ true → nat_le (head + 4 * 64) n ≡ true
     by_master head k n more large h = grind (arith, nat_tests)

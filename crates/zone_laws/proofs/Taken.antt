@@ -4,7 +4,7 @@ use Rattle.std.specs.List.{list_all}
 use Rattle.std.proofs.lemmas.Bool.Decides.{nat_tests}
 use Rattle.mac_base.specs.declared.block.Entry.{Entry}
 use Rattle.mac_base.specs.declared.block.HeadKind.{HeadKind}
-use Rattle.mac_base.specs.declared.block.HeadKind.TheVariants.{Bits24}
+use Rattle.mac_base.specs.declared.block.HeadKind.TheVariants.{Bits24, Bits32}
 use Rattle.mac_base.specs.declared.block.Kind.{Kind}
 use Rattle.mac_base.specs.declared.block.Kind.TheVariants.{Free}
 use Rattle.mac_base.specs.HeadKind.{Shape, need, head_size, smallest_block}
@@ -18,6 +18,7 @@ use Rattle.zone_laws.proofs.Maps.{Exchanged, both_true, true_both, not_true, add
 -- a block is larger than its header
 pub head-below_smallest : (heads : HeadKind) → head_size heads < smallest_block heads
 head-below_smallest Bits24 = omega arith
+head-below_smallest Bits32 = omega arith
 
 -- the size that contents need is possible
 pub need-is_size : (s : Shape) (n : ℕ) → is_block_size s (need s.heads n) ≡ true
@@ -25,6 +26,7 @@ need-is_size s n = by_heads s.heads
   where
     by_heads : (heads : HeadKind) → ((need heads n % 4 == 0) && nat_le (smallest_block heads) (need heads n)) ≡ true
     by_heads Bits24 = grind (arith, nat_tests)
+    by_heads Bits32 = grind (arith, nat_tests)
 
 -- a map goes on apart behind some blocks
 pub free_apart-behind : (before m : ZoneMap) → IsTrue (free_apart (before ++ m)) → IsTrue (free_apart m)
