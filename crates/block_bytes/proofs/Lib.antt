@@ -1,0 +1,15 @@
+pub mod Changes
+pub mod Heads
+pub mod Here
+pub mod Holders
+pub mod LowestFree
+pub mod WrittenBack
+pub mod NewZone
+pub mod Parts
+pub mod ReadBlocks
+pub mod ReadParts
+pub mod Rendered
+pub mod Sizes
+pub mod Starts
+pub mod Walking
+pub mod Walks

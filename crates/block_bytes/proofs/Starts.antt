@@ -1,0 +1,249 @@
+-- Laws of the index: what it is where a block is another of its size or two, and what one number of it says.
+use Rattle.std.proofs.Common.{◌≡◌, ℕ, zero, suc, ◌+◌, ◌-◌, ◌*◌, ◌/◌, ◌%◌, ◌<◌, ◌≤◌, Bool, true, false, List, [], ◌∷◌, ◌++◌, length, replicate, slice_index, refl, sym, ap, ◌∙◌, ◌⊎◌, ⊎_elim, arith, append_assoc, length-append, IsTrue}
+use Rattle.std.specs.Prelude.{if◌then◌else◌}
+use Rattle.std.specs.List.{list_all}
+use Rattle.std.proofs.Math.ListN.{set}
+use Rattle.std.proofs.lemmas.Bool.{cases_lt}
+use Rattle.std.proofs.lemmas.List.{get_or_append_left, get_or-append_right, length-replicate, replicate-append-replicate, set_at}
+use Rattle.std.proofs.lemmas.List.Folds.{list_all-append}
+use Rattle.std.proofs.Math.Seq.{get_or-append_seam}
+use Rattle.mac_base.specs.declared.block.HeadKind.{HeadKind}
+use Rattle.mac_base.specs.declared.block.HeadKind.TheVariants.{Bits24}
+use Rattle.mac_base.specs.HeadKind.{smallest_block, zone_header}
+use Rattle.block_bytes.specs.Layout.{RawBlock, Layout, BlockAt, size_of, total_of, is_possible, with_blocks}
+use Rattle.block_bytes.specs.Finding.{is_free}
+use Rattle.block_bytes.specs.Starts.{mark_of, marks_of, starts_of}
+use Rattle.block_bytes.proofs.Rendered.{total_of-append}
+use Rattle.block_bytes.proofs.ReadBlocks.{and-true, IsPossible, IsPossible-from, head_size-positive}
+
+-- every block has four bytes at least
+pub smallest-block : (heads : HeadKind) → 4 ≤ smallest_block heads
+smallest-block Bits24 = omega arith
+
+-- so many marks of none
+abbrev pub unmarked : ℕ → List ℕ
+unmarked n = replicate n 0
+
+-- as many as were asked for
+pub length-unmarked : (n : ℕ) → length (unmarked n) ≡ n
+length-unmarked n = length-replicate {A = ℕ} n 0
+
+-- none of them is above 0
+pub unmarked-at : (n k : ℕ) → slice_index (unmarked n) k ≡ 0
+unmarked-at zero k = refl
+unmarked-at (suc n) zero = refl
+unmarked-at (suc n) (suc k) = unmarked-at n k
+
+-- a block's mark is above 0
+pub mark-positive : (heads : HeadKind) (b : RawBlock) → IsPossible heads b → 0 < mark_of heads b
+mark-positive heads b p = let large = p.large in let some = smallest-block heads in either (is_free b.role) (size_of heads b) (omega arith)
+  where
+    either : (free : Bool) (n : ℕ) → 0 < n → 0 < (if free then n else 1)
+    either true n positive = positive
+    either false n positive = omega arith
+
+-- the marks of two lists of blocks, one behind the other
+pub marks_of-append : (heads : HeadKind) (xs ys : List RawBlock) → marks_of heads (xs ++ ys) ≡ marks_of heads xs ++ marks_of heads ys
+marks_of-append heads [] ys = refl
+marks_of-append heads (b ∷ bs) ys = ap (λ (l : List ℕ). mark_of heads b ∷ (unmarked (size_of heads b / 4 - 1) ++ l)) (marks_of-append heads bs ys) ∙ simp append_assoc
+
+-- blocks have a mark for each four bytes
+pub length-marks_of : (heads : HeadKind) (bs : List RawBlock) → IsTrue (list_all (is_possible heads) bs) → 4 * length (marks_of heads bs) ≡ total_of heads bs
+length-marks_of heads [] possible = refl
+length-marks_of heads (b ∷ bs) possible =
+    let both = and-true (is_possible heads b) (list_all (is_possible heads) bs) possible in let p = IsPossible-from heads b both.0 in
+    let more = length-marks_of heads bs both.1 in let some = smallest-block heads in
+    let sum = length-append (unmarked (size_of heads b / 4 - 1)) (marks_of heads bs) in let none = length-unmarked (size_of heads b / 4 - 1) in
+    let even = p.even in let large = p.large in omega arith
+
+-- the marks of blocks, one of which is another of the same size and with the same mark
+pub marks_of-same : (heads : HeadKind) (before : List RawBlock) (b c : RawBlock) (behind : List RawBlock) → size_of heads b ≡ size_of heads c → mark_of heads b ≡ mark_of heads c
+    → marks_of heads (before ++ b ∷ behind) ≡ marks_of heads (before ++ c ∷ behind)
+marks_of-same heads before b c behind same mark =
+    marks_of-append heads before (b ∷ behind) ∙ (λ i. marks_of heads before ++ mark i ∷ (unmarked (same i / 4 - 1) ++ marks_of heads behind))
+    ∙ sym (marks_of-append heads before (c ∷ behind))
+
+-- how many marks stand before that of a block
+length-before : (heads : HeadKind) (before : List RawBlock) (place : ℕ) → IsTrue (list_all (is_possible heads) before) → place ≡ (zone_header + total_of heads before) / 4
+    → length (unmarked (zone_header / 4) ++ marks_of heads before) ≡ place
+length-before heads before place possible there =
+    let a = length-append (unmarked (zone_header / 4)) (marks_of heads before) in let b = length-unmarked (zone_header / 4) in let c = length-marks_of heads before possible in omega arith
+
+-- the index, with the mark of one block apart
+starts-parts : (l : Layout) (before : List RawBlock) (here : RawBlock) (behind : List RawBlock)
+    → starts_of (with_blocks (before ++ here ∷ behind) l) ≡ (unmarked (zone_header / 4) ++ marks_of l.heads before)
+    ++ mark_of l.heads here ∷ (unmarked (size_of l.heads here / 4 - 1) ++ (marks_of l.heads behind ++ unmarked (length l.spare / 4)))
+starts-parts l before here behind =
+    ap (λ (ms : List ℕ). unmarked (zone_header / 4) ++ (ms ++ unmarked (length l.spare / 4))) (marks_of-append l.heads before (here ∷ behind)) ∙ simp append_assoc
+
+-- one block is another of its size, and its mark is written
+pub mark-written : (l : Layout) (before : List RawBlock) (here b : RawBlock) (behind : List RawBlock) → IsTrue (list_all (is_possible l.heads) before) → size_of l.heads b ≡ size_of l.heads here
+    → (place : ℕ) → place ≡ (zone_header + total_of l.heads before) / 4
+    → set (starts_of (with_blocks (before ++ here ∷ behind) l)) place (mark_of l.heads b) ≡ starts_of (with_blocks (before ++ b ∷ behind) l)
+mark-written l before here b behind possible same place there =
+    let front = unmarked (zone_header / 4) ++ marks_of l.heads before in
+    ap (λ (ms : List ℕ). set ms place (mark_of l.heads b)) (starts-parts l before here behind)
+    ∙ set_at front (mark_of l.heads here) (unmarked (size_of l.heads here / 4 - 1) ++ (marks_of l.heads behind ++ unmarked (length l.spare / 4))) (mark_of l.heads b) place (length-before l.heads before place possible there)
+    ∙ ap (λ (n : ℕ). front ++ mark_of l.heads b ∷ (unmarked (n / 4 - 1) ++ (marks_of l.heads behind ++ unmarked (length l.spare / 4)))) (sym same)
+    ∙ sym (starts-parts l before b behind)
+
+-- two numbers of a list are written
+two-written : (front mid rest : List ℕ) (x y x' y' p q : ℕ) → length front ≡ p → q ≡ p + suc (length mid)
+    → set (set (front ++ x ∷ (mid ++ y ∷ rest)) p x') q y' ≡ front ++ x' ∷ (mid ++ y' ∷ rest)
+two-written front mid rest x y x' y' p q first second =
+    let sum = length-append front (x' ∷ mid) in
+    ap (λ (l : List ℕ). set l q y') (set_at front x (mid ++ y ∷ rest) x' p first ∙ sym (append_assoc front (x' ∷ mid) (y ∷ rest)))
+    ∙ set_at (front ++ x' ∷ mid) y rest y' q (omega arith) ∙ append_assoc front (x' ∷ mid) (y' ∷ rest)
+
+-- the marks behind a block's own, where it is cut
+unmarked-apart : (whole first second : ℕ) → whole ≡ first + second → first % 4 ≡ 0 → second % 4 ≡ 0 → 4 ≤ first → 4 ≤ second
+    → unmarked (whole / 4 - 1) ≡ unmarked (first / 4 - 1) ++ (0 ∷ unmarked (second / 4 - 1))
+unmarked-apart whole first second sum even even' some some' =
+    ap (λ (n : ℕ). unmarked n) (let e : whole / 4 - 1 ≡ first / 4 - 1 + suc (second / 4 - 1) = omega arith in e)
+    ∙ sym (replicate-append-replicate (first / 4 - 1) (suc (second / 4 - 1)) 0)
+
+module _ (l : Layout) (before : List RawBlock) (here first second : RawBlock) (behind : List RawBlock) (sum : size_of l.heads here ≡ size_of l.heads first + size_of l.heads second)
+    (before_possible : IsTrue (list_all (is_possible l.heads) before)) (p : IsPossible l.heads first) (q : IsPossible l.heads second)
+    (place next : ℕ) (there : place ≡ (zone_header + total_of l.heads before) / 4) (there' : next ≡ (zone_header + total_of l.heads before + size_of l.heads first) / 4) where
+  -- the marks before the first part's
+  abbrev marks_before : List ℕ
+  marks_before = unmarked (zone_header / 4) ++ marks_of l.heads before
+
+  -- those between its own and the second part's
+  abbrev marks_between : List ℕ
+  marks_between = unmarked (size_of l.heads first / 4 - 1)
+
+  -- and those behind that
+  abbrev marks_behind : List ℕ
+  marks_behind = unmarked (size_of l.heads second / 4 - 1) ++ (marks_of l.heads behind ++ unmarked (length l.spare / 4))
+
+  -- how many stand before it
+  next-is : next ≡ place + suc (length marks_between)
+  next-is =
+      let some = smallest-block l.heads in let even = p.even in let large = p.large in
+      let d = length-unmarked (size_of l.heads first / 4 - 1) in let e = length-marks_of l.heads before before_possible in omega arith
+
+  -- the marks of one block
+  one-block : starts_of (with_blocks (before ++ here ∷ behind) l) ≡ marks_before ++ mark_of l.heads here ∷ (marks_between ++ 0 ∷ marks_behind)
+  one-block =
+      let some = smallest-block l.heads in let even = p.even in let even' = q.even in let large = p.large in let large' = q.large in
+      starts-parts l before here behind
+      ∙ ap (λ (ms : List ℕ). marks_before ++ mark_of l.heads here ∷ (ms ++ (marks_of l.heads behind ++ unmarked (length l.spare / 4))))
+      (unmarked-apart (size_of l.heads here) (size_of l.heads first) (size_of l.heads second) sum (omega arith) (omega arith) (omega arith) (omega arith))
+      ∙ simp append_assoc
+
+  -- those of two
+  two-blocks : starts_of (with_blocks (before ++ first ∷ second ∷ behind) l) ≡ marks_before ++ mark_of l.heads first ∷ (marks_between ++ mark_of l.heads second ∷ marks_behind)
+  two-blocks = starts-parts l before first (second ∷ behind) ∙ simp append_assoc
+
+  -- two marks are written, and one block is two
+  pub mark-set : set (set (starts_of (with_blocks (before ++ here ∷ behind) l)) place (mark_of l.heads first)) next (mark_of l.heads second)
+      ≡ starts_of (with_blocks (before ++ first ∷ second ∷ behind) l)
+  mark-set = ap (λ (ms : List ℕ). set (set ms place (mark_of l.heads first)) next (mark_of l.heads second)) one-block
+      ∙ two-written marks_before marks_between marks_behind (mark_of l.heads here) 0 (mark_of l.heads first) (mark_of l.heads second) place next (length-before l.heads before place before_possible there) next-is
+      ∙ sym two-blocks
+
+  -- one is written and one is cleared, and two blocks are one
+  pub mark-cleared : set (set (starts_of (with_blocks (before ++ first ∷ second ∷ behind) l)) place (mark_of l.heads here)) next 0
+      ≡ starts_of (with_blocks (before ++ here ∷ behind) l)
+  mark-cleared = ap (λ (ms : List ℕ). set (set ms place (mark_of l.heads here)) next 0) two-blocks
+      ∙ two-written marks_before marks_between marks_behind (mark_of l.heads first) (mark_of l.heads second) (mark_of l.heads here) 0 place next (length-before l.heads before place before_possible there) next-is
+      ∙ sym one-block
+
+-- a block of the list starts so many times four bytes behind the first
+pub record StartsAt (heads : HeadKind) (bs : List RawBlock) (k : ℕ) : Type 0 where
+  pub before : List RawBlock
+  pub here : RawBlock
+  pub behind : List RawBlock
+  pub blocks : bs ≡ before ++ here ∷ behind
+  pub place : 4 * k ≡ total_of heads before
+
+-- a mark behind that of the first block
+starts-behind : (heads : HeadKind) (b : RawBlock) (bs : List RawBlock) (k : ℕ) → IsPossible heads b → ((j : ℕ) → 0 < slice_index (marks_of heads bs) j → StartsAt heads bs j)
+    → 0 < slice_index (unmarked (size_of heads b / 4 - 1) ++ marks_of heads bs) k → StartsAt heads (b ∷ bs) (suc k)
+starts-behind heads b bs k p others is = ⊎_elim within behind (cases_lt k n)
+  where
+    n : ℕ
+    n = size_of heads b / 4 - 1
+
+    within : k < n → StartsAt heads (b ∷ bs) (suc k)
+    within below =
+        let none = length-unmarked n in
+        let zero_there : slice_index (unmarked n ++ marks_of heads bs) k ≡ 0 = get_or_append_left (unmarked n) (marks_of heads bs) 0 k (omega arith) ∙ unmarked-at n k in
+        absurd (omega arith)
+
+    behind : n ≤ k → StartsAt heads (b ∷ bs) (suc k)
+    behind above =
+        let even = p.even in let large = p.large in let some = smallest-block heads in
+        let there : slice_index (unmarked n ++ marks_of heads bs) k ≡ slice_index (marks_of heads bs) (k - n) = get_or-append_right (unmarked n) (marks_of heads bs) n k 0 (length-unmarked n) above in
+        let s = others (k - n) (omega arith) in let place = s.place in
+        record { before = b ∷ s.before; here = s.here; behind = s.behind; blocks = ap (λ (l : List RawBlock). b ∷ l) s.blocks; place = omega arith }
+
+-- where there is a mark, a block starts
+starts-there : (heads : HeadKind) (bs : List RawBlock) (k : ℕ) → IsTrue (list_all (is_possible heads) bs) → 0 < slice_index (marks_of heads bs) k → StartsAt heads bs k
+starts-there heads [] k possible is = absurd (omega arith)
+starts-there heads (b ∷ bs) zero possible is = record { before = []; here = b; behind = bs; blocks = refl; place = refl }
+starts-there heads (b ∷ bs) (suc k) possible is =
+    let both = and-true (is_possible heads b) (list_all (is_possible heads) bs) possible in
+    starts-behind heads b bs k (IsPossible-from heads b both.0) (λ j there. starts-there heads bs j both.1 there) is
+
+module _ (l : Layout) (possible : IsTrue (list_all (is_possible l.heads) l.blocks)) where
+  -- where there is a mark of the zone, a block starts
+  pub block-marked : (at k : ℕ) → at ≡ l.base + 4 * k → 0 < slice_index (starts_of l) k → BlockAt l at
+  block-marked at k there is = ⊎_elim in_header (λ above. behind above (cases_lt (k - zone_header / 4) (length marks))) (cases_lt k (zone_header / 4))
+    where
+      front : List ℕ
+      front = unmarked (zone_header / 4)
+
+      marks : List ℕ
+      marks = marks_of l.heads l.blocks
+
+      rest : List ℕ
+      rest = unmarked (length l.spare / 4)
+
+      in_header : k < zone_header / 4 → BlockAt l at
+      in_header low =
+          let zero_there : slice_index (front ++ (marks ++ rest)) k ≡ 0 = get_or_append_left front (marks ++ rest) 0 k low ∙ unmarked-at (zone_header / 4) k in
+          absurd (omega arith)
+
+      behind : zone_header / 4 ≤ k → (k - zone_header / 4 < length marks) ⊎ (length marks ≤ k - zone_header / 4) → BlockAt l at
+      behind above which =
+          let there' : slice_index (front ++ (marks ++ rest)) k ≡ slice_index (marks ++ rest) (k - zone_header / 4) =
+          get_or-append_right front (marks ++ rest) (zone_header / 4) k 0 (length-unmarked (zone_header / 4)) above in
+          ⊎_elim (λ within.
+          let mark : slice_index (marks ++ rest) (k - zone_header / 4) ≡ slice_index marks (k - zone_header / 4) = get_or_append_left marks rest 0 (k - zone_header / 4) within in
+          let s = starts-there l.heads l.blocks (k - zone_header / 4) possible (omega arith) in let place = s.place in
+          record { before = s.before; here = s.here; behind = s.behind; blocks = s.blocks; place = omega arith })
+          (λ further.
+          let none : slice_index (marks ++ rest) (k - zone_header / 4) ≡ 0 =
+          get_or-append_right marks rest (length marks) (k - zone_header / 4) 0 refl further ∙ unmarked-at (length l.spare / 4) (k - zone_header / 4 - length marks) in
+          absurd (omega arith)) which
+
+  -- a block starts a multiple of four bytes behind the zone's start, and below the end of the blocks, and has its mark
+  pub record IsMarked (at : ℕ) (b : BlockAt l at) : Type 0 where
+    pub above : l.base ≤ at
+    pub even : (at - l.base) % 4 ≡ 0
+    pub below : at - l.base < zone_header + total_of l.heads l.blocks
+    pub mark : slice_index (starts_of l) ((at - l.base) / 4) ≡ mark_of l.heads b.here
+    pub some : 0 < mark_of l.heads b.here
+
+  -- each does
+  pub marked-block : (at : ℕ) (b : BlockAt l at) → IsMarked at b
+  marked-block at b = let k = (at - l.base) / 4 in
+      let front = unmarked (zone_header / 4) ++ marks_of l.heads b.before in
+      let parts = and-true (list_all (is_possible l.heads) b.before) (list_all (is_possible l.heads) (b.here ∷ b.behind))
+      (sym (list_all-append (is_possible l.heads) b.before (b.here ∷ b.behind)) ∙ sym (ap (list_all (is_possible l.heads)) b.blocks) ∙ possible) in
+      let here = and-true (is_possible l.heads b.here) (list_all (is_possible l.heads) b.behind) parts.1 in
+      let long = length-marks_of l.heads b.before parts.0 in let place = b.place in
+      let total : total_of l.heads l.blocks ≡ total_of l.heads b.before + total_of l.heads (b.here ∷ b.behind) = ap (total_of l.heads) b.blocks ∙ total_of-append l.heads b.before (b.here ∷ b.behind) in
+      let positive = head_size-positive l.heads in
+      let rest = unmarked (size_of l.heads b.here / 4 - 1) ++ (marks_of l.heads b.behind ++ unmarked (length l.spare / 4)) in
+      let marks : starts_of l ≡ front ++ mark_of l.heads b.here ∷ rest = ap (λ (bs : List RawBlock). starts_of (with_blocks bs l)) b.blocks ∙ starts-parts l b.before b.here b.behind in
+      let before : length front ≡ k = length-before l.heads b.before k parts.0 (omega arith) in
+      record {
+        above = omega arith;
+        even = omega arith;
+        below = omega arith;
+        mark = (λ i. slice_index (marks i) (sym before i)) ∙ get_or-append_seam front (mark_of l.heads b.here) rest 0;
+        some = mark-positive l.heads b.here (IsPossible-from l.heads b.here here.0);
+      }

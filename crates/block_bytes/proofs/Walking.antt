@@ -1,0 +1,111 @@
+-- A walk over the blocks of a zone, from one to the one behind it.
+use Rattle.std.proofs.Common.{◌≡◌, ℕ, ◌+◌, ◌-◌, ◌<◌, ◌≤◌, Bool, true, List, [], ◌∷◌, ◌++◌, length, refl, ap, sym, ◌∙◌, arith, append_assoc, length-append, IsTrue}
+use Rattle.std.specs.Prelude.{◌&&◌, ◌==◌, ◌%◌, nat_le}
+use Rattle.std.specs.List.{list_all}
+use Rattle.std.proofs.lemmas.List.Folds.{list_all-append}
+use Rattle.std.proofs.Math.Seq.{take-length, drop-length}
+use Rattle.std.proofs.lemmas.Bool.Decides.{nat_tests}
+use Rattle.mac_base.specs.declared.block.HeadKind.{HeadKind}
+use Rattle.mac_base.specs.declared.block.HeadKind.TheVariants.{Bits24}
+use Rattle.mac_base.specs.HeadKind.{head_size, smallest_block}
+use Rattle.block_bytes.specs.declared.header.Header.{Header}
+use Rattle.block_bytes.specs.declared.header.Role.TheVariants.{Free}
+use Rattle.block_bytes.specs.Layout.{RawBlock, Layout, BlockAt, body, raw_block, free_raw_block, size_of, header_of, total_of, can_be_told, is_possible, address_behind}
+
+-- no block is empty
+pub size_of-pos : (heads : HeadKind) (b : RawBlock) → 0 < size_of heads b
+size_of-pos Bits24 b = omega arith
+
+-- the sizes of two runs of blocks
+pub total_of-append : (heads : HeadKind) (bs cs : List RawBlock) → total_of heads (bs ++ cs) ≡ total_of heads bs + total_of heads cs
+total_of-append heads [] cs = omega arith
+total_of-append heads (b ∷ bs) cs = let e = total_of-append heads bs cs in omega arith
+
+-- a walk has come to this address: the blocks before it, which all pass a test, and the others
+pub record Reached (l : Layout) (at : ℕ) (p : RawBlock → Bool) : Type 0 where
+  pub before : List RawBlock
+  pub rest : List RawBlock
+  pub blocks : l.blocks ≡ before ++ rest
+  pub place : at ≡ address_behind l before
+  pub passed : IsTrue (list_all p before)
+
+-- a block behind blocks that all pass a test
+pub record BlockBehind (l : Layout) (at : ℕ) (p : RawBlock → Bool) : Type 0 where
+  pub block : BlockAt l at
+  pub passed : IsTrue (list_all p block.before)
+
+-- a walk begins at the first block
+pub reached-first : (l : Layout) (at : ℕ) (p : RawBlock → Bool) → at ≡ address_behind l [] → Reached l at p
+reached-first l at p place = record { before = []; rest = l.blocks; blocks = refl; place = place; passed = refl }
+
+-- where the blocks of two runs end
+ends : (l : Layout) (bs cs : List RawBlock) → l.blocks ≡ bs ++ cs → address_behind l l.blocks ≡ address_behind l bs + total_of l.heads cs
+ends l bs cs e = let total = ap (total_of l.heads) e in let sum = total_of-append l.heads bs cs in omega arith
+
+-- below the end, there is a block
+pub block-reached : (l : Layout) (at : ℕ) (p : RawBlock → Bool) → Reached l at p → at < address_behind l l.blocks → BlockBehind l at p
+block-reached l at p r below = from r.before r.rest r.blocks r.place r.passed
+  where
+    from : (bs cs : List RawBlock) → l.blocks ≡ bs ++ cs → at ≡ address_behind l bs → IsTrue (list_all p bs) → BlockBehind l at p
+    from bs [] e place passed = let end = ends l bs [] e in absurd (omega arith)
+    from bs (b ∷ cs) e place passed = record { block = record { before = bs; here = b; behind = cs; blocks = e; place = place }; passed = passed }
+
+-- at the end, all blocks were passed
+pub all-reached : (l : Layout) (at : ℕ) (p : RawBlock → Bool) → Reached l at p → address_behind l l.blocks ≤ at → IsTrue (list_all p l.blocks)
+all-reached l at p r behind = from r.before r.rest r.blocks r.place r.passed
+  where
+    from : (bs cs : List RawBlock) → l.blocks ≡ bs ++ cs → at ≡ address_behind l bs → IsTrue (list_all p bs) → IsTrue (list_all p l.blocks)
+    from bs [] e place passed = let all = list_all-append p bs [] in ap (list_all p) e ∙ grind (arith, nat_tests)
+    from bs (b ∷ cs) e place passed = let end = ends l bs (b ∷ cs) e in let size = size_of-pos l.heads b in absurd (omega arith)
+
+-- a block ends where the blocks do, or before
+pub block-below : (l : Layout) (at : ℕ) (b : BlockAt l at) → at + size_of l.heads b.here ≤ address_behind l l.blocks
+block-below l at b = let end = ends l b.before (b.here ∷ b.behind) b.blocks in let place = b.place in omega arith
+
+-- the walk goes on behind a block that passes the test
+pub reached-next : (l : Layout) (at next : ℕ) (p : RawBlock → Bool) (b : BlockBehind l at p) → next ≡ at + size_of l.heads b.block.here → p b.block.here ≡ true → Reached l next p
+reached-next l at next p b e pass = record {
+  before = b.block.before ++ b.block.here ∷ [];
+  rest = b.block.behind;
+  blocks = b.block.blocks ∙ sym (append_assoc b.block.before (b.block.here ∷ []) b.block.behind);
+  place = let sum = total_of-append l.heads b.block.before (b.block.here ∷ []) in let place = b.block.place in omega arith;
+  passed = let sum = list_all-append p b.block.before (b.block.here ∷ []) in let passed = b.passed in grind (arith, nat_tests);
+}
+
+-- the block behind a block, where that isn't the last
+pub block-next : (l : Layout) (at next : ℕ) (b : BlockAt l at) → next ≡ at + size_of l.heads b.here → next < address_behind l l.blocks → BlockAt l next
+block-next l at next b e below = (block-reached l next (λ b. true) (reached-next l at next (λ b. true) (record { block = b; passed = all b.before }) e refl) below).block
+  where
+    all : (bs : List RawBlock) → IsTrue (list_all (λ b. true) bs)
+    all [] = refl
+    all (b ∷ bs) = all bs
+
+-- a block that ends where the blocks do is the last
+pub block-last : (l : Layout) (at : ℕ) (b : BlockAt l at) → address_behind l l.blocks ≤ at + size_of l.heads b.here → b.behind ≡ []
+block-last l at b behind = from b.behind b.blocks
+  where
+    from : (cs : List RawBlock) → l.blocks ≡ b.before ++ b.here ∷ cs → cs ≡ []
+    from [] e = refl
+    from (c ∷ cs) e = let end = ends l b.before (b.here ∷ c ∷ cs) e in let place = b.place in let size = size_of-pos l.heads c in absurd (omega arith)
+
+-- what all blocks pass, the one at an address does
+pub block-passes : (l : Layout) (at : ℕ) (p : RawBlock → Bool) (b : BlockAt l at) → IsTrue (list_all p l.blocks) → p b.here ≡ true
+block-passes l at p b all = let sum = list_all-append p b.before (b.here ∷ b.behind) in let all' : list_all p (b.before ++ b.here ∷ b.behind) ≡ true = ap (list_all p) (sym b.blocks) ∙ all in grind (arith, nat_tests)
+
+-- all bytes of a free block are its contents
+pub held-free : (bytes : List ℕ) → raw_block Free (length bytes) bytes ≡ free_raw_block bytes
+held-free bytes = λ i. record { role = Free; contents = take-length bytes i; slack = drop-length bytes i }
+
+-- a block that is possible is so if it is free
+pub possible-free : (heads : HeadKind) (b : RawBlock) (n : ℕ) → n ≡ length (body b) → IsTrue (is_possible heads b) → IsTrue (is_possible heads (raw_block Free n (body b)))
+possible-free heads b n long possible =
+    let same : size_of heads (free_raw_block (body b)) ≡ size_of heads b = let sum = length-append b.contents b.slack in omega arith in
+    ap (λ n. is_possible heads (raw_block Free n (body b))) long ∙ ap (is_possible heads) (held-free (body b)) ∙ ap (λ n. (n % 4 == 0) && (nat_le (smallest_block heads) n && true)) same
+    ∙ first_two (size_of heads b % 4 == 0) (nat_le (smallest_block heads) (size_of heads b)) (nat_le (length b.slack) 15 && can_be_told b.role (length b.slack)) possible
+  where
+    first_two : (x y z : Bool) → (x && (y && z)) ≡ true → (x && (y && true)) ≡ true
+    first_two x y z all = grind (arith, nat_tests)
+
+-- the bytes behind a block's header, as the header says them
+pub length-body : (heads : HeadKind) (b : RawBlock) (h : Header) (k : ℕ) → h ≡ header_of heads b → k ≡ head_size heads → h.size - k ≡ length (body b)
+length-body heads b h k said head = let size : h.size ≡ size_of heads b = ap (λ (h : Header). h.size) said in let sum = length-append b.contents b.slack in omega arith

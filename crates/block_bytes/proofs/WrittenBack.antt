@@ -1,0 +1,91 @@
+-- What is left behind a slice of a block's contents.
+use Rattle.std.proofs.Common.{◌≡◌, ℕ, ◌+◌, ◌-◌, ◌<◌, ◌≤◌, Bool, true, false, List, [], ◌∷◌, ◌++◌, length, take, drop, replicate, refl, sym, ap, ◌∙◌, arith, length-take, length-drop, append-nil}
+use Rattle.std.specs.Prelude.{◌==◌, if◌then◌else◌}
+use Rattle.std.proofs.lemmas.List.{length-replicate, nil_from_length}
+use Rattle.std.proofs.lemmas.Bool.Decides.{nat_tests}
+use Rattle.mac_base.specs.declared.block.HeadKind.{HeadKind}
+use Rattle.mac_base.specs.HeadKind.{head_size}
+use Rattle.mac_base.specs.ZoneSizes.{ArePossible}
+use Rattle.mac_base.specs.ZoneState.{overwritten}
+use Rattle.raw_region.specs.Bytes.{written}
+use Rattle.raw_region.proofs.Lists.{written_is}
+use Rattle.block_bytes.specs.declared.header.Header.{Header}
+use Rattle.block_bytes.specs.declared.blocks.Blocks.TheInside.{Inside}
+use Rattle.block_bytes.specs.Layout.{RawBlock, BlockAt, cleared, cleared_from, size_of, total_of, header_of, with_blocks, address_behind}
+use Rattle.block_bytes.specs.Reading.{layout_of, IsLayout}
+use Rattle.block_bytes.specs.WritingBack.{overwritten_at, with_contents_at}
+use Rattle.block_bytes.proofs.Rendered.{written-whole}
+use Rattle.block_bytes.proofs.ReadBlocks.{head_size-positive, IsRead}
+use Rattle.block_bytes.proofs.Changes.{contents-changed}
+
+-- a block with other contents
+abbrev pub with_contents : RawBlock → List ℕ → RawBlock
+with_contents b contents = record b { contents = contents }
+
+-- a write over the front of a list, of no more bytes than it has
+pub written-overwritten : (old ws : List ℕ) → written old 0 (take (length old) ws) ≡ overwritten old ws
+written-overwritten [] [] = refl
+written-overwritten [] (w ∷ ws) = refl
+written-overwritten (x ∷ old) [] = refl
+written-overwritten (x ∷ old) (w ∷ ws) = ap (λ (l : List ℕ). w ∷ l) (written-overwritten old ws)
+
+-- equal numbers test as equal
+at_once : (x y : ℕ) → x ≡ y → (x == y) ≡ true
+at_once x y same = grind (arith, nat_tests)
+
+-- numbers that differ by one above 0 don't
+further : (x y k : ℕ) → 0 < k → y ≡ x + k → (x == y) ≡ false
+further x y k some is = grind (arith, nat_tests)
+
+-- of the blocks, the one at this address is written
+pub overwritten-there : (heads : HeadKind) (at x : ℕ) (bytes : List ℕ) (before : List RawBlock) (here : RawBlock) (behind : List RawBlock) → x ≡ at + total_of heads before
+    → overwritten_at heads at x bytes (before ++ here ∷ behind) ≡ before ++ with_contents here (overwritten here.contents bytes) ∷ behind
+overwritten-there heads at x bytes [] here behind is =
+    ap (λ (t : Bool). if t then with_contents here (overwritten here.contents bytes) ∷ behind else here ∷ overwritten_at heads (at + size_of heads here) x bytes behind) (at_once at x (omega arith))
+overwritten-there heads at x bytes (b ∷ before) here behind is = let positive = head_size-positive heads in
+    ap (λ (t : Bool). if t then with_contents b (overwritten b.contents bytes) ∷ (before ++ here ∷ behind) else b ∷ overwritten_at heads (at + size_of heads b) x bytes (before ++ here ∷ behind))
+    (further at x (size_of heads b + total_of heads before) (omega arith) (omega arith))
+    ∙ ap (λ (bs : List RawBlock). b ∷ bs) (overwritten-there heads (at + size_of heads b) x bytes before here behind (omega arith))
+
+module _ (z : Inside) (whole : IsLayout z) (small : ArePossible z.spec) (at : ℕ) (h : Header) (place n : ℕ) (b : BlockAt (layout_of z) at) (is : h ≡ header_of z.spec.heads b.here)
+    (there : place ≡ at - z.spec.base + head_size z.spec.heads) (long : n ≡ h.size - head_size z.spec.heads - h.correction) where
+  -- how long the contents are
+  n-is : n ≡ length b.here.contents
+  n-is = let size : h.size ≡ size_of z.spec.heads b.here = ap (λ (h : Header). h.size) is in let slack : h.correction ≡ length b.here.slack = ap (λ (h : Header). h.correction) is in omega arith
+
+  -- other contents, of the same length
+  other : (ws : List ℕ) → length ws ≤ n
+      → IsRead (record z { memory = written z.memory place ws }) (with_blocks (b.before ++ with_contents b.here (written b.here.contents 0 ws) ∷ b.behind) (layout_of z))
+  other ws few = let e = n-is in let at_is = b.place in
+      contents-changed z whole small b.before b.here b.behind b.blocks 0 place ws (omega arith) (omega arith)
+
+  -- what a slice of the contents leaves
+  pub lent-read : (ws : List ℕ) → IsRead (record z { memory = written z.memory place (take n ws) }) (with_contents_at (layout_of z) at ws)
+  lent-read ws = let e = n-is in let at_is = b.place in let l = layout_of z in let cut = length-take n ws in
+      let read = other (take n ws) (omega arith) in
+      let same : written b.here.contents 0 (take n ws) ≡ overwritten b.here.contents ws = ap (λ (k : ℕ). written b.here.contents 0 (take k ws)) e ∙ written-overwritten b.here.contents ws in
+      let blocks : b.before ++ with_contents b.here (written b.here.contents 0 (take n ws)) ∷ b.behind ≡ overwritten_at l.heads (address_behind l []) at ws l.blocks =
+      ap (λ (contents : List ℕ). b.before ++ with_contents b.here contents ∷ b.behind) same
+      ∙ sym (ap (overwritten_at l.heads (address_behind l []) at ws) b.blocks ∙ overwritten-there l.heads (address_behind l []) at ws b.before b.here b.behind (omega arith)) in
+      record { view = read.view ∙ ap (λ (bs : List RawBlock). with_blocks bs l) blocks; whole = read.whole }
+
+  -- contents that are zero
+  pub cleared-read : IsRead (record z { memory = written z.memory place (replicate n 0) }) (with_blocks (b.before ++ cleared b.here ∷ b.behind) (layout_of z))
+  cleared-read = let e = n-is in let l = layout_of z in let zeros : length {A = ℕ} (replicate n 0) ≡ n = length-replicate {A = ℕ} n 0 in
+      let read = other (replicate n 0) (omega arith) in
+      let same : written b.here.contents 0 (replicate n 0) ≡ replicate (length b.here.contents) 0 = written-whole b.here.contents (replicate n 0) (omega arith) ∙ ap (λ (k : ℕ). replicate k 0) e in
+      record { view = read.view ∙ ap (λ (contents : List ℕ). with_blocks (b.before ++ with_contents b.here contents ∷ b.behind) l) same; whole = read.whole }
+
+  -- contents that are zero from a place on
+  pub cleared-part : (from : ℕ) → from ≤ n → IsRead (record z { memory = written z.memory (place + from) (replicate (n - from) 0) }) (with_blocks (b.before ++ cleared_from b.here from ∷ b.behind) (layout_of z))
+  cleared-part from within = let e = n-is in let at_is = b.place in let l = layout_of z in let zeros : length {A = ℕ} (replicate (n - from) 0) ≡ n - from = length-replicate {A = ℕ} (n - from) 0 in
+      let read = contents-changed z whole small b.before b.here b.behind b.blocks from (place + from) (replicate (n - from) 0) (omega arith) (omega arith) in
+      let nothing : drop (length (replicate (n - from) 0)) (drop from b.here.contents) ≡ [] = drop_none (drop from b.here.contents) (length {A = ℕ} (replicate (n - from) 0)) (omega (arith, length-drop from b.here.contents)) in
+      let same : written b.here.contents from (replicate (n - from) 0) ≡ take from b.here.contents ++ replicate (length b.here.contents - from) 0 =
+      written_is b.here.contents from (replicate (n - from) 0) (omega arith)
+      ∙ ap (λ (l : List ℕ). take from b.here.contents ++ (replicate (n - from) 0 ++ l)) nothing ∙ ap (λ (l : List ℕ). take from b.here.contents ++ l) (append-nil (replicate (n - from) 0))
+      ∙ ap (λ (k : ℕ). take from b.here.contents ++ replicate (k - from) 0) e in
+      record { view = read.view ∙ ap (λ (contents : List ℕ). with_blocks (b.before ++ with_contents b.here contents ∷ b.behind) l) same; whole = read.whole }
+    where
+      drop_none : (xs : List ℕ) (k : ℕ) → length xs ≤ k → drop k xs ≡ []
+      drop_none xs k all = nil_from_length (drop k xs) (length-drop k xs ∙ omega arith)

@@ -1,0 +1,49 @@
+use Rattle.std.proofs.Common.{◌≡◌, ◌+◌, ◌-◌, ◌≤◌, ◌∷◌, ◌++◌, List, ℕ, length, replicate, ap, sym, subst, arith}
+use Rattle.mac_base.specs.HeadKind.{head_size}
+use Rattle.raw_region.specs.Bytes.{written}
+use Rattle.block_bytes.specs.declared.header.Header.{Header}
+use Rattle.block_bytes.specs.Layout.{Layout, BlockAt, CanClear, header_of, cleared_from, with_blocks}
+use Rattle.block_bytes.proofs.ReadBlocks.{IsRead}
+use Rattle.block_bytes.proofs.Here.{IsHere-from}
+use Rattle.block_bytes.proofs.WrittenBack.{cleared-part}
+use Rattle.block_bytes.proofs.blocks.Blocks.clear_from.Goals as goal
+
+-- how many bytes of contents there are
+long : (c : goal.After-base) (can : CanClear c.args.self.now c.args.at c.args.from)
+    → c.entry_at-header.result.size ≡ head_size c.args.self.now.heads + (length can.block.here.contents + length can.block.here.slack)
+long c can = ap (λ (h : Header). h.size) (c.entry_at-header.ensures can.block)
+
+pub overflow_add-start-2 : goal.overflow_add-start-2
+overflow_add-start-2 c =
+    let h = IsHere-from c.self.inside c.self.invariant c.args.self.now c.self.view_is c.args.at c.entry_at-header.result c.requires.block (c.entry_at-header.ensures c.requires.block) in
+    let e = ap head_size c.heads.ensures in
+    let size = ap (λ (h : Header). h.size) (c.entry_at-header.ensures c.requires.block) in
+    let within = c.requires.within in
+    omega arith
+
+pub clear-requires : goal.clear-requires
+clear-requires c =
+    let h = IsHere-from c.self.inside c.self.invariant c.args.self.now c.self.view_is c.args.at c.entry_at-header.result c.requires.block (c.entry_at-header.ensures c.requires.block) in
+    let e = ap head_size c.heads.ensures in
+    let size = ap (λ (h : Header). h.size) (c.entry_at-header.ensures c.requires.block) in
+    let slack = ap (λ (h : Header). h.correction) (c.entry_at-header.ensures c.requires.block) in
+    let heads = ap (λ (l : Layout). head_size l.heads) c.self.view_is in
+    let within = c.requires.within in
+    omega arith
+
+-- what the fields stand for then
+made_zero : (c : goal.After-clear) (can : CanClear c.args.self.now c.args.at c.args.from)
+    → IsRead (record c.self.inside { memory = c.clear.new.self }) (with_blocks (can.block.before ++ cleared_from can.block.here c.args.from ∷ can.block.behind) c.args.self.now)
+made_zero c can = let z = c.self.inside in let at = c.args.at in let h = c.entry_at-header.result in let k = c.head_size-head_size.result in let from = c.args.from in
+    let e = ap head_size c.heads.ensures in
+    subst (λ (m : List ℕ). IsRead (record z { memory = m }) (with_blocks (can.block.before ++ cleared_from can.block.here from ∷ can.block.behind) c.args.self.now)) (sym c.clear.ensures)
+    (subst (λ (l : Layout). (b : BlockAt l at) → from ≤ length b.here.contents → h ≡ header_of l.heads b.here
+    → IsRead (record z { memory = written z.memory (at - c.base.result + k + from) (replicate (h.size - k - h.correction - from) 0) }) (with_blocks (b.before ++ cleared_from b.here from ∷ b.behind) l)) c.self.view_is
+    (λ b within is. let size = ap (λ (h : Header). h.size) is in let slack = ap (λ (h : Header). h.correction) is in
+    cleared-part z c.self.invariant c.base.ensures.possible at h (at - c.base.result + k) (h.size - k - h.correction) b is (omega arith) (omega arith) from (omega arith)) can.block can.within (c.entry_at-header.ensures can.block))
+
+pub invariant_of-self : goal.invariant_of-self
+invariant_of-self c = (made_zero c c.requires).whole
+
+pub returns : goal.returns
+returns c = λ can. (made_zero c can).view

@@ -1,0 +1,21 @@
+use Rattle.std.proofs.Common.{◌≡◌, ◌+◌, ◌-◌, length, ap, ◌∙◌, subst, arith}
+use Rattle.mac_base.specs.HeadKind.{head_size}
+use Rattle.block_bytes.specs.declared.header.Header.{Header}
+use Rattle.block_bytes.specs.Layout.{Layout, BlockAt, header_of, size_of}
+use Rattle.block_bytes.proofs.Here.{IsHere-from}
+use Rattle.block_bytes.proofs.ReadParts.{contents-read}
+use Rattle.block_bytes.proofs.blocks.Blocks.contents.Goals as goal
+
+pub bytes-requires : goal.bytes-requires
+bytes-requires c =
+    let h = IsHere-from c.self.inside c.self.invariant c.args.self.now c.self.view_is c.args.at c.entry_at-header.result c.requires (c.entry_at-header.ensures c.requires) in
+    let e = ap head_size c.heads.ensures in omega arith
+
+pub returns : goal.returns
+returns c = λ b. let at = c.args.at in let h = c.entry_at-header.result in
+    subst (λ (l : Layout). (b : BlockAt l at) → h ≡ header_of l.heads b.here → c.bytes.result.now ≡ b.here.contents) c.self.view_is (λ b is.
+    let size : h.size ≡ size_of c.self.inside.spec.heads b.here = ap (λ (h : Header). h.size) is in let slack : h.correction ≡ length b.here.slack = ap (λ (h : Header). h.correction) is in
+    let e = ap head_size c.heads.ensures in let place = b.place in
+    c.bytes.ensures
+    ∙ contents-read c.self.inside c.self.invariant b.before b.here b.behind b.blocks (c.args.at - c.base.result + c.head_size-head_size.result)
+    (h.size - c.head_size-head_size.result - h.correction) (omega arith) (omega arith)) b (c.entry_at-header.ensures b)

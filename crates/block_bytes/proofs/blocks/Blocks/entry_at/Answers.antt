@@ -1,0 +1,18 @@
+use Rattle.std.proofs.Common.{◌≡◌, ◌-◌, sym, ap, ◌∙◌, subst, arith, drop}
+use Rattle.mac_base.specs.declared.block.HeadKind.{HeadKind}
+use Rattle.mac_base.specs.HeadKind.{head_size}
+use Rattle.block_bytes.specs.Head.{header_in}
+use Rattle.block_bytes.specs.Layout.{Layout, BlockAt, header_of}
+use Rattle.block_bytes.proofs.Parts.{IsIn-from}
+use Rattle.block_bytes.proofs.ReadParts.{header-read}
+use Rattle.block_bytes.proofs.blocks.Blocks.entry_at.Goals as goal
+
+pub header-requires : goal.header-requires
+header-requires c =
+    let b = subst (λ (l : Layout). BlockAt l c.args.at) (sym c.self.view_is) c.requires in
+    let i = IsIn-from c.self.inside c.self.invariant b.before b.here b.behind b.blocks in let e = ap head_size c.heads.ensures in omega arith
+
+pub returns : goal.returns
+returns c = subst (λ (l : Layout). (b : BlockAt l c.args.at) → c.header.result ≡ header_of l.heads b.here) c.self.view_is (λ b.
+    c.header.ensures ∙ ap (λ (heads : HeadKind). header_in heads (drop (c.args.at - c.base.result) c.self.inside.memory)) c.heads.ensures
+    ∙ header-read c.self.inside c.self.invariant b.before b.here b.behind b.blocks c.base.ensures.possible (c.args.at - c.base.result) (omega arith))

@@ -1,0 +1,58 @@
+use Rattle.std.proofs.Common.{◌≡◌, ◌+◌, ◌-◌, ◌++◌, length, map, take, sym, ap, ◌∙◌, subst, arith, append_assoc, length-append, take_at}
+use Rattle.mac_base.specs.HeadKind.{zone_header}
+use Rattle.raw_region.specs.Bytes.{part}
+use Rattle.block_bytes.specs.Layout.{Layout, rendered, zone_bytes, size_of, address_behind}
+use Rattle.block_bytes.specs.Reading.{layout_of}
+use Rattle.block_bytes.specs.Walk.{Walks}
+use Rattle.block_bytes.proofs.Parts.{total-ends, length-header}
+use Rattle.block_bytes.proofs.Rendered.{length-rendered}
+use Rattle.block_bytes.proofs.Walks.{follows-rendered}
+use Rattle.block_bytes.proofs.blocks.Blocks.image.Goals as goal
+
+-- how many bytes there are
+size_is : (c : goal.After-base) → c.end.result - c.base.result ≡ c.self.inside.spec.size
+size_is c =
+    let ends = c.self.invariant.ends in
+    let base = c.base.ensures.value in
+    let end : c.end.result ≡ address_behind (layout_of c.self.inside) (layout_of c.self.inside).blocks = c.end.ensures ∙ ap (λ (l : Layout). address_behind l l.blocks) (sym c.self.view_is) in
+    omega arith
+
+pub bytes-requires : goal.bytes-requires
+bytes-requires c =
+    let size = size_is c in
+    let high = c.self.invariant.high in
+    let all = c.self.invariant.all_bytes in
+    omega arith
+
+-- the bytes up to the end
+bytes_are : (c : goal.After-bytes) → c.bytes.result.now ≡ zone_bytes (layout_of c.self.inside)
+bytes_are c =
+    let l = layout_of c.self.inside in
+    let front = l.header ++ rendered l.heads l.base l.blocks in
+    let ends = c.self.invariant.ends in
+    let base = c.base.ensures.value in
+    let end : c.end.result ≡ address_behind l l.blocks = c.end.ensures ∙ ap (λ (l : Layout). address_behind l l.blocks) (sym c.self.view_is) in
+    let long : length front ≡ c.self.inside.spec.size =
+    length-append l.header (rendered l.heads l.base l.blocks) ∙ ap (λ n. n + length (rendered l.heads l.base l.blocks)) (length-header c.self.inside c.self.invariant)
+    ∙ ap (λ n. zone_header + n) (length-rendered l.heads l.base l.blocks) ∙ total-ends c.self.inside c.self.invariant in
+    c.bytes.ensures ∙ ap (part c.self.inside.memory 0) (let e : c.end.result - c.base.result ≡ c.self.inside.spec.size = omega arith in e)
+    ∙ ap (take c.self.inside.spec.size) (c.self.invariant.form ∙ sym (append_assoc l.header (rendered l.heads l.base l.blocks) l.spare)) ∙ take_at front l.spare c.self.inside.spec.size long
+
+pub returns-clause-bytes : goal.returns-clause-bytes
+returns-clause-bytes c = bytes_are c ∙ ap zone_bytes c.self.view_is
+
+-- they walk
+walk : (c : goal.After-bytes) → Walks (layout_of c.self.inside).heads c.bytes.result.now
+walk c =
+    let l = layout_of c.self.inside in
+    let header = length-header c.self.inside c.self.invariant in
+    let total = total-ends c.self.inside c.self.invariant in
+    let high = c.self.invariant.high in
+    let possible = c.base.ensures.possible in
+    subst (Walks l.heads) (sym (bytes_are c)) (record {
+      sizes = map (size_of l.heads) l.blocks;
+      follows = follows-rendered l.heads l.base l.header l.blocks zone_header (sym header) (omega arith) (omega arith) c.self.invariant.possible;
+    })
+
+pub returns-clause-walks : goal.returns-clause-walks
+returns-clause-walks c = subst (λ (l : Layout). Walks l.heads c.bytes.result.now) c.self.view_is (walk c)

@@ -1,0 +1,39 @@
+-- What a walk over the blocks finds.
+use Rattle.std.specs.Prelude.{◌≡◌, ℕ, ◌+◌, ◌<◌, ◌≤◌, ◌⊎◌, Bool, true, false, not, ◌&&◌, nat_le, IsTrue, []}
+use Rattle.std.specs.List.{list_all}
+use Rattle.mac_base.specs.declared.block.HeadKind.{HeadKind}
+use Rattle.block_bytes.specs.declared.header.Role.{Role}
+use Rattle.block_bytes.specs.declared.header.Role.TheVariants.{Free, Fixed, Master, Relocatable}
+use Rattle.block_bytes.specs.Layout.{RawBlock, Layout, BlockAt, size_of, address_behind}
+
+-- the block at `start` has the byte at an address, in its header or behind it
+pub record HoldsByte (l : Layout) (at start : ℕ) : Type 0 where
+  pub block : BlockAt l start
+  pub low : start ≤ at
+  pub high : at < start + size_of l.heads block.here
+
+-- the byte at an address lies before all blocks, or behind them
+abbrev pub LiesOutside : Layout → ℕ → Type 0
+LiesOutside l at = (at < address_behind l []) ⊎ (address_behind l l.blocks ≤ at)
+
+-- whether a block is free
+abbrev pub is_free : Role → Bool
+is_free Free = true
+is_free Fixed = false
+is_free Master = false
+is_free (Relocatable slot) = false
+
+-- whether a block is free and has so many bytes, its header among them
+abbrev pub has_room : HeadKind → ℕ → RawBlock → Bool
+has_room heads k b = is_free b.role && nat_le k (size_of heads b)
+
+-- the block at an address is the lowest free one with so many bytes
+pub record LowestFree (l : Layout) (k at : ℕ) : Type 0 where
+  pub block : BlockAt l at
+  pub free : block.here.role ≡ Free
+  pub large : k ≤ size_of l.heads block.here
+  pub lowest : IsTrue (list_all (λ b. not (has_room l.heads k b)) block.before)
+
+-- no free block has so many bytes
+abbrev pub NoneFree : Layout → ℕ → Type 0
+NoneFree l k = IsTrue (list_all (λ b. not (has_room l.heads k b)) l.blocks)

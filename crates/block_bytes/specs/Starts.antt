@@ -1,0 +1,24 @@
+-- What the index holds: a number for each four bytes of a zone, which says what block begins with them, or that none does.
+use Rattle.std.specs.Prelude.{ℕ, ◌-◌, ◌/◌, if◌then◌else◌, List, [], ◌∷◌, ◌++◌, length, replicate}
+use Rattle.mac_base.specs.declared.block.HeadKind.{HeadKind}
+use Rattle.mac_base.specs.HeadKind.{zone_header}
+use Rattle.block_bytes.specs.declared.header.Header.{Header}
+use Rattle.block_bytes.specs.Layout.{RawBlock, Layout, size_of, header_of}
+use Rattle.block_bytes.specs.Finding.{is_free}
+
+-- the number of a block with this header: its size if it is free, or else 1
+abbrev pub mark_in : Header → ℕ
+mark_in h = if is_free h.role then h.size else 1
+
+-- the number of a block
+abbrev pub mark_of : HeadKind → RawBlock → ℕ
+mark_of heads b = mark_in (header_of heads b)
+
+-- the numbers of blocks, one behind the other: 0 where none begins
+abbrev pub marks_of : HeadKind → List RawBlock → List ℕ
+marks_of heads [] = []
+marks_of heads (b ∷ bs) = mark_of heads b ∷ (replicate (size_of heads b / 4 - 1) 0 ++ marks_of heads bs)
+
+-- those of a zone, with 0 in its header and behind its last block
+abbrev pub starts_of : Layout → List ℕ
+starts_of l = replicate (zone_header / 4) 0 ++ (marks_of l.heads l.blocks ++ replicate (length l.spare / 4) 0)

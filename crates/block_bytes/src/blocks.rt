@@ -1,0 +1,346 @@
+//! The list of a zone's blocks.
+
+ghost use Rattle.std.specs.Prelude.{◌≡◌, ◌+◌, ◌-◌, ◌<◌, ◌≤◌, ◌^◌, ◌++◌, ◌∷◌, [], length, replicate, IfOk, IfSome, IfNone, IsTrue, IsFalse};
+ghost use Rattle.std.specs.Borrow.{sem};
+ghost use Rattle.std.specs.List.{list_all};
+ghost use Rattle.byteorder.specs.Endian.{big_bytes, big_number};
+ghost use Rattle.mac_base.specs.HeadKind.{zone_header, head_size};
+ghost use Rattle.raw_region.specs.Bytes.{part, written};
+ghost use Rattle.block_bytes.specs.declared.header.Role.TheVariants.{Free};
+
+use crate::header::{Header, Role};
+use crate::memory::Memory;
+use mac_base::error::HostFull;
+use mac_base::size::ZONE_HEADER;
+use mac_base::zone_spec::ZoneSpec;
+use place_numbers::Numbers;
+use std::alloc::Global;
+use std::marker::Model;
+
+/// The blocks of a zone in one run of bytes, from the zone's start to its limit. A contract sees the list of the
+/// blocks, each with all bytes behind its header, beside the bytes of the zone's header and those up to the limit.
+/// That an address is that of a block is up to the caller. After `create` no call takes memory of the host.
+#[derive(Drop)]
+pub struct Blocks {
+    spec: ZoneSpec,
+    memory: Memory,
+    /// For each four bytes of the zone a number: where a block begins with them its size if it is free, and else 1; or 0.
+    index: Numbers,
+}
+
+impl Model for Blocks {
+    ghost use Rattle.block_bytes.specs.Layout.{Layout};
+
+    ghost Value = { Layout };
+
+    ghost use Rattle.block_bytes.specs.Reading.{layout_of, IsLayout};
+
+    ghost view = { layout_of };
+
+    ghost invariant = { IsLayout };
+}
+
+impl Blocks {
+    ghost use Rattle.std.specs.Prelude.{◌≡◌, ◌+◌, ◌-◌, ◌<◌, ◌≤◌, ◌^◌, ◌++◌, ◌∷◌, ◌↔◌, [], length, take, drop, replicate, IfOk, IfSome, IfNone, IsTrue, IsFalse};
+    ghost use Rattle.std.specs.Borrow.{sem};
+    ghost use Rattle.std.specs.List.{list_all};
+    ghost use Rattle.byteorder.specs.Endian.{big_bytes, big_number};
+    ghost use Rattle.mac_base.specs.HeadKind.{zone_header, head_size};
+    ghost use Rattle.mac_base.specs.ZoneSizes.{shape_of};
+    ghost use Rattle.raw_region.specs.Bytes.{part, written};
+    ghost use Rattle.block_bytes.specs.declared.header.Role.TheVariants.{Free};
+    ghost use Rattle.block_bytes.specs.Layout.{RawBlock, Layout, BlockAt, WordAt, CanBe, CanResize, CanSplit, CanMerge, front_of, rest_of, with_word, cleared, cleared_from, CanClear, body, raw_block, free_raw_block, size_of, header_of, is_possible, joint_body, zone_bytes, with_blocks, with_header, address_behind};
+    ghost use Rattle.block_bytes.specs.Finding.{HoldsByte, LiesOutside, LowestFree, NoneFree};
+    ghost use Rattle.block_bytes.specs.WritingBack.{WritesBackContents};
+    ghost use Rattle.block_bytes.specs.NewLayout.{new_layout};
+    ghost use Rattle.block_bytes.specs.Walk.{Walks};
+
+    /// A new zone: one free block, and all bytes but those of its header are zero.
+    pub fn create(alloc: Global, spec: ZoneSpec) -> Result<Blocks, HostFull>
+        ensures { IfOk result (λ blocks. blocks ≡ new_layout spec) }
+    {
+        let heads = spec.heads();
+        let mut memory = Memory::create(alloc, spec.limit() as usize)?;
+        let mut index = Numbers::create(alloc, spec.limit() as usize / 4)?;
+        let free = Header {
+            size: spec.size() - ZONE_HEADER,
+            role: Role::Free,
+            correction: 0,
+        };
+        memory.set_header(heads, ZONE_HEADER as usize, spec.base(), free);
+        index.set(ZONE_HEADER as usize / 4, free.size);
+        Ok(Blocks {
+            spec,
+            memory,
+            index,
+        })
+    }
+
+    /// Where the zone lies, how large it is and how far it may grow. Its blocks are possible ones.
+    pub fn spec(&self) -> ZoneSpec
+        ensures heads { result.heads ≡ self.now.heads }
+        ensures base { result.base ≡ self.now.base }
+        ensures size { result.base + result.size ≡ address_behind self.now self.now.blocks }
+        ensures limit { result.base + result.limit ≡ address_behind self.now self.now.blocks + length self.now.spare }
+        ensures header { length self.now.header ≡ zone_header }
+        ensures possible { IsTrue (list_all (is_possible self.now.heads) self.now.blocks) }
+    {
+        self.spec
+    }
+
+    /// The address behind the last block.
+    pub fn end(&self) -> u32
+        ensures { result ≡ address_behind self.now self.now.blocks }
+    {
+        self.spec.base() + self.spec.size()
+    }
+
+    /// The number in 4 bytes of the zone's header.
+    pub fn field(&self, at: usize) -> u32
+        requires { at + 4 ≤ zone_header }
+        ensures { result ≡ big_number 4 (part self.now.header at 4) }
+    {
+        self.memory.word(at)
+    }
+
+    /// Writes a number as 4 bytes of the zone's header.
+    pub fn set_field(&mut self, at: usize, number: u32)
+        requires { at + 4 ≤ zone_header }
+        ensures { self.new ≡ with_header (written self.old.header at (big_bytes 4 number)) self.old }
+    {
+        self.memory.set_word(at, number);
+    }
+
+    /// Writes a number as 2 bytes of the zone's header.
+    pub fn set_half_field(&mut self, at: usize, number: u16)
+        requires { at + 2 ≤ zone_header }
+        ensures { self.new ≡ with_header (written self.old.header at (big_bytes 2 number)) self.old }
+    {
+        self.memory.set_half(at, number);
+    }
+
+    /// Whether a block's header stands at an address.
+    pub fn is_block(&self, at: u32) -> bool
+        ensures { IsTrue result ↔ BlockAt self.now at }
+    {
+        let base = self.spec.base();
+        if at < base {
+            return false;
+        }
+        let offset = at - base;
+        offset < self.spec.size() && offset % 4 == 0 && self.index.get(offset as usize / 4) != 0
+    }
+
+    /// What the header of the block at an address says.
+    pub fn entry_at(&self, at: u32) -> Header
+        requires { BlockAt self.now at }
+        ensures { (b : BlockAt self.now at) → result ≡ header_of self.now.heads b.here }
+    {
+        self.memory
+            .header(self.spec.heads(), (at - self.spec.base()) as usize)
+    }
+
+    /// The address of the block behind the one at an address, if there is one.
+    pub fn walk(&self, at: u32) -> Option<u32>
+        requires { BlockAt self.now at }
+        ensures next { IfSome result (λ next. BlockAt self.now next × ((b : BlockAt self.now at) → next ≡ at + size_of self.now.heads b.here)) }
+        ensures last { IfNone result ((b : BlockAt self.now at) → b.behind ≡ []) }
+    {
+        let end = self.end();
+        let next = at + self.entry_at(at).size;
+        (next < end).then_some(next)
+    }
+
+    /// The address of the block that a byte of the zone is part of, its header's bytes among them. There is none where
+    /// the byte lies before the first block or behind the last. No header is read: the index tells the last place up to
+    /// the byte at which a block begins.
+    pub fn holder(&self, at: u32) -> Option<u32>
+        ensures holds { IfSome result (λ start. HoldsByte self.now at start) }
+        ensures outside { IfNone result (LiesOutside self.now at) }
+    {
+        let first = self.spec.base() + ZONE_HEADER;
+        if at < first || self.end() <= at {
+            return None;
+        }
+        let offset = at - self.spec.base();
+        let place = self.index.last_at_least(1, offset as usize / 4 + 1)?;
+        Some(self.spec.base() + 4 * place as u32)
+    }
+
+    /// The address of the lowest free block of at least so many bytes, its header among them. No header is read: the
+    /// index tells the first place whose number is as large, and no free block has a size below 2.
+    pub fn lowest_free(&self, needed: u32) -> Option<u32>
+        ensures lowest { IfSome result (λ at. LowestFree self.now needed at) }
+        ensures none { IfNone result (NoneFree self.now needed) }
+    {
+        let place = self.index.first_at_least(needed.max(2), 0)?;
+        Some(self.spec.base() + 4 * place as u32)
+    }
+
+    /// Makes the block at an address one for this, with so many bytes of contents. All bytes behind its header stay.
+    pub fn assign(&mut self, at: u32, role: Role, length: u32)
+        requires { CanBe self.old at role length }
+        ensures { (can : CanBe self.old at role length)
+            → self.new ≡ with_blocks (can.block.before ++ raw_block role length (body can.block.here) ∷ can.block.behind) self.old }
+    {
+        let size = self.entry_at(at).size;
+        let heads = self.spec.heads();
+        let base = self.spec.base();
+        let header = Header {
+            size,
+            role,
+            correction: size - heads.head_size() - length,
+        };
+        let offset = at - base;
+        self.memory.set_header(heads, offset as usize, base, header);
+        self.index.set(offset as usize / 4, header.mark());
+    }
+
+    /// Makes the block at an address free. All bytes behind its header stay.
+    pub fn set_free(&mut self, at: u32)
+        requires { BlockAt self.old at }
+        ensures { (b : BlockAt self.old at) → self.new ≡ with_blocks (b.before ++ free_raw_block (body b.here) ∷ b.behind) self.old }
+    {
+        let length = self.entry_at(at).size - self.spec.heads().head_size();
+        self.assign(at, Role::Free, length);
+    }
+
+    /// Gives the block at an address so many bytes of contents, where its size allows it. All bytes behind its header
+    /// stay.
+    pub fn resize(&mut self, at: u32, length: u32)
+        requires { CanResize self.old at length }
+        ensures { (can : CanResize self.old at length)
+            → self.new ≡ with_blocks (can.block.before ++ raw_block can.block.here.role length (body can.block.here) ∷ can.block.behind) self.old }
+    {
+        let role = self.entry_at(at).role;
+        self.assign(at, role, length);
+    }
+
+    /// Cuts the block at an address: its first `size` bytes are a block for the same, with so many bytes of contents,
+    /// and the others a free one. No byte changes but those of the two headers.
+    pub fn split(&mut self, at: u32, size: u32, length: u32)
+        requires { CanSplit self.old at size length }
+        ensures { (can : CanSplit self.old at size length) → self.new ≡ with_blocks (can.block.before ++ front_of self.old can ∷ rest_of self.old can ∷ can.block.behind) self.old }
+    {
+        let whole = self.entry_at(at);
+        let heads = self.spec.heads();
+        let base = self.spec.base();
+        let front = Header {
+            size,
+            role: whole.role,
+            correction: size - heads.head_size() - length,
+        };
+        let rest = Header {
+            size: whole.size - size,
+            role: Role::Free,
+            correction: 0,
+        };
+        let offset = (at - base) as usize;
+        let second = offset + size as usize;
+        self.memory.set_header(heads, offset, base, front);
+        self.memory.set_header(heads, second, base, rest);
+        self.index.set(offset / 4, front.mark());
+        self.index.set(second / 4, rest.size);
+    }
+
+    /// Makes the block at an address and the one behind it one block, for what the first is for, with so many bytes of
+    /// contents. No byte changes but those of the first header.
+    pub fn merge(&mut self, at: u32, length: u32)
+        requires { CanMerge self.old at length }
+        ensures { (can : CanMerge self.old at length)
+            → self.new ≡ with_blocks (can.before ++ raw_block can.here.role length (joint_body self.old can.here can.next) ∷ can.behind) self.old }
+    {
+        let heads = self.spec.heads();
+        let base = self.spec.base();
+        let first = self.entry_at(at);
+        let next = at + first.size;
+        let second = self.entry_at(next);
+        let size = first.size + second.size;
+        let header = Header {
+            size,
+            role: first.role,
+            correction: size - heads.head_size() - length,
+        };
+        let offset = (at - base) as usize;
+        self.memory.set_header(heads, offset, base, header);
+        self.index.set(offset / 4, header.mark());
+        self.index.set((next - base) as usize / 4, 0);
+    }
+
+    /// The number in 4 bytes of a block's contents.
+    pub fn word(&self, at: u32) -> u32
+        requires { WordAt self.now at }
+        ensures { (w : WordAt self.now at) → result ≡ big_number 4 (part w.here.contents w.offset 4) }
+    {
+        self.memory.word((at - self.spec.base()) as usize)
+    }
+
+    /// Writes a number as 4 bytes of a block's contents.
+    pub fn set_word(&mut self, at: u32, number: u32)
+        requires { WordAt self.old at }
+        ensures { (w : WordAt self.old at) → self.new ≡ with_blocks (w.before ++ with_word w.here w.offset number ∷ w.behind) self.old }
+    {
+        let base = self.spec.base();
+        self.memory.set_word((at - base) as usize, number);
+    }
+
+    /// The contents of the block at an address.
+    pub fn contents(&self, at: u32) -> &[u8]
+        requires { BlockAt self.now at }
+        ensures { (b : BlockAt self.now at) → result.now ≡ b.here.contents }
+    {
+        let header = self.entry_at(at);
+        let head_size = self.spec.heads().head_size();
+        let start = (at - self.spec.base() + head_size) as usize;
+        let length = header.size - head_size - header.correction;
+        self.memory.bytes(start, length as usize)
+    }
+
+    /// The contents of the block at an address, to be written.
+    pub fn contents_mut(&mut self, at: u32) -> &mut [u8]
+        requires block { BlockAt self.old at }
+        ensures* writes_back { sem 𝓛 (WritesBackContents self.entry at result) }
+        ensures value { (b : BlockAt self.old at) → result.now ≡ b.here.contents }
+    {
+        let header = self.entry_at(at);
+        let head_size = self.spec.heads().head_size();
+        let start = (at - self.spec.base() + head_size) as usize;
+        let length = header.size - head_size - header.correction;
+        self.memory.bytes_mut(start, length as usize)
+    }
+
+    /// Makes the contents of the block at an address zero.
+    pub fn clear(&mut self, at: u32)
+        requires { BlockAt self.old at }
+        ensures { (b : BlockAt self.old at) → self.new ≡ with_blocks (b.before ++ cleared b.here ∷ b.behind) self.old }
+    {
+        let header = self.entry_at(at);
+        let head_size = self.spec.heads().head_size();
+        let start = (at - self.spec.base() + head_size) as usize;
+        let length = header.size - head_size - header.correction;
+        self.memory.clear(start, length as usize);
+    }
+
+    /// Makes the contents of the block at an address zero from a place among them on.
+    pub fn clear_from(&mut self, at: u32, from: u32)
+        requires { CanClear self.old at from }
+        ensures { (can : CanClear self.old at from)
+            → self.new ≡ with_blocks (can.block.before ++ cleared_from can.block.here from ∷ can.block.behind) self.old }
+    {
+        let header = self.entry_at(at);
+        let head_size = self.spec.heads().head_size();
+        let start = at - self.spec.base() + head_size + from;
+        let length = header.size - head_size - header.correction - from;
+        self.memory.clear(start as usize, length as usize);
+    }
+
+    /// The bytes of the zone, from its start to the end of its last block. Its blocks are possible ones.
+    pub fn image(&self) -> &[u8]
+        ensures bytes { result.now ≡ zone_bytes self.now }
+        ensures blocks { IsTrue (list_all (is_possible self.now.heads) self.now.blocks) }
+        ensures walks { Walks self.now.heads result.now }
+    {
+        let size = self.end() - self.spec.base();
+        self.memory.bytes(0, size as usize)
+    }
+}

@@ -1,0 +1,6 @@
+//! A zone in which handles, pointers and blocks find each other, and free slots follow one another.
+#![tactic(auto)]
+
+mod zone;
+
+pub use zone::LinkedZone;
