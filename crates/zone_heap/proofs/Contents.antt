@@ -10,7 +10,7 @@ use Rattle.mac_base.specs.ZoneState.{ZoneState}
 use Rattle.zone_laws.proofs.Maps.{total_size-append}
 use Rattle.zone_laws.proofs.ResizedBlocks.{contents_of-At}
 use Rattle.zone_laws.proofs.Tables.{eqb_same}
-use Rattle.master_ptrs.specs.Places.{BlockOf}
+use Rattle.linked_zone.specs.Places.{BlockOf}
 use Rattle.zone_heap.proofs.Joining.{large-behind}
 use Rattle.zone_heap.proofs.Places.{all_large, large-sizes, large-first}
 use Rattle.zone_heap.proofs.Releasing.{named_alone}

@@ -7,8 +7,8 @@ use Rattle.mac_base.specs.HeadKind.{smallest_block}
 use Rattle.mac_base.specs.ZoneMap.{block}
 use Rattle.mac_base.specs.ZoneState.{ZoneState}
 use Rattle.zone_laws.proofs.Taken.{head-below_smallest}
-use Rattle.master_ptrs.specs.Changes.{with_map, cut_in_two}
-use Rattle.master_ptrs.specs.Places.{EntryAt, CanCut}
+use Rattle.linked_zone.specs.Changes.{with_map, cut_in_two}
+use Rattle.linked_zone.specs.Places.{EntryAt, CanCut}
 use Rattle.zone_heap.specs.Joins.{CanTake, with_front}
 
 -- the block that can be taken

@@ -19,7 +19,7 @@ use Rattle.zone_laws.proofs.ReleasedBlocks.{marked-none}
 use Rattle.zone_laws.proofs.SoundReleased.{sound-disposed}
 use Rattle.zone_laws.proofs.SuitsNamed.{length-sizes_of}
 use Rattle.zone_laws.proofs.Tables.{live_at-with_live, in_order-with_live, eqb-true-is}
-use Rattle.master_ptrs.specs.Changes.{given_back}
+use Rattle.linked_zone.specs.Changes.{given_back}
 use Rattle.zone_heap.proofs.Twice.{without-with_live}
 
 -- numbers that tie are one

@@ -14,8 +14,8 @@ use Rattle.mac_base.specs.Suits.{is_block_size}
 use Rattle.mac_base.specs.ZoneState.{ZoneState}
 use Rattle.zone_laws.proofs.Maps.{total_size-append}
 use Rattle.zone_laws.proofs.ResizedBlocks.{free_in_front-is}
-use Rattle.master_ptrs.specs.Changes.{enlarged}
-use Rattle.master_ptrs.specs.Places.{EntryAt, CanGrow}
+use Rattle.linked_zone.specs.Changes.{enlarged}
+use Rattle.linked_zone.specs.Places.{EntryAt, CanGrow}
 use Rattle.zone_heap.specs.Placed.{resized_there}
 use Rattle.zone_heap.proofs.Places.{total_size-behind, large-size}
 use Rattle.zone_heap.proofs.Sizing.{Standing, resized_zone, resized-there, not-resized, can-front, free-rest, here-size}

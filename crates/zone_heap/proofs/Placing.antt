@@ -17,9 +17,9 @@ use Rattle.zone_laws.proofs.Taken.{need-is_size}
 use Rattle.zone_laws.proofs.SoundPlaced.{sound-placed}
 use Rattle.zone_laws.proofs.SoundWritten.{sound-new_empty}
 use Rattle.zone_laws.proofs.Tables.{live_at-with_live_same}
-use Rattle.master_ptrs.specs.Changes.{with_map, pointed}
-use Rattle.master_ptrs.specs.Changes as change
-use Rattle.master_ptrs.specs.Places.{LowestAt, RoomFor}
+use Rattle.linked_zone.specs.Changes.{with_map, pointed}
+use Rattle.linked_zone.specs.Changes as change
+use Rattle.linked_zone.specs.Places.{LowestAt, RoomFor}
 use Rattle.zone_heap.specs.Joins.{CanTake, with_front}
 use Rattle.zone_heap.specs.Placed.{placed_lowest}
 use Rattle.zone_heap.proofs.Taking.{front_size, front_rest, taken-parts, front-has_length, take_lowest-there, take_lowest-none, all-there}

@@ -16,8 +16,8 @@ use Rattle.mac_base.specs.ZoneState.{ZoneState}
 use Rattle.zone_laws.proofs.Maps.{both_true, true_not}
 use Rattle.zone_laws.proofs.Taken.{need-is_size}
 use Rattle.zone_laws.proofs.SoundPointer.{sound-placed_pointer}
-use Rattle.master_ptrs.specs.Changes.{with_map, fixed}
-use Rattle.master_ptrs.specs.Places.{LowestAt, RoomFor}
+use Rattle.linked_zone.specs.Changes.{with_map, fixed}
+use Rattle.linked_zone.specs.Places.{LowestAt, RoomFor}
 use Rattle.zone_heap.specs.Joins.{CanTake, with_front}
 use Rattle.zone_heap.specs.Placed.{placed_pointer}
 use Rattle.zone_heap.proofs.Taking.{front_size, front_rest, taken-parts, front-has_length, has_free-free, take_lowest-there, take_lowest-none, all-there}

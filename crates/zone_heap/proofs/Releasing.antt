@@ -15,8 +15,8 @@ use Rattle.zone_laws.proofs.ReleasedBlocks.{marked, marked-append, marked-none}
 use Rattle.zone_laws.proofs.SuitsNamed.{named_once}
 use Rattle.zone_laws.proofs.Tables.{eqb_same}
 use Rattle.zone_laws.proofs.Taken.{free_apart-behind, free_apart-replaced}
-use Rattle.master_ptrs.specs.Changes.{freed}
-use Rattle.master_ptrs.specs.Places.{BlockOf, NamedAt}
+use Rattle.linked_zone.specs.Changes.{freed}
+use Rattle.linked_zone.specs.Places.{BlockOf, NamedAt}
 use Rattle.zone_heap.specs.Joins.{NewlyFree}
 
 -- a block that x names is the one block that it names

@@ -16,8 +16,8 @@ use Rattle.zone_laws.proofs.Joined.{joined-apart, free_apart-joined, starts_free
 use Rattle.zone_laws.proofs.JoinedBlocks.{joined-front}
 use Rattle.zone_laws.proofs.Maps.{both_true, true_both, list_all-middle}
 use Rattle.zone_laws.proofs.Taken.{need-is_size, free_apart-behind, free_apart-replaced, starts_free-taken, sizes-taken, head-below_smallest}
-use Rattle.master_ptrs.specs.Changes.{held_there}
-use Rattle.master_ptrs.specs.Places.{CanHold}
+use Rattle.linked_zone.specs.Changes.{held_there}
+use Rattle.linked_zone.specs.Places.{CanHold}
 use Rattle.zone_heap.specs.Joins.{NewlyFree, all_joined}
 use Rattle.zone_heap.specs.Placed.{resized_there}
 use Rattle.zone_heap.proofs.Places.{total_size-behind}

@@ -22,7 +22,7 @@ use Rattle.zone_laws.proofs.PlacedParts.{option_map-Some}
 use Rattle.zone_laws.proofs.SoundResized.{sound-resized}
 use Rattle.zone_laws.proofs.SuitsNamed.{named_once}
 use Rattle.zone_laws.proofs.Taken.{need-is_size, head-below_smallest}
-use Rattle.master_ptrs.specs.Places.{EntryAt, NamedAt, CanFront}
+use Rattle.linked_zone.specs.Places.{EntryAt, NamedAt, CanFront}
 use Rattle.zone_heap.specs.Placed.{resized_there}
 use Rattle.zone_heap.proofs.Cutting.{rest_size}
 use Rattle.zone_heap.proofs.Taking.{front_size, front_rest, front-has_length, all-there}

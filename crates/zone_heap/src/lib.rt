@@ -4,7 +4,5 @@
 mod zone;
 
 pub use zone::{NoRoom, Zone};
-pub use zone_blocks::check;
 
-#[cfg(test)]
-mod tests;
+

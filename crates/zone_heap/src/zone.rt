@@ -3,9 +3,9 @@
 use mac_base::block::{Block, Flags, Status};
 use mac_base::error::HostFull;
 use mac_base::handle::{Handle, Ptr};
-use mac_base::size::{MASTER_LENGTH, ZONE_HEADER, need};
+use mac_base::size::{MASTER_LENGTH, ZONE_HEADER, need_for};
 use mac_base::zone_spec::{ADDRESS_END, LARGEST_LIMIT, ZoneSpec};
-use master_ptrs::MasterPointers;
+use linked_zone::LinkedZone;
 use std::alloc::Global;
 use std::marker::Model;
 use thiserror::Error;
@@ -19,7 +19,7 @@ pub struct NoRoom;
 /// All host memory is taken by `create`.
 #[derive(Drop)]
 pub struct Zone {
-    pointers: MasterPointers,
+    pointers: LinkedZone,
 }
 
 impl Model for Zone {
@@ -47,17 +47,17 @@ impl Zone {
     ghost use Rattle.mac_base.specs.ZoneSizes.{shape_of};
     ghost use Rattle.zone_heap.specs.Placed.{placed_lowest, placed_empty, placed_pointer, resized_there};
     ghost use Rattle.mac_base.specs.BlockReport.{report_at};
-    ghost use Rattle.master_ptrs.specs.Image.{IsImage};
-    ghost use Rattle.zone_blocks.specs.Walk.{Walks};
+    ghost use Rattle.linked_zone.specs.Image.{IsImage};
+    ghost use Rattle.linked_zone.specs.Image.{Walks};
     ghost use Rattle.zone_heap.specs.WritingBack.{WritesBackBytes};
 
     /// A new zone: a master block with 64 free slots, and one free block.
     pub fn create(alloc: Global, spec: ZoneSpec) -> Result<Zone, HostFull>
         ensures { IfOk result (λ zone. zone ≡ record { shape = shape_of spec; heap = new_heap (shape_of spec) spec.size }) }
     {
-        let mut pointers = MasterPointers::create(alloc, spec)?;
+        let mut pointers = LinkedZone::create(alloc, spec)?;
         let first = spec.base() + ZONE_HEADER;
-        pointers.split(first, need(MASTER_LENGTH));
+        pointers.split(first, need_for(spec.heads(), MASTER_LENGTH));
         pointers.build_master(first);
         Ok(Zone { pointers })
     }
@@ -95,7 +95,7 @@ impl Zone {
             (λ handle. (placed_lowest self.old.shape length self.old.heap ≡ Some (handle, self.new.heap)) × (self.new.shape ≡ self.old.shape))
             (λ _. (placed_lowest self.old.shape length self.old.heap ≡ None) × (self.new ≡ self.old)) }
     {
-        let needed = need(length);
+        let needed = need_for(self.pointers.spec().heads(), length);
         let Some(at) = self.pointers.lowest_free(needed) else {
             return Err(NoRoom);
         };
@@ -126,7 +126,7 @@ impl Zone {
             (λ pointer. (placed_pointer self.old.shape length self.old.heap ≡ Some (pointer, self.new.heap)) × (self.new.shape ≡ self.old.shape))
             (λ _. (placed_pointer self.old.shape length self.old.heap ≡ None) × (self.new ≡ self.old)) }
     {
-        let size = need(length);
+        let size = need_for(self.pointers.spec().heads(), length);
         let Some(at) = self.pointers.lowest_free(size) else {
             return Err(NoRoom);
         };
@@ -286,7 +286,7 @@ impl Zone {
             (λ _. (resized_there self.old.shape block length self.old.heap ≡ Some self.new.heap) × (self.new.shape ≡ self.old.shape))
             (λ _. (resized_there self.old.shape block length self.old.heap ≡ None) × (self.new ≡ self.old)) }
     {
-        let needed = need(length);
+        let needed = need_for(self.pointers.spec().heads(), length);
         let at = self.pointers.place_of(block);
         let size = self.pointers.entry_at(at).size;
         if needed <= size {
@@ -311,12 +311,12 @@ ghost use Rattle.mac_base.specs.HeadKind.{need, smallest_block};
 ghost use Rattle.mac_base.specs.Request.{size_of};
 ghost use Rattle.mac_base.specs.Serve.{free_in_front};
 ghost use Rattle.mac_base.specs.Sound.{Sound};
-ghost use Rattle.master_ptrs.specs.Places.{EntryAt};
+ghost use Rattle.linked_zone.specs.Places.{EntryAt};
 ghost use Rattle.zone_heap.specs.Placed.{resized_there};
 ghost use Rattle.zone_heap.specs.Joins.{CanTake, NewlyFree, with_front, all_joined};
 
 /// Cuts a free block to its first `size` bytes, unless fewer bytes than a block has would be left.
-fn cut(pointers: &mut MasterPointers, at: u32, size: u32)
+fn cut(pointers: &mut LinkedZone, at: u32, size: u32)
     requires { CanTake pointers.old at size }
     ensures { (take : CanTake pointers.old at size) → pointers.new ≡ with_front pointers.old take }
 {
@@ -328,7 +328,7 @@ fn cut(pointers: &mut MasterPointers, at: u32, size: u32)
 }
 
 /// Joins a free block to its free neighbours, where no two other free blocks are neighbours.
-fn join(pointers: &mut MasterPointers, at: u32)
+fn join(pointers: &mut LinkedZone, at: u32)
     requires { NewlyFree pointers.old at }
     ensures { pointers.new ≡ all_joined pointers.old }
 {
@@ -345,7 +345,7 @@ fn join(pointers: &mut MasterPointers, at: u32)
 }
 
 /// The size of the free block right behind the one at an address, and 0 where none stands there.
-fn free_behind(pointers: &MasterPointers, at: u32) -> u32
+fn free_behind(pointers: &LinkedZone, at: u32) -> u32
     requires sound { Sound pointers.now.shape pointers.now.heap }
     requires there { EntryAt pointers.now at }
     ensures { (e : EntryAt pointers.now at) → result ≡ free_in_front e.behind }
@@ -361,7 +361,7 @@ fn free_behind(pointers: &MasterPointers, at: u32) -> u32
 
 /// How many of `whole` bytes a block takes that needs `needed` of them: so many, unless fewer bytes than a block has
 /// would be left.
-fn front(pointers: &MasterPointers, whole: u32, needed: u32) -> u32
+fn front(pointers: &LinkedZone, whole: u32, needed: u32) -> u32
     requires { needed ≤ whole }
     ensures { result ≡ (if nat_lt (whole - needed) (smallest_block pointers.now.shape.heads) then whole else needed) }
 {
@@ -374,7 +374,7 @@ fn front(pointers: &MasterPointers, whole: u32, needed: u32) -> u32
 
 /// Gives the owner of a block `length` bytes, which need `needed` bytes of the block. What is over is free where it makes
 /// a block, and joined to the free block behind it.
-fn shrink(pointers: &mut MasterPointers, block: u32, needed: u32, length: u32)
+fn shrink(pointers: &mut LinkedZone, block: u32, needed: u32, length: u32)
     requires sound { Sound pointers.old.shape pointers.old.heap }
     requires block { IsTrue (has_block pointers.old.heap.table block) }
     requires needed { needed ≡ need pointers.old.shape.heads length }

@@ -3,7 +3,7 @@ use Rattle.mac_base.specs.declared.block.Entry.{Entry}
 use Rattle.mac_base.specs.Serve.{cut}
 use Rattle.mac_base.specs.ZoneState.{ZoneState}
 use Rattle.mac_base.specs.ZoneSizes.{ZoneSizes}
-use Rattle.master_ptrs.specs.Places.{CanHold}
+use Rattle.linked_zone.specs.Places.{CanHold}
 use Rattle.zone_heap.specs.Joins.{NewlyFree, all_joined}
 use Rattle.zone_heap.proofs.Sizing.{Standing, entry_named, size-there, resized_zone, end-there}
 use Rattle.zone_heap.proofs.Shrinking.{cut_blocks, can-hold, held-done, rest-free, all-joined, all-kept, cut-there}

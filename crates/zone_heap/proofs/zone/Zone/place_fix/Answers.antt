@@ -2,10 +2,10 @@ use Rattle.std.proofs.Common.{◌≡◌, ◌+◌, Some, ◌∙◌, sym, ap, subs
 use Rattle.std.specs.List.{list_all}
 use Rattle.mac_base.specs.HeadKind.{Shape, need, head_size}
 use Rattle.mac_base.specs.ZoneMap.{has_free}
+use Rattle.mac_base.specs.ZoneSizes.{ZoneSizes}
 use Rattle.mac_base.specs.ZoneState.{ZoneState}
 use Rattle.mac_base.specs.Sound.{Sound}
 use Rattle.zone_heap.specs.Placed.{placed_pointer}
-use Rattle.zone_heap.proofs.NewZone.{heads-bits24}
 use Rattle.zone_heap.proofs.Pointers.{ChosenBlock, pointer-full, pointer-there, pointer-sound, pointer_zone, pointer_at, block_front, can-fix, same-heads, fixed-done}
 use Rattle.zone_heap.proofs.zone.Zone.place_fix.Goals as goal
 use Rattle.zone_heap.proofs.zone.Zone.place_fix.Goals.{In-Some, After-fix}
@@ -13,27 +13,27 @@ use Rattle.zone_heap.proofs.zone.Zone.place_fix.Goals.{In-Some, After-fix}
 pub returns-in_default-clause-placed : goal.returns-in_default-clause-placed
 returns-in_default-clause-placed c =
     let z = c.self.inside.pointers in
-    let size : c.need-size.result ≡ need z.shape.heads c.args.length = c.need-size.ensures ∙ ap (λ heads. need heads c.args.length) (sym (heads-bits24 z.shape.heads)) in
+    let size : c.need_for-size.result ≡ need z.shape.heads c.args.length = c.need_for-size.ensures ∙ ap (λ heads. need heads c.args.length) (c.heads.ensures ∙ ap (λ (s : ZoneSizes). s.heads) c.spec.ensures) in
     let none = subst (λ k. IsTrue (list_all (λ e. not (has_free k e)) z.heap.map)) size c.in_default.ensures.none in
     (ap (λ (w : ZoneState). placed_pointer w.shape c.args.length w.heap) (sym c.self.view_is) ∙ pointer-full z.shape c.args.length z.heap none, refl)
 
 -- the block
-chosen : (c : In-Some) → ChosenBlock c.self.inside.pointers c.args.length c.need-size.result c.in-Some.at
+chosen : (c : In-Some) → ChosenBlock c.self.inside.pointers c.args.length c.need_for-size.result c.in-Some.at
 chosen c = record {
   sound = c.self.invariant.sound;
   low = c.in-Some.ensures.lowest;
-  size = c.need-size.ensures ∙ ap (λ heads. need heads c.args.length) (sym (heads-bits24 c.self.inside.pointers.shape.heads));
+  size = c.need_for-size.ensures ∙ ap (λ heads. need heads c.args.length) (c.heads.ensures ∙ ap (λ (s : ZoneSizes). s.heads) c.spec.ensures);
 }
 
 pub cut-requires : goal.cut-requires
-cut-requires c = block_front c.self.inside.pointers c.args.length c.need-size.result c.in-Some.at (chosen (goal.at.cut-requires c).In-Some)
+cut-requires c = block_front c.self.inside.pointers c.args.length c.need_for-size.result c.in-Some.at (chosen (goal.at.cut-requires c).In-Some)
 
 pub fix-requires : goal.fix-requires
-fix-requires c = can-fix c.self.inside.pointers c.args.length c.need-size.result c.in-Some.at (chosen (goal.at.fix-requires c).In-Some) c.cut.new.pointers c.cut.ensures
+fix-requires c = can-fix c.self.inside.pointers c.args.length c.need_for-size.result c.in-Some.at (chosen (goal.at.fix-requires c).In-Some) c.cut.new.pointers c.cut.ensures
 
 -- the zone then
-after : (c : After-fix) (p : ChosenBlock c.self.inside.pointers c.args.length c.need-size.result c.in-Some.at) → c.fix.new.self ≡ pointer_zone c.self.inside.pointers c.args.length c.need-size.result c.in-Some.at p
-after c p = fixed-done c.self.inside.pointers c.args.length c.need-size.result c.in-Some.at p c.cut.new.pointers c.cut.ensures c.fix.new.self c.fix.ensures.zone
+after : (c : After-fix) (p : ChosenBlock c.self.inside.pointers c.args.length c.need_for-size.result c.in-Some.at) → c.fix.new.self ≡ pointer_zone c.self.inside.pointers c.args.length c.need_for-size.result c.in-Some.at p
+after c p = fixed-done c.self.inside.pointers c.args.length c.need_for-size.result c.in-Some.at p c.cut.new.pointers c.cut.ensures c.fix.new.self c.fix.ensures.zone
 
 pub invariant_of-self : goal.invariant_of-self
 invariant_of-self c =
@@ -41,14 +41,14 @@ invariant_of-self c =
     let p = chosen (goal.at.invariant_of-self c).In-Some in
     let is = after (goal.at.invariant_of-self c).After-fix p in
     record {
-      sound = subst (λ (w : ZoneState). Sound w.shape w.heap) (sym is) (pointer-sound z c.args.length c.need-size.result c.in-Some.at p);
+      sound = subst (λ (w : ZoneState). Sound w.shape w.heap) (sym is) (pointer-sound z c.args.length c.need_for-size.result c.in-Some.at p);
       unlent = ap (λ (w : ZoneState). w.heap.table.lent) is ∙ c.self.invariant.unlent;
     }
 
 pub returns-clause-placed : goal.returns-clause-placed
 returns-clause-placed c =
     let z = c.self.inside.pointers in
-    let n = c.args.length in let k = c.need-size.result in let at = c.in-Some.at in
+    let n = c.args.length in let k = c.need_for-size.result in let at = c.in-Some.at in
     let p = chosen (goal.at.returns-clause-placed c).In-Some in
     let is = after (goal.at.returns-clause-placed c).After-fix p in
     let number : c.fix.result ≡ pointer_at z n k at p = c.fix.ensures.pointer ∙ ap (λ (s : Shape). at + head_size s.heads) (same-heads z n k at p c.cut.new.pointers c.cut.ensures) in (

@@ -2,10 +2,10 @@ use Rattle.std.proofs.Common.{◌≡◌, Some, ◌∙◌, sym, ap, subst, refl, 
 use Rattle.std.specs.List.{list_all}
 use Rattle.mac_base.specs.HeadKind.{need}
 use Rattle.mac_base.specs.ZoneMap.{has_free}
+use Rattle.mac_base.specs.ZoneSizes.{ZoneSizes}
 use Rattle.mac_base.specs.ZoneState.{ZoneState}
 use Rattle.mac_base.specs.Sound.{Sound}
 use Rattle.zone_heap.specs.Placed.{placed_lowest}
-use Rattle.zone_heap.proofs.NewZone.{heads-bits24}
 use Rattle.zone_heap.proofs.Placing.{Chosen, placed-full, placed-there, placed-sound, can-cut, can-point-empty, can-point-room, placed-done}
 use Rattle.zone_heap.proofs.zone.Zone.place_rel.Goals as goal
 use Rattle.zone_heap.proofs.zone.Zone.place_rel.Goals.{In-Some-take, After-point}
@@ -13,34 +13,34 @@ use Rattle.zone_heap.proofs.zone.Zone.place_rel.Goals.{In-Some-take, After-point
 pub returns-in_default-clause-placed : goal.returns-in_default-clause-placed
 returns-in_default-clause-placed c =
     let z = c.self.inside.pointers in
-    let size : c.need-needed.result ≡ need z.shape.heads c.args.length = c.need-needed.ensures ∙ ap (λ heads. need heads c.args.length) (sym (heads-bits24 z.shape.heads)) in
+    let size : c.need_for-needed.result ≡ need z.shape.heads c.args.length = c.need_for-needed.ensures ∙ ap (λ heads. need heads c.args.length) (c.heads.ensures ∙ ap (λ (s : ZoneSizes). s.heads) c.spec.ensures) in
     let none = subst (λ k. IsTrue (list_all (λ e. not (has_free k e)) z.heap.map)) size c.in_default.ensures.none in
     (ap (λ (w : ZoneState). placed_lowest w.shape c.args.length w.heap) (sym c.self.view_is) ∙ placed-full z.shape c.args.length z.heap none, refl)
 
 -- the block and the slot
-chosen : (c : In-Some-take) → Chosen c.self.inside.pointers c.in-Some-take.handle c.args.length c.need-needed.result c.in-Some.at
+chosen : (c : In-Some-take) → Chosen c.self.inside.pointers c.in-Some-take.handle c.args.length c.need_for-needed.result c.in-Some.at
 chosen c = record {
   sound = c.self.invariant.sound;
   low = c.in-Some.ensures.lowest;
-  size = c.need-needed.ensures ∙ ap (λ heads. need heads c.args.length) (sym (heads-bits24 c.self.inside.pointers.shape.heads));
+  size = c.need_for-needed.ensures ∙ ap (λ heads. need heads c.args.length) (c.heads.ensures ∙ ap (λ (s : ZoneSizes). s.heads) c.spec.ensures);
   front = c.in-Some-take.ensures.0;
 }
 
 pub cut-requires : goal.cut-requires
-cut-requires c = can-cut c.self.inside.pointers c.take.new.self c.in-Some-take.handle c.args.length c.need-needed.result c.in-Some.at (chosen (goal.at.cut-requires c).In-Some-take) c.in-Some-take.ensures.1
+cut-requires c = can-cut c.self.inside.pointers c.take.new.self c.in-Some-take.handle c.args.length c.need_for-needed.result c.in-Some.at (chosen (goal.at.cut-requires c).In-Some-take) c.in-Some-take.ensures.1
 
 pub point-requires-clause-empty : goal.point-requires-clause-empty
-point-requires-clause-empty c = can-point-empty c.self.inside.pointers c.take.new.self c.cut.new.pointers c.in-Some-take.handle c.args.length c.need-needed.result c.in-Some.at
+point-requires-clause-empty c = can-point-empty c.self.inside.pointers c.take.new.self c.cut.new.pointers c.in-Some-take.handle c.args.length c.need_for-needed.result c.in-Some.at
     (chosen (goal.at.point-requires-clause-empty c).In-Some-take) c.in-Some-take.ensures.1 c.cut.ensures
 
 pub point-requires-clause-room : goal.point-requires-clause-room
-point-requires-clause-room c = can-point-room c.self.inside.pointers c.take.new.self c.cut.new.pointers c.in-Some-take.handle c.args.length c.need-needed.result c.in-Some.at
+point-requires-clause-room c = can-point-room c.self.inside.pointers c.take.new.self c.cut.new.pointers c.in-Some-take.handle c.args.length c.need_for-needed.result c.in-Some.at
     (chosen (goal.at.point-requires-clause-room c).In-Some-take) c.in-Some-take.ensures.1 c.cut.ensures
 
 pub invariant_of-self-2 : goal.invariant_of-self-2
 invariant_of-self-2 c =
     let z = c.self.inside.pointers in
-    let h = c.in-Some-take.handle in let n = c.args.length in let k = c.need-needed.result in let at = c.in-Some.at in
+    let h = c.in-Some-take.handle in let n = c.args.length in let k = c.need_for-needed.result in let at = c.in-Some.at in
     let p = chosen (goal.at.invariant_of-self-2 c).In-Some-take in
     let is = placed-done z c.take.new.self c.cut.new.pointers c.point.new.self h n k at p c.in-Some-take.ensures.1 c.cut.ensures c.point.ensures in
     record {
@@ -51,7 +51,7 @@ invariant_of-self-2 c =
 pub returns-clause-placed : goal.returns-clause-placed
 returns-clause-placed c =
     let z = c.self.inside.pointers in
-    let h = c.in-Some-take.handle in let n = c.args.length in let k = c.need-needed.result in let at = c.in-Some.at in
+    let h = c.in-Some-take.handle in let n = c.args.length in let k = c.need_for-needed.result in let at = c.in-Some.at in
     let p = chosen (goal.at.returns-clause-placed c).In-Some-take in
     let is = placed-done z c.take.new.self c.cut.new.pointers c.point.new.self h n k at p c.in-Some-take.ensures.1 c.cut.ensures c.point.ensures in (
       ap (λ (w : ZoneState). placed_lowest w.shape n w.heap) (sym c.self.view_is) ∙ placed-there z h n k at p ∙ ap (λ (w : ZoneState). Some (h, w.heap)) (sym is),

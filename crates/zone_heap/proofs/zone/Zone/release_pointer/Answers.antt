@@ -5,7 +5,7 @@ use Rattle.mac_base.specs.Releasing.{heap_released, DisposesPtr}
 use Rattle.mac_base.specs.Sound.{Sound}
 use Rattle.mac_base.specs.ZoneState.{ZoneState}
 use Rattle.zone_laws.proofs.SoundReleased.{sound-disposed_pointer}
-use Rattle.master_ptrs.specs.Places.{NamedAt}
+use Rattle.linked_zone.specs.Places.{NamedAt}
 use Rattle.zone_heap.specs.Joins.{NewlyFree, all_joined}
 use Rattle.zone_heap.proofs.Releasing.{newly-free}
 use Rattle.zone_heap.proofs.zone.Zone.release_pointer.Goals as goal

@@ -1,8 +1,0 @@
-pub mod Head
-pub mod Layout
-pub mod Finding
-pub mod Starts
-pub mod Reading
-pub mod NewLayout
-pub mod WritingBack
-pub mod Walk

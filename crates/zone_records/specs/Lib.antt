@@ -1,5 +1,0 @@
-pub mod Records
-pub mod Places
-pub mod Changes
-pub mod WritingBack
-pub mod StandIn
