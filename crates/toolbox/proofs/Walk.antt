@@ -8,7 +8,7 @@ use Rattle.zone_laws.proofs.Tables.{eqb_same}
 use Rattle.mac_base.specs.declared.block.Block.{Block}
 use Rattle.mac_base.specs.declared.block.Entry.{Entry}
 use Rattle.mac_base.specs.declared.block.HeadKind.{HeadKind}
-use Rattle.mac_base.specs.declared.block.HeadKind.TheVariants.{Bits24}
+use Rattle.mac_base.specs.declared.block.HeadKind.TheVariants.{Bits24, Bits32}
 use Rattle.mac_base.specs.HandleTable.{HandleTable}
 use Rattle.mac_base.specs.HeadKind.{Shape, smallest_block}
 use Rattle.mac_base.specs.Heap.{Heap}
@@ -29,6 +29,7 @@ report t at e = record { address = at; entry = e; length = wanted_length t e.kin
 -- a possible size is above 0
 size-positive : (heads : HeadKind) (n : ℕ) → nat_le (smallest_block heads) n ≡ true → 0 < n
 size-positive Bits24 n holds = let fact : 12 ≤ n = leb-true 12 n holds in omega arith
+size-positive Bits32 n holds = let fact : 12 ≤ n = leb-true 12 n holds in omega arith
 
 AllPositive-sizes : (s : Shape) (m : ZoneMap) → list_all (λ (e : Entry). is_block_size s e.size) m ≡ true → AllPositive m
 unfolding AllPositive
