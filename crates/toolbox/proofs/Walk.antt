@@ -29,7 +29,7 @@ report t at e = record { address = at; entry = e; length = wanted_length t e.kin
 -- a possible size is above 0
 size-positive : (heads : HeadKind) (n : ℕ) → nat_le (smallest_block heads) n ≡ true → 0 < n
 size-positive Bits24 n holds = let fact : 12 ≤ n = leb-true 12 n holds in omega arith
-size-positive Bits32 n holds = let fact : 12 ≤ n = leb-true 12 n holds in omega arith
+size-positive Bits32 n holds = let fact : 16 ≤ n = leb-true 16 n holds in omega arith
 
 AllPositive-sizes : (s : Shape) (m : ZoneMap) → list_all (λ (e : Entry). is_block_size s e.size) m ≡ true → AllPositive m
 unfolding AllPositive
