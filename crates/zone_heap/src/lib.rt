@@ -5,4 +5,5 @@ mod zone;
 
 pub use zone::{NoRoom, Zone};
 
-
+#[cfg(test)]
+mod tests;
