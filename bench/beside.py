@@ -1,5 +1,8 @@
 #!/usr/bin/env python3
-"""Times programs side by side on the way from text to call and from reply to text: beside.py PROGRAM [PEER..].
+"""Times programs side by side: beside.py [--zone] PROGRAM [PEER..].
+
+The scripts are those on the way from text to call and from reply to text; with --zone, those whose calls search, cut and join
+blocks in a zone of 1,048,576 bytes, each without the time of the script that only makes what is needed before.
 
 Each program reads a script and takes `--zone N`, as macheap does. On each script they run in turn, nine times, and the least
 processor time counts. The most memory is told where /usr/bin/time is there. The last column is PROGRAM's time over each PEER's.
@@ -25,6 +28,20 @@ MIXES = [
     ("20,000 variables", "names 20000 40000", 4096),
 ]
 
+# a title, the script, and the one whose time is taken off
+ZONE_MIXES = [
+    ("start of 1 MB", "notes 0", None),
+    ("NewPtr, DisposePtr among 200", "pointers 200 40000", "pointers 200 0"),
+    ("among 2,000", "pointers 2000 40000", "pointers 2000 0"),
+    ("among 20,000", "pointers 20000 40000", "pointers 20000 0"),
+    ("the making of 20,000", "pointers 20000 0", "notes 0"),
+    ("10,000 holes below", "holes 10000 30000", "holes 10000 0"),
+    ("behind 500 KB live", "behind 500000 40000", "behind 500000 0"),
+    ("behind 500 KB free", "freed 500000 20000", "pointers 20000 0"),
+    ("900,000 to 450,000 and back", "sizes 900000 2000", "sizes 900000 0"),
+    ("a number inside 500 KB", "inside 500000 40000", "inside 500000 0"),
+]
+
 
 def once(program, script, zone):
     """Seconds of processor time of one run."""
@@ -45,22 +62,40 @@ def memory(program, script, zone):
     return f"{int(run.stderr.split()[-1]) / 1024:.1f}"
 
 
+def made(folder, words):
+    """The script that make_script.py makes of these words, and how many lines it has."""
+    script = os.path.join(folder, words.replace(" ", "_"))
+    with open(script, "wb") as output:
+        subprocess.run([sys.executable, os.path.join(HERE, "make_script.py"), *words.split()], stdout=output, check=True)
+    with open(script, "rb") as text:
+        return script, text.read().count(b"\n")
+
+
+def least_of(programs, script, zone):
+    """The least time of each program."""
+    least = [float("inf")] * len(programs)
+    for _ in range(RUNS):
+        for place, program in enumerate(programs):
+            least[place] = min(least[place], once(program, script, zone))
+    return least
+
+
 def main():
-    programs = sys.argv[1:]
+    words = sys.argv[1:]
+    of_zone = words[:1] == ["--zone"]
+    programs = words[of_zone:]
     if not programs:
         sys.exit(__doc__)
+    mixes = [(title, script, base, 1048576) for title, script, base in ZONE_MIXES] if of_zone else [(title, script, None, zone) for title, script, zone in MIXES]
     print(f"{'script':30} {'lines':>6}" + "".join(f" {os.path.basename(p)[:14]:>14} {'MB':>5}" for p in programs) + "  ratios")
     with tempfile.TemporaryDirectory() as folder:
-        for title, words, zone in MIXES:
-            script = os.path.join(folder, "script")
-            with open(script, "wb") as made:
-                subprocess.run([sys.executable, os.path.join(HERE, "make_script.py"), *words.split()], stdout=made, check=True)
-            with open(script, "rb") as made:
-                lines = made.read().count(b"\n")
-            least = [float("inf")] * len(programs)
-            for _ in range(RUNS):
-                for place, program in enumerate(programs):
-                    least[place] = min(least[place], once(program, script, zone))
+        for title, of_script, of_base, zone in mixes:
+            script, lines = made(folder, of_script)
+            least = least_of(programs, script, zone)
+            if of_base is not None:
+                base, lines_before = made(folder, of_base)
+                lines -= lines_before
+                least = [max(taken - before, 0) for taken, before in zip(least, least_of(programs, base, zone))]
             each = "".join(f" {least[i] * 1e9 / max(lines, 1):11.0f} ns {memory(p, script, zone):>5}" for i, p in enumerate(programs))
             ratios = "".join(f" {least[0] / peer:5.2f}" if peer else "     -" for peer in least[1:])
             print(f"{title:30} {lines:6}{each} {ratios}")

@@ -19,6 +19,13 @@ random.
 
 make_script.py pointers LIVE CALLS writes so many NewPtr 8, and then so many calls: DisposePtr of a pointer at a random place
 and NewPtr 8 in turn.
+
+These are for a zone of 1,048,576 bytes, and the last CALLS lines are what is to be timed:
+  holes COUNT CALLS    so many free blocks of 16 bytes between pointers, and then NewPtr 100 and DisposePtr in turn
+  behind COUNT CALLS   a pointer of COUNT bytes, and then NewPtr 8 and DisposePtr behind it in turn
+  freed COUNT CALLS    CALLS pointers behind COUNT free bytes, of which each is disposed of, the last one first
+  sizes COUNT CALLS    a handle of COUNT bytes gets half of them and all of them in turn
+  inside COUNT CALLS   GetHandleSize of a number inside a pointer's COUNT bytes
 """
 import random
 import string
@@ -74,12 +81,42 @@ def names(count, calls):
     return lines + [f"GetPtrSize {name_of(random.randrange(count))}" for _ in range(calls)]
 
 
+def holes(count, calls):
+    """So many holes between pointers, and then calls that find the free block behind them all."""
+    lines = [f"{name_of(i)} = NewPtr 8" for i in range(2 * count)] + [f"DisposePtr {name_of(2 * i)}" for i in range(count)]
+    return lines + ["p = NewPtr 100", "DisposePtr p"] * (calls // 2)
+
+
+def behind(count, calls):
+    """Pointers behind a large one."""
+    return [f"b = NewPtr {count}"] + ["p = NewPtr 8", "DisposePtr p"] * (calls // 2)
+
+
+def freed(count, calls):
+    """Pointers disposed of behind many free bytes."""
+    made = [f"{name_of(i)} = NewPtr 8" for i in range(calls)]
+    return [f"a_b = NewPtr {count}"] + made + ["DisposePtr a_b"] + [f"DisposePtr {name_of(i)}" for i in reversed(range(calls))]
+
+
+def sizes(count, calls):
+    """A handle whose size is changed."""
+    return [f"h = NewHandle {count}"] + [f"SetHandleSize h {count // 2}", f"SetHandleSize h {count}"] * (calls // 2)
+
+
+def inside(count, calls):
+    """Numbers inside a block, which name nothing."""
+    return [f"b = NewPtr {count}"] + [f"GetHandleSize ${0x100400 + 4 * (i % 1000) + count // 2:x}" for i in range(calls)]
+
+
+TWO = {"pointers": pointers, "names": names, "holes": holes, "behind": behind, "freed": freed, "sizes": sizes, "inside": inside}
+
+
 def main():
     kind, count = sys.argv[1], int(sys.argv[2])
     if kind == "sixty":
         lines = sixty(count)
-    elif kind in ("pointers", "names"):
-        lines = {"pointers": pointers, "names": names}[kind](count, int(sys.argv[3]))
+    elif kind in TWO:
+        lines = TWO[kind](count, int(sys.argv[3]))
     else:
         first, turn = TURNS[kind]
         lines = first + [turn[i % len(turn)] for i in range(count - len(first))]

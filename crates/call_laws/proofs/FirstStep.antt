@@ -28,11 +28,13 @@ new_zone_suits : Suits zone fresh.table fresh.map
 new_zone_suits = record {
   apart = refl;
   sizes = refl;
-  handles = λ h. refl;
-  pointers = λ p. refl;
   lengths = refl;
-  in_slots = λ h live. absurd (cc live);
-  in_order = refl;
+  coherent = record {
+    handles = λ h. refl;
+    pointers = λ p. refl;
+    in_slots = λ h live. absurd (cc live);
+    in_order = refl;
+  };
 }
 
 abbrev one_handle : Heap
@@ -68,7 +70,7 @@ a_slot : (h : ℕ) → IsTrue (is_handle one_handle.table h) → Contains (slots
 a_slot h live = (0, omega arith, sym (which h (eq_by_cmp nat_cmp h h1) refl live))
 
 one_handle_suits : Suits zone one_handle.table one_handle.map
-one_handle_suits = record { apart = refl; sizes = refl; handles = only_one; pointers = λ p. no_pointer_by_test p (eq_by_cmp nat_cmp p h1); lengths = refl; in_slots = a_slot; in_order = refl }
+one_handle_suits = record { coherent = record { handles = only_one; pointers = λ p. no_pointer_by_test p (eq_by_cmp nat_cmp p h1); in_slots = a_slot; in_order = refl }; apart = refl; sizes = refl; lengths = refl }
 
 same_blocks : (k : Kind) → IsFalse (is_free k) → sizes (is_kind k) (released h1 one_handle.map) ≡ sizes (is_kind k) fresh.map
 same_blocks Free h = absurd (cc h)

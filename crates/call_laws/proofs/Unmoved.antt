@@ -58,7 +58,7 @@ true_from false h = absurd (h refl)
 -- no slot is free just where every slot is live
 pub every_slot_live-none : (s : Shape) (heap : Heap) → Sound s heap → heap.free_slots ≡ [] → every_slot_live s heap ≡ true
 every_slot_live-none s heap sound none = list_all-from_contains (is_handle heap.table) (slots s heap.map) (λ x slot.
-    true_from (is_handle heap.table x) (λ dead. Contains-none x (subst (λ xs. Contains xs x) none ((sound.free x).1 (slot, dead)))))
+    true_from (is_handle heap.table x) (λ dead. Contains-none x (subst (λ xs. Contains xs x) none ((sound.slots.free x).1 (slot, dead)))))
 
 -- where one is free, not every slot is live
 pub every_slot_live-some : (s : Shape) (heap : Heap) (h : ℕ) (hs : List ℕ) → Sound s heap → heap.free_slots ≡ h ∷ hs → every_slot_live s heap ≡ false

@@ -154,7 +154,7 @@ module _ (s : Shape) (t : HandleTable) (a c b m : ZoneMap) (x : ℕ) (suits : Su
       ap (λ m. list_all (λ n. not ((n + head_size s.heads) == x)) (addresses_from start test m)) was
       ∙ ap (list_all (λ n. not ((n + head_size s.heads) == x))) (addresses_from-append start test a (c ++ b) ∙ ap (λ ns. addresses_from start test a ++ ns) (addresses_from-append (start + total_size a) test c b ∙ ap (λ ns. ns ++ addresses_from far test b) (addresses_from-none (start + total_size a) test c none)))
       ∙ list_all-append (λ n. not ((n + head_size s.heads) == x)) (addresses_from start test a) (addresses_from far test b) ∙ and_from _ _ below above in
-      let one : none_is x (x ∷ []) ≡ true = ap (none_is x) (sym (suits.pointers x ∙ ap (λ c. cond c (x ∷ []) []) live)) ∙ list_all-map (λ n. not (n == x)) (λ at. at + head_size s.heads) (addresses s test m) ∙ all in
+      let one : none_is x (x ∷ []) ≡ true = ap (none_is x) (sym (suits.coherent.pointers x ∙ ap (λ c. cond c (x ∷ []) []) live)) ∙ list_all-map (λ n. not (n == x)) (λ at. at + head_size s.heads) (addresses s test m) ∙ all in
       absurd (false≢true (ap (λ c. not c && true) (sym (eq-eqb x x refl)) ∙ one)))
 
 not_live_from : (l : Option Live) → live_handle l ≡ false → live_pointer l ≡ false → l ≡ None
@@ -188,7 +188,7 @@ free_bytes-le [] = omega arith
 free_bytes-le (e ∷ es) = let rest = free_bytes-le es in elim (is_free e.kind) as (λ c. cond c e.size 0 + free_bytes es ≤ e.size + total_size es) [ true ↦ omega arith | false ↦ omega arith ]
 
 not_a_handle : (s : Shape) (t : HandleTable) (m : ZoneMap) (x : ℕ) → Suits s t m → none_is x (slots s m) ≡ true → is_handle t x ≡ false
-not_a_handle s t m x suits none = false_from_ne_true (is_handle t x) (λ live. none_is-contains x (slots s m) none (suits.in_slots x live))
+not_a_handle s t m x suits none = false_from_ne_true (is_handle t x) (λ live. none_is-contains x (slots s m) none (suits.coherent.in_slots x live))
 
 -- the number of a pointer that would begin at the start of a gap with room is not live
 pub gap_start-not_live : (s : Shape) (t : HandleTable) (m : ZoneMap) (g : Gap) → Suits s t m → IsGap t m g → 0 < room g → live_at t (contents_at_gap s g) ≡ None
@@ -229,7 +229,7 @@ pub slot-no_pointer : (s : Shape) (t : HandleTable) (m : ZoneMap) (x : ℕ) → 
 slot-no_pointer s t m x suits there = false_from_ne_true (is_pointer t x) (λ live.
     let start : ℕ = address_behind s [] in
     let test : Kind → Bool = is_pointer_block x in
-    let one : contents_addresses s test m ≡ x ∷ [] = suits.pointers x ∙ ap (λ c. cond c (x ∷ []) []) live in
+    let one : contents_addresses s test m ≡ x ∷ [] = suits.coherent.pointers x ∙ ap (λ c. cond c (x ∷ []) []) live in
     let count : 0 < length (addresses s test m) = subst (λ n. 0 < n) (sym (ap length one) ∙ length-map (addresses s test m) (λ at. at + head_size s.heads)) (let some : 0 < 1 = omega arith in some) in
     let f = first_passing start test m count in
     let addresses_are = ap (addresses_from start test) f.was ∙ addresses_from-append start test f.front (f.block ∷ f.back) ∙ ap (λ ns. ns ++ addresses_from (start + total_size f.front) test (f.block ∷ f.back)) (addresses_from-none start test f.front f.none_front)

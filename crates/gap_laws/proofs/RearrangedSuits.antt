@@ -90,13 +90,15 @@ Suits-rearranged s t u old new r apart possible suits =
     record {
       apart = apart;
       sizes = possible;
-      handles = λ h. length-addresses_from (address_behind s []) (is_handle_block h) new ∙ ap (λ test. length (sizes test new)) (handle_block-kind h) ∙ ap length (r.same_blocks (Rel h) refl)
-          ∙ ap (λ test. length (sizes test old)) (sym (handle_block-kind h)) ∙ sym (length-addresses_from (address_behind s []) (is_handle_block h) old) ∙ suits.handles h;
-      pointers = λ p. ap (λ test. contents_addresses s test new) (pointer_block-kind p) ∙ ap (map (λ at. at + head_size s.heads)) (r.same_places (Ptr p) refl)
-          ∙ ap (λ test. contents_addresses s test old) (sym (pointer_block-kind p)) ∙ suits.pointers p;
       lengths = used_pass-rearranged (λ k n. has_length s n (wanted_length u k)) s (is_fixed t) old new r suits.lengths;
-      in_slots = λ h live. subst (λ ss. Contains ss h) (sym (slots-rearranged s (is_fixed t) old new refl r)) (suits.in_slots h live);
-      in_order = suits.in_order;
+      coherent = record {
+        handles = λ h. length-addresses_from (address_behind s []) (is_handle_block h) new ∙ ap (λ test. length (sizes test new)) (handle_block-kind h) ∙ ap length (r.same_blocks (Rel h) refl)
+            ∙ ap (λ test. length (sizes test old)) (sym (handle_block-kind h)) ∙ sym (length-addresses_from (address_behind s []) (is_handle_block h) old) ∙ suits.coherent.handles h;
+        pointers = λ p. ap (λ test. contents_addresses s test new) (pointer_block-kind p) ∙ ap (map (λ at. at + head_size s.heads)) (r.same_places (Ptr p) refl)
+            ∙ ap (λ test. contents_addresses s test old) (sym (pointer_block-kind p)) ∙ suits.coherent.pointers p;
+        in_slots = λ h live. subst (λ ss. Contains ss h) (sym (slots-rearranged s (is_fixed t) old new refl r)) (suits.coherent.in_slots h live);
+        in_order = suits.coherent.in_order;
+      };
     }
 
 -- and the heap stays sound
@@ -106,8 +108,10 @@ Sound-rearranged s t heap new r apart possible sound =
       suits = Suits-rearranged s t heap.table heap.map new r apart possible sound.suits;
       within = let same = r.same_total in let within = sound.within in omega arith;
       growth = ap (λ n. is_growth s (s.limit - (zone_header + n))) r.same_total ∙ sound.growth;
-      free = λ x. subst (λ ss. Contains heap.free_slots x ↔ (Contains ss x × IsFalse (is_handle heap.table x))) (sym (slots-rearranged s (is_fixed t) heap.map new refl r)) (sound.free x);
-      once = sound.once;
+      slots = record {
+        free = λ x. subst (λ ss. Contains heap.free_slots x ↔ (Contains ss x × IsFalse (is_handle heap.table x))) (sym (slots-rearranged s (is_fixed t) heap.map new refl r)) (sound.slots.free x);
+        once = sound.slots.once;
+      };
     }
 
 -- an arrangement of a gap suits a table that the map suited

@@ -36,4 +36,4 @@ slot-within s t m suits h slot =
 
 -- and each free slot of a sound heap lies so
 pub free_slot-within : (s : Shape) (heap : Heap) → Sound s heap → (h : ℕ) → Contains heap.free_slots h → IsWithinZone s heap.map h
-free_slot-within s heap sound h free = slot-within s heap.table heap.map sound.suits h ((sound.free h).0 free).0
+free_slot-within s heap sound h free = slot-within s heap.table heap.map sound.suits h ((sound.slots.free h).0 free).0

@@ -60,11 +60,13 @@ Suits-at_limit s t m suits growth =
     record {
       apart = free_apart-joined (m ++ free_block more);
       sizes = sizes-joined s (m ++ free_block more) (list_all-at_limit (λ (e : Entry). is_block_size s e.size) m more suits.sizes (or_rest (eqb more 0) (is_block_size s more) growth));
-      handles = λ h. ap length (addresses-at_limit s (is_handle_block h) m refl) ∙ suits.handles h;
-      pointers = λ p. contents-same s (is_pointer_block p) m (at_limit s m) (addresses-at_limit s (is_pointer_block p) m refl) ∙ suits.pointers p;
       lengths = lengths-joined s t (m ++ free_block more) (list_all-at_limit (has_owners_length s t) m more suits.lengths (λ _. refl));
-      in_slots = λ h live. subst (λ xs. Contains xs h) (sym (slots-same s m (at_limit s m) (addresses-at_limit s is_master m refl))) (suits.in_slots h live);
-      in_order = suits.in_order;
+      coherent = record {
+        handles = λ h. ap length (addresses-at_limit s (is_handle_block h) m refl) ∙ suits.coherent.handles h;
+        pointers = λ p. contents-same s (is_pointer_block p) m (at_limit s m) (addresses-at_limit s (is_pointer_block p) m refl) ∙ suits.coherent.pointers p;
+        in_slots = λ h live. subst (λ xs. Contains xs h) (sym (slots-same s m (at_limit s m) (addresses-at_limit s is_master m refl))) (suits.coherent.in_slots h live);
+        in_order = suits.coherent.in_order;
+      };
     }
 
 no_more : (limit n : ℕ) → n ≡ limit → limit - n ≡ 0
@@ -78,6 +80,8 @@ sound-grown s heap sound =
       suits = Suits-at_limit s heap.table heap.map sound.suits sound.growth;
       within = omega (arith, all);
       growth = ap (is_growth s) (no_more s.limit (zone_header + total_size (at_limit s heap.map)) all);
-      free = subst (λ xs. (x : ℕ) → Contains heap.free_slots x ↔ (Contains xs x × IsFalse (is_handle heap.table x))) (sym (slots-same s heap.map (at_limit s heap.map) (addresses-at_limit s is_master heap.map refl))) sound.free;
-      once = sound.once;
+      slots = record {
+        free = subst (λ xs. (x : ℕ) → Contains heap.free_slots x ↔ (Contains xs x × IsFalse (is_handle heap.table x))) (sym (slots-same s heap.map (at_limit s heap.map) (addresses-at_limit s is_master heap.map refl))) sound.slots.free;
+        once = sound.slots.once;
+      };
     }

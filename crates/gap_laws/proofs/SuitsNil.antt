@@ -53,12 +53,12 @@ full-handle t x h = by_live (live_at t x) h
 
 -- nil is no live handle
 pub nil-no_handle : (s : Shape) (t : HandleTable) (m : ZoneMap) → Suits s t m → is_handle t 0 ≡ false
-nil-no_handle s t m suits = false_from_ne_true (is_handle t 0) (λ live. let positive = positive-contains (slots s m) 0 (positive-slots slot_count (contents_addresses s is_master m) (positive-contents s is_master m)) (suits.in_slots 0 live) in absurd (omega (arith, positive)))
+nil-no_handle s t m suits = false_from_ne_true (is_handle t 0) (λ live. let positive = positive-contains (slots s m) 0 (positive-slots slot_count (contents_addresses s is_master m) (positive-contents s is_master m)) (suits.coherent.in_slots 0 live) in absurd (omega (arith, positive)))
 
 -- and no live pointer
 pub nil-no_pointer : (s : Shape) (t : HandleTable) (m : ZoneMap) → Suits s t m → is_pointer t 0 ≡ false
 nil-no_pointer s t m suits = false_from_ne_true (is_pointer t 0) (λ live.
-    let one = suits.pointers 0 ∙ ap (λ c. cond c (0 ∷ []) []) live in
+    let one = suits.coherent.pointers 0 ∙ ap (λ c. cond c (0 ∷ []) []) live in
     let positive : all_positive (0 ∷ []) ≡ true = ap all_positive (sym one) ∙ positive-contents s (is_pointer_block 0) m in
     absurd (false≢true positive))
 

@@ -11,6 +11,11 @@ use Rattle.mac_base.specs.Heap.{Heap}
 abbrev pub is_growth : Shape → ℕ → Bool
 is_growth s n = n == 0 || is_block_size s n
 
+-- the free slots are just the slots that aren't live, each once
+pub record FreeSlots (s : Shape) (heap : Heap) : Type 0 where
+  pub free : (x : ℕ) → Contains heap.free_slots x ↔ (Contains (slots s heap.map) x × IsFalse (is_handle heap.table x))
+  pub once : IsDistinct nat_eq heap.free_slots
+
 -- a heap that a zone of this shape may have
 pub record Sound (s : Shape) (heap : Heap) : Type 0 where
   -- the map suits the table
@@ -18,6 +23,5 @@ pub record Sound (s : Shape) (heap : Heap) : Type 0 where
   -- the zone is no larger than its limit, and what it may still grow by makes a block
   pub within : zone_header + total_size heap.map ≤ s.limit
   pub growth : IsTrue (is_growth s (s.limit - (zone_header + total_size heap.map)))
-  -- the free slots are just the slots that aren't live, each once
-  pub free : (x : ℕ) → Contains heap.free_slots x ↔ (Contains (slots s heap.map) x × IsFalse (is_handle heap.table x))
-  pub once : IsDistinct nat_eq heap.free_slots
+  -- the slots that aren't live are free
+  pub slots : FreeSlots s heap

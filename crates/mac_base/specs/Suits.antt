@@ -58,18 +58,22 @@ slots_from (suc n) at = at ∷ slots_from n (at + 4)
 abbrev pub slots : Shape → ZoneMap → List ℕ
 slots s m = flat_map (slots_from slot_count) (contents_addresses s is_master m)
 
--- the zone map suits the handle table
-pub record Suits (s : Shape) (t : HandleTable) (m : ZoneMap) : Type 0 where
-  -- free blocks are joined, and sizes are possible
-  pub apart : IsTrue (free_apart m)
-  pub sizes : IsTrue (list_all (λ (e : Entry). is_block_size s e.size) m)
+-- each block has its owner, each owner its block, and each handle its slot
+pub record Coherent (s : Shape) (t : HandleTable) (m : ZoneMap) : Type 0 where
   -- each handle that isn't empty has one block, and no other number has one
   pub handles : (h : ℕ) → length (addresses s (is_handle_block h) m) ≡ (if is_full t h then 1 else 0)
   -- each pointer has one block, whose contents begin at its number, and no other number has one
   pub pointers : (p : ℕ) → contents_addresses s (is_pointer_block p) m ≡ (if is_pointer t p then p ∷ [] else [])
-  -- each block is as long as its owner wants
-  pub lengths : IsTrue (list_all (has_owners_length s t) m)
   -- each live handle is the address of a slot
   pub in_slots : (h : ℕ) → IsTrue (is_handle t h) → Contains (slots s m) h
   -- the numbers of the table rise
   pub in_order : IsTrue (is_sorted nat_cmp t.live)
+
+-- the zone map suits the handle table
+pub record Suits (s : Shape) (t : HandleTable) (m : ZoneMap) : Type 0 where
+  pub coherent : Coherent s t m
+  -- free blocks are joined, and sizes are possible
+  pub apart : IsTrue (free_apart m)
+  pub sizes : IsTrue (list_all (λ (e : Entry). is_block_size s e.size) m)
+  -- each block is as long as its owner wants
+  pub lengths : IsTrue (list_all (has_owners_length s t) m)

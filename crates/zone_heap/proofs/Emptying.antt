@@ -75,7 +75,7 @@ released-none s t m x suits full pointer =
 pub emptied-again : (s : Shape) (heap : Heap) (h : ℕ) → Sound s heap → is_handle heap.table h ≡ true → has_block heap.table h ≡ false → heap ≡ heap_released (Empties h) heap
 emptied-again s heap h sound live none =
     let is = handle_empty heap.table h live none in
-    sym (ap (λ t. record heap { table = t; map = released h heap.map }) (with_live-again h EmptyHandle heap.table sound.suits.in_order is)
+    sym (ap (λ t. record heap { table = t; map = released h heap.map }) (with_live-again h EmptyHandle heap.table sound.suits.coherent.in_order is)
     ∙ ap (λ m. record heap { map = m }) (released-none s heap.table heap.map h sound.suits (ap live_full is) (ap live_pointer is)))
 
 -- and then its slot is the next to be given

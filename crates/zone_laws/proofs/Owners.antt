@@ -62,11 +62,11 @@ no_map f (x ∷ xs) h = absurd (cc h)
 
 -- no block of a handle or a pointer that has none
 pub no_handle_block : (s : Shape) (t : HandleTable) (m : ZoneMap) → Suits s t m → (x : ℕ) → is_full t x ≡ false → addresses s (is_handle_block x) m ≡ []
-no_handle_block s t m suits x h = no_length _ (suits.handles x ∙ ap (λ b. cond b 1 0) h)
+no_handle_block s t m suits x h = no_length _ (suits.coherent.handles x ∙ ap (λ b. cond b 1 0) h)
 
 -- and a number that is no pointer has none as a pointer
 pub no_pointer_block : (s : Shape) (t : HandleTable) (m : ZoneMap) → Suits s t m → (x : ℕ) → is_pointer t x ≡ false → addresses s (is_pointer_block x) m ≡ []
-no_pointer_block s t m suits x h = no_map _ _ (suits.pointers x ∙ ap (λ b. cond b (x ∷ []) []) h)
+no_pointer_block s t m suits x h = no_map _ _ (suits.coherent.pointers x ∙ ap (λ b. cond b (x ∷ []) []) h)
 
 -- a number that is neither a full handle nor a pointer names no block
 pub none_named-suits : (s : Shape) (t : HandleTable) (m : ZoneMap) → Suits s t m → (x : ℕ) → is_full t x ≡ false → is_pointer t x ≡ false → none_named x m ≡ true

@@ -78,7 +78,7 @@ false_from false h = refl
 -- no slot is a pointer
 pub slot_no_pointer : (s : Shape) (t : HandleTable) (m : ZoneMap) → Suits s t m → (h : ℕ) → Contains (slots s m) h → is_pointer t h ≡ false
 slot_no_pointer s t m suits h slot = false_from (is_pointer t h) (λ live.
-    let there = address_from_contents (λ a. a + head_size s.heads) (addresses s (is_pointer_block h) m) h (suits.pointers h ∙ ap (λ b. cond b (h ∷ []) []) live) in
+    let there = address_from_contents (λ a. a + head_size s.heads) (addresses s (is_pointer_block h) m) h (suits.coherent.pointers h ∙ ap (λ b. cond b (h ∷ []) []) live) in
     slot_no_contents (head_size s.heads) slot_count (address_behind s []) (is_pointer_block h) (pointer_not_master h) m there.0 (rooms-suits s t m suits) there.1
     (subst (λ a. Contains (slots s m) a) (sym there.2) slot))
 
@@ -100,11 +100,11 @@ module _ (s : Shape) (t : HandleTable) (before behind : ZoneMap) (n p : ℕ) (su
   -- nor at a live pointer
   pub free_contents_no_pointer : is_pointer t p ≡ false
   free_contents_no_pointer = false_from (is_pointer t p) (λ live.
-      let found = address_from_contents (λ a. a + head_size s.heads) (addresses s (is_pointer_block p) (before ++ block Free n ∷ behind)) p (suits.pointers p ∙ ap (λ b. cond b (p ∷ []) []) live) in
+      let found = address_from_contents (λ a. a + head_size s.heads) (addresses s (is_pointer_block p) (before ++ block Free n ∷ behind)) p (suits.coherent.pointers p ∙ ap (λ b. cond b (p ∷ []) []) live) in
       let same : found.0 ≡ address_behind s [] + total_size before = (let is = found.2 in omega arith) in
       one_block_at (head_size s.heads) slot_count (address_behind s []) (is_pointer_block p) is_free (pointer_not_free p) (before ++ block Free n ∷ behind) (address_behind s [] + total_size before)
       (rooms-suits s t _ suits) (subst (λ a. Contains (addresses s (is_pointer_block p) (before ++ block Free n ∷ behind)) a) same found.1) (address-free s before behind n))
 
   -- nor at a live handle
   pub free_contents_no_handle : is_handle t p ≡ false
-  free_contents_no_handle = false_from (is_handle t p) (λ live. free_contents_no_slot (suits.in_slots p live))
+  free_contents_no_handle = false_from (is_handle t p) (λ live. free_contents_no_slot (suits.coherent.in_slots p live))

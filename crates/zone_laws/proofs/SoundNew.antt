@@ -43,17 +43,21 @@ new_zone24 base size limit p =
       suits = record {
         apart = refl;
         sizes = rest_size 264 12 size (inl (refl, refl)) p.even_size p.large_enough;
-        handles = λ h. refl;
-        pointers = λ x. refl;
         lengths = refl;
-        in_slots = λ h live. absurd (cc live);
-        in_order = refl;
+        coherent = record {
+          handles = λ h. refl;
+          pointers = λ x. refl;
+          in_slots = λ h live. absurd (cc live);
+          in_order = refl;
+        };
       };
       within = (let large = p.large_enough in let within = p.within in omega arith);
       growth = ap (λ n. (limit - n == 0) || (((limit - n) % 4 == 0) && nat_le 12 (limit - n))) whole
           ∙ may_grow 12 (limit - size) (omega arith) (let a = p.even_size in let b = p.even_limit in omega arith) (none_or_enough size limit p.within p.growth);
-      free = λ x. ((λ c. (c, refl)), (λ c. c.0));
-      once = slots_from-once slot_count (base + 52 + 0 + 8);
+      slots = record {
+        free = λ x. ((λ c. (c, refl)), (λ c. c.0));
+        once = slots_from-once slot_count (base + 52 + 0 + 8);
+      };
     }
 
 -- a zone of 32-bit blocks
@@ -65,17 +69,21 @@ new_zone32 base size limit p =
       suits = record {
         apart = refl;
         sizes = rest_size 268 16 size (inr (refl, refl)) p.even_size p.large_enough;
-        handles = λ h. refl;
-        pointers = λ x. refl;
         lengths = refl;
-        in_slots = λ h live. absurd (cc live);
-        in_order = refl;
+        coherent = record {
+          handles = λ h. refl;
+          pointers = λ x. refl;
+          in_slots = λ h live. absurd (cc live);
+          in_order = refl;
+        };
       };
       within = (let large = p.large_enough in let within = p.within in omega arith);
       growth = ap (λ n. (limit - n == 0) || (((limit - n) % 4 == 0) && nat_le 16 (limit - n))) whole
           ∙ may_grow 16 (limit - size) (omega arith) (let a = p.even_size in let b = p.even_limit in omega arith) (none_or_enough size limit p.within p.growth);
-      free = λ x. ((λ c. (c, refl)), (λ c. c.0));
-      once = slots_from-once slot_count (base + 52 + 0 + 12);
+      slots = record {
+        free = λ x. ((λ c. (c, refl)), (λ c. c.0));
+        once = slots_from-once slot_count (base + 52 + 0 + 12);
+      };
     }
 
 -- a new zone's heap is sound

@@ -39,7 +39,7 @@ pub record IsFreeSlot (s : Shape) (heap : Heap) (h : ℕ) : Type 0 where
 -- each of the free slots is one
 pub free_slot : (s : Shape) (heap : Heap) → Sound s heap → (h : ℕ) → Contains heap.free_slots h → IsFreeSlot s heap h
 free_slot s heap sound h is =
-    let fact = (sound.free h).0 is in
+    let fact = (sound.slots.free h).0 is in
     let pointer = slot_no_pointer s heap.table heap.map sound.suits h fact.0 in
     let none = not_live heap.table h fact.1 pointer in
     record { slot = fact.0; no_handle = fact.1; not_full = ap live_full none; no_pointer = pointer; not_live = none }
@@ -78,18 +78,20 @@ module _ (s : Shape) (heap : Heap) (h : ℕ) (hs : List ℕ) (sound : Sound s he
     suits = suits;
     within = subst (λ n. zone_header + n ≤ s.limit) (sym same_size) sound.within;
     growth = subst (λ n. IsTrue (is_growth s (s.limit - (zone_header + n)))) (sym same_size) sound.growth;
-    free = subst (λ xs. (x : ℕ) → Contains xs x ↔ (Contains (slots s m) x × IsFalse (is_handle u x))) (sym rest)
-        (front_slot-taken h hs (slots s m) heap.table u once_front
-        (subst (λ all. (x : ℕ) → Contains (h ∷ hs) x ↔ (Contains all x × IsFalse (is_handle heap.table x))) (sym same_slots)
-        (subst (λ xs. (x : ℕ) → Contains xs x ↔ (Contains (slots s heap.map) x × IsFalse (is_handle heap.table x))) front sound.free)) agree live);
-    once = subst (IsDistinct nat_eq) (sym rest) (IsDistinct-tail nat_eq h hs once_front);
+    slots = record {
+      free = subst (λ xs. (x : ℕ) → Contains xs x ↔ (Contains (slots s m) x × IsFalse (is_handle u x))) (sym rest)
+          (front_slot-taken h hs (slots s m) heap.table u once_front
+          (subst (λ all. (x : ℕ) → Contains (h ∷ hs) x ↔ (Contains all x × IsFalse (is_handle heap.table x))) (sym same_slots)
+          (subst (λ xs. (x : ℕ) → Contains xs x ↔ (Contains (slots s heap.map) x × IsFalse (is_handle heap.table x))) front sound.slots.free)) agree live);
+      once = subst (IsDistinct nat_eq) (sym rest) (IsDistinct-tail nat_eq h hs once_front);
+    };
   }
     where
       rest : drop 1 heap.free_slots ≡ hs
       rest = ap (drop 1) front
 
       once_front : IsDistinct nat_eq (h ∷ hs)
-      once_front = subst (IsDistinct nat_eq) front sound.once
+      once_front = subst (IsDistinct nat_eq) front sound.slots.once
 
   -- a new handle of n bytes takes the lowest free block that has room for them
   pub sound-placed : (n : ℕ) (m : ZoneMap) → take_lowest s (need s.heads n) (Rel h) heap.map ≡ Some m → Sound s (granted (NewBlock n) h m heap)
@@ -100,7 +102,7 @@ module _ (s : Shape) (heap : Heap) (h : ℕ) (hs : List ℕ) (sound : Sound s he
       let agree = with_live_agrees h (FullHandle no_flags (zeros n)) heap.table in
       let has = live_at-with_live_same h (FullHandle no_flags (zeros n)) heap.table in
       sound-slot_taken m u
-      (Suits-new_handle s n h heap.map m heap.table u at sound.suits agree slot.not_full slot.no_pointer slot.slot no_flags (zeros n) has (length-replicate n 0) (in_order-with_live h (FullHandle no_flags (zeros n)) heap.table sound.suits.in_order))
+      (Suits-new_handle s n h heap.map m heap.table u at sound.suits agree slot.not_full slot.no_pointer slot.slot no_flags (zeros n) has (length-replicate n 0) (in_order-with_live h (FullHandle no_flags (zeros n)) heap.table sound.suits.coherent.in_order))
       (total_size-exchanged heap.map m (taken_exchange s (need s.heads n) (Rel h) heap.map m at))
       (slots-same s heap.map m (addresses-untaken s (need s.heads n) (Rel h) heap.map m at is_master refl refl))
       agree (ap live_handle has)

@@ -96,10 +96,12 @@ module _ (s : Shape) (heap : Heap) (n p : ℕ) (m : ZoneMap) (sound : Sound s he
       let handles : (y : ℕ) → is_handle u y ≡ is_handle heap.table y = by_number (λ y. is_handle u y ≡ is_handle heap.table y) p (ap live_handle has ∙ sym new_pointer-no_handle) (λ y apart. ap live_handle (agree.others y apart)) in
       record {
         suits = Suits-new_pointer s n p heap.map m heap.table u lowest.at sound.suits agree (ap live_full new_pointer-not_live) new_pointer-no_pointer (zeros n) has (length-replicate n 0) at_block
-            (in_order-with_live p (Pointer (zeros n)) heap.table sound.suits.in_order);
+            (in_order-with_live p (Pointer (zeros n)) heap.table sound.suits.coherent.in_order);
         within = subst (λ n. zone_header + n ≤ s.limit) (sym same_size) sound.within;
         growth = subst (λ n. IsTrue (is_growth s (s.limit - (zone_header + n)))) (sym same_size) sound.growth;
-        free = subst (λ all. (y : ℕ) → Contains heap.free_slots y ↔ (Contains all y × IsFalse (is_handle u y))) (sym same_slots)
-            (λ y. ((λ c. let fact = (sound.free y).0 c in (fact.0, handles y ∙ fact.1)), (λ c. (sound.free y).1 (c.0, sym (handles y) ∙ c.1))));
-        once = sound.once;
+        slots = record {
+          free = subst (λ all. (y : ℕ) → Contains heap.free_slots y ↔ (Contains all y × IsFalse (is_handle u y))) (sym same_slots)
+              (λ y. ((λ c. let fact = (sound.slots.free y).0 c in (fact.0, handles y ∙ fact.1)), (λ c. (sound.slots.free y).1 (c.0, sym (handles y) ∙ c.1))));
+          once = sound.slots.once;
+        };
       }

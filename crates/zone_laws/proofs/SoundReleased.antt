@@ -40,9 +40,11 @@ module _ (s : Shape) (heap : Heap) (x : ℕ) (u : HandleTable) (sound : Sound s 
     suits = suits;
     within = within_released;
     growth = growth_released;
-    free = subst (λ all. (y : ℕ) → Contains heap.free_slots y ↔ (Contains all y × IsFalse (is_handle u y))) (sym (slots-released s x heap.map))
-        (λ y. ((λ c. let fact = (sound.free y).0 c in (fact.0, handles y ∙ fact.1)), (λ c. (sound.free y).1 (c.0, sym (handles y) ∙ c.1))));
-    once = sound.once;
+    slots = record {
+      free = subst (λ all. (y : ℕ) → Contains heap.free_slots y ↔ (Contains all y × IsFalse (is_handle u y))) (sym (slots-released s x heap.map))
+          (λ y. ((λ c. let fact = (sound.slots.free y).0 c in (fact.0, handles y ∙ fact.1)), (λ c. (sound.slots.free y).1 (c.0, sym (handles y) ∙ c.1))));
+      once = sound.slots.once;
+    };
   }
     where
       handles : (y : ℕ) → is_handle u y ≡ is_handle heap.table y
@@ -54,17 +56,19 @@ module _ (s : Shape) (heap : Heap) (x : ℕ) (u : HandleTable) (sound : Sound s 
     suits = suits;
     within = within_released;
     growth = growth_released;
-    free = subst (λ all. (y : ℕ) → Contains (x ∷ heap.free_slots) y ↔ (Contains all y × IsFalse (is_handle u y))) (sym (slots-released s x heap.map))
-        (by_number (λ y. Contains (x ∷ heap.free_slots) y ↔ (Contains (slots s heap.map) y × IsFalse (is_handle u y))) x
-        ((λ _. (sound.suits.in_slots x was, gone)), (λ _. Contains-here x heap.free_slots))
-        (λ y apart. (
-          (λ c. elim (Contains-cons_cases x heap.free_slots y c) [
-            | inl same ↦ absurd (differ y apart same)
-            | inr later ↦ (let fact = (sound.free y).0 later in (fact.0, ap live_handle (agree.others y apart) ∙ fact.1))
-          ]),
-          (λ c. Contains-later x heap.free_slots y ((sound.free y).1 (c.0, sym (ap live_handle (agree.others y apart)) ∙ c.1))),
-        )));
-    once = IsDistinct-more x heap.free_slots (λ c. cc (((sound.free x).0 c).1, was)) sound.once;
+    slots = record {
+      free = subst (λ all. (y : ℕ) → Contains (x ∷ heap.free_slots) y ↔ (Contains all y × IsFalse (is_handle u y))) (sym (slots-released s x heap.map))
+          (by_number (λ y. Contains (x ∷ heap.free_slots) y ↔ (Contains (slots s heap.map) y × IsFalse (is_handle u y))) x
+          ((λ _. (sound.suits.coherent.in_slots x was, gone)), (λ _. Contains-here x heap.free_slots))
+          (λ y apart. (
+            (λ c. elim (Contains-cons_cases x heap.free_slots y c) [
+              | inl same ↦ absurd (differ y apart same)
+              | inr later ↦ (let fact = (sound.slots.free y).0 later in (fact.0, ap live_handle (agree.others y apart) ∙ fact.1))
+            ]),
+            (λ c. Contains-later x heap.free_slots y ((sound.slots.free y).1 (c.0, sym (ap live_handle (agree.others y apart)) ∙ c.1))),
+          )));
+      once = IsDistinct-more x heap.free_slots (λ c. cc (((sound.slots.free x).0 c).1, was)) sound.slots.once;
+    };
   }
     where
       differ : (y : ℕ) → eqb y x ≡ false → x ≡ y → ⊥
@@ -77,7 +81,7 @@ sound-disposed s heap h sound was =
     let none = live_at-without_same h heap.table in
     let agree = without_agrees h heap.table in
     sound-released_slot s heap h u sound agree
-    (Suits-released s h heap.map heap.table u sound.suits agree (ap live_full none) (ap live_pointer none) (λ live. absurd (cc (sym (ap live_handle none) ∙ live))) (in_order-without h heap.table sound.suits.in_order))
+    (Suits-released s h heap.map heap.table u sound.suits agree (ap live_full none) (ap live_pointer none) (λ live. absurd (cc (sym (ap live_handle none) ∙ live))) (in_order-without h heap.table sound.suits.coherent.in_order))
     was (ap live_handle none)
 
 -- a pointer is disposed of
@@ -87,7 +91,7 @@ sound-disposed_pointer s heap p sound was =
     let none = live_at-without_same p heap.table in
     let agree = without_agrees p heap.table in
     sound-released s heap p u sound agree
-    (Suits-released s p heap.map heap.table u sound.suits agree (ap live_full none) (ap live_pointer none) (λ live. absurd (cc (sym (ap live_handle none) ∙ live))) (in_order-without p heap.table sound.suits.in_order))
+    (Suits-released s p heap.map heap.table u sound.suits agree (ap live_full none) (ap live_pointer none) (λ live. absurd (cc (sym (ap live_handle none) ∙ live))) (in_order-without p heap.table sound.suits.coherent.in_order))
     (ap live_handle none ∙ sym (pointer_no_handle heap.table p was).0)
 
 -- a handle becomes empty
@@ -97,5 +101,5 @@ sound-emptied s heap h sound was =
     let has = live_at-with_live_same h EmptyHandle heap.table in
     let agree = with_live_agrees h EmptyHandle heap.table in
     sound-released s heap h u sound agree
-    (Suits-released s h heap.map heap.table u sound.suits agree (ap live_full has) (ap live_pointer has) (λ _. sound.suits.in_slots h was) (in_order-with_live h EmptyHandle heap.table sound.suits.in_order))
+    (Suits-released s h heap.map heap.table u sound.suits agree (ap live_full has) (ap live_pointer has) (λ _. sound.suits.coherent.in_slots h was) (in_order-with_live h EmptyHandle heap.table sound.suits.coherent.in_order))
     (ap live_handle has ∙ sym was)

@@ -35,12 +35,14 @@ module _ (s : Shape) (heap : Heap) (n x : ℕ) (m : ZoneMap) (sound : Sound s he
         suits = Suits-resized s n x heap.map m heap.table u r sound.suits agree block
             (by_number (λ y. is_full u y ≡ is_full heap.table y) x (ap live_full has ∙ same.full) (λ y apart. ap live_full (agree.others y apart)))
             (by_number (λ y. is_pointer u y ≡ is_pointer heap.table y) x (ap live_pointer has ∙ same.pointer) (λ y apart. ap live_pointer (agree.others y apart)))
-            handles (ap (λ o. length (live_bytes o)) has ∙ ap length same.holds ∙ long) (in_order-with_live x l heap.table sound.suits.in_order);
+            handles (ap (λ o. length (live_bytes o)) has ∙ ap length same.holds ∙ long) (in_order-with_live x l heap.table sound.suits.coherent.in_order);
         within = subst (λ n. zone_header + n ≤ s.limit) (sym same_size) sound.within;
         growth = subst (λ n. IsTrue (is_growth s (s.limit - (zone_header + n)))) (sym same_size) sound.growth;
-        free = subst (λ all. (y : ℕ) → Contains heap.free_slots y ↔ (Contains all y × IsFalse (is_handle u y))) (sym same_slots)
-            (λ y. ((λ c. let fact = (sound.free y).0 c in (fact.0, handles y ∙ fact.1)), (λ c. (sound.free y).1 (c.0, sym (handles y) ∙ c.1))));
-        once = sound.once;
+        slots = record {
+          free = subst (λ all. (y : ℕ) → Contains heap.free_slots y ↔ (Contains all y × IsFalse (is_handle u y))) (sym same_slots)
+              (λ y. ((λ c. let fact = (sound.slots.free y).0 c in (fact.0, handles y ∙ fact.1)), (λ c. (sound.slots.free y).1 (c.0, sym (handles y) ∙ c.1))));
+          once = sound.slots.once;
+        };
       }
 
   -- x gets n bytes: the first of those that it has, with zeros behind them

@@ -40,21 +40,25 @@ pub Suits-same_shape : (s : Shape) (t u : HandleTable) (m : ZoneMap) → Suits s
 Suits-same_shape s t u m suits same slot rise = record {
   apart = suits.apart;
   sizes = suits.sizes;
-  handles = λ h. suits.handles h ∙ sym (ap (λ b. cond b 1 0) (same.full h));
-  pointers = λ p. suits.pointers p ∙ sym (ap (λ b. cond b (p ∷ []) []) (same.pointer p));
   lengths = lengths-same s t u same m suits.lengths;
-  in_slots = slot;
-  in_order = rise;
+  coherent = record {
+    handles = λ h. suits.coherent.handles h ∙ sym (ap (λ b. cond b 1 0) (same.full h));
+    pointers = λ p. suits.coherent.pointers p ∙ sym (ap (λ b. cond b (p ∷ []) []) (same.pointer p));
+    in_slots = slot;
+    in_order = rise;
+  };
 }
 
 -- and the heap with such a table is sound, where the same are handles
 pub sound-same_shape : (s : Shape) (heap : Heap) (u : HandleTable) → Sound s heap → SameShape heap.table u → ((h : ℕ) → is_handle u h ≡ is_handle heap.table h) → IsTrue (is_sorted nat_cmp u.live) → Sound s (with_table u heap)
 sound-same_shape s heap u sound same handles rise = record {
-  suits = Suits-same_shape s heap.table u heap.map sound.suits same (λ h live. sound.suits.in_slots h (sym (handles h) ∙ live)) rise;
+  suits = Suits-same_shape s heap.table u heap.map sound.suits same (λ h live. sound.suits.coherent.in_slots h (sym (handles h) ∙ live)) rise;
   within = sound.within;
   growth = sound.growth;
-  free = λ x. ((λ c. let fact = (sound.free x).0 c in (fact.0, handles x ∙ fact.1)), (λ c. (sound.free x).1 (c.0, sym (handles x) ∙ c.1)));
-  once = sound.once;
+  slots = record {
+    free = λ x. ((λ c. let fact = (sound.slots.free x).0 c in (fact.0, handles x ∙ fact.1)), (λ c. (sound.slots.free x).1 (c.0, sym (handles x) ∙ c.1)));
+    once = sound.slots.once;
+  };
 }
 
 -- x changes to what is as it was but for its bytes or its flags
@@ -72,7 +76,7 @@ module _ (s : Shape) (heap : Heap) (x : ℕ) (l : Live) (sound : Sound s heap) (
         long = by_number (λ y. length (bytes_of u y) ≡ length (bytes_of heap.table y)) x (ap (λ o. length (live_bytes o)) has ∙ long) (λ y apart. ap (λ o. length (live_bytes o)) (agree.others y apart));
       })
       (by_number (λ y. is_handle u y ≡ is_handle heap.table y) x (ap live_handle has ∙ handle) (λ y apart. ap live_handle (agree.others y apart)))
-      (in_order-with_live x l heap.table sound.suits.in_order)
+      (in_order-with_live x l heap.table sound.suits.coherent.in_order)
 
 -- what has a block keeps what it is when its bytes change
 pub record Refilled (bytes : List ℕ) (o : Option Live) : Type 0 where
@@ -123,6 +127,6 @@ sound-new_empty s heap h hs sound front =
       full = by_number (λ y. is_full u y ≡ is_full heap.table y) h (ap live_full has ∙ sym slot.not_full) (λ y apart. ap live_full (agree.others y apart));
       pointer = by_number (λ y. is_pointer u y ≡ is_pointer heap.table y) h (ap live_pointer has ∙ sym slot.no_pointer) (λ y apart. ap live_pointer (agree.others y apart));
       long = by_number (λ y. length (bytes_of u y) ≡ length (bytes_of heap.table y)) h (ap (λ o. length (live_bytes o)) (has) ∙ sym (ap (λ o. length (live_bytes o)) slot.not_live)) (λ y apart. ap (λ o. length (live_bytes o)) (agree.others y apart));
-    }) (by_number (λ y. IsTrue (is_handle u y) → Contains (slots s heap.map) y) h (λ _. slot.slot) (λ y apart live. sound.suits.in_slots y (sym (ap live_handle (agree.others y apart)) ∙ live)))
-    (in_order-with_live h EmptyHandle heap.table sound.suits.in_order))
+    }) (by_number (λ y. IsTrue (is_handle u y) → Contains (slots s heap.map) y) h (λ _. slot.slot) (λ y apart live. sound.suits.coherent.in_slots y (sym (ap live_handle (agree.others y apart)) ∙ live)))
+    (in_order-with_live h EmptyHandle heap.table sound.suits.coherent.in_order))
     refl refl agree (ap live_handle has)

@@ -29,12 +29,12 @@ length-sizes_named x (e ∷ es) = by_kind e.kind (length-sizes_named x es)
 
 -- how many blocks the handle x has
 pub length-handle_blocks : (s : Shape) (t : HandleTable) (m : ZoneMap) (x : ℕ) → Suits s t m → length (sizes (is_handle_block x) m) ≡ cond (is_full t x) 1 0
-length-handle_blocks s t m x suits = sym (length-addresses_from (address_behind s []) (is_handle_block x) m) ∙ suits.handles x
+length-handle_blocks s t m x suits = sym (length-addresses_from (address_behind s []) (is_handle_block x) m) ∙ suits.coherent.handles x
 
 -- and how many the pointer x
 pub length-pointer_blocks : (s : Shape) (t : HandleTable) (m : ZoneMap) (x : ℕ) → Suits s t m → length (sizes (is_pointer_block x) m) ≡ cond (is_pointer t x) 1 0
 length-pointer_blocks s t m x suits =
-    sym (length-addresses_from (address_behind s []) (is_pointer_block x) m) ∙ sym (length-map (addresses s (is_pointer_block x) m) _) ∙ ap length (suits.pointers x)
+    sym (length-addresses_from (address_behind s []) (is_pointer_block x) m) ∙ sym (length-map (addresses s (is_pointer_block x) m) _) ∙ ap length (suits.coherent.pointers x)
     ∙ elim (is_pointer t x) as (λ c. length (cond c (x ∷ []) []) ≡ cond c 1 0) [ true ↦ refl | false ↦ refl ]
 
 -- how many blocks x names

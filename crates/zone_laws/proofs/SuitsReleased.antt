@@ -101,15 +101,17 @@ pub Suits-released : (s : Shape) (x : ℕ) (m : ZoneMap) (t u : HandleTable) →
 Suits-released s x m t u suits agree not_full no_pointer slot rise = record {
   apart = free_apart-joined (freed x m);
   sizes = sizes-joined s (freed x m) (sizes-freed s x m suits.sizes);
-  handles = by_number (λ g. length (addresses s (is_handle_block g) (released x m)) ≡ cond (is_full u g) 1 0) x
-      (ap length (addresses-released_same s x (is_handle_block x) m refl (named_handle x)) ∙ sym (ap (λ b. cond b 1 0) not_full))
-      (λ g apart. ap length (addresses-released s x (is_handle_block g) m refl (other_handle x g apart)) ∙ suits.handles g ∙ sym (ap (λ o. cond (live_full o) 1 0) (agree.others g apart)));
-  pointers = by_number (λ p. contents_addresses s (is_pointer_block p) (released x m) ≡ cond (is_pointer u p) (p ∷ []) []) x
-      (contents-same s (is_pointer_block x) [] (released x m) (addresses-released_same s x (is_pointer_block x) m refl (named_pointer x)) ∙ sym (ap (λ b. cond b (x ∷ []) []) no_pointer))
-      (λ p apart. contents-same s (is_pointer_block p) m (released x m) (addresses-released s x (is_pointer_block p) m refl (other_pointer x p apart)) ∙ suits.pointers p ∙ sym (ap (λ o. cond (live_pointer o) (p ∷ []) []) (agree.others p apart)));
   lengths = lengths-joined s u (freed x m) (lengths-freed s x t u agree m suits.lengths);
-  in_slots = by_number (λ g. IsTrue (is_handle u g) → Contains (slots s (released x m)) g) x
-      (λ live. subst (λ xs. Contains xs x) (sym (slots-released s x m)) (slot live))
-      (λ g apart live. subst (λ xs. Contains xs g) (sym (slots-released s x m)) (suits.in_slots g (sym (ap live_handle (agree.others g apart)) ∙ live)));
-  in_order = rise;
+  coherent = record {
+    handles = by_number (λ g. length (addresses s (is_handle_block g) (released x m)) ≡ cond (is_full u g) 1 0) x
+        (ap length (addresses-released_same s x (is_handle_block x) m refl (named_handle x)) ∙ sym (ap (λ b. cond b 1 0) not_full))
+        (λ g apart. ap length (addresses-released s x (is_handle_block g) m refl (other_handle x g apart)) ∙ suits.coherent.handles g ∙ sym (ap (λ o. cond (live_full o) 1 0) (agree.others g apart)));
+    pointers = by_number (λ p. contents_addresses s (is_pointer_block p) (released x m) ≡ cond (is_pointer u p) (p ∷ []) []) x
+        (contents-same s (is_pointer_block x) [] (released x m) (addresses-released_same s x (is_pointer_block x) m refl (named_pointer x)) ∙ sym (ap (λ b. cond b (x ∷ []) []) no_pointer))
+        (λ p apart. contents-same s (is_pointer_block p) m (released x m) (addresses-released s x (is_pointer_block p) m refl (other_pointer x p apart)) ∙ suits.coherent.pointers p ∙ sym (ap (λ o. cond (live_pointer o) (p ∷ []) []) (agree.others p apart)));
+    in_slots = by_number (λ g. IsTrue (is_handle u g) → Contains (slots s (released x m)) g) x
+        (λ live. subst (λ xs. Contains xs x) (sym (slots-released s x m)) (slot live))
+        (λ g apart live. subst (λ xs. Contains xs g) (sym (slots-released s x m)) (suits.coherent.in_slots g (sym (ap live_handle (agree.others g apart)) ∙ live)));
+    in_order = rise;
+  };
 }

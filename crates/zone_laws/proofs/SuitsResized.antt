@@ -46,11 +46,11 @@ length_of_map f (x ∷ xs) = let rest = length_of_map f xs in omega arith
 pub one_named : (s : Shape) (t : HandleTable) (m : ZoneMap) (x : ℕ) → Suits s t m → (is_full t x || is_pointer t x) ≡ true → length (addresses s (is_named x) m) ≡ 1
 one_named s t m x suits block = elim (is_full t x) as (λ b. is_full t x ≡ b → (b || is_pointer t x) ≡ true → length (addresses s (is_named x) m) ≡ 1) [
   | true ↦ λ full _.
-      let one : length (addresses s (is_handle_block x) m) ≡ 1 = suits.handles x ∙ ap (λ b. cond b 1 0) full in
+      let one : length (addresses s (is_handle_block x) m) ≡ 1 = suits.coherent.handles x ∙ ap (λ b. cond b 1 0) full in
       let none : length (addresses s (is_pointer_block x) m) ≡ 0 = ap length (no_pointer_block s t m suits x (handle_no_pointer t x (full_handle t x full))) in
       omega (arith, count_named (address_behind s []) x m)
   | false ↦ λ full pointer.
-      let one : length (addresses s (is_pointer_block x) m) ≡ 1 = sym (length_of_map (λ a. a + head_size s.heads) (addresses s (is_pointer_block x) m)) ∙ ap length (suits.pointers x ∙ ap (λ b. cond b (x ∷ []) []) pointer) in
+      let one : length (addresses s (is_pointer_block x) m) ≡ 1 = sym (length_of_map (λ a. a + head_size s.heads) (addresses s (is_pointer_block x) m)) ∙ ap length (suits.coherent.pointers x ∙ ap (λ b. cond b (x ∷ []) []) pointer) in
       let none : length (addresses s (is_handle_block x) m) ≡ 0 = ap length (no_handle_block s t m suits x full) in
       omega (arith, count_named (address_behind s []) x m)
 ] refl block
@@ -197,13 +197,15 @@ Suits-resized s n x old new t u r suits agree block fulls pointers handles long 
     record {
       apart = free_apart-resized s (need s.heads n) x old new r suits.apart;
       sizes = sizes-resized s (need s.heads n) x old new r (need-is_size s n) suits.sizes;
-      handles = λ h. ap length (addresses_from-resized s (need s.heads n) x old new r (address_behind s []) (is_handle_block h) refl) ∙ suits.handles h ∙ sym (ap (λ b. cond b 1 0) (fulls h));
-      pointers = λ p. contents-same s (is_pointer_block p) old new (addresses_from-resized s (need s.heads n) x old new r (address_behind s []) (is_pointer_block p) refl)
-          ∙ suits.pointers p ∙ sym (ap (λ b. cond b (p ∷ []) []) (pointers p));
       lengths = list_all-resized s (need s.heads n) x old new r (has_owners_length s u) (lengths-joined s u)
           (lengths-agree s x t u agree r.before unnamed.0 parts.0)
           (lengths-taken s u n (r.changed).kind ((r.changed).size + total_size r.room) (named_length x u (r.changed).kind r.named ∙ long) r.fits)
           (lengths-agree s x t u agree r.behind unnamed.1 parts.2);
-      in_slots = λ h live. subst (λ xs. Contains xs h) (sym (slots-same s old new (addresses_from-resized s (need s.heads n) x old new r (address_behind s []) is_master refl))) (suits.in_slots h (sym (handles h) ∙ live));
-      in_order = rise;
+      coherent = record {
+        handles = λ h. ap length (addresses_from-resized s (need s.heads n) x old new r (address_behind s []) (is_handle_block h) refl) ∙ suits.coherent.handles h ∙ sym (ap (λ b. cond b 1 0) (fulls h));
+        pointers = λ p. contents-same s (is_pointer_block p) old new (addresses_from-resized s (need s.heads n) x old new r (address_behind s []) (is_pointer_block p) refl)
+            ∙ suits.coherent.pointers p ∙ sym (ap (λ b. cond b (p ∷ []) []) (pointers p));
+        in_slots = λ h live. subst (λ xs. Contains xs h) (sym (slots-same s old new (addresses_from-resized s (need s.heads n) x old new r (address_behind s []) is_master refl))) (suits.coherent.in_slots h (sym (handles h) ∙ live));
+        in_order = rise;
+      };
     }

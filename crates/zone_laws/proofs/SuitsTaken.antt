@@ -82,11 +82,11 @@ module _ (s : Shape) (n x : ℕ) (kind : Kind) (old new : ZoneMap) (t u : Handle
 
   -- another number has the blocks that it had
   handles-other : (g : ℕ) → is_handle_block g kind ≡ false → is_full u g ≡ is_full t g → length (addresses s (is_handle_block g) new) ≡ cond (is_full u g) 1 0
-  handles-other g other same = ap length (addresses-untaken s (need s.heads n) kind old new at (is_handle_block g) refl other) ∙ suits.handles g ∙ sym (ap (λ b. cond b 1 0) same)
+  handles-other g other same = ap length (addresses-untaken s (need s.heads n) kind old new at (is_handle_block g) refl other) ∙ suits.coherent.handles g ∙ sym (ap (λ b. cond b 1 0) same)
 
   pointers-other : (p : ℕ) → is_pointer_block p kind ≡ false → is_pointer u p ≡ is_pointer t p → contents_addresses s (is_pointer_block p) new ≡ cond (is_pointer u p) (p ∷ []) []
   pointers-other p other same = contents-same s (is_pointer_block p) old new (addresses-untaken s (need s.heads n) kind old new at (is_pointer_block p) refl other)
-      ∙ suits.pointers p ∙ sym (ap (λ b. cond b (p ∷ []) []) same)
+      ∙ suits.coherent.pointers p ∙ sym (ap (λ b. cond b (p ∷ []) []) same)
 
 -- the block is given to a new handle, which takes a slot
 pub Suits-new_handle : (s : Shape) (n h : ℕ) (old new : ZoneMap) (t u : HandleTable) → TakenAt s (need s.heads n) (Rel h) old new → Suits s t old → AgreeBut h t u
@@ -95,17 +95,19 @@ pub Suits-new_handle : (s : Shape) (n h : ℕ) (old new : ZoneMap) (t u : Handle
 Suits-new_handle s n h old new t u at suits agree not_full no_pointer slot flags bytes has long rise = record {
   apart = free_apart-kept s (need s.heads n) (Rel h) old new at refl suits.apart;
   sizes = sizes-kept s (need s.heads n) (Rel h) old new at (need-is_size s n) suits.sizes;
-  handles = by_number (λ g. length (addresses s (is_handle_block g) new) ≡ cond (is_full u g) 1 0) h
-      (ap length (addresses-taken s (need s.heads n) (Rel h) old new at (is_handle_block h) refl (eqb_same h) (no_handle_block s t old suits h not_full)) ∙ sym (ap (λ o. cond (live_full o) 1 0) has))
-      (λ g apart. handles-other s n h (Rel h) old new t u at suits agree not_full no_pointer g (eqb_swap h g ∙ apart) (ap live_full (agree.others g apart)));
-  pointers = by_number (λ p. contents_addresses s (is_pointer_block p) new ≡ cond (is_pointer u p) (p ∷ []) []) h
-      (pointers-other s n h (Rel h) old new t u at suits agree not_full no_pointer h refl (ap live_pointer has ∙ sym no_pointer))
-      (λ p apart. pointers-other s n h (Rel h) old new t u at suits agree not_full no_pointer p refl (ap live_pointer (agree.others p apart)));
   lengths = lengths-new s n h (Rel h) old new t u at suits agree not_full no_pointer (ap (λ o. length (live_bytes o)) has ∙ long);
-  in_slots = by_number (λ g. IsTrue (is_handle u g) → Contains (slots s new) g) h
-      (λ _. subst (λ xs. Contains xs h) (sym (slots-new s n h (Rel h) old new t u at suits agree not_full no_pointer refl)) slot)
-      (λ g apart live. subst (λ xs. Contains xs g) (sym (slots-new s n h (Rel h) old new t u at suits agree not_full no_pointer refl)) (suits.in_slots g (sym (ap live_handle (agree.others g apart)) ∙ live)));
-  in_order = rise;
+  coherent = record {
+    handles = by_number (λ g. length (addresses s (is_handle_block g) new) ≡ cond (is_full u g) 1 0) h
+        (ap length (addresses-taken s (need s.heads n) (Rel h) old new at (is_handle_block h) refl (eqb_same h) (no_handle_block s t old suits h not_full)) ∙ sym (ap (λ o. cond (live_full o) 1 0) has))
+        (λ g apart. handles-other s n h (Rel h) old new t u at suits agree not_full no_pointer g (eqb_swap h g ∙ apart) (ap live_full (agree.others g apart)));
+    pointers = by_number (λ p. contents_addresses s (is_pointer_block p) new ≡ cond (is_pointer u p) (p ∷ []) []) h
+        (pointers-other s n h (Rel h) old new t u at suits agree not_full no_pointer h refl (ap live_pointer has ∙ sym no_pointer))
+        (λ p apart. pointers-other s n h (Rel h) old new t u at suits agree not_full no_pointer p refl (ap live_pointer (agree.others p apart)));
+    in_slots = by_number (λ g. IsTrue (is_handle u g) → Contains (slots s new) g) h
+        (λ _. subst (λ xs. Contains xs h) (sym (slots-new s n h (Rel h) old new t u at suits agree not_full no_pointer refl)) slot)
+        (λ g apart live. subst (λ xs. Contains xs g) (sym (slots-new s n h (Rel h) old new t u at suits agree not_full no_pointer refl)) (suits.coherent.in_slots g (sym (ap live_handle (agree.others g apart)) ∙ live)));
+    in_order = rise;
+  };
 }
 
 -- the block is given to a new pointer, whose number is where its contents begin
@@ -115,17 +117,19 @@ pub Suits-new_pointer : (s : Shape) (n p : ℕ) (old new : ZoneMap) (t u : Handl
 Suits-new_pointer s n p old new t u at suits agree not_full no_pointer bytes has long here rise = record {
   apart = free_apart-kept s (need s.heads n) (Ptr p) old new at refl suits.apart;
   sizes = sizes-kept s (need s.heads n) (Ptr p) old new at (need-is_size s n) suits.sizes;
-  handles = by_number (λ g. length (addresses s (is_handle_block g) new) ≡ cond (is_full u g) 1 0) p
-      (handles-other s n p (Ptr p) old new t u at suits agree not_full no_pointer p refl (ap live_full has ∙ sym not_full))
-      (λ g apart. handles-other s n p (Ptr p) old new t u at suits agree not_full no_pointer g refl (ap live_full (agree.others g apart)));
-  pointers = by_number (λ q. contents_addresses s (is_pointer_block q) new ≡ cond (is_pointer u q) (q ∷ []) []) p
-      (contents_taken ∙ sym (ap (λ o. cond (live_pointer o) (p ∷ []) []) has))
-      (λ q apart. pointers-other s n p (Ptr p) old new t u at suits agree not_full no_pointer q (eqb_swap p q ∙ apart) (ap live_pointer (agree.others q apart)));
   lengths = lengths-new s n p (Ptr p) old new t u at suits agree not_full no_pointer (ap (λ o. length (live_bytes o)) has ∙ long);
-  in_slots = by_number (λ g. IsTrue (is_handle u g) → Contains (slots s new) g) p
-      (λ live. absurd (cc (sym (ap live_handle has) ∙ live)))
-      (λ g apart live. subst (λ xs. Contains xs g) (sym (slots-new s n p (Ptr p) old new t u at suits agree not_full no_pointer refl)) (suits.in_slots g (sym (ap live_handle (agree.others g apart)) ∙ live)));
-  in_order = rise;
+  coherent = record {
+    handles = by_number (λ g. length (addresses s (is_handle_block g) new) ≡ cond (is_full u g) 1 0) p
+        (handles-other s n p (Ptr p) old new t u at suits agree not_full no_pointer p refl (ap live_full has ∙ sym not_full))
+        (λ g apart. handles-other s n p (Ptr p) old new t u at suits agree not_full no_pointer g refl (ap live_full (agree.others g apart)));
+    pointers = by_number (λ q. contents_addresses s (is_pointer_block q) new ≡ cond (is_pointer u q) (q ∷ []) []) p
+        (contents_taken ∙ sym (ap (λ o. cond (live_pointer o) (p ∷ []) []) has))
+        (λ q apart. pointers-other s n p (Ptr p) old new t u at suits agree not_full no_pointer q (eqb_swap p q ∙ apart) (ap live_pointer (agree.others q apart)));
+    in_slots = by_number (λ g. IsTrue (is_handle u g) → Contains (slots s new) g) p
+        (λ live. absurd (cc (sym (ap live_handle has) ∙ live)))
+        (λ g apart live. subst (λ xs. Contains xs g) (sym (slots-new s n p (Ptr p) old new t u at suits agree not_full no_pointer refl)) (suits.coherent.in_slots g (sym (ap live_handle (agree.others g apart)) ∙ live)));
+    in_order = rise;
+  };
 }
   where
     there : (address_behind s [] + total_size at.before) + head_size s.heads ≡ p
