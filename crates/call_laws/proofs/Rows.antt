@@ -3,7 +3,7 @@ use Rattle.std.proofs.Common.{◌≡◌, refl, ℕ, List, [], ◌∷◌, ◌++�
 use Rattle.mac_base.specs.declared.block.Block.{Block}
 use Rattle.mac_base.specs.declared.error.OsErr.{OsErr}
 use Rattle.mac_base.specs.declared.error.OsErr.TheVariants.{ParamErr, MemFullErr, NilHandleErr, MemWzErr, MemPurErr, MemBcErr, MemLockedErr}
-use Rattle.mac_base.specs.declared.block.HeadKind.TheVariants.{Bits24}
+use Rattle.mac_base.specs.declared.block.HeadKind.TheVariants.{Bits24, Bits32}
 use Rattle.mac_base.specs.declared.block.Kind.TheVariants.{Free, Master, Ptr, Rel}
 use Rattle.mac_base.specs.HeadKind.{Shape, slot_count}
 use Rattle.mac_base.specs.ZoneMap.{block}
@@ -259,3 +259,36 @@ kept_by_growth = refl
 -- the master block that no room was left behind for stands in front, and all blocks above it
 master_block_first : (heap_after zone fresh (sixty_three ++ NewHandle 2752 ∷ NewHandle 0 ∷ NewEmptyHandle ∷ [])).free_slots ≡ slots_from 63 0x0010_0148
 master_block_first = refl
+
+-- ---- the same zone with 32-bit blocks
+
+abbrev zone32 : Shape
+zone32 = record { heads = Bits32; base = 0x0010_0000; limit = 4096 }
+
+abbrev fresh32 : Heap
+fresh32 = new_heap zone32 4096
+
+-- its first slot stands behind a header of 12 bytes
+abbrev g1 : ℕ
+g1 = 0x0010_0040
+
+first_handle_32 : outcomes_to zone32 fresh32 (NewHandle 100 ∷ WalkZone ∷ []) ≡ handle g1 ∷ blocks (
+    record { address = 0x0010_0034; entry = block Master 268; length = 256; flags = no_flags }
+    ∷ record { address = 0x0010_0140; entry = block (Rel g1) 112; length = 100; flags = no_flags }
+    ∷ record { address = 0x0010_01B0; entry = block Free 3664; length = 0; flags = no_flags }
+    ∷ []) ∷ []
+first_handle_32 = refl
+
+-- the largest block fits exactly, and one of a byte more doesn't
+exact_fit_32 : outcomes_to zone32 fresh32 (NewHandle 3764 ∷ []) ≡ handle g1 ∷ []
+exact_fit_32 = refl
+
+one_too_many_32 : outcomes_to zone32 fresh32 (NewHandle 3765 ∷ []) ≡ refused MemFullErr ∷ []
+one_too_many_32 = refl
+
+-- less than 16 bytes stay in the block, and 16 are a block of their own
+small_rest_32 : (heap_after zone32 fresh32 (NewHandle 3752 ∷ [])).map ≡ block Master 268 ∷ block (Rel g1) 3776 ∷ []
+small_rest_32 = refl
+
+smallest_rest_32 : (heap_after zone32 fresh32 (NewHandle 3748 ∷ [])).map ≡ block Master 268 ∷ block (Rel g1) 3760 ∷ block Free 16 ∷ []
+smallest_rest_32 = refl
