@@ -1,7 +1,9 @@
 pub mod Fit
+pub mod Owned
+pub mod Reading
 pub mod Places
 pub mod Sizes
 pub mod Changes
 pub mod WritingBack
-pub mod Image
-pub mod StandIn
+pub mod Following
+pub mod Flags

@@ -1,6 +1,9 @@
 //! A zone in which handles, pointers and blocks find each other, and free slots follow one another.
 #![tactic(auto)]
 
+mod changes;
+mod flags;
+mod sizes;
 mod zone;
 
 pub use zone::LinkedZone;

@@ -1,0 +1,124 @@
+-- What a zone map is once one of its blocks is for something else, and what a number that names no block names there.
+use Rattle.std.proofs.Common.{◌≡◌, ℕ, ◌+◌, Bool, true, not, cond, [], ◌∷◌, ◌++◌, map, refl, ap, sym, ◌∙◌, arith, IsTrue}
+use Rattle.std.specs.Prelude.{slice_index}
+use Rattle.std.specs.List.{list_all}
+use Rattle.std.proofs.lemmas.List.Folds.{list_all-append}
+use Rattle.std.proofs.lemmas.List.{map-append}
+use Rattle.mac_base.specs.declared.block.Entry.{Entry}
+use Rattle.mac_base.specs.declared.block.Kind.{Kind}
+use Rattle.mac_base.specs.declared.block.Kind.TheVariants.{Free, Master, Ptr, Rel}
+use Rattle.mac_base.specs.HeadKind.{Shape, head_size}
+use Rattle.mac_base.specs.ZoneMap.{ZoneMap, block, is_master, is_named, total_size, free_size, free_bytes, address_behind, addresses, addresses_from, contents_addresses, contents_of}
+use Rattle.mac_base.specs.Suits.{is_handle_block, is_pointer_block, slots}
+use Rattle.mac_base.specs.ZoneState.{ZoneState}
+use Rattle.zone_laws.proofs.Maps.{both_true, true_both, true_not}
+use Rattle.zone_laws.proofs.GapAppend.{total_size-append, free_bytes-append, addresses_from-append, addresses_from-none}
+use Rattle.zone_laws.proofs.Owners.{none_named}
+use Rattle.zone_laws.proofs.SuitsTaken.{slots-same, contents-same}
+use Rattle.linked_zone.specs.Changes.{freed}
+
+-- where x names no block, none is the block of the handle x
+pub none_handle : (x : ℕ) (m : ZoneMap) → none_named x m ≡ true → IsTrue (list_all (λ (e : Entry). not (is_handle_block x e.kind)) m)
+none_handle x [] none = refl
+none_handle x (e ∷ es) none =
+    let parts = both_true (not (is_named x e.kind)) (none_named x es) none in
+    true_both (not (is_handle_block x e.kind)) _ (by_kind e.kind parts.0) (none_handle x es parts.1)
+  where
+    by_kind : (kind : Kind) → not (is_named x kind) ≡ true → not (is_handle_block x kind) ≡ true
+    by_kind Free h = refl
+    by_kind Master h = refl
+    by_kind (Ptr p) h = refl
+    by_kind (Rel g) h = h
+
+-- where x names no block, none is the block of the pointer x
+pub none_pointer : (x : ℕ) (m : ZoneMap) → none_named x m ≡ true → IsTrue (list_all (λ (e : Entry). not (is_pointer_block x e.kind)) m)
+none_pointer x [] none = refl
+none_pointer x (e ∷ es) none =
+    let parts = both_true (not (is_named x e.kind)) (none_named x es) none in
+    true_both (not (is_pointer_block x e.kind)) _ (by_kind e.kind parts.0) (none_pointer x es parts.1)
+  where
+    by_kind : (kind : Kind) → not (is_named x kind) ≡ true → not (is_pointer_block x kind) ≡ true
+    by_kind Free h = refl
+    by_kind Master h = refl
+    by_kind (Ptr p) h = h
+    by_kind (Rel g) h = refl
+
+-- what names no block frees none
+pub freed-none : (x : ℕ) (m : ZoneMap) → none_named x m ≡ true → freed x m ≡ m
+freed-none x [] none = refl
+freed-none x (e ∷ es) none =
+    let parts = both_true (not (is_named x e.kind)) (none_named x es) none in
+    ap (λ b. cond b (block Free e.size) e ∷ freed x es) (true_not _ parts.0) ∙ ap (λ es. e ∷ es) (freed-none x es parts.1)
+
+-- to free what x names is to free the one block that it names
+pub freed-only : (x : ℕ) (m before : ZoneMap) (e : Entry) (behind : ZoneMap) → m ≡ before ++ e ∷ behind → is_named x e.kind ≡ true → none_named x before ≡ true → none_named x behind ≡ true
+    → freed x m ≡ before ++ block Free e.size ∷ behind
+freed-only x m before e behind is named first second =
+    ap (freed x) is
+    ∙ map-append (λ (e : Entry). cond (is_named x e.kind) (block Free e.size) e) before (e ∷ behind)
+    ∙ ap (λ m. m ++ freed x (e ∷ behind)) (freed-none x before first)
+    ∙ ap (λ c. before ++ cond c (block Free e.size) e ∷ freed x behind) named
+    ∙ ap (λ m. before ++ block Free e.size ∷ m) (freed-none x behind second)
+
+-- where x names no block of a map in three parts, it names none before and none behind
+pub none_named-parts : (x : ℕ) (before : ZoneMap) (e : Entry) (behind : ZoneMap) → none_named x (before ++ e ∷ behind) ≡ true → (none_named x before ≡ true) × (none_named x behind ≡ true)
+none_named-parts x before e behind none =
+    let outer = both_true (none_named x before) (none_named x (e ∷ behind)) (sym (list_all-append _ before (e ∷ behind)) ∙ none) in
+    (outer.0, (both_true (not (is_named x e.kind)) (none_named x behind) outer.1).1)
+
+-- where the first block that passes stands
+pub addresses-first : (s : Shape) (test : Kind → Bool) (before : ZoneMap) (e : Entry) (behind : ZoneMap) → IsTrue (list_all (λ (e : Entry). not (test e.kind)) before) → test e.kind ≡ true
+    → addresses s test (before ++ e ∷ behind) ≡ address_behind s before ∷ addresses_from ((address_behind s [] + total_size before) + e.size) test behind
+addresses-first s test before e behind none passes =
+    let here : address_behind s [] + total_size before ≡ address_behind s before = omega arith in
+    addresses_from-append (address_behind s []) test before (e ∷ behind)
+    ∙ ap (λ found. found ++ addresses_from (address_behind s [] + total_size before) test (e ∷ behind)) (addresses_from-none (address_behind s []) test before none)
+    ∙ ap (λ b. cond b ((address_behind s [] + total_size before) ∷ []) [] ++ addresses_from ((address_behind s [] + total_size before) + e.size) test behind) passes
+    ∙ ap (λ a. a ∷ addresses_from ((address_behind s [] + total_size before) + e.size) test behind) here
+
+-- and where it alone passes
+pub addresses-only : (s : Shape) (test : Kind → Bool) (before : ZoneMap) (e : Entry) (behind : ZoneMap) → IsTrue (list_all (λ (e : Entry). not (test e.kind)) before)
+    → IsTrue (list_all (λ (e : Entry). not (test e.kind)) behind) → test e.kind ≡ true → addresses s test (before ++ e ∷ behind) ≡ address_behind s before ∷ []
+addresses-only s test before e behind none_before none_behind passes =
+    addresses-first s test before e behind none_before passes
+    ∙ ap (λ found. address_behind s before ∷ found) (addresses_from-none ((address_behind s [] + total_size before) + e.size) test behind none_behind)
+
+-- where the contents of the first block begin that x names
+pub contents_of-first : (s : Shape) (x : ℕ) (before : ZoneMap) (e : Entry) (behind : ZoneMap) → none_named x before ≡ true → is_named x e.kind ≡ true
+    → contents_of s x (before ++ e ∷ behind) ≡ address_behind s before + head_size s.heads
+contents_of-first s x before e behind none named = ap (λ found. slice_index (map (λ a. a + head_size s.heads) found) 0) (addresses-first s (is_named x) before e behind none named)
+
+module _ (z : ZoneState) (before : ZoneMap) (a b : Kind) (n : ℕ) (behind : ZoneMap) (was : z.heap.map ≡ before ++ block a n ∷ behind) where
+  -- what passes both blocks or neither stays
+  pub swapped-addresses : (test : Kind → Bool) → test b ≡ test a → addresses z.shape test (before ++ block b n ∷ behind) ≡ addresses z.shape test z.heap.map
+  swapped-addresses test same =
+      addresses_from-append (address_behind z.shape []) test before (block b n ∷ behind)
+      ∙ ap (λ c. addresses_from (address_behind z.shape []) test before ++ (cond c ((address_behind z.shape [] + total_size before) ∷ []) [] ++ addresses_from ((address_behind z.shape [] + total_size before) + n) test behind)) same
+      ∙ sym (addresses_from-append (address_behind z.shape []) test before (block a n ∷ behind))
+      ∙ ap (addresses z.shape test) (sym was)
+
+  -- the slots stay
+  pub swapped-slots : is_master b ≡ is_master a → slots z.shape (before ++ block b n ∷ behind) ≡ slots z.shape z.heap.map
+  swapped-slots same = slots-same z.shape z.heap.map (before ++ block b n ∷ behind) (swapped-addresses is_master same)
+
+  -- the contents of each pointer's block stay
+  pub swapped-pointers : (p : ℕ) → is_pointer_block p b ≡ is_pointer_block p a → contents_addresses z.shape (is_pointer_block p) (before ++ block b n ∷ behind) ≡ contents_addresses z.shape (is_pointer_block p) z.heap.map
+  swapped-pointers p same = contents-same z.shape (is_pointer_block p) z.heap.map (before ++ block b n ∷ behind) (swapped-addresses (is_pointer_block p) same)
+
+  -- so do those of each block that x names
+  pub swapped-contents : (x : ℕ) → is_named x b ≡ is_named x a → contents_of z.shape x (before ++ block b n ∷ behind) ≡ contents_of z.shape x z.heap.map
+  swapped-contents x same = ap (λ found. slice_index (map (λ a. a + head_size z.shape.heads) found) 0) (swapped-addresses (is_named x) same)
+
+  -- the sum of the sizes stays
+  pub swapped-total : total_size (before ++ block b n ∷ behind) ≡ total_size z.heap.map
+  swapped-total = total_size-append before (block b n ∷ behind) ∙ sym (total_size-append before (block a n ∷ behind)) ∙ ap total_size (sym was)
+
+  -- and the free bytes change by those of the block
+  pub swapped-free : free_bytes (before ++ block b n ∷ behind) + free_size (block a n) ≡ free_bytes z.heap.map + free_size (block b n)
+  swapped-free =
+      let new = free_bytes-append before (block b n ∷ behind) in
+      let old = ap free_bytes was ∙ free_bytes-append before (block a n ∷ behind) in
+      sum (free_bytes before) (free_size (block a n)) (free_size (block b n)) (free_bytes behind) _ _ new old
+    where
+      sum : (w x y v new old : ℕ) → new ≡ w + (y + v) → old ≡ w + (x + v) → new + x ≡ old + y
+      sum w x y v new old is was = omega arith

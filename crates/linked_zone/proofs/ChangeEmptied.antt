@@ -1,0 +1,173 @@
+-- What a zone is once a handle's block is free and the handle empty.
+use Rattle.std.proofs.Common.{◌≡◌, ℕ, suc, ◌+◌, ◌-◌, Bool, true, false, not, cond, List, [], ◌∷◌, ◌++◌, length, Some, refl, ap, sym, ◌∙◌, arith, IsTrue, Contains, subst, ne_eqb, length-append}
+use Rattle.std.specs.List.{list_all}
+use Rattle.mac_base.specs.declared.block.Entry.{Entry}
+use Rattle.mac_base.specs.declared.block.Kind.{Kind}
+use Rattle.mac_base.specs.declared.block.Kind.TheVariants.{Free, Master, Ptr, Rel}
+use Rattle.mac_base.specs.HeadKind.{head_size}
+use Rattle.mac_base.specs.ZoneMap.{ZoneMap, block, total_size, addresses, addresses_from, address_behind, contents_addresses, contents_of}
+use Rattle.mac_base.specs.HandleTable.{HandleTable, EmptyHandle, live_at, live_bytes, live_full, live_handle, live_pointer, bytes_of, is_full, is_handle, is_pointer, with_live}
+use Rattle.mac_base.specs.Suits.{is_handle_block, is_pointer_block, slots}
+use Rattle.mac_base.specs.ZoneState.{ZoneState}
+use Rattle.zone_laws.proofs.GapAppend.{addresses_from-append, addresses_from-none}
+use Rattle.zone_laws.proofs.Tables.{AgreeBut, live_at-with_live_same, with_live_agrees, in_order-with_live, by_number, eqb_same, eqb_swap, eqb-true-is, full_handle, handle_no_pointer}
+use Rattle.zone_laws.proofs.Owners.{none_named, none_named-from, no_length}
+use Rattle.zone_records.specs.declared.slot.Slot.TheVariants as slot
+use Rattle.linked_zone.specs.Owned.{slot_of, next_free, slot_of_live}
+use Rattle.linked_zone.specs.Places.{BlockOf}
+use Rattle.linked_zone.specs.Changes.{with_heap, freed, without_block}
+use Rattle.linked_zone.specs.Fit.{Fits}
+use Rattle.linked_zone.proofs.ChangeParts.{same_slot, no_map, Fits-kept}
+use Rattle.linked_zone.proofs.ChangeBlock.{freed-only, none_handle, contents_of-first, swapped-addresses, swapped-slots, swapped-pointers, swapped-contents, swapped-total}
+
+-- the kind of the block of a handle
+handle_kind : (h : ℕ) (kind : Kind) → is_handle_block h kind ≡ true → kind ≡ Rel h
+handle_kind h Free is = absurd (cc is)
+handle_kind h Master is = absurd (cc is)
+handle_kind h (Ptr p) is = absurd (cc is)
+handle_kind h (Rel g) is = ap (λ x. Rel x) (eqb-true-is g h is)
+
+-- The block of a handle between others.
+record HandleBlock (h : ℕ) (m : ZoneMap) : Type 0 where
+  before : ZoneMap
+  size : ℕ
+  behind : ZoneMap
+  was : m ≡ before ++ block (Rel h) size ∷ behind
+
+-- a handle of which one block is found has one
+handle_block-found : (at h : ℕ) (m : ZoneMap) → length (addresses_from at (is_handle_block h) m) ≡ 1 → HandleBlock h m
+handle_block-found at h [] one = absurd (omega arith)
+handle_block-found at h (e ∷ es) one = elim (is_handle_block h e.kind) as (λ b. is_handle_block h e.kind ≡ b → length (cond b (at ∷ []) [] ++ addresses_from (at + e.size) (is_handle_block h) es) ≡ 1 → HandleBlock h (e ∷ es)) [
+  | true ↦ λ here _. record { before = []; size = e.size; behind = es; was = ap (λ k. block k e.size ∷ es) (handle_kind h e.kind here) }
+  | false ↦ λ other later. let rest = handle_block-found (at + e.size) h es later in
+      record { before = e ∷ rest.before; size = rest.size; behind = rest.behind; was = ap (λ m. e ∷ m) rest.was }
+] refl one
+
+nothing_left : (xs ys : List ℕ) → xs ++ ys ≡ [] → (xs ≡ []) × (ys ≡ [])
+nothing_left [] ys h = (refl, h)
+nothing_left (x ∷ xs) ys h = absurd (cc h)
+
+-- the place of the block of a handle
+pub record OwnBlock (z : ZoneState) (h : ℕ) : Type 0 where
+  pub at : ℕ
+  pub block : BlockOf z h at
+  pub contents : contents_of z.shape h z.heap.map ≡ at + head_size z.shape.heads
+
+module _ (z : ZoneState) (h : ℕ) (fits : Fits z) (full : is_full z.heap.table h ≡ true) where
+  no_pointer : is_pointer z.heap.table h ≡ false
+  no_pointer = handle_no_pointer z.heap.table h (full_handle z.heap.table h full)
+
+  -- the slot is one of the zone's
+  pub emptied-slot : Contains (slots z.shape z.heap.map) h
+  emptied-slot = fits.coherent.in_slots h (full_handle z.heap.table h full)
+
+  one : length (addresses z.shape (is_handle_block h) z.heap.map) ≡ 1
+  one = fits.coherent.handles h ∙ ap (λ b. cond b 1 0) full
+
+  no_pointers : addresses z.shape (is_pointer_block h) z.heap.map ≡ []
+  no_pointers = no_map _ _ (fits.coherent.pointers h ∙ ap (λ b. cond b (h ∷ []) []) no_pointer)
+
+  module _ (at : ℕ) (b : BlockOf z h at) where
+    abbrev start : ℕ
+    start = address_behind z.shape []
+
+    abbrev here : ℕ
+    here = start + total_size b.before
+
+    found : length (addresses_from start (is_handle_block h) b.before) + (1 + length (addresses_from (here + b.size) (is_handle_block h) b.behind)) ≡ 1
+    found =
+        let parts = ap (addresses z.shape (is_handle_block h)) b.map ∙ addresses_from-append start (is_handle_block h) b.before (block (Rel h) b.size ∷ b.behind)
+        ∙ ap (λ c. addresses_from start (is_handle_block h) b.before ++ (cond c (here ∷ []) [] ++ addresses_from (here + b.size) (is_handle_block h) b.behind)) (eqb_same h) in
+        let lengths : length (addresses_from start (is_handle_block h) b.before) + suc (length (addresses_from (here + b.size) (is_handle_block h) b.behind)) ≡ 1 =
+        sym (length-append (addresses_from start (is_handle_block h) b.before) (here ∷ addresses_from (here + b.size) (is_handle_block h) b.behind)) ∙ sym (ap length parts) ∙ one in
+        omega arith
+
+    pointers : (addresses_from start (is_pointer_block h) b.before ≡ []) × (addresses_from (here + b.size) (is_pointer_block h) b.behind ≡ [])
+    pointers = nothing_left _ _ (sym (addresses_from-append start (is_pointer_block h) b.before (block (Rel h) b.size ∷ b.behind)) ∙ ap (addresses z.shape (is_pointer_block h)) (sym b.map) ∙ no_pointers)
+
+    -- no block before it bears the handle's name
+    pub emptied-none_before : none_named h b.before ≡ true
+    emptied-none_before = none_named-from start h b.before (no_length _ (omega (arith, found))) pointers.0
+
+    -- and none behind it
+    pub emptied-none_behind : none_named h b.behind ≡ true
+    emptied-none_behind = none_named-from (here + b.size) h b.behind (no_length _ (omega (arith, found))) pointers.1
+
+    -- the contents begin behind its header
+    pub emptied-contents : contents_of z.shape h z.heap.map ≡ at + head_size z.shape.heads
+    emptied-contents = ap (contents_of z.shape h) b.map ∙ contents_of-first z.shape h b.before (block (Rel h) b.size) b.behind emptied-none_before (eqb_same h) ∙ ap (λ a. a + head_size z.shape.heads) (sym b.place)
+
+    -- to free what the handle names is to free that block
+    pub emptied-map : freed h z.heap.map ≡ b.before ++ block Free b.size ∷ b.behind
+    emptied-map = freed-only h z.heap.map b.before (block (Rel h) b.size) b.behind b.map (eqb_same h) emptied-none_before emptied-none_behind
+
+    abbrev u : HandleTable
+    u = with_live h EmptyHandle z.heap.table
+
+    abbrev m : ZoneMap
+    m = b.before ++ block Free b.size ∷ b.behind
+
+    agree : AgreeBut h z.heap.table u
+    agree = with_live_agrees h EmptyHandle z.heap.table
+
+    has : live_at u h ≡ Some EmptyHandle
+    has = live_at-with_live_same h EmptyHandle z.heap.table
+
+    fits_apart : Fits (with_heap (record { table = u; map = m; free_slots = z.heap.free_slots }) z)
+    fits_apart = Fits-kept z u m fits
+        (by_number (λ g. length (addresses z.shape (is_handle_block g) m) ≡ cond (is_full u g) 1 0) h
+        (ap length (none_left (is_handle_block h) refl (none_handle h b.before emptied-none_before) (none_handle h b.behind emptied-none_behind)) ∙ ap (λ o. cond (live_full o) 1 0) (sym has))
+        (λ g apart. ap length (swapped-addresses z b.before (Rel h) Free b.size b.behind b.map (is_handle_block g) (sym (eqb_swap h g ∙ apart))) ∙ fits.coherent.handles g ∙ ap (λ o. cond (live_full o) 1 0) (sym (agree.others g apart))))
+        (by_number (λ p. contents_addresses z.shape (is_pointer_block p) m ≡ cond (is_pointer u p) (p ∷ []) []) h
+        (swapped-pointers z b.before (Rel h) Free b.size b.behind b.map h refl ∙ fits.coherent.pointers h ∙ ap (λ c. cond c (h ∷ []) []) no_pointer ∙ ap (λ o. cond (live_pointer o) (h ∷ []) []) (sym has))
+        (λ p apart. swapped-pointers z b.before (Rel h) Free b.size b.behind b.map p refl ∙ fits.coherent.pointers p ∙ ap (λ o. cond (live_pointer o) (p ∷ []) []) (sym (agree.others p apart))))
+        (swapped-slots z b.before (Rel h) Free b.size b.behind b.map refl)
+        (by_number (λ y. is_handle u y ≡ is_handle z.heap.table y) h (ap live_handle has ∙ sym (full_handle z.heap.table h full)) (λ y apart. ap live_handle (agree.others y apart)))
+        (in_order-with_live h EmptyHandle z.heap.table fits.coherent.in_order) fits.unlent
+      where
+        none_left : (test : Kind → Bool) → test Free ≡ false → IsTrue (list_all (λ (e : Entry). not (test e.kind)) b.before) → IsTrue (list_all (λ (e : Entry). not (test e.kind)) b.behind) → addresses z.shape test m ≡ []
+        none_left test free before behind =
+            addresses_from-append start test b.before (block Free b.size ∷ b.behind)
+            ∙ ap (λ found. found ++ addresses_from here test (block Free b.size ∷ b.behind)) (addresses_from-none start test b.before before)
+            ∙ ap (λ c. cond c (here ∷ []) [] ++ addresses_from (here + b.size) test b.behind) free
+            ∙ addresses_from-none (here + b.size) test b.behind behind
+
+    -- the zone still fits
+    pub emptied-fits : Fits (without_block h z)
+    emptied-fits = subst (λ m. Fits (with_heap (record { table = u; map = m; free_slots = z.heap.free_slots }) z)) (sym emptied-map) fits_apart
+
+    -- its master pointer says that it is empty
+    pub emptied-pointer : slot_of (without_block h z) h ≡ slot.Empty
+    emptied-pointer = ap (λ o. (slot_of_live z.shape.heads o (contents_of z.shape h (freed h z.heap.map)) (next_free z.heap.free_slots h))) has
+
+    -- all others stay
+    pub emptied-others : (x : ℕ) → (x ≡ h → ⊥) → slot_of (without_block h z) x ≡ slot_of z x
+    emptied-others x other =
+        let apart = ne_eqb x h other in
+        same_slot z (without_block h z) x refl (agree.others x apart)
+        (ap (contents_of z.shape x) emptied-map ∙ swapped-contents z b.before (Rel h) Free b.size b.behind b.map x (sym (eqb_swap h x ∙ apart))) refl
+
+    -- the bytes of all others stay
+    pub emptied-other_bytes : (x : ℕ) → (x ≡ h → ⊥) → bytes_of (without_block h z).heap.table x ≡ bytes_of z.heap.table x
+    emptied-other_bytes x other = ap live_bytes (agree.others x (ne_eqb x h other))
+
+    -- the sum of the sizes stays
+    pub emptied-total : total_size (without_block h z).heap.map ≡ total_size z.heap.map
+    emptied-total = ap total_size emptied-map ∙ swapped-total z b.before (Rel h) Free b.size b.behind b.map
+
+  -- the handle's block
+  pub own_block : OwnBlock z h
+  own_block = record { at = address_behind z.shape there.before; block = place; contents = emptied-contents (address_behind z.shape there.before) place }
+    where
+      there : HandleBlock h z.heap.map
+      there = handle_block-found (address_behind z.shape []) h z.heap.map one
+
+      place : BlockOf z h (address_behind z.shape there.before)
+      place = record { before = there.before; size = there.size; behind = there.behind; map = there.was; place = refl }
+
+  -- it stands where its contents begin, less the header
+  pub own_block-at : BlockOf z h (contents_of z.shape h z.heap.map - head_size z.shape.heads)
+  own_block-at = subst (λ at. BlockOf z h at) (less own_block.at (head_size z.shape.heads) (contents_of z.shape h z.heap.map) own_block.contents) own_block.block
+    where
+      less : (a b c : ℕ) → c ≡ a + b → a ≡ c - b
+      less a b c is = omega arith

@@ -1,0 +1,135 @@
+-- What a zone is once a new pointer has a block that was free.
+use Rattle.std.proofs.Common.{◌≡◌, ℕ, ◌+◌, true, false, cond, [], ◌∷◌, ◌++◌, length, map, Some, refl, ap, sym, ◌∙◌, subst, arith, Contains, ne_eqb}
+use Rattle.std.proofs.lemmas.List.Elements.{Contains-append_right}
+use Rattle.mac_base.specs.declared.block.Kind.{Kind}
+use Rattle.mac_base.specs.declared.block.Kind.TheVariants.{Free, Master, Ptr, Rel}
+use Rattle.mac_base.specs.HeadKind.{head_size, slot_count}
+use Rattle.mac_base.specs.ZoneMap.{ZoneMap, block, is_free, is_master, total_size, addresses, addresses_from, address_behind, contents_addresses}
+use Rattle.mac_base.specs.HandleTable.{HandleTable, Live, Pointer, zeros, live_at, live_bytes, live_full, live_handle, live_pointer, bytes_of, is_full, is_handle, is_pointer, with_live}
+use Rattle.mac_base.specs.Suits.{is_handle_block, is_pointer_block, slots}
+use Rattle.mac_base.specs.ZoneState.{ZoneState}
+use Rattle.zone_laws.proofs.GapAppend.{addresses_from-append}
+use Rattle.zone_laws.proofs.SlotOwners.{false_from}
+use Rattle.zone_laws.proofs.SlotPlaces.{slot_no_contents, one_block_at, Contains-here}
+use Rattle.zone_laws.proofs.Tables.{AgreeBut, live_at-with_live_same, with_live_agrees, in_order-with_live, by_number, eqb_same, eqb_swap, full_handle}
+use Rattle.zone_laws.proofs.Owners.{none_named}
+use Rattle.linked_zone.specs.Owned.{slot_of}
+use Rattle.linked_zone.specs.Places.{FreeAt}
+use Rattle.linked_zone.specs.Changes.{fixed}
+use Rattle.linked_zone.specs.Fit.{Fits, HasRooms}
+use Rattle.linked_zone.proofs.ChangeParts.{Contains-map, same_slot, none_named-fits, Fits-kept}
+use Rattle.linked_zone.proofs.ChangeBlock.{none_pointer, none_named-parts, addresses-only, swapped-addresses, swapped-slots, swapped-pointers, swapped-contents, swapped-total}
+
+free_not_master : (kind : Kind) → is_free kind ≡ true → is_master kind ≡ false
+free_not_master Free h = refl
+free_not_master Master h = absurd (cc h)
+free_not_master (Ptr q) h = refl
+free_not_master (Rel g) h = refl
+
+pointer_not_free : (p : ℕ) (kind : Kind) → is_pointer_block p kind ≡ true → is_free kind ≡ false
+pointer_not_free p Free h = absurd (cc h)
+pointer_not_free p Master h = refl
+pointer_not_free p (Ptr q) h = refl
+pointer_not_free p (Rel g) h = refl
+
+module _ (z : ZoneState) (n at : ℕ) (free : FreeAt z at) (fits : Fits z) (rooms : HasRooms z) where
+  -- the pointer's number
+  abbrev pub p : ℕ
+  p = at + head_size z.shape.heads
+
+  abbrev start : ℕ
+  start = address_behind z.shape []
+
+  -- the free block is one of the map's
+  free_there : Contains (addresses z.shape is_free z.heap.map) (start + total_size free.before)
+  free_there = subst (λ xs. Contains xs (start + total_size free.before))
+      (sym (ap (addresses z.shape is_free) free.map ∙ addresses_from-append start is_free free.before (block Free free.size ∷ free.behind)))
+      (Contains-append_right (addresses_from start is_free free.before) _ (start + total_size free.before)
+      (Contains-here (start + total_size free.before) (addresses_from ((start + total_size free.before) + free.size) is_free free.behind)))
+
+  there : p ≡ start + total_size free.before + head_size z.shape.heads
+  there = let place = free.place in omega arith
+
+  -- no slot stands where its contents begin
+  pub fixed-no_slot : Contains (slots z.shape z.heap.map) p → ⊥
+  fixed-no_slot slot = slot_no_contents (head_size z.shape.heads) slot_count start is_free free_not_master z.heap.map (start + total_size free.before) rooms free_there (subst (Contains (slots z.shape z.heap.map)) there slot)
+
+  -- so no handle is live there
+  pub fixed-no_handle : is_handle z.heap.table p ≡ false
+  fixed-no_handle = false_from (is_handle z.heap.table p) (λ live. fixed-no_slot (fits.coherent.in_slots p live))
+
+  -- and no pointer
+  pub fixed-no_pointer : is_pointer z.heap.table p ≡ false
+  fixed-no_pointer = false_from (is_pointer z.heap.table p) (λ live.
+      let found = Contains-map (λ a. a + head_size z.shape.heads) (addresses z.shape (is_pointer_block p) z.heap.map) p
+      (subst (λ xs. Contains xs p) (sym (fits.coherent.pointers p ∙ ap (λ c. cond c (p ∷ []) []) live)) (Contains-here p [])) in
+      let same : found.0 ≡ start + total_size free.before = (let is = found.2 in let here = there in omega arith) in
+      one_block_at (head_size z.shape.heads) slot_count start (is_pointer_block p) is_free (pointer_not_free p) z.heap.map (start + total_size free.before) rooms
+      (subst (Contains (addresses z.shape (is_pointer_block p) z.heap.map)) same found.1) free_there)
+
+  not_full : is_full z.heap.table p ≡ false
+  not_full = false_from (is_full z.heap.table p) (λ full. cc (full_handle z.heap.table p full, fixed-no_handle))
+
+  none : (none_named p free.before ≡ true) × (none_named p free.behind ≡ true)
+  none = none_named-parts p free.before (block Free free.size) free.behind (ap (none_named p) (sym free.map) ∙ none_named-fits z p fits not_full fixed-no_pointer)
+
+  -- no block before the free one bears the pointer's name
+  pub fixed-none_before : none_named p free.before ≡ true
+  fixed-none_before = none.0
+
+  -- and none behind it
+  pub fixed-none_behind : none_named p free.behind ≡ true
+  fixed-none_behind = none.1
+
+  abbrev l : Live
+  l = Pointer (zeros n)
+
+  abbrev u : HandleTable
+  u = with_live p l z.heap.table
+
+  abbrev m : ZoneMap
+  m = free.before ++ block (Ptr p) free.size ∷ free.behind
+
+  agree : AgreeBut p z.heap.table u
+  agree = with_live_agrees p l z.heap.table
+
+  has : live_at u p ≡ Some l
+  has = live_at-with_live_same p l z.heap.table
+
+  -- its block is the only one that is the pointer's
+  own : contents_addresses z.shape (is_pointer_block p) m ≡ p ∷ []
+  own = ap (map (λ a. a + head_size z.shape.heads))
+      (addresses-only z.shape (is_pointer_block p) free.before (block (Ptr p) free.size) free.behind (none_pointer p free.before none.0) (none_pointer p free.behind none.1) (eqb_same p))
+      ∙ ap (λ a. (a + head_size z.shape.heads) ∷ []) (sym free.place)
+
+  -- the zone still fits
+  pub fixed-fits : Fits (fixed n z free)
+  fixed-fits = Fits-kept z u m fits
+      (λ g. ap length (swapped-addresses z free.before Free (Ptr p) free.size free.behind free.map (is_handle_block g) refl) ∙ fits.coherent.handles g ∙ ap (λ c. cond c 1 0) (sym (full g)))
+      (by_number (λ q. contents_addresses z.shape (is_pointer_block q) m ≡ cond (is_pointer u q) (q ∷ []) []) p
+      (own ∙ ap (λ o. cond (live_pointer o) (p ∷ []) []) (sym has))
+      (λ q apart. swapped-pointers z free.before Free (Ptr p) free.size free.behind free.map q (eqb_swap p q ∙ apart) ∙ fits.coherent.pointers q ∙ ap (λ o. cond (live_pointer o) (q ∷ []) []) (sym (agree.others q apart))))
+      (swapped-slots z free.before Free (Ptr p) free.size free.behind free.map refl)
+      (by_number (λ y. is_handle u y ≡ is_handle z.heap.table y) p (ap live_handle has ∙ sym fixed-no_handle) (λ y apart. ap live_handle (agree.others y apart)))
+      (in_order-with_live p l z.heap.table fits.coherent.in_order) fits.unlent
+    where
+      full : (g : ℕ) → is_full u g ≡ is_full z.heap.table g
+      full = by_number (λ g. is_full u g ≡ is_full z.heap.table g) p (ap live_full has ∙ sym not_full) (λ g apart. ap live_full (agree.others g apart))
+
+  -- the master pointers of all others stay
+  pub fixed-others : (x : ℕ) → (x ≡ p → ⊥) → slot_of (fixed n z free) x ≡ slot_of z x
+  fixed-others x other =
+      let apart = ne_eqb x p other in
+      same_slot z (fixed n z free) x refl (agree.others x apart) (swapped-contents z free.before Free (Ptr p) free.size free.behind free.map x (eqb_swap p x ∙ apart)) refl
+
+  -- its bytes are zero
+  pub fixed-bytes : bytes_of (fixed n z free).heap.table p ≡ zeros n
+  fixed-bytes = ap live_bytes has
+
+  -- those of all others stay
+  pub fixed-other_bytes : (x : ℕ) → (x ≡ p → ⊥) → bytes_of (fixed n z free).heap.table x ≡ bytes_of z.heap.table x
+  fixed-other_bytes x other = ap live_bytes (agree.others x (ne_eqb x p other))
+
+  -- the sum of the sizes stays
+  pub fixed-total : total_size (fixed n z free).heap.map ≡ total_size z.heap.map
+  fixed-total = swapped-total z free.before Free (Ptr p) free.size free.behind free.map

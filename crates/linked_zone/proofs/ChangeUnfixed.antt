@@ -1,0 +1,116 @@
+-- What a zone is once a pointer's block is free and the pointer isn't live.
+use Rattle.std.proofs.Common.{◌≡◌, ℕ, ◌+◌, true, false, cond, [], ◌∷◌, ◌++◌, length, map, None, refl, ap, sym, ◌∙◌, subst, arith, ne_eqb}
+use Rattle.mac_base.specs.declared.block.Kind.{Kind}
+use Rattle.mac_base.specs.declared.block.Kind.TheVariants.{Free, Master, Ptr, Rel}
+use Rattle.mac_base.specs.HeadKind.{head_size}
+use Rattle.mac_base.specs.ZoneMap.{ZoneMap, block, is_named, total_size, addresses, addresses_from, address_behind, contents_addresses, contents_of}
+use Rattle.mac_base.specs.HandleTable.{HandleTable, live_at, live_bytes, live_full, live_handle, live_pointer, bytes_of, is_full, is_handle, is_pointer, without}
+use Rattle.mac_base.specs.Suits.{is_handle_block, is_pointer_block}
+use Rattle.mac_base.specs.ZoneState.{ZoneState}
+use Rattle.zone_laws.proofs.GapAppend.{addresses_from-append, addresses_from-none}
+use Rattle.zone_laws.proofs.SlotOwners.{false_from}
+use Rattle.zone_laws.proofs.Tables.{AgreeBut, live_at-without_same, without_agrees, in_order-without, by_number, eqb_same, eqb_swap, eqb-true-is, pointer_no_handle}
+use Rattle.zone_laws.proofs.Owners.{none_named, no_length}
+use Rattle.linked_zone.specs.Owned.{slot_of}
+use Rattle.linked_zone.specs.Places.{NamedAt}
+use Rattle.linked_zone.specs.Changes.{with_heap, unfixed}
+use Rattle.linked_zone.specs.Fit.{Fits}
+use Rattle.linked_zone.proofs.ChangeParts.{same_slot, Fits-kept}
+use Rattle.linked_zone.proofs.ChangeBlock.{none_pointer, addresses-only, swapped-addresses, swapped-slots, swapped-pointers, swapped-contents, swapped-total}
+use Rattle.linked_zone.proofs.ChangeSized.{names-one, passes-some}
+use Rattle.linked_zone.proofs.ChangeBlock.{freed-only}
+
+module _ (z : ZoneState) (p at : ℕ) (fits : Fits z) (live : is_pointer z.heap.table p ≡ true) (b : NamedAt z p at) where
+  no_handle : (is_handle z.heap.table p ≡ false) × (is_full z.heap.table p ≡ false)
+  no_handle = pointer_no_handle z.heap.table p live
+
+  -- the block is the pointer's
+  kind_is : b.here.kind ≡ Ptr p
+  kind_is = by_kind b.here.kind b.named (false_from (is_handle_block p b.here.kind) (λ passes.
+      passes-some (address_behind z.shape []) (is_handle_block p) b.before b.here b.behind passes (ap (addresses z.shape (is_handle_block p)) (sym b.map) ∙ no_length _ (fits.coherent.handles p ∙ ap (λ c. cond c 1 0) no_handle.1))))
+    where
+      by_kind : (kind : Kind) → is_named p kind ≡ true → is_handle_block p kind ≡ false → kind ≡ Ptr p
+      by_kind Free named other = absurd (cc named)
+      by_kind Master named other = absurd (cc named)
+      by_kind (Ptr q) named other = ap (λ x. Ptr x) (eqb-true-is q p named)
+      by_kind (Rel g) named other = absurd (cc (named, other))
+
+  -- it stands in the map
+  pub unfixed-was : z.heap.map ≡ b.before ++ block (Ptr p) b.here.size ∷ b.behind
+  unfixed-was = b.map ∙ ap (λ k. b.before ++ block k b.here.size ∷ b.behind) kind_is
+
+  -- no block before it bears the pointer's name
+  pub unfixed-none_before : none_named p b.before ≡ true
+  unfixed-none_before = (names-one z p b.before b.here b.behind fits b.map b.named).none_before
+
+  -- and none behind it
+  pub unfixed-none_behind : none_named p b.behind ≡ true
+  unfixed-none_behind = (names-one z p b.before b.here b.behind fits b.map b.named).none_behind
+
+  -- the pointer is where its contents begin
+  pub unfixed-number : p ≡ at + head_size z.shape.heads
+  unfixed-number =
+      let only = addresses-only z.shape (is_pointer_block p) b.before (block (Ptr p) b.here.size) b.behind (none_pointer p b.before unfixed-none_before) (none_pointer p b.behind unfixed-none_behind) (eqb_same p) in
+      let one : (address_behind z.shape b.before + head_size z.shape.heads) ∷ [] ≡ p ∷ [] =
+      sym (ap (map (λ a. a + head_size z.shape.heads)) (ap (addresses z.shape (is_pointer_block p)) unfixed-was ∙ only)) ∙ fits.coherent.pointers p ∙ ap (λ c. cond c (p ∷ []) []) live in
+      let first : address_behind z.shape b.before + head_size z.shape.heads ≡ p = cc one in
+      let place = b.place in
+      omega arith
+
+  abbrev u : HandleTable
+  u = without p z.heap.table
+
+  abbrev m : ZoneMap
+  m = b.before ++ block Free b.here.size ∷ b.behind
+
+  -- the map is that with the block free
+  pub unfixed-map : (unfixed p z).heap.map ≡ m
+  unfixed-map = freed-only p z.heap.map b.before b.here b.behind b.map b.named unfixed-none_before unfixed-none_behind
+
+  agree : AgreeBut p z.heap.table u
+  agree = without_agrees p z.heap.table
+
+  gone : live_at u p ≡ None
+  gone = live_at-without_same p z.heap.table
+
+  -- no block is the pointer's then
+  no_block : contents_addresses z.shape (is_pointer_block p) m ≡ []
+  no_block =
+      let start = address_behind z.shape [] in
+      let here = start + total_size b.before in
+      ap (map (λ a. a + head_size z.shape.heads))
+      (addresses_from-append start (is_pointer_block p) b.before (block Free b.here.size ∷ b.behind)
+      ∙ ap (λ found. found ++ addresses_from (here + b.here.size) (is_pointer_block p) b.behind) (addresses_from-none start (is_pointer_block p) b.before (none_pointer p b.before unfixed-none_before))
+      ∙ addresses_from-none (here + b.here.size) (is_pointer_block p) b.behind (none_pointer p b.behind unfixed-none_behind))
+
+  fits_apart : Fits (with_heap (record { table = u; map = m; free_slots = z.heap.free_slots }) z)
+  fits_apart = Fits-kept z u m fits
+      (λ g. ap length (swapped-addresses z b.before (Ptr p) Free b.here.size b.behind unfixed-was (is_handle_block g) refl) ∙ fits.coherent.handles g ∙ ap (λ c. cond c 1 0) (sym (full g)))
+      (by_number (λ q. contents_addresses z.shape (is_pointer_block q) m ≡ cond (is_pointer u q) (q ∷ []) []) p
+      (no_block ∙ ap (λ o. cond (live_pointer o) (p ∷ []) []) (sym gone))
+      (λ q apart. swapped-pointers z b.before (Ptr p) Free b.here.size b.behind unfixed-was q (sym (eqb_swap p q ∙ apart)) ∙ fits.coherent.pointers q ∙ ap (λ o. cond (live_pointer o) (q ∷ []) []) (sym (agree.others q apart))))
+      (swapped-slots z b.before (Ptr p) Free b.here.size b.behind unfixed-was refl)
+      (by_number (λ y. is_handle u y ≡ is_handle z.heap.table y) p (ap live_handle gone ∙ sym no_handle.0) (λ y apart. ap live_handle (agree.others y apart)))
+      (in_order-without p z.heap.table fits.coherent.in_order) fits.unlent
+    where
+      full : (g : ℕ) → is_full u g ≡ is_full z.heap.table g
+      full = by_number (λ g. is_full u g ≡ is_full z.heap.table g) p (ap live_full gone ∙ sym no_handle.1) (λ g apart. ap live_full (agree.others g apart))
+
+  -- the zone still fits
+  pub unfixed-fits : Fits (unfixed p z)
+  unfixed-fits = subst (λ m. Fits (with_heap (record { table = u; map = m; free_slots = z.heap.free_slots }) z)) (sym unfixed-map) fits_apart
+
+  -- the master pointers of all others stay
+  pub unfixed-others : (x : ℕ) → (x ≡ p → ⊥) → slot_of (unfixed p z) x ≡ slot_of z x
+  unfixed-others x other =
+      let apart = ne_eqb x p other in
+      same_slot z (unfixed p z) x refl (agree.others x apart)
+      (ap (contents_of z.shape x) unfixed-map ∙ swapped-contents z b.before (Ptr p) Free b.here.size b.behind unfixed-was x (sym (eqb_swap p x ∙ apart))) refl
+
+  -- and so do their bytes
+  pub unfixed-other_bytes : (x : ℕ) → (x ≡ p → ⊥) → bytes_of (unfixed p z).heap.table x ≡ bytes_of z.heap.table x
+  unfixed-other_bytes x other = ap live_bytes (agree.others x (ne_eqb x p other))
+
+  -- the sum of the sizes stays
+  pub unfixed-total : total_size (unfixed p z).heap.map ≡ total_size z.heap.map
+  unfixed-total = ap total_size unfixed-map ∙ swapped-total z b.before (Ptr p) Free b.here.size b.behind unfixed-was

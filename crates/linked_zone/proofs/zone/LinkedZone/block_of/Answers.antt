@@ -1,0 +1,30 @@
+use Rattle.std.proofs.Common.{sym, ap, ◌∙◌}
+use Rattle.mac_base.specs.ZoneSizes.{ZoneSizes}
+use Rattle.linked_zone.proofs.Standing.{stands-now}
+use Rattle.linked_zone.proofs.ChangeEmptied.{emptied-slot}
+use Rattle.linked_zone.proofs.Found.{slot-there, slot-is, head-read, none-said, full-slot}
+use Rattle.linked_zone.proofs.zone.LinkedZone.block_of.Goals as goal
+
+pub slot-requires : goal.slot-requires
+slot-requires c =
+    let z = c.args.self.now in
+    let stands = stands-now c.self.inside c.args.self.now c.self.invariant c.self.view_is in
+    slot-there c.self.inside.records z stands c.args.handle c.number.result c.number.ensures (emptied-slot z c.args.handle stands.fits c.requires)
+
+pub unreachable-requires : goal.unreachable-requires
+unreachable-requires c =
+    let z = c.args.self.now in
+    let stands = stands-now c.self.inside c.args.self.now c.self.invariant c.self.view_is in
+    cc (none-said z c.args.handle c.slot.result c.in-Free.is (slot-is c.self.inside.records z stands c.args.handle c.number.result c.slot.result c.number.ensures (emptied-slot z c.args.handle stands.fits c.requires) c.slot.ensures), c.requires)
+
+pub overflow_sub-result : goal.overflow_sub-result
+overflow_sub-result c =
+    let z = c.args.self.now in
+    let stands = stands-now c.self.inside c.args.self.now c.self.invariant c.self.view_is in
+    (full-slot z stands.fits c.args.handle c.in-Full.field-0 c.in-Full.contents c.head_size.result (sym c.in-Full.is ∙ slot-is c.self.inside.records z stands c.args.handle c.number.result c.slot.result c.number.ensures (emptied-slot z c.args.handle stands.fits c.requires) c.slot.ensures) (head-read c.self.inside.records z stands c.heads.result c.head_size.result (c.heads.ensures ∙ ap (λ (s : ZoneSizes). s.heads) c.spec.ensures) c.head_size.ensures)).above
+
+pub returns : goal.returns
+returns c =
+    let z = c.args.self.now in
+    let stands = stands-now c.self.inside c.args.self.now c.self.invariant c.self.view_is in
+    (full-slot z stands.fits c.args.handle c.in-Full.field-0 c.in-Full.contents c.head_size.result (sym c.in-Full.is ∙ slot-is c.self.inside.records z stands c.args.handle c.number.result c.slot.result c.number.ensures (emptied-slot z c.args.handle stands.fits c.requires) c.slot.ensures) (head-read c.self.inside.records z stands c.heads.result c.head_size.result (c.heads.ensures ∙ ap (λ (s : ZoneSizes). s.heads) c.spec.ensures) c.head_size.ensures)).block

@@ -1,0 +1,7 @@
+use Rattle.std.proofs.Common.{◌∙◌}
+use Rattle.linked_zone.proofs.Standing.{stands-now}
+use Rattle.linked_zone.proofs.Found.{sizes-read}
+use Rattle.linked_zone.proofs.zone.LinkedZone.spec.Goals as goal
+
+pub returns : goal.returns
+returns c = c.spec.ensures ∙ sizes-read c.self.inside.records c.args.self.now (stands-now c.self.inside c.args.self.now c.self.invariant c.self.view_is)

@@ -1,0 +1,29 @@
+use Rattle.std.proofs.Common.{◌≡◌, ℕ, ◌∷◌, drop, ap, sym, ◌∙◌, subst}
+use Rattle.linked_zone.specs.Changes.{taken}
+use Rattle.linked_zone.proofs.Standing.{Kept, stands-now}
+use Rattle.linked_zone.proofs.EndsSlots.{take-first, take-slot, take-says, take-ends}
+use Rattle.linked_zone.proofs.zone.LinkedZone.take.Goals as goal
+
+pub slot-requires : goal.slot-requires
+slot-requires c = take-slot c.self.inside.records c.args.self.now (stands-now c.self.inside c.args.self.now c.self.invariant c.self.view_is) c.front-front.result c.front-front.ensures c.if-front-eq0.false
+
+pub set_slot-requires-clause-there : goal.set_slot-requires-clause-there
+set_slot-requires-clause-there c = take-slot c.self.inside.records c.args.self.now (stands-now c.self.inside c.args.self.now c.self.invariant c.self.view_is) c.front-front.result c.front-front.ensures c.if-front-eq0.false
+
+pub returns-in_default : goal.returns-in_default
+returns-in_default c = absurd (c.in_default.not-Free _ (take-says c.self.inside.records c.args.self.now (stands-now c.self.inside c.args.self.now c.self.invariant c.self.view_is) c.front-front.result c.front-front.ensures c.if-front-eq0.false c.slot.result c.slot.ensures))
+
+-- how it ends
+ends : (c : goal.After-new) → Kept c.set_front.new.self (taken c.front-front.result c.args.self.now)
+ends c = take-ends c.self.inside.records c.args.self.now (stands-now c.self.inside c.args.self.now c.self.invariant c.self.view_is) c.front-front.result c.front-front.ensures c.if-front-eq0.false
+    c.set_slot.new.self c.set_front.new.self c.in-Free.next c.in-Free.ensures c.set_slot.ensures c.set_front.ensures
+
+pub invariant_of-self : goal.invariant_of-self
+invariant_of-self c = (ends c).inside
+
+pub returns : goal.returns
+returns c = (
+  subst (λ (h : ℕ). c.args.self.now.heap.free_slots ≡ h ∷ drop 1 c.args.self.now.heap.free_slots) (sym c.new.ensures)
+      (take-first c.self.inside.records c.args.self.now (stands-now c.self.inside c.args.self.now c.self.invariant c.self.view_is) c.front-front.result c.front-front.ensures c.if-front-eq0.false),
+  (ends c).same ∙ ap (λ h. taken h c.args.self.now) (sym c.new.ensures),
+)
