@@ -5,6 +5,3 @@ mod zone;
 
 pub use zone::{NoRoom, Zone};
 pub use zone_blocks::check;
-
-#[cfg(test)]
-mod tests;

@@ -5,10 +5,10 @@ ghost use Rattle.byteorder.specs.Endian.{big_number};
 ghost use Rattle.raw_region.specs.Bytes.{part};
 
 use super::region_of_twenty;
-use crate::Region;
+use raw_region::Region;
 
 /// Writes the header of the block at `at`.
-#[tactic(auto, using(crate::proofs::Rules::upkeep))]
+#[tactic(auto, using(raw_region::proofs::Rules::upkeep))]
 fn write_header(region: &mut Region, at: usize, first: u32, second: u32)
     requires inside { at + 8 ≤ length region.old.bytes }
     requires lent { region.old.lent ≡ [] }
@@ -25,7 +25,7 @@ fn write_header(region: &mut Region, at: usize, first: u32, second: u32)
 }
 
 /// Moves the block of `n` bytes at `at` down by `by` bytes.
-#[tactic(auto, using(crate::proofs::Rules::upkeep))]
+#[tactic(auto, using(raw_region::proofs::Rules::upkeep))]
 fn slide_block(region: &mut Region, at: usize, by: usize, n: usize)
     requires inside { (at + n ≤ length region.old.bytes) × (by ≤ at) × (8 ≤ n) }
     requires lent { region.old.lent ≡ [] }
@@ -41,7 +41,7 @@ fn slide_block(region: &mut Region, at: usize, by: usize, n: usize)
 }
 
 #[test]
-#[tactic(auto, using(crate::proofs::Rules::upkeep))]
+#[tactic(auto, using(raw_region::proofs::Rules::upkeep))]
 fn slides_a_block(rt: HostRuntime) {
     let mut region = region_of_twenty(&rt, rt.alloc());
     write_header(&mut region, 8, 3, 12);

@@ -2,7 +2,7 @@ use Rattle.std.proofs.Common.{ℕ, ◌+◌, ◌-◌, List, ap, ◌∙◌, arith}
 use Rattle.byteorder.specs.Endian.{big_number}
 use Rattle.raw_region.specs.Bytes.{part}
 use Rattle.raw_region.proofs.Moved.{part-moved, part-moved-apart, number-moved}
-use Rattle.raw_region.proofs.tests.caller.slide_block.Goals as goal
+use Rattle.zone_tests.proofs.region.caller.slide_block.Goals as goal
 
 pub returns-clause-second : goal.returns-clause-second
 returns-clause-second c =

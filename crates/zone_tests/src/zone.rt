@@ -1,8 +1,8 @@
 //! The bytes of a zone are compared with those that the format says.
 
-use crate::{Zone, check};
 use mac_base::block::{Flags, HeadKind};
 use mac_base::zone_spec::ZoneSpec;
+use zone_heap::{Zone, check};
 
 /// A word of a zone: where it stands, and what it is.
 type Word = (usize, u32);

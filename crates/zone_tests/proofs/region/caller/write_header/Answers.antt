@@ -3,7 +3,7 @@ use Rattle.byteorder.specs.Endian.{big_bytes, big_number}
 use Rattle.raw_region.specs.Bytes.{part}
 use Rattle.raw_region.proofs.Laws.{part-written-apart}
 use Rattle.raw_region.proofs.Numbers.{number-written, number-apart}
-use Rattle.raw_region.proofs.tests.caller.write_header.Goals as goal
+use Rattle.zone_tests.proofs.region.caller.write_header.Goals as goal
 
 pub returns-clause-first : goal.returns-clause-first
 returns-clause-first c =
