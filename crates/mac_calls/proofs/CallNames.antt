@@ -5,16 +5,15 @@ use Rattle.std.specs.Str.{bytes_eq}
 use Rattle.std.proofs.lemmas.Slice.Eq.{bytes_eq-Decides}
 use Rattle.mac_calls.specs.declared.table.CallName.{CallName}
 use Rattle.mac_calls.specs.declared.table.CallName.TheVariants.{NewHandle}
-use Rattle.mac_calls.specs.declared.table.TheConstants.{ALL_CALLS}
-use Rattle.mac_calls.specs.Calls.{signature}
+use Rattle.mac_calls.specs.Calls.{signature, of_length}
 
 -- whether a call has the name
 abbrev has_name : List ℕ → CallName → Bool
 has_name word call = bytes_eq (signature call).name word
 
--- the first call that has the name
+-- the first call that has the name, among those whose names are as long
 abbrev call_named : List ℕ → Option CallName
-call_named word = find (has_name word) ALL_CALLS
+call_named word = find (has_name word) (of_length (length word))
 
 -- each call is the first that has its name
 named_again : (call : CallName) → call_named (signature call).name ≡ Some call
@@ -42,8 +41,9 @@ stands_at : (test : CallName → Bool) (calls : List CallName) (call : CallName)
 stands_at test [] call e = absurd cc
 stands_at test (first ∷ calls) call e = stands_by test first calls call (test first) refl e (stands_at test calls call)
 
--- a word that is the name of no call in the table is the name of none
-pub unnamed : (word : List ℕ) → ((k : ℕ) → k < length ALL_CALLS → (signature (get_or ALL_CALLS k NewHandle)).name ≢ word) → (call : CallName) → (signature call).name ≢ word
-unnamed word none call e =
-    let found = stands_at (has_name word) ALL_CALLS call (ap call_named (sym e) ∙ named_again call) in
-    none found.place found.within ((bytes_eq-Decides (signature (get_or ALL_CALLS found.place NewHandle)).name word).0 found.passes)
+-- a word that is the name of no call whose name is as long is the name of none
+pub unnamed : (word : List ℕ) (calls : List CallName) → calls ≡ of_length (length word) → ((k : ℕ) → k < length calls → (signature (get_or calls k NewHandle)).name ≢ word) → (call : CallName) → (signature call).name ≢ word
+unnamed word calls is none call e =
+    let named : find (has_name word) calls ≡ Some call = ap (λ (cs : List CallName). find (has_name word) cs) is ∙ ap call_named (sym e) ∙ named_again call in
+    let found = stands_at (has_name word) calls call named in
+    none found.place found.within ((bytes_eq-Decides (signature (get_or calls found.place NewHandle)).name word).0 found.passes)

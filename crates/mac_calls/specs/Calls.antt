@@ -1,5 +1,7 @@
 -- How each call is written.
-use Rattle.std.specs.Prelude.{ℕ, Bool, true, false, List, [], ◌∷◌, codes}
+use Rattle.std.specs.Prelude.{ℕ, ◌==◌, Bool, true, false, List, [], ◌∷◌, length, codes}
+use Rattle.std.specs.List.{filter}
+use Rattle.mac_calls.specs.declared.table.TheConstants.{ALL_CALLS}
 use Rattle.mac_calls.specs.declared.table.CallName.{CallName}
 use Rattle.mac_calls.specs.declared.table.CallName.TheVariants as call_name
 use Rattle.mac_calls.specs.declared.table.OperandKind.{OperandKind}
@@ -50,3 +52,7 @@ signature call_name.Poke = does (codes "Poke") (Number ∷ Number ∷ Bytes ∷ 
 signature call_name.Peek = does (codes "Peek") (Number ∷ Number ∷ Number ∷ [])
 signature call_name.ZoneMap = gives (codes "ZoneMap") []
 signature call_name.MemError = does (codes "MemError") []
+
+-- the calls whose names have so many bytes
+abbrev pub of_length : ℕ → List CallName
+of_length n = filter (λ call. length (signature call).name == n) ALL_CALLS

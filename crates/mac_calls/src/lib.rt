@@ -10,4 +10,4 @@ mod table;
 pub use call::Call;
 pub use memory_call::{MemoryCall, Span};
 pub use reply::{BlockList, Outcome, Reply, Results};
-pub use table::{CallName, OperandKind, Signature};
+pub use table::{ALL_CALLS, CallName, OperandKind, Signature};

@@ -33,7 +33,7 @@ pub enum CallName {
 }
 
 /// All calls.
-const ALL_CALLS: [CallName; 23] = [
+pub const ALL_CALLS: [CallName; 23] = [
     CallName::NewHandle,
     CallName::NewEmptyHandle,
     CallName::NewPtr,
@@ -165,11 +165,47 @@ impl CallName {
         ensures found { IfSome result (λ call. (calls.signature call).name ≡ word.now) }
         ensures none { IfNone result ((call : CallName) → (calls.signature call).name ≢ word.now) }
     {
-        for call in ALL_CALLS {
+        for &call in calls_of_length(word.len()) {
             if call.signature().name == word {
                 return Some(call);
             }
         }
         None
+    }
+}
+
+/// The calls whose names have so many bytes.
+fn calls_of_length(length: usize) -> &'static [CallName]
+    ensures { result.now ≡ calls.of_length length }
+{
+    match length {
+        4 => &[CallName::Poke, CallName::Peek],
+        5 => &[CallName::HLock, CallName::Deref],
+        6 => &[CallName::NewPtr, CallName::HPurge],
+        7 => &[CallName::HUnlock, CallName::ZoneMap],
+        8 => &[
+            CallName::HNoPurge,
+            CallName::HSetRBit,
+            CallName::HClrRBit,
+            CallName::MemError,
+        ],
+        9 => &[
+            CallName::NewHandle,
+            CallName::HGetState,
+            CallName::HSetState,
+        ],
+        10 => &[
+            CallName::DisposePtr,
+            CallName::GetPtrSize,
+            CallName::SetPtrSize,
+        ],
+        11 => &[CallName::EmptyHandle],
+        13 => &[
+            CallName::DisposeHandle,
+            CallName::GetHandleSize,
+            CallName::SetHandleSize,
+        ],
+        14 => &[CallName::NewEmptyHandle],
+        _ => &[],
     }
 }

@@ -32,7 +32,7 @@ impl Machine {
     }
 
     /// Makes the call of a line, assigns its first result, and puts what it prints in place of the text.
-    pub fn run_line(&mut self, line: &Line, text: &mut Vec<u8>) -> Result<(), HostFull>
+    pub fn run_line(&mut self, line: &Line<'_>, text: &mut Vec<u8>) -> Result<(), HostFull>
         ensures { OnOk result (LineDoes self.old line.now text.new.items self.new) }
     {
         text.clear();

@@ -11,6 +11,7 @@ use crate::end::RunEnd;
 use crate::machine::Machine;
 use crate::reading::{ReadEnd, read_script};
 use crate::writing::write_whole;
+use bumpalo::Bump;
 use mac_base::zone_spec::ZoneSpec;
 use reply_text::{NO_MEMORY, fault_line};
 use script_text::{Fault, parse_script};
@@ -40,7 +41,8 @@ pub fn run<R: Read, W: Write>(
         Err(ReadEnd::Memory) => return tell_no_memory(writer),
         Err(ReadEnd::Fault) => return RunEnd::ReadFault,
     };
-    let lines = match parse_script(alloc, &text) {
+    let arena = Bump::new(alloc);
+    let lines = match parse_script(alloc, &arena, &text) {
         Ok(lines) => lines,
         Err(Fault::Line(line)) => return tell_fault(alloc, writer, line),
         Err(Fault::HostFull) => return tell_no_memory(writer),

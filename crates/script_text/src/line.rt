@@ -1,8 +1,8 @@
 //! What the lines of a script say.
 
+use bumpalo::Bump;
 use mac_base::error::HostFull;
 use mac_calls::CallName;
-use std::alloc::Global;
 use std::marker::Model;
 
 /// The name of a variable. A contract sees its place among the names of a script, in order of first assignment.
@@ -40,47 +40,48 @@ impl Name {
     }
 }
 
-/// The bytes of an operand. A contract sees the list.
+/// The bytes of an operand: one word, so that no operand is larger than two. A contract sees the list.
 #[derive(Debug, Drop)]
-pub struct OperandBytes {
-    bytes: Box<Vec<u8>>,
+pub struct OperandBytes<'a> {
+    bytes: &'a &'a [u8],
 }
 
-impl Model for OperandBytes {
+impl<'a> Model for OperandBytes<'a> {
     ghost use Rattle.std.specs.Prelude.{List, ℕ};
 
     ghost Value = { List ℕ };
 
-    ghost view = { λ b. b.bytes.value.items };
+    ghost view = { λ b. b.bytes.now.now };
 }
 
-impl OperandBytes {
+impl<'a> OperandBytes<'a> {
     ghost use Rattle.std.specs.Prelude.{◌≡◌, IfOk};
 
-    /// The bytes of a vector.
-    pub(crate) fn new(alloc: Global, bytes: Vec<u8>) -> Result<OperandBytes, HostFull>
-        ensures { IfOk result (λ owned. owned ≡ bytes.items) }
+    /// These bytes, with their place and length in the arena.
+    pub(crate) fn new(arena: &'a Bump, bytes: &'a [u8]) -> Result<OperandBytes<'a>, HostFull>
+        ensures { IfOk result (λ kept. kept ≡ bytes.now) }
     {
-        let bytes = Box::new(alloc, bytes)?;
-        Ok(OperandBytes { bytes })
+        match arena.try_alloc(bytes) {
+            Ok(bytes) => Ok(OperandBytes { bytes }),
+            Err(_) => Err(HostFull),
+        }
     }
 
     /// The bytes, first to last.
-    pub fn as_slice(&self) -> &[u8]
+    pub fn as_slice(&self) -> &'a [u8]
         ensures { result.now ≡ self.now }
     {
-        let bytes: &Vec<u8> = &self.bytes;
-        bytes
+        *self.bytes
     }
 }
 
 /// An operand as it is written.
 #[derive(Debug, Drop)]
-pub enum Operand {
+pub enum Operand<'a> {
     Number(u32),
     /// The value of a variable.
     Variable(Name),
-    Bytes(OperandBytes),
+    Bytes(OperandBytes<'a>),
     /// A number with a sign, as the id of a resource.
     Id(i16),
     /// The type of a resource.
@@ -91,42 +92,43 @@ pub enum Operand {
 
 /// The operands of a line, first to last. A contract sees the list.
 #[derive(Debug, Drop)]
-pub struct Operands {
-    operands: Vec<Operand>,
+pub struct Operands<'a> {
+    operands: &'a [Operand<'a>],
 }
 
-impl Model for Operands {
+impl<'a> Model for Operands<'a> {
     ghost use Rattle.std.specs.Prelude.{List};
     ghost use Rattle.script_text.specs.declared.line.Operand.{Operand};
 
     ghost Value = { List Operand };
 
-    ghost view = { λ o. o.operands.items };
+    ghost view = { λ o. o.operands.now };
 }
 
-impl Operands {
+impl<'a> Operands<'a> {
     ghost use Rattle.std.specs.Prelude.{◌≡◌};
 
-    /// The operands of a vector.
-    pub(crate) fn new(operands: Vec<Operand>) -> Operands
-        ensures { result ≡ operands.items }
+    /// These operands.
+    pub(crate) fn new(operands: &'a [Operand<'a>]) -> Operands<'a>
+        ensures { result ≡ operands.now }
     {
         Operands { operands }
     }
 
     /// The operands, first to last.
-    pub fn as_slice(&self) -> &[Operand]
+    pub fn as_slice(&self) -> &'a [Operand<'a>]
         ensures { result.now ≡ self.now }
     {
-        &self.operands
+        self.operands
     }
 }
 
 /// A line of a script that makes a call, and may assign its first result. The first line of a script has the number 1.
+/// What it keeps of its operands lies in the text and in an arena, which all lines share.
 #[derive(Debug, Drop)]
-pub struct Line {
+pub struct Line<'a> {
     pub number: u32,
     pub assigned: Option<Name>,
     pub call: CallName,
-    pub operands: Operands,
+    pub operands: Operands<'a>,
 }

@@ -12,9 +12,10 @@ ghost use Rattle.script_text.specs.Operands.{IsNumeral, IsNumber, IsByte, AreDig
 use crate::line::{Name, Operand, OperandBytes, Operands};
 use crate::names::Names;
 use crate::token::Token;
+use bumpalo::Bump;
+use bumpalo::collections::into_bump_slice;
 use mac_base::error::HostFull;
 use mac_calls::OperandKind;
-use std::alloc::Global;
 
 /// The number of digits in a base, if it has at most 32 bits.
 fn numeral(word: &[u8], base: u32) -> Option<u32>
@@ -139,7 +140,7 @@ fn variable(word: &[u8], names: &Names) -> Result<Option<Name>, HostFull>
 }
 
 /// A number, or the name of a variable that has been assigned.
-fn number_operand(word: &[u8], names: &Names) -> Result<Option<Operand>, HostFull>
+fn number_operand<'a>(word: &[u8], names: &Names) -> Result<Option<Operand<'a>>, HostFull>
     ensures { IfOk result (λ found.
         Finds found (IsNumberOperand names.now (Word word.now))) }
 {
@@ -153,7 +154,7 @@ fn number_operand(word: &[u8], names: &Names) -> Result<Option<Operand>, HostFul
 }
 
 /// An id, or the name of a variable that has been assigned.
-fn id_operand(word: &[u8], names: &Names) -> Result<Option<Operand>, HostFull>
+fn id_operand<'a>(word: &[u8], names: &Names) -> Result<Option<Operand<'a>>, HostFull>
     ensures { IfOk result (λ found.
         Finds found (IsIdOperand names.now (Word word.now))) }
 {
@@ -167,15 +168,14 @@ fn id_operand(word: &[u8], names: &Names) -> Result<Option<Operand>, HostFull>
 }
 
 /// The bytes of a text in double quotes.
-fn quoted_bytes(alloc: Global, inner: &[u8]) -> Result<Option<Operand>, HostFull>
+fn quoted_bytes<'a>(arena: &'a Bump, inner: &'a [u8]) -> Result<Option<Operand<'a>>, HostFull>
     ensures { IfOk result (λ found.
         Finds found (IsBytesOperand (Double inner.now))) }
 {
     if !are_printable(inner) {
         return Ok(None);
     }
-    let bytes = OperandBytes::new(alloc, Vec::from_slice(alloc, inner)?)?;
-    Ok(Some(Operand::Bytes(bytes)))
+    Ok(Some(Operand::Bytes(OperandBytes::new(arena, inner)?)))
 }
 
 /// The value of each byte as a hexadecimal digit of either case, and 255 where it is none.
@@ -212,11 +212,14 @@ fn byte_of_digits(high: u8, low: u8) -> Option<u8>
 }
 
 /// The bytes of hexadecimal digits, two for each.
-fn bytes_of_digits(alloc: Global, digits: &[u8]) -> Result<Option<Vec<u8>>, HostFull>
+fn bytes_of_digits<'a>(
+    arena: &'a Bump,
+    digits: &[u8],
+) -> Result<Option<Vec<u8, &'a Bump>>, HostFull>
     ensures found { IfOk result (λ found. IfSome found (λ bytes. AreDigitsOf digits.now bytes.items)) }
     ensures none { IfOk result (λ found. IfNone found ((bytes : List ℕ) → AreDigitsOf digits.now bytes → ⊥)) }
 {
-    let mut bytes = Vec::with_capacity(alloc, digits.len() / 2)?;
+    let mut bytes = Vec::with_capacity(arena, digits.len() / 2)?;
     let mut rest = digits;
     while let [high, low, behind @ ..] = rest {
         let Some(byte) = byte_of_digits(*high, *low) else {
@@ -232,18 +235,21 @@ fn bytes_of_digits(alloc: Global, digits: &[u8]) -> Result<Option<Vec<u8>>, Host
 }
 
 /// The bytes of a text in quotes behind `$`.
-fn hexadecimal_bytes(alloc: Global, digits: &[u8]) -> Result<Option<Operand>, HostFull>
+fn hexadecimal_bytes<'a>(arena: &'a Bump, digits: &[u8]) -> Result<Option<Operand<'a>>, HostFull>
     ensures { IfOk result (λ found.
         Finds found (IsBytesOperand (Hexadecimal digits.now))) }
 {
-    match bytes_of_digits(alloc, digits)? {
-        Some(bytes) => Ok(Some(Operand::Bytes(OperandBytes::new(alloc, bytes)?))),
+    match bytes_of_digits(arena, digits)? {
+        Some(bytes) => {
+            let bytes = OperandBytes::new(arena, into_bump_slice(bytes))?;
+            Ok(Some(Operand::Bytes(bytes)))
+        }
         None => Ok(None),
     }
 }
 
 /// The type that four bytes are.
-fn type_of_bytes(bytes: &[u8]) -> Option<Operand>
+fn type_of_bytes<'a>(bytes: &[u8]) -> Option<Operand<'a>>
     ensures { Finds result (IsTypeOfBytes bytes.now) }
 {
     match bytes {
@@ -253,7 +259,7 @@ fn type_of_bytes(bytes: &[u8]) -> Option<Operand>
 }
 
 /// The type that a text in single quotes is.
-fn quoted_type(inner: &[u8]) -> Option<Operand>
+fn quoted_type<'a>(inner: &[u8]) -> Option<Operand<'a>>
     ensures { Finds result (IsTypeOperand (Single inner.now)) }
 {
     if !are_printable(inner) {
@@ -263,73 +269,73 @@ fn quoted_type(inner: &[u8]) -> Option<Operand>
 }
 
 /// The type that a text in quotes behind `$` is.
-fn hexadecimal_type(alloc: Global, digits: &[u8]) -> Result<Option<Operand>, HostFull>
+fn hexadecimal_type<'a>(arena: &'a Bump, digits: &[u8]) -> Result<Option<Operand<'a>>, HostFull>
     ensures { IfOk result (λ found.
         Finds found (IsTypeOperand (Hexadecimal digits.now))) }
 {
-    match bytes_of_digits(alloc, digits)? {
+    match bytes_of_digits(arena, digits)? {
         Some(bytes) => Ok(type_of_bytes(&bytes)),
         None => Ok(None),
     }
 }
 
 /// The operand of this kind that a token is.
-fn operand(
-    alloc: Global,
+fn operand<'a>(
+    arena: &'a Bump,
     kind: OperandKind,
-    token: Token<'_>,
+    token: Token<'a>,
     names: &Names,
-) -> Result<Option<Operand>, HostFull>
+) -> Result<Option<Operand<'a>>, HostFull>
     ensures { IfOk result (λ found. Finds found (IsOperand names.now kind (view token.entry))) }
 {
     use OperandKind::{Bytes, Id, Number, OptionalBytes, OptionalNumber, Type};
     match (kind, token) {
         (Number | OptionalNumber, Token::Word(word)) => number_operand(word, names),
-        (Bytes | OptionalBytes, Token::Double(inner)) => quoted_bytes(alloc, inner),
-        (Bytes | OptionalBytes, Token::Hexadecimal(digits)) => hexadecimal_bytes(alloc, digits),
+        (Bytes | OptionalBytes, Token::Double(inner)) => quoted_bytes(arena, inner),
+        (Bytes | OptionalBytes, Token::Hexadecimal(digits)) => hexadecimal_bytes(arena, digits),
         (Id, Token::Word(word)) => id_operand(word, names),
         (Type, Token::Single(inner)) => Ok(quoted_type(inner)),
-        (Type, Token::Hexadecimal(digits)) => hexadecimal_type(alloc, digits),
+        (Type, Token::Hexadecimal(digits)) => hexadecimal_type(arena, digits),
         _ => Ok(None),
     }
 }
 
 /// The operand of this kind that the token at a place is, which is missing where there is none and it may be.
-fn operand_at(
-    alloc: Global,
+fn operand_at<'a>(
+    arena: &'a Bump,
     kind: OperandKind,
-    token: Option<&Token<'_>>,
+    token: Option<&Token<'a>>,
     names: &Names,
-) -> Result<Option<Operand>, HostFull>
+) -> Result<Option<Operand<'a>>, HostFull>
     ensures { IfOk result (λ found.
         Finds found (IsOperandAt names.now kind (option_map view (option_copied token.entry)))) }
 {
     match token {
-        Some(token) => operand(alloc, kind, *token, names),
+        Some(token) => operand(arena, kind, *token, names),
         None if kind.may_be_missing() => Ok(Some(Operand::Missing)),
         None => Ok(None),
     }
 }
 
 /// The operands of these kinds that the tokens are, one token for each kind but those that are missing.
-pub fn operands(
-    alloc: Global,
+pub fn operands<'a>(
+    arena: &'a Bump,
     kinds: &[OperandKind],
-    tokens: &[Token<'_>],
+    tokens: &[Token<'a>],
     names: &Names,
-) -> Result<Option<Operands>, HostFull>
+) -> Result<Option<Operands<'a>>, HostFull>
     ensures { IfOk result (λ found.
         Finds found (AreOperands names.now kinds.now (map view tokens.now))) }
 {
     if kinds.len() < tokens.len() {
         return Ok(None);
     }
-    let mut operands = Vec::with_capacity(alloc, kinds.len())?;
+    let mut operands = Vec::with_capacity(arena, kinds.len())?;
     for (index, kind) in kinds.iter().enumerate() {
-        let Some(operand) = operand_at(alloc, *kind, tokens.get(index), names)? else {
+        let Some(operand) = operand_at(arena, *kind, tokens.get(index), names)? else {
             return Ok(None);
         };
         operands.push(operand)?;
     }
-    Ok(Some(Operands::new(operands)))
+    Ok(Some(Operands::new(into_bump_slice(operands))))
 }

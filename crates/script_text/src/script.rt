@@ -9,6 +9,7 @@ use crate::line::Line;
 use crate::names::Names;
 use crate::statement::call_line;
 use crate::token::{Token, read_tokens};
+use bumpalo::Bump;
 use mac_base::error::HostFull;
 use memchr::memchr;
 use std::alloc::Global;
@@ -67,12 +68,12 @@ fn first_line(text: &[u8]) -> Option<(&[u8], &[u8])>
 /// What the line of this number says, where these names have been assigned: nothing, or a call. The tokens are
 /// memory to be used again.
 fn read_line<'a>(
-    alloc: Global,
+    arena: &'a Bump,
     number: u32,
     text: &'a [u8],
     tokens: &mut Vec<Token<'a>>,
     names: &mut Names,
-) -> Result<Option<Line>, Fault>
+) -> Result<Option<Line<'a>>, Fault>
     ensures line { IfOk result (λ found. Reads number names.old text.now found names.new) }
     ensures fault { IfErr result (Fails number names.old text.now) }
 {
@@ -87,7 +88,7 @@ fn read_line<'a>(
     if tokens.is_empty() {
         return Ok(None);
     }
-    match call_line(alloc, number, tokens, names) {
+    match call_line(arena, number, tokens, names) {
         Ok(Some(line)) => Ok(Some(line)),
         Ok(None) => Err(Fault::Line(number)),
         Err(HostFull) => Err(Fault::HostFull),
@@ -95,8 +96,12 @@ fn read_line<'a>(
 }
 
 /// The lines of a script that make calls. The text is a script exactly where each of its lines makes a call or says
-/// nothing; a fault names the first that does neither.
-pub fn parse_script(alloc: Global, text: &[u8]) -> Result<Vec<Line>, Fault>
+/// nothing; a fault names the first that does neither. What the lines keep lies in the text and in the arena.
+pub fn parse_script<'a>(
+    alloc: Global,
+    arena: &'a Bump,
+    text: &'a [u8],
+) -> Result<Vec<Line<'a>>, Fault>
     ensures script { IfOk result (λ lines. script.IsScript text.now lines.items) }
     ensures fault { IfErr result (script.IsFault text.now) }
 {
@@ -110,7 +115,7 @@ pub fn parse_script(alloc: Global, text: &[u8]) -> Result<Vec<Line>, Fault>
     let mut number = 0;
     while let Some((line, behind)) = first_line(rest) {
         number += 1;
-        if let Some(line) = read_line(alloc, number, line, &mut tokens, &mut names)? {
+        if let Some(line) = read_line(arena, number, line, &mut tokens, &mut names)? {
             lines.push(line).map_err(|_| Fault::HostFull)?;
         }
         rest = behind;

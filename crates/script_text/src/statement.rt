@@ -13,9 +13,9 @@ use crate::line::{Line, Name};
 use crate::names::Names;
 use crate::operand::{is_name, operands};
 use crate::token::Token;
+use bumpalo::Bump;
 use mac_base::error::HostFull;
 use mac_calls::CallName;
-use std::alloc::Global;
 
 /// The name that a line assigns, if it begins so, and the tokens behind `name =`.
 fn assigned_name<'a, 'b>(line: &'b [Token<'a>]) -> (Option<&'a [u8]>, &'b [Token<'a>])
@@ -53,12 +53,12 @@ fn add_assigned(names: &mut Names, word: Option<&[u8]>) -> Result<Option<Name>, 
 }
 
 /// The call that tokens make in a line with this number, where these names have been assigned.
-pub fn call_line(
-    alloc: Global,
+pub fn call_line<'a>(
+    arena: &'a Bump,
     number: u32,
-    line: &[Token<'_>],
+    line: &[Token<'a>],
     names: &mut Names,
-) -> Result<Option<Line>, HostFull>
+) -> Result<Option<Line<'a>>, HostFull>
     ensures line { IfOk result (λ found. Finds found (IsNumbered number names.old (map view line.now))) }
     ensures names { IfOk result (λ found. IfSome found (λ _.
         names.new ≡ names_after names.old (map view line.now))) }
@@ -76,7 +76,7 @@ pub fn call_line(
     {
         return Ok(None);
     }
-    let Some(operands) = operands(alloc, signature.operands, line, names)? else {
+    let Some(operands) = operands(arena, signature.operands, line, names)? else {
         return Ok(None);
     };
     let assigned = add_assigned(names, assigned)?;

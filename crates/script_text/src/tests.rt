@@ -2,13 +2,15 @@ use crate::names::Names;
 use crate::operand::operands;
 use crate::token::read_tokens;
 use crate::{Fault, Operand, Operands, parse_script};
+use bumpalo::Bump;
 use mac_base::error::HostFull;
 use mac_calls::OperandKind;
 use std::alloc::{AllocError, Global};
 
 /// The line at which a text is no script, and none where it is one.
 fn fault(alloc: Global, text: &[u8]) -> Option<u32> {
-    match parse_script(alloc, text) {
+    let arena = Bump::new(alloc);
+    match parse_script(alloc, &arena, text) {
         Ok(_) => None,
         Err(Fault::Line(line)) => Some(line),
         Err(Fault::HostFull) => Some(u32::MAX),
@@ -165,7 +167,7 @@ enum Read {
 }
 
 /// Whether an operand is this one.
-fn is_read(operand: &Operand, read: Read) -> bool {
+fn is_read(operand: &Operand<'_>, read: Read) -> bool {
     match (operand, read) {
         (Operand::Number(number), Read::Number(other)) => *number == other,
         (Operand::Variable(name), Read::Place(place)) => name.place() == place,
@@ -178,22 +180,23 @@ fn is_read(operand: &Operand, read: Read) -> bool {
 }
 
 /// The operands of these kinds that a text is, where only `x` has been assigned.
-fn read_operands(
+fn read_operands<'a>(
     alloc: Global,
+    arena: &'a Bump,
     kinds: &[OperandKind],
-    text: &[u8],
-) -> Result<Option<Operands>, HostFull> {
+    text: &'a [u8],
+) -> Result<Option<Operands<'a>>, HostFull> {
     let mut names = Names::new(alloc);
     names.add(b"x")?;
     let mut tokens = Vec::new(alloc);
     if !read_tokens(text, &mut tokens)? {
         return Ok(None);
     }
-    operands(alloc, kinds, &tokens, &names)
+    operands(arena, kinds, &tokens, &names)
 }
 
 /// Whether the last of the operands is this one, or there are none.
-fn ends_with(found: &Option<Operands>, last: Option<Read>) -> bool {
+fn ends_with(found: &Option<Operands<'_>>, last: Option<Read>) -> bool {
     match (found, last) {
         (Some(found), Some(last)) => match found.as_slice() {
             [.., operand] => is_read(operand, last),
@@ -274,7 +277,8 @@ const OPERANDS: [(&[OperandKind], &[u8], Option<Read>); 55] = [
 #[test]
 fn reads_operands(rt: HostRuntime) -> Result<(), HostFull> {
     for (kinds, text, last) in OPERANDS {
-        let found = read_operands(rt.alloc(), kinds, text)?;
+        let arena = Bump::new(rt.alloc());
+        let found = read_operands(rt.alloc(), &arena, kinds, text)?;
         assert!(rt; ends_with(&found, last), "at {text:?}");
     }
     Ok(())

@@ -1,4 +1,5 @@
 use crate::{Vars, first_number, resolve};
+use bumpalo::Bump;
 use mac_base::error::OsErr;
 use mac_base::handle::{Handle, Ptr};
 use mac_calls::{Call, CallName, MemoryCall, Reply, Results};
@@ -7,7 +8,8 @@ use script_text::{Fault, parse_script};
 #[test]
 fn resolves_calls(rt: HostRuntime) -> Result<(), Fault> {
     let alloc = rt.alloc();
-    let lines = parse_script(alloc, b"h = NewHandle 4\nPoke h 0 $\"00FF\"\n")?;
+    let arena = Bump::new(alloc);
+    let lines = parse_script(alloc, &arena, b"h = NewHandle 4\nPoke h 0 $\"00FF\"\n")?;
     let (Some(first), Some(second)) = (lines.first(), lines.get(1)) else {
         return Err(Fault::Line(0));
     };

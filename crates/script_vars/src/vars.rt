@@ -65,7 +65,7 @@ pub fn values_are_kept()
 {}
 
 /// The number of an operand. Bytes, an id, a type and an operand that is missing count as 0.
-fn number_in(operand: &Operand, vars: &Vars) -> u32
+fn number_in(operand: &Operand<'_>, vars: &Vars) -> u32
     ensures { result ≡ number_in vars.now operand.now }
 {
     match operand {
@@ -76,7 +76,7 @@ fn number_in(operand: &Operand, vars: &Vars) -> u32
 }
 
 /// The number of the operand at a place, and 0 where there is none.
-fn number_at(operands: &[Operand], vars: &Vars, place: usize) -> u32
+fn number_at(operands: &[Operand<'_>], vars: &Vars, place: usize) -> u32
     ensures { result ≡ number_at vars.now operands.now place }
 {
     match operands.get(place) {
@@ -86,7 +86,7 @@ fn number_at(operands: &[Operand], vars: &Vars, place: usize) -> u32
 }
 
 /// The bytes of the operand at a place, and none where it is no operand of bytes.
-fn bytes_at(operands: &[Operand], place: usize) -> &[u8]
+fn bytes_at<'a>(operands: &[Operand<'a>], place: usize) -> &'a [u8]
     ensures { result.now ≡ bytes_at operands.now place }
 {
     match operands.get(place) {
@@ -96,7 +96,7 @@ fn bytes_at(operands: &[Operand], place: usize) -> &[u8]
 }
 
 /// The call that a line makes, with the values that its operands have now.
-pub fn resolve<'a>(line: &'a Line, vars: &Vars) -> Call<'a>
+pub fn resolve<'a>(line: &Line<'a>, vars: &Vars) -> Call<'a>
     ensures call { result ≡ call_of vars.now line.now }
     ensures built { IsTrue (is_built result) }
 {

@@ -1,4 +1,4 @@
-use Rattle.std.proofs.Common.{◌≡◌, ◌+◌, [], ◌∷◌, ◌++◌, refl, inl, inr, ◌∙◌, arith}
+use Rattle.std.proofs.Common.{◌≡◌, ◌+◌, [], ◌∷◌, ◌++◌, refl, inl, inr, ◌∙◌}
 use Rattle.std.specs.List.{concat}
 use Rattle.script_text.specs.Script.{IsScript, IsFaultAt}
 use Rattle.script_run.specs.Line.{start_of}
