@@ -3,3 +3,9 @@
 
 #[cfg(test)]
 mod reply;
+#[cfg(test)]
+mod run;
+#[cfg(test)]
+mod text;
+#[cfg(test)]
+mod vars;

@@ -1,11 +1,11 @@
-use crate::names::Names;
-use crate::operand::operands;
-use crate::token::read_tokens;
-use crate::{Fault, Operand, Operands, parse_script};
+//! Which texts are scripts, and what their operands are.
+
 use bumpalo::Bump;
 use mac_base::error::HostFull;
 use mac_calls::OperandKind;
+use script_text::{Fault, Names, Operand, Operands, operands, parse_script, read_tokens};
 use std::alloc::{AllocError, Global};
+use std::process::Abort;
 
 /// The line at which a text is no script, and none where it is one.
 fn fault(alloc: Global, text: &[u8]) -> Option<u32> {
@@ -130,11 +130,16 @@ const TEXTS: [(&[u8], Option<u32>); 100] = [
     (b"HLOCK 1", Some(1)),
 ];
 
+/// Each text is a script, or none at that line.
+fn check_texts(rt: &impl Abort, alloc: Global, texts: &[(&[u8], Option<u32>)]) {
+    for (text, line) in texts {
+        assert_eq!(rt; fault(alloc, text), *line, "at {text:?}");
+    }
+}
+
 #[test]
 fn reads_lines(rt: HostRuntime) {
-    for (text, line) in TEXTS {
-        assert_eq!(rt; fault(rt.alloc(), text), line, "at {text:?}");
-    }
+    check_texts(&rt, rt.alloc(), &TEXTS);
 }
 
 #[test]
@@ -274,12 +279,31 @@ const OPERANDS: [(&[OperandKind], &[u8], Option<Read>); 55] = [
     (COUNT, b"7 8", None),
 ];
 
-#[test]
-fn reads_operands(rt: HostRuntime) -> Result<(), HostFull> {
-    for (kinds, text, last) in OPERANDS {
-        let arena = Bump::new(rt.alloc());
-        let found = read_operands(rt.alloc(), &arena, kinds, text)?;
-        assert!(rt; ends_with(&found, last), "at {text:?}");
+/// Whether a text is operands of these kinds of which the last is this one, or none where there is no last one.
+fn reads(
+    alloc: Global,
+    kinds: &[OperandKind],
+    text: &[u8],
+    last: Option<Read>,
+) -> Result<bool, HostFull> {
+    let arena = Bump::new(alloc);
+    let found = read_operands(alloc, &arena, kinds, text)?;
+    Ok(ends_with(&found, last))
+}
+
+/// Each text is read so.
+fn check_operands(
+    rt: &impl Abort,
+    alloc: Global,
+    rows: &[(&[OperandKind], &[u8], Option<Read>)],
+) -> Result<(), HostFull> {
+    for (kinds, text, last) in rows {
+        assert!(rt; reads(alloc, kinds, text, *last)?, "at {text:?}");
     }
     Ok(())
+}
+
+#[test]
+fn reads_operands(rt: HostRuntime) -> Result<(), HostFull> {
+    check_operands(&rt, rt.alloc(), &OPERANDS)
 }

@@ -1,9 +1,11 @@
-use crate::{Vars, first_number, resolve};
+//! Calls of lines, and what they assign.
+
 use bumpalo::Bump;
 use mac_base::error::OsErr;
 use mac_base::handle::{Handle, Ptr};
 use mac_calls::{Call, CallName, MemoryCall, Reply, Results};
 use script_text::{Fault, parse_script};
+use script_vars::{Vars, first_number, resolve};
 
 #[test]
 fn resolves_calls(rt: HostRuntime) -> Result<(), Fault> {

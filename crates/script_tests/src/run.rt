@@ -1,10 +1,11 @@
-use crate::counted::Counted;
-use crate::end::{RunEnd, status};
-use crate::running::run;
+//! Whole runs: what they write, and how they end.
+
 use mac_base::zone_spec::ZoneSpec;
+use script_run::{Counted, RunEnd, run, status};
 use std::alloc::Global;
 use std::io;
 use std::io::{ErrorKind, Read, Write};
+use std::process::Abort;
 use std::test::Fail;
 
 /// A reader of bytes that gives at most `piece` of them in a read, and fails at the end if it is to. It counts its reads.
@@ -64,6 +65,16 @@ fn run_script(alloc: Global, script: &[u8]) -> Result<(RunEnd, Vec<u8>), Fail> {
     Ok((end, writer.into_inner()))
 }
 
+/// A run of each script finishes, and writes this.
+fn check_replies(rt: &impl Abort, alloc: Global, rows: &[(&str, &str)]) -> Result<(), Fail> {
+    for (script, output) in rows {
+        let (end, written) = run_script(alloc, script.as_bytes())?;
+        assert_eq!(rt; end, RunEnd::Finished, "{script}");
+        assert_eq!(rt; written.as_slice(), output.as_bytes(), "{script}");
+    }
+    Ok(())
+}
+
 #[test]
 fn scripts_print_their_replies(rt: HostRuntime) -> Result<(), Fail> {
     let rows: [(&str, &str); 9] = [
@@ -101,12 +112,7 @@ fn scripts_print_their_replies(rt: HostRuntime) -> Result<(), Fail> {
             "1 NewHandle -108\n2 NewHandle -50\n3 DisposeHandle -109\n4 DisposeHandle -111\n5 ZoneMap 2 0\n  $00100034 264 master\n  $0010013C 3780 free\n6 Peek -111\n7 NewHandle $0010003C 0\n8 Peek \"\" 0\n9 Peek -50\n10 Peek -109\n",
         ),
     ];
-    for (script, output) in rows {
-        let (end, written) = run_script(rt.alloc(), script.as_bytes())?;
-        assert_eq!(rt; end, RunEnd::Finished, "{script}");
-        assert_eq!(rt; written.as_slice(), output.as_bytes(), "{script}");
-    }
-    Ok(())
+    check_replies(&rt, rt.alloc(), &rows)
 }
 
 #[test]
@@ -141,12 +147,7 @@ fn handles_and_pointers_print_their_replies(rt: HostRuntime) -> Result<(), Fail>
             "1 GetHandleSize -109\n2 NewHandle $0010003C 0\n3 ZoneMap 3 0\n  $00100034 264 master\n  $0010013C 12 rel $0010003C 0 ---\n  $00100148 3768 free\n4 NewPtr $00100150 0\n",
         ),
     ];
-    for (script, output) in rows {
-        let (end, written) = run_script(rt.alloc(), script.as_bytes())?;
-        assert_eq!(rt; end, RunEnd::Finished, "{script}");
-        assert_eq!(rt; written.as_slice(), output.as_bytes(), "{script}");
-    }
-    Ok(())
+    check_replies(&rt, rt.alloc(), &rows)
 }
 
 /// A handle without a block, one with a block, a pointer and a locked handle. The first two blocks have no room to grow.
