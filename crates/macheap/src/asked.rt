@@ -1,11 +1,11 @@
 //! The words of the command line.
 
-ghost use Rattle.std.specs.Prelude.{◌≡◌, IfOk, IfErr, OnErr, map, option_map};
+ghost use Rattle.std.specs.Prelude.{◌≡◌, IfOk, IfErr, OnErr, false, map, option_map};
 ghost use Rattle.std.specs.Char.{is_ascii_digit};
 ghost use Rattle.std.specs.List.{list_all};
-ghost use Rattle.clap.specs.Words.{app_of, kind_of};
+ghost use Rattle.clap.specs.Words.{app_of, kind_of, rule_of};
 ghost use Rattle.macheap.specs.Asking.{Asks, MeansNoRun, IsNoNumberFault};
-ghost use Rattle.macheap.specs.Options.{options, IsNumberOf, IsNoNumber};
+ghost use Rattle.macheap.specs.Options.{option_named, options, IsNumberOf, IsNoNumber};
 
 use clap::error::ErrorKind;
 use clap::{Arg, ArgAction, Command};
@@ -57,24 +57,28 @@ impl From<AllocError> for NotAsked {
     }
 }
 
+/// The option of this name, which stands once at most and takes a number.
+fn number_option<'a>(alloc: Global, name: &'a str, help: &'a str) -> Arg<'a>
+    ensures rule { rule_of result ≡ option_named name.entry.now }
+    ensures local { result.global ≡ false }
+{
+    Arg::new(alloc, name)
+        .long(name)
+        .value_name("N")
+        .action(ArgAction::Set)
+        .help(help)
+}
+
 /// The command line's options.
 fn command<'a>(alloc: Global) -> Result<Command<'a>, AllocError>
     ensures { IfOk result (λ command. app_of command ≡ options) }
 {
-    let zone = Arg::new(alloc, "zone")
-        .long("zone")
-        .value_name("N")
-        .action(ArgAction::Set)
-        .help("The zone's size in bytes, a multiple of 4 from 1024 to 1048576 (default 4096)");
-    let base = Arg::new(alloc, "base")
-        .long("base")
-        .value_name("N")
-        .action(ArgAction::Set)
-        .help("The address of its first byte, a multiple of 4 from 4096 on (default 1048576)");
+    let zone_help = "The zone's size in bytes, a multiple of 4 from 1024 to 1048576 (default 4096)";
+    let base_help = "The address of its first byte, a multiple of 4 from 4096 on (default 1048576)";
     Command::new(alloc, "macheap")
         .about("Runs the script of standard input on a new heap zone, and writes each call's reply")
-        .arg(zone)?
-        .arg(base)
+        .arg(number_option(alloc, "zone", zone_help))?
+        .arg(number_option(alloc, "base", base_help))
 }
 
 /// What the words ask for, of which the first is the program's name.

@@ -1,6 +1,7 @@
 use crate::asked::{Asked, NotAsked, asked_by};
 use mac_base::zone_spec::{BadSpec, ZoneSpec};
 use std::alloc::Global;
+use std::process::Abort;
 use std::test::Fail;
 
 /// What a list of words asks for.
@@ -33,9 +34,26 @@ fn meaning_of(alloc: Global, line: &str) -> Result<Meaning, Fail> {
     })
 }
 
+/// Each line asks for a run on a zone with this base and size.
+fn check_zones(rt: &impl Abort, alloc: Global, rows: &[(&str, u32, u32)]) -> Result<(), Fail> {
+    for (line, base, size) in rows {
+        let spec = ZoneSpec::new(*base, *size, *size)?;
+        assert_eq!(rt; meaning_of(alloc, line)?, Meaning::Run(spec), "{line}");
+    }
+    Ok(())
+}
+
+/// Each line means this.
+fn check_meanings(rt: &impl Abort, alloc: Global, rows: &[(&str, Meaning)]) -> Result<(), Fail> {
+    for (line, want) in rows {
+        assert_eq!(rt; meaning_of(alloc, line)?, *want, "{line}");
+    }
+    Ok(())
+}
+
 #[test]
 fn zones_are_read(rt: HostRuntime) -> Result<(), Fail> {
-    let rows: [(&str, u32, u32); 7] = [
+    let rows = [
         ("macheap", 1_048_576, 4096),
         ("macheap --zone 8192", 1_048_576, 8192),
         ("macheap --zone=8192", 1_048_576, 8192),
@@ -48,16 +66,12 @@ fn zones_are_read(rt: HostRuntime) -> Result<(), Fail> {
         ),
         ("macheap --base 16773120", 16_773_120, 4096),
     ];
-    for (line, base, size) in rows {
-        let spec = ZoneSpec::new(base, size, size)?;
-        assert_eq!(rt; meaning_of(rt.alloc(), line)?, Meaning::Run(spec), "{line}");
-    }
-    Ok(())
+    check_zones(&rt, rt.alloc(), &rows)
 }
 
 #[test]
 fn words_are_read(rt: HostRuntime) -> Result<(), Fail> {
-    let rows: [(&str, Meaning); 15] = [
+    let rows = [
         ("macheap --help", Meaning::Help),
         ("macheap -h", Meaning::Help),
         ("macheap --zone", Meaning::Words),
@@ -74,10 +88,7 @@ fn words_are_read(rt: HostRuntime) -> Result<(), Fail> {
         ("macheap --base=", Meaning::NoNumber),
         ("macheap --base 4294967296", Meaning::NoNumber),
     ];
-    for (line, want) in rows {
-        assert_eq!(rt; meaning_of(rt.alloc(), line)?, want, "{line}");
-    }
-    Ok(())
+    check_meanings(&rt, rt.alloc(), &rows)
 }
 
 #[test]
@@ -86,20 +97,25 @@ fn impossible_zones_are_told(rt: HostRuntime) -> Result<(), Fail> {
         base: 16_773_124,
         limit: 4096,
     };
-    let rows: [(&str, BadSpec); 6] = [
-        ("macheap --zone 1022", BadSpec::UnevenSize(1022)),
-        ("macheap --zone 1020", BadSpec::SmallSize(1020)),
-        ("macheap --zone 1048580", BadSpec::LargeLimit(1_048_580)),
-        ("macheap --base 4092", BadSpec::LowBase(4092)),
-        ("macheap --base 4098", BadSpec::UnevenBase(4098)),
-        ("macheap --base 16773124", high),
+    let rows = [
+        (
+            "macheap --zone 1022",
+            Meaning::Spec(BadSpec::UnevenSize(1022)),
+        ),
+        (
+            "macheap --zone 1020",
+            Meaning::Spec(BadSpec::SmallSize(1020)),
+        ),
+        (
+            "macheap --zone 1048580",
+            Meaning::Spec(BadSpec::LargeLimit(1_048_580)),
+        ),
+        ("macheap --base 4092", Meaning::Spec(BadSpec::LowBase(4092))),
+        (
+            "macheap --base 4098",
+            Meaning::Spec(BadSpec::UnevenBase(4098)),
+        ),
+        ("macheap --base 16773124", Meaning::Spec(high)),
     ];
-    for (line, fault) in rows {
-        assert_eq!(rt;
-            meaning_of(rt.alloc(), line)?,
-            Meaning::Spec(fault),
-            "{line}"
-        );
-    }
-    Ok(())
+    check_meanings(&rt, rt.alloc(), &rows)
 }

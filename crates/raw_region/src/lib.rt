@@ -11,6 +11,3 @@ mod region;
 
 pub use loan::Lent;
 pub use region::Region;
-
-#[cfg(test)]
-mod tests;

@@ -4,6 +4,3 @@
 mod printing;
 
 pub use printing::{NO_MEMORY, fault_line, render};
-
-#[cfg(test)]
-mod tests;

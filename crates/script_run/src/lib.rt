@@ -6,8 +6,6 @@ mod end;
 mod machine;
 mod reading;
 mod running;
-#[cfg(test)]
-mod tests;
 mod writing;
 
 pub use counted::Counted;

@@ -9,8 +9,7 @@ mod statement;
 mod token;
 
 pub use line::{Line, Name, Operand, OperandBytes, Operands};
-pub use names::names_have_places;
+pub use names::{Names, names_have_places};
+pub use operand::operands;
 pub use script::{Fault, MAX_LINES, MAX_SCRIPT, one_reading, parse_script};
-
-#[cfg(test)]
-mod tests;
+pub use token::{Token, read_tokens};

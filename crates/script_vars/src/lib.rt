@@ -6,6 +6,3 @@ mod vars;
 
 pub use taken::first_number;
 pub use vars::{Vars, resolve, values_are_kept};
-
-#[cfg(test)]
-mod tests;

@@ -4,6 +4,4 @@
 mod zone;
 
 pub use zone::{NoRoom, Zone};
-
-#[cfg(test)]
-mod tests;
+pub use block_bytes::check;

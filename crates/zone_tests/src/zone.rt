@@ -1,0 +1,177 @@
+//! The bytes of a zone are compared with those that the format says.
+
+use mac_base::block::{Flags, HeadKind};
+use mac_base::zone_spec::ZoneSpec;
+use zone_heap::{Zone, check};
+
+/// A word of a zone: where it stands, and what it is.
+type Word = (usize, u32);
+
+/// The zone of 4096 bytes at $00100000 with 24-bit blocks after NewHandle 100, but for the free slots' words. All other
+/// bytes are zero.
+const NEW_HANDLE_24: [Word; 11] = [
+    (0, 0x0010_1000),
+    (8, 0x0010_0040),
+    (12, 0x0000_0e58),
+    (20, 0x0040_0000),
+    (48, 0x0010_01a8),
+    (0x34, 0x5000_0108),
+    (0x38, 0x0010_0000),
+    (0x3c, 0x0010_0144),
+    (0x13c, 0x8000_006c),
+    (0x140, 0x0000_003c),
+    (0x1a8, 0x0000_0e58),
+];
+
+/// The same with 32-bit blocks.
+const NEW_HANDLE_32: [Word; 13] = [
+    (0, 0x0010_1000),
+    (8, 0x0010_0044),
+    (12, 0x0000_0e50),
+    (20, 0x0040_0000),
+    (48, 0x0010_01b0),
+    (0x34, 0x5000_0000),
+    (0x38, 0x0000_010c),
+    (0x3c, 0x0010_0000),
+    (0x40, 0x0010_014c),
+    (0x140, 0x8000_0000),
+    (0x144, 0x0000_0070),
+    (0x148, 0x0000_0040),
+    (0x1b4, 0x0000_0e50),
+];
+
+/// The zone with 24-bit blocks after three NewHandle 1000, "BB" written to the second one's bytes, and the first one
+/// disposed of.
+const DISPOSED_24: [Word; 16] = [
+    (0, 0x0010_1000),
+    (8, 0x0010_003c),
+    (12, 0x0000_06e4),
+    (20, 0x0040_0000),
+    (48, 0x0010_013c),
+    (0x34, 0x5000_0108),
+    (0x38, 0x0010_0000),
+    (0x3c, 0x0110_0048),
+    (0x40, 0x0010_0534),
+    (0x44, 0x0010_0924),
+    (0x13c, 0x0000_03f0),
+    (0x52c, 0x8000_03f0),
+    (0x530, 0x0000_0040),
+    (0x534, 0x4242_0000),
+    (0x91c, 0x8000_03f0),
+    (0x920, 0x0000_0044),
+];
+
+/// Writes a word, the high byte first.
+fn put(image: &mut [u8; 4096], at: usize, word: u32) {
+    let at = at.min(4092);
+    image[at..at + 4].copy_from_slice(&word.to_be_bytes());
+}
+
+/// A zone of these words, whose slots from one offset on to another are free, each naming the next: at a place `more`
+/// above its offset.
+fn image_of(words: &[Word], free: (usize, usize), more: u32, last: u32) -> [u8; 4096] {
+    let mut image = [0; 4096];
+    for (at, word) in words {
+        put(&mut image, *at, *word);
+    }
+    let (from, to) = free;
+    for at in from.min(4092)..to.min(4092) {
+        if at % 4 == 0 {
+            put(&mut image, at, more.wrapping_add(at as u32));
+        }
+    }
+    put(&mut image, to, last);
+    image
+}
+
+/// The zone with 24-bit blocks after NewHandle 100.
+fn new_handle_24() -> [u8; 4096] {
+    image_of(&NEW_HANDLE_24, (0x40, 0x138), 0x0110_0004, 0x0100_0000)
+}
+
+/// The zone with 32-bit blocks after NewHandle 100.
+fn new_handle_32() -> [u8; 4096] {
+    image_of(&NEW_HANDLE_32, (0x44, 0x13c), 0x0010_0005, 1)
+}
+
+/// The flags of a handle that is locked.
+const LOCKED: Flags = Flags {
+    lock: true,
+    purge: false,
+    resource: false,
+};
+
+/// Compares the bytes of a zone of these blocks after NewHandle 100, and after the handle was locked.
+fn compare(rt: &HostRuntime, heads: HeadKind, number: u32, mut image: [u8; 4096], locked: Word) {
+    let spec = ZoneSpec::with_kind(0x10_0000, 4096, 4096, heads).expect(rt, "there is such a zone");
+    let mut zone = Zone::create(rt.alloc(), spec).expect(rt, "the host has memory");
+    let handle = zone.place_rel(100).expect(rt, "the zone has room");
+    assert_eq!(rt; handle.number(), number);
+    assert_eq!(rt; zone.image(), &image[..]);
+    assert!(rt;
+        zone.is_live(handle) && zone.has_block(handle.number()),
+        "it has a block"
+    );
+    zone.set_flags(handle, LOCKED);
+    put(&mut image, locked.0, locked.1);
+    assert_eq!(rt; zone.image(), &image[..]);
+}
+
+#[test]
+fn a_new_handle_leaves_the_bytes_of_the_format(rt: HostRuntime) {
+    compare(
+        &rt,
+        HeadKind::Bits24,
+        0x0010_003c,
+        new_handle_24(),
+        (0x3c, 0x8010_0144),
+    );
+    compare(
+        &rt,
+        HeadKind::Bits32,
+        0x0010_0040,
+        new_handle_32(),
+        (0x140, 0x8080_0000),
+    );
+}
+
+#[test]
+fn a_handle_that_is_disposed_of_leaves_the_lowest_free_block(rt: HostRuntime) {
+    let spec = ZoneSpec::new(0x10_0000, 4096, 4096).expect(&rt, "there is such a zone");
+    let mut zone = Zone::create(rt.alloc(), spec).expect(&rt, "the host has memory");
+    let first = zone.place_rel(1000).expect(&rt, "the zone has room");
+    let second = zone.place_rel(1000).expect(&rt, "the zone has room");
+    zone.place_rel(1000).expect(&rt, "the zone has room");
+    assert!(rt; zone.has_block(second.number()), "it has a block");
+    if let Some(bytes) = zone.bytes_mut(second.number()).get_mut(..2) {
+        bytes.copy_from_slice(b"BB");
+    }
+    assert!(rt; zone.is_live(first), "it is live");
+    zone.release(first);
+    let mut image = image_of(&DISPOSED_24, (0x48, 0x138), 0x0110_0004, 0x0100_0000);
+    put(&mut image, 0xd0c, 0x0000_02f4);
+    assert_eq!(rt; zone.image(), &image[..]);
+}
+
+#[test]
+fn a_zone_is_told_from_other_bytes(rt: HostRuntime) {
+    let mut image = new_handle_24();
+    assert!(rt; check(HeadKind::Bits24, &image), "as it is");
+    for size in [0, 0xe54, 0xe5c, 0xe5a, 8] {
+        put(&mut image, 0x1a8, size);
+        assert!(rt;
+            !check(HeadKind::Bits24, &image),
+            "with a last block of {size} bytes"
+        );
+    }
+    let mut image = new_handle_32();
+    assert!(rt; check(HeadKind::Bits32, &image), "as it is");
+    for size in [0, 0xe4c, 0xe54, 0xe52, 12] {
+        put(&mut image, 0x1b4, size);
+        assert!(rt;
+            !check(HeadKind::Bits32, &image),
+            "with a last block of {size} bytes"
+        );
+    }
+    assert!(rt; !check(HeadKind::Bits24, &[0; 51]), "under 52 bytes");
+}
