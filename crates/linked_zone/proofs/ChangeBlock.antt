@@ -8,11 +8,11 @@ use Rattle.mac_base.specs.declared.block.Entry.{Entry}
 use Rattle.mac_base.specs.declared.block.Kind.{Kind}
 use Rattle.mac_base.specs.declared.block.Kind.TheVariants.{Free, Master, Ptr, Rel}
 use Rattle.mac_base.specs.HeadKind.{Shape, head_size}
-use Rattle.mac_base.specs.ZoneMap.{ZoneMap, block, is_master, is_named, total_size, free_size, free_bytes, address_behind, addresses, addresses_from, contents_addresses, contents_of}
+use Rattle.mac_base.specs.ZoneMap.{ZoneMap, block, is_master, is_named, total_size, address_behind, addresses, addresses_from, contents_addresses, contents_of}
 use Rattle.mac_base.specs.Suits.{is_handle_block, is_pointer_block, slots}
 use Rattle.mac_base.specs.ZoneState.{ZoneState}
 use Rattle.zone_laws.proofs.Maps.{both_true, true_both, true_not}
-use Rattle.zone_laws.proofs.GapAppend.{total_size-append, free_bytes-append, addresses_from-append, addresses_from-none}
+use Rattle.zone_laws.proofs.GapAppend.{addresses_from-append, addresses_from-none}
 use Rattle.zone_laws.proofs.Owners.{none_named}
 use Rattle.zone_laws.proofs.SuitsTaken.{slots-same, contents-same}
 use Rattle.linked_zone.specs.Changes.{freed}
@@ -108,17 +108,3 @@ module _ (z : ZoneState) (before : ZoneMap) (a b : Kind) (n : ℕ) (behind : Zon
   -- so do those of each block that x names
   pub swapped-contents : (x : ℕ) → is_named x b ≡ is_named x a → contents_of z.shape x (before ++ block b n ∷ behind) ≡ contents_of z.shape x z.heap.map
   swapped-contents x same = ap (λ found. slice_index (map (λ a. a + head_size z.shape.heads) found) 0) (swapped-addresses (is_named x) same)
-
-  -- the sum of the sizes stays
-  pub swapped-total : total_size (before ++ block b n ∷ behind) ≡ total_size z.heap.map
-  swapped-total = total_size-append before (block b n ∷ behind) ∙ sym (total_size-append before (block a n ∷ behind)) ∙ ap total_size (sym was)
-
-  -- and the free bytes change by those of the block
-  pub swapped-free : free_bytes (before ++ block b n ∷ behind) + free_size (block a n) ≡ free_bytes z.heap.map + free_size (block b n)
-  swapped-free =
-      let new = free_bytes-append before (block b n ∷ behind) in
-      let old = ap free_bytes was ∙ free_bytes-append before (block a n ∷ behind) in
-      sum (free_bytes before) (free_size (block a n)) (free_size (block b n)) (free_bytes behind) _ _ new old
-    where
-      sum : (w x y v new old : ℕ) → new ≡ w + (y + v) → old ≡ w + (x + v) → new + x ≡ old + y
-      sum w x y v new old is was = omega arith

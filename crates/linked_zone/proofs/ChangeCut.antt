@@ -7,7 +7,7 @@ use Rattle.mac_base.specs.HeadKind.{head_size}
 use Rattle.mac_base.specs.ZoneMap.{ZoneMap, block, is_master, is_named, total_size, address_behind, addresses, addresses_from}
 use Rattle.mac_base.specs.Suits.{is_handle_block, is_pointer_block}
 use Rattle.mac_base.specs.ZoneState.{ZoneState}
-use Rattle.zone_laws.proofs.Maps.{Exchanged, total_size-exchanged, addresses_from-exchanged, addresses_from-skip}
+use Rattle.zone_laws.proofs.Maps.{Exchanged, addresses_from-exchanged, addresses_from-skip}
 use Rattle.zone_laws.proofs.SuitsTaken.{slots-same, contents-same}
 use Rattle.linked_zone.specs.Owned.{slot_of}
 use Rattle.linked_zone.specs.Places.{FreeAt, FreePair}
@@ -57,10 +57,6 @@ module _ (z : ZoneState) (at size : ℕ) (free : FreeAt z at) (smaller : size < 
   pub cut-pointers : (x : ℕ) → slot_of (cut_in_two size z free) x ≡ slot_of z x
   cut-pointers x = free_changed-pointers z (cut_in_two size z free).heap.map cut_same x
 
-  -- the sum of the sizes stays
-  pub cut-total : total_size (cut_in_two size z free).heap.map ≡ total_size z.heap.map
-  cut-total = total_size-exchanged z.heap.map (cut_in_two size z free).heap.map cut_exchange
-
 module _ (z : ZoneState) (at : ℕ) (pair : FreePair z at) where
   abbrev pub joined_exchange : Exchanged z.heap.map (joined_pair z pair).heap.map
   joined_exchange = record {
@@ -85,7 +81,3 @@ module _ (z : ZoneState) (at : ℕ) (pair : FreePair z at) where
   -- all master pointers stay
   pub joined-pointers : (x : ℕ) → slot_of (joined_pair z pair) x ≡ slot_of z x
   joined-pointers x = free_changed-pointers z (joined_pair z pair).heap.map joined_same x
-
-  -- the sum of the sizes stays
-  pub joined-total : total_size (joined_pair z pair).heap.map ≡ total_size z.heap.map
-  joined-total = total_size-exchanged z.heap.map (joined_pair z pair).heap.map joined_exchange

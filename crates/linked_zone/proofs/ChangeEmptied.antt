@@ -1,12 +1,12 @@
 -- What a zone is once a handle's block is free and the handle empty.
-use Rattle.std.proofs.Common.{◌≡◌, ℕ, suc, ◌+◌, ◌-◌, Bool, true, false, not, cond, List, [], ◌∷◌, ◌++◌, length, Some, refl, ap, sym, ◌∙◌, arith, IsTrue, Contains, subst, ne_eqb, length-append}
+use Rattle.std.proofs.Common.{◌≡◌, ℕ, suc, ◌+◌, Bool, true, false, not, cond, List, [], ◌∷◌, ◌++◌, length, Some, refl, ap, sym, ◌∙◌, arith, IsTrue, Contains, subst, ne_eqb, length-append}
 use Rattle.std.specs.List.{list_all}
 use Rattle.mac_base.specs.declared.block.Entry.{Entry}
 use Rattle.mac_base.specs.declared.block.Kind.{Kind}
 use Rattle.mac_base.specs.declared.block.Kind.TheVariants.{Free, Master, Ptr, Rel}
 use Rattle.mac_base.specs.HeadKind.{head_size}
 use Rattle.mac_base.specs.ZoneMap.{ZoneMap, block, total_size, addresses, addresses_from, address_behind, contents_addresses, contents_of}
-use Rattle.mac_base.specs.HandleTable.{HandleTable, EmptyHandle, live_at, live_bytes, live_full, live_handle, live_pointer, bytes_of, is_full, is_handle, is_pointer, with_live}
+use Rattle.mac_base.specs.HandleTable.{HandleTable, EmptyHandle, live_at, live_full, live_handle, live_pointer, is_full, is_handle, is_pointer, with_live}
 use Rattle.mac_base.specs.Suits.{is_handle_block, is_pointer_block, slots}
 use Rattle.mac_base.specs.ZoneState.{ZoneState}
 use Rattle.zone_laws.proofs.GapAppend.{addresses_from-append, addresses_from-none}
@@ -18,7 +18,7 @@ use Rattle.linked_zone.specs.Places.{BlockOf}
 use Rattle.linked_zone.specs.Changes.{with_heap, freed, without_block}
 use Rattle.linked_zone.specs.Fit.{Fits}
 use Rattle.linked_zone.proofs.ChangeParts.{same_slot, no_map, Fits-kept}
-use Rattle.linked_zone.proofs.ChangeBlock.{freed-only, none_handle, contents_of-first, swapped-addresses, swapped-slots, swapped-pointers, swapped-contents, swapped-total}
+use Rattle.linked_zone.proofs.ChangeBlock.{freed-only, none_handle, contents_of-first, swapped-addresses, swapped-slots, swapped-pointers, swapped-contents}
 
 -- the kind of the block of a handle
 handle_kind : (h : ℕ) (kind : Kind) → is_handle_block h kind ≡ true → kind ≡ Rel h
@@ -147,14 +147,6 @@ module _ (z : ZoneState) (h : ℕ) (fits : Fits z) (full : is_full z.heap.table 
         same_slot z (without_block h z) x refl (agree.others x apart)
         (ap (contents_of z.shape x) emptied-map ∙ swapped-contents z b.before (Rel h) Free b.size b.behind b.map x (sym (eqb_swap h x ∙ apart))) refl
 
-    -- the bytes of all others stay
-    pub emptied-other_bytes : (x : ℕ) → (x ≡ h → ⊥) → bytes_of (without_block h z).heap.table x ≡ bytes_of z.heap.table x
-    emptied-other_bytes x other = ap live_bytes (agree.others x (ne_eqb x h other))
-
-    -- the sum of the sizes stays
-    pub emptied-total : total_size (without_block h z).heap.map ≡ total_size z.heap.map
-    emptied-total = ap total_size emptied-map ∙ swapped-total z b.before (Rel h) Free b.size b.behind b.map
-
   -- the handle's block
   pub own_block : OwnBlock z h
   own_block = record { at = address_behind z.shape there.before; block = place; contents = emptied-contents (address_behind z.shape there.before) place }
@@ -164,10 +156,3 @@ module _ (z : ZoneState) (h : ℕ) (fits : Fits z) (full : is_full z.heap.table 
 
       place : BlockOf z h (address_behind z.shape there.before)
       place = record { before = there.before; size = there.size; behind = there.behind; map = there.was; place = refl }
-
-  -- it stands where its contents begin, less the header
-  pub own_block-at : BlockOf z h (contents_of z.shape h z.heap.map - head_size z.shape.heads)
-  own_block-at = subst (λ at. BlockOf z h at) (less own_block.at (head_size z.shape.heads) (contents_of z.shape h z.heap.map) own_block.contents) own_block.block
-    where
-      less : (a b c : ℕ) → c ≡ a + b → a ≡ c - b
-      less a b c is = omega arith

@@ -5,7 +5,7 @@ use Rattle.mac_base.specs.declared.block.Kind.{Kind}
 use Rattle.mac_base.specs.declared.block.Kind.TheVariants.{Free, Master, Ptr, Rel}
 use Rattle.mac_base.specs.HeadKind.{head_size, slot_count}
 use Rattle.mac_base.specs.ZoneMap.{ZoneMap, block, is_free, is_master, total_size, addresses, addresses_from, address_behind, contents_addresses}
-use Rattle.mac_base.specs.HandleTable.{HandleTable, Live, Pointer, zeros, live_at, live_bytes, live_full, live_handle, live_pointer, bytes_of, is_full, is_handle, is_pointer, with_live}
+use Rattle.mac_base.specs.HandleTable.{HandleTable, Live, Pointer, zeros, live_at, live_full, live_handle, live_pointer, is_full, is_handle, is_pointer, with_live}
 use Rattle.mac_base.specs.Suits.{is_handle_block, is_pointer_block, slots}
 use Rattle.mac_base.specs.ZoneState.{ZoneState}
 use Rattle.zone_laws.proofs.GapAppend.{addresses_from-append}
@@ -18,7 +18,7 @@ use Rattle.linked_zone.specs.Places.{FreeAt}
 use Rattle.linked_zone.specs.Changes.{fixed}
 use Rattle.linked_zone.specs.Fit.{Fits, HasRooms}
 use Rattle.linked_zone.proofs.ChangeParts.{Contains-map, same_slot, none_named-fits, Fits-kept}
-use Rattle.linked_zone.proofs.ChangeBlock.{none_pointer, none_named-parts, addresses-only, swapped-addresses, swapped-slots, swapped-pointers, swapped-contents, swapped-total}
+use Rattle.linked_zone.proofs.ChangeBlock.{none_pointer, none_named-parts, addresses-only, swapped-addresses, swapped-slots, swapped-pointers, swapped-contents}
 
 free_not_master : (kind : Kind) → is_free kind ≡ true → is_master kind ≡ false
 free_not_master Free h = refl
@@ -121,15 +121,3 @@ module _ (z : ZoneState) (n at : ℕ) (free : FreeAt z at) (fits : Fits z) (room
   fixed-others x other =
       let apart = ne_eqb x p other in
       same_slot z (fixed n z free) x refl (agree.others x apart) (swapped-contents z free.before Free (Ptr p) free.size free.behind free.map x (eqb_swap p x ∙ apart)) refl
-
-  -- its bytes are zero
-  pub fixed-bytes : bytes_of (fixed n z free).heap.table p ≡ zeros n
-  fixed-bytes = ap live_bytes has
-
-  -- those of all others stay
-  pub fixed-other_bytes : (x : ℕ) → (x ≡ p → ⊥) → bytes_of (fixed n z free).heap.table x ≡ bytes_of z.heap.table x
-  fixed-other_bytes x other = ap live_bytes (agree.others x (ne_eqb x p other))
-
-  -- the sum of the sizes stays
-  pub fixed-total : total_size (fixed n z free).heap.map ≡ total_size z.heap.map
-  fixed-total = swapped-total z free.before Free (Ptr p) free.size free.behind free.map

@@ -12,9 +12,8 @@ use Rattle.mac_base.specs.declared.block.HeadKind.TheVariants.{Bits24, Bits32}
 use Rattle.mac_base.specs.declared.block.Kind.{Kind}
 use Rattle.mac_base.specs.declared.block.Kind.TheVariants.{Free, Master, Ptr, Rel}
 use Rattle.mac_base.specs.HeadKind.{Shape, head_size, need, slot_count, master_length}
-use Rattle.mac_base.specs.ZoneMap.{ZoneMap, block, is_master, total_size, free_bytes, address_behind, addresses, addresses_from, contents_of}
+use Rattle.mac_base.specs.ZoneMap.{ZoneMap, block, is_master, total_size, address_behind, addresses, addresses_from, contents_of}
 use Rattle.mac_base.specs.HandleTable.{live_at, is_handle, is_pointer}
-use Rattle.mac_base.specs.Heap.{front_slot}
 use Rattle.mac_base.specs.Suits.{has_length, is_handle_block, is_pointer_block, slots, slots_from}
 use Rattle.mac_base.specs.ZoneState.{ZoneState}
 use Rattle.zone_laws.proofs.Maps.{both_true, true_both}
@@ -29,7 +28,7 @@ use Rattle.linked_zone.specs.Places.{RoomFor}
 use Rattle.linked_zone.specs.Changes.{with_master}
 use Rattle.linked_zone.specs.Fit.{Fits, HasRooms}
 use Rattle.linked_zone.proofs.ChangeParts.{same_slot, next_free-skip, next_free-front, slots_from-bounds, Contains-map}
-use Rattle.linked_zone.proofs.ChangeBlock.{swapped-addresses, swapped-pointers, swapped-contents, swapped-total, swapped-free}
+use Rattle.linked_zone.proofs.ChangeBlock.{swapped-addresses, swapped-pointers, swapped-contents}
 
 -- behind a slot of n that isn't the last one, the next one is given
 pub next_free-more : (n at : ℕ) (fs : List ℕ) (x : ℕ) → Contains (slots_from n at) x → x + 4 < at + 4 * n → next_free (slots_from n at ++ fs) x ≡ x + 4
@@ -276,7 +275,3 @@ module _ (z : ZoneState) (at : ℕ) (r : RoomFor z at master_length) (fits : Fit
   -- so do those of the zone's slots
   pub master-old_pointer : (x : ℕ) → Contains (slots z.shape z.heap.map) x → slot_of (with_master z r.free) x ≡ slot_of z x
   master-old_pointer x c = master-others x (λ own. master-apart x c own)
-
-  -- the sum of the sizes stays
-  pub master-total : total_size (with_master z r.free).heap.map ≡ total_size z.heap.map
-  master-total = swapped-total z r.free.before Free Master r.free.size r.free.behind r.free.map

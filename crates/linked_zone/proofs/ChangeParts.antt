@@ -82,13 +82,6 @@ slot-above s m h c =
     let same = place.2 in
     omega arith
 
--- a free slot lies among the slots, and behind the zone's start
-pub free_slot-place : (z : ZoneState) (h : ℕ) → Fits z → Contains z.heap.free_slots h → Contains (slots z.shape z.heap.map) h × (z.shape.base ≤ h)
-free_slot-place z h fits c =
-    let slot = ((fits.slots.free h).0 c).0 in
-    let above = slot-above z.shape z.heap.map h slot in
-    (slot, omega arith)
-
 pointer_not_master : (p : ℕ) (kind : Kind) → is_pointer_block p kind ≡ true → is_master kind ≡ false
 pointer_not_master p Free h = refl
 pointer_not_master p Master h = absurd (cc h)

@@ -2,8 +2,8 @@
 use Rattle.std.proofs.Common.{◌≡◌, ℕ, ◌+◌, true, cond, [], ◌∷◌, ◌++◌, length, Some, refl, ap, sym, ◌∙◌, Contains, ne_eqb}
 use Rattle.mac_base.specs.declared.block.Kind.TheVariants.{Free, Rel}
 use Rattle.mac_base.specs.HeadKind.{head_size}
-use Rattle.mac_base.specs.ZoneMap.{ZoneMap, block, total_size, addresses, contents_addresses, contents_of}
-use Rattle.mac_base.specs.HandleTable.{HandleTable, Live, EmptyHandle, FullHandle, no_flags, zeros, live_at, live_bytes, live_full, live_handle, live_pointer, bytes_of, is_full, is_handle, is_pointer, with_live}
+use Rattle.mac_base.specs.ZoneMap.{ZoneMap, block, addresses, contents_addresses, contents_of}
+use Rattle.mac_base.specs.HandleTable.{HandleTable, Live, EmptyHandle, FullHandle, no_flags, zeros, live_at, live_full, live_handle, live_pointer, is_full, is_handle, is_pointer, with_live}
 use Rattle.mac_base.specs.Suits.{is_handle_block, is_pointer_block, slots}
 use Rattle.mac_base.specs.ZoneState.{ZoneState}
 use Rattle.zone_laws.proofs.Tables.{AgreeBut, live_at-with_live_same, with_live_agrees, in_order-with_live, by_number, eqb_same, eqb_swap}
@@ -14,7 +14,7 @@ use Rattle.linked_zone.specs.Places.{FreeAt}
 use Rattle.linked_zone.specs.Changes.{pointed}
 use Rattle.linked_zone.specs.Fit.{Fits}
 use Rattle.linked_zone.proofs.ChangeParts.{same_slot, none_named-fits, Fits-kept}
-use Rattle.linked_zone.proofs.ChangeBlock.{none_handle, none_named-parts, addresses-only, contents_of-first, swapped-addresses, swapped-slots, swapped-pointers, swapped-contents, swapped-total}
+use Rattle.linked_zone.proofs.ChangeBlock.{none_handle, none_named-parts, addresses-only, contents_of-first, swapped-addresses, swapped-slots, swapped-pointers, swapped-contents}
 
 module _ (z : ZoneState) (h n at : ℕ) (free : FreeAt z at) (fits : Fits z) (empty : live_at z.heap.table h ≡ Some EmptyHandle) where
   -- the slot is one of the zone's
@@ -78,15 +78,3 @@ module _ (z : ZoneState) (h n at : ℕ) (free : FreeAt z at) (fits : Fits z) (em
   pointed-others x other =
       let apart = ne_eqb x h other in
       same_slot z (pointed h n z free) x refl (agree.others x apart) (swapped-contents z free.before Free (Rel h) free.size free.behind free.map x (eqb_swap h x ∙ apart)) refl
-
-  -- its bytes are zero
-  pub pointed-bytes : bytes_of (pointed h n z free).heap.table h ≡ zeros n
-  pointed-bytes = ap live_bytes has
-
-  -- those of all others stay
-  pub pointed-other_bytes : (x : ℕ) → (x ≡ h → ⊥) → bytes_of (pointed h n z free).heap.table x ≡ bytes_of z.heap.table x
-  pointed-other_bytes x other = ap live_bytes (agree.others x (ne_eqb x h other))
-
-  -- the sum of the sizes stays
-  pub pointed-total : total_size (pointed h n z free).heap.map ≡ total_size z.heap.map
-  pointed-total = swapped-total z free.before Free (Rel h) free.size free.behind free.map

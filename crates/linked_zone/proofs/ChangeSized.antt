@@ -13,7 +13,7 @@ use Rattle.mac_base.specs.HandleTable.{HandleTable, Live, EmptyHandle, FullHandl
 use Rattle.mac_base.specs.Suits.{is_handle_block, is_pointer_block}
 use Rattle.mac_base.specs.ZoneState.{ZoneState}
 use Rattle.zone_laws.proofs.Joined.{free_kind}
-use Rattle.zone_laws.proofs.Maps.{both_true, Exchanged, total_size-exchanged, addresses_from-exchanged, addresses_from-skip}
+use Rattle.zone_laws.proofs.Maps.{both_true, Exchanged, addresses_from-exchanged, addresses_from-skip}
 use Rattle.zone_laws.proofs.GapAppend.{addresses_from-append}
 use Rattle.zone_laws.proofs.SuitsTaken.{slots-same, contents-same}
 use Rattle.zone_laws.proofs.Tables.{AgreeBut, live_at-with_live_same, with_live_agrees, in_order-with_live, by_number, full_handle, handle_no_pointer, pointer_no_handle}
@@ -176,10 +176,6 @@ total_free_block n = elim (n == 0) as (λ b. (n == 0) ≡ b → total_size (cond
     by_number : (n == 0) ≡ true → 0 ≡ n
     by_number none = grind (arith, nat_tests)
 
--- they are free
-free_free_block : (n : ℕ) → free_bytes (free_block n) ≡ total_size (free_block n)
-free_free_block n = elim (n == 0) as (λ b. free_bytes (cond b [] (block Free n ∷ [])) ≡ total_size (cond b [] (block Free n ∷ []))) [ true ↦ refl | false ↦ refl ]
-
 -- what passes no free block passes nothing of it
 no_free_block : (at : ℕ) (test : Kind → Bool) (n : ℕ) → test Free ≡ false → addresses_from at test (free_block n) ≡ []
 no_free_block at test n free = elim (n == 0) as (λ b. addresses_from at test (cond b [] (block Free n ∷ [])) ≡ []) [ true ↦ refl | false ↦ addresses_from-skip at test (block Free n) [] free ]
@@ -199,13 +195,6 @@ free_only at test [] free h = refl
 free_only at test (e ∷ es) free h =
     let hs = both_true (is_free e.kind) (list_all (λ (e : Entry). is_free e.kind) es) h in
     addresses_from-skip at test e es (ap test (free_kind e.kind hs.0) ∙ free) ∙ free_only (at + e.size) test es free hs.1
-
--- what x names is not free
-named_used : (x : ℕ) (kind : Kind) → is_named x kind ≡ true → is_free kind ≡ false
-named_used x Free h = absurd (cc h)
-named_used x Master h = refl
-named_used x (Ptr p) h = refl
-named_used x (Rel g) h = refl
 
 module _ (z : ZoneState) (x whole size n : ℕ) (fits : Fits z) (r : Room z x whole size n) where
   -- the map then
@@ -285,7 +274,3 @@ module _ (z : ZoneState) (x whole size n : ℕ) (fits : Fits z) (r : Room z x wh
   -- those of all others stay
   pub sized-other_bytes : (y : ℕ) → (y ≡ x → ⊥) → bytes_of sized_zone.heap.table y ≡ bytes_of z.heap.table y
   sized-other_bytes y other = ap live_bytes (agree.others y (ne_eqb y x other))
-
-  -- the sum of the sizes stays
-  pub sized-total : total_size sized_map ≡ total_size z.heap.map
-  sized-total = total_size-exchanged z.heap.map sized_map sized_exchange

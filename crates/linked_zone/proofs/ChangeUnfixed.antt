@@ -1,22 +1,22 @@
 -- What a zone is once a pointer's block is free and the pointer isn't live.
-use Rattle.std.proofs.Common.{◌≡◌, ℕ, ◌+◌, true, false, cond, [], ◌∷◌, ◌++◌, length, map, None, refl, ap, sym, ◌∙◌, subst, arith, ne_eqb}
+use Rattle.std.proofs.Common.{◌≡◌, ℕ, ◌+◌, true, false, cond, [], ◌∷◌, ◌++◌, length, map, None, refl, ap, sym, ◌∙◌, subst, ne_eqb}
 use Rattle.mac_base.specs.declared.block.Kind.{Kind}
 use Rattle.mac_base.specs.declared.block.Kind.TheVariants.{Free, Master, Ptr, Rel}
 use Rattle.mac_base.specs.HeadKind.{head_size}
 use Rattle.mac_base.specs.ZoneMap.{ZoneMap, block, is_named, total_size, addresses, addresses_from, address_behind, contents_addresses, contents_of}
-use Rattle.mac_base.specs.HandleTable.{HandleTable, live_at, live_bytes, live_full, live_handle, live_pointer, bytes_of, is_full, is_handle, is_pointer, without}
+use Rattle.mac_base.specs.HandleTable.{HandleTable, live_at, live_full, live_handle, live_pointer, is_full, is_handle, is_pointer, without}
 use Rattle.mac_base.specs.Suits.{is_handle_block, is_pointer_block}
 use Rattle.mac_base.specs.ZoneState.{ZoneState}
 use Rattle.zone_laws.proofs.GapAppend.{addresses_from-append, addresses_from-none}
 use Rattle.zone_laws.proofs.SlotOwners.{false_from}
-use Rattle.zone_laws.proofs.Tables.{AgreeBut, live_at-without_same, without_agrees, in_order-without, by_number, eqb_same, eqb_swap, eqb-true-is, pointer_no_handle}
+use Rattle.zone_laws.proofs.Tables.{AgreeBut, live_at-without_same, without_agrees, in_order-without, by_number, eqb_swap, eqb-true-is, pointer_no_handle}
 use Rattle.zone_laws.proofs.Owners.{none_named, no_length}
 use Rattle.linked_zone.specs.Owned.{slot_of}
 use Rattle.linked_zone.specs.Places.{NamedAt}
 use Rattle.linked_zone.specs.Changes.{with_heap, unfixed}
 use Rattle.linked_zone.specs.Fit.{Fits}
 use Rattle.linked_zone.proofs.ChangeParts.{same_slot, Fits-kept}
-use Rattle.linked_zone.proofs.ChangeBlock.{none_pointer, addresses-only, swapped-addresses, swapped-slots, swapped-pointers, swapped-contents, swapped-total}
+use Rattle.linked_zone.proofs.ChangeBlock.{none_pointer, swapped-addresses, swapped-slots, swapped-pointers, swapped-contents}
 use Rattle.linked_zone.proofs.ChangeSized.{names-one, passes-some}
 use Rattle.linked_zone.proofs.ChangeBlock.{freed-only}
 
@@ -46,16 +46,6 @@ module _ (z : ZoneState) (p at : ℕ) (fits : Fits z) (live : is_pointer z.heap.
   -- and none behind it
   pub unfixed-none_behind : none_named p b.behind ≡ true
   unfixed-none_behind = (names-one z p b.before b.here b.behind fits b.map b.named).none_behind
-
-  -- the pointer is where its contents begin
-  pub unfixed-number : p ≡ at + head_size z.shape.heads
-  unfixed-number =
-      let only = addresses-only z.shape (is_pointer_block p) b.before (block (Ptr p) b.here.size) b.behind (none_pointer p b.before unfixed-none_before) (none_pointer p b.behind unfixed-none_behind) (eqb_same p) in
-      let one : (address_behind z.shape b.before + head_size z.shape.heads) ∷ [] ≡ p ∷ [] =
-      sym (ap (map (λ a. a + head_size z.shape.heads)) (ap (addresses z.shape (is_pointer_block p)) unfixed-was ∙ only)) ∙ fits.coherent.pointers p ∙ ap (λ c. cond c (p ∷ []) []) live in
-      let first : address_behind z.shape b.before + head_size z.shape.heads ≡ p = cc one in
-      let place = b.place in
-      omega arith
 
   abbrev u : HandleTable
   u = without p z.heap.table
@@ -106,11 +96,3 @@ module _ (z : ZoneState) (p at : ℕ) (fits : Fits z) (live : is_pointer z.heap.
       let apart = ne_eqb x p other in
       same_slot z (unfixed p z) x refl (agree.others x apart)
       (ap (contents_of z.shape x) unfixed-map ∙ swapped-contents z b.before (Ptr p) Free b.here.size b.behind unfixed-was x (sym (eqb_swap p x ∙ apart))) refl
-
-  -- and so do their bytes
-  pub unfixed-other_bytes : (x : ℕ) → (x ≡ p → ⊥) → bytes_of (unfixed p z).heap.table x ≡ bytes_of z.heap.table x
-  unfixed-other_bytes x other = ap live_bytes (agree.others x (ne_eqb x p other))
-
-  -- the sum of the sizes stays
-  pub unfixed-total : total_size (unfixed p z).heap.map ≡ total_size z.heap.map
-  unfixed-total = ap total_size unfixed-map ∙ swapped-total z b.before (Ptr p) Free b.here.size b.behind unfixed-was

@@ -1,11 +1,10 @@
 -- How the changes of a zone end: another part of its blocks, another slot, and when these stand for the changed zone.
-use Rattle.std.proofs.Common.{◌≡◌, ℕ, ◌+◌, Bool, true, false, cond, eqb, List, [], ◌∷◌, ◌++◌, refl, ap, sym, ◌∙◌, subst, arith, Contains}
+use Rattle.std.proofs.Common.{◌≡◌, ℕ, ◌+◌, Bool, true, false, cond, eqb, List, [], ◌++◌, refl, ap, sym, ◌∙◌, subst, arith, Contains}
 use Rattle.std.specs.List.{list_all}
 use Rattle.mac_base.specs.declared.block.Entry.{Entry}
 use Rattle.mac_base.specs.HeadKind.{Shape}
 use Rattle.mac_base.specs.ZoneMap.{ZoneMap, total_size, address_behind}
-use Rattle.mac_base.specs.HandleTable.{bytes_of, flags_of}
-use Rattle.mac_base.specs.Heap.{Heap, front_slot}
+use Rattle.mac_base.specs.Heap.{Heap}
 use Rattle.mac_base.specs.Suits.{slots, is_block_size}
 use Rattle.mac_base.specs.ZoneState.{ZoneState}
 use Rattle.zone_laws.proofs.Maps.{Exchanged, total_size-exchanged, list_all-exchanged}
@@ -16,7 +15,7 @@ use Rattle.zone_records.specs.Records as records
 use Rattle.zone_records.specs.Changes.{with_slot}
 use Rattle.zone_records.specs.Places.{SlotAt}
 use Rattle.linked_zone.specs.Changes.{with_heap}
-use Rattle.linked_zone.specs.Fit.{Fits, HasSizes, HasRooms, has_room}
+use Rattle.linked_zone.specs.Fit.{Fits, has_room}
 use Rattle.linked_zone.specs.Owned.{Owners, owners_of, records_of, records_from}
 use Rattle.linked_zone.proofs.Standing.{Stands, Kept, kept}
 use Rattle.linked_zone.proofs.Owning.{image, records-middle, records-place, records-replaced, SameNamed, SameSlots, slot_set, slot-at, slot-written, image-same}

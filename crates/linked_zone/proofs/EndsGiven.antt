@@ -1,5 +1,5 @@
 -- How the calls end that give a handle or a pointer a block and take it back.
-use Rattle.std.proofs.Common.{◌≡◌, ℕ, ◌+◌, ◌≤◌, true, false, eqb, [], ◌∷◌, ◌++◌, refl, ap, sym, ◌∙◌, subst, arith, Contains, Some}
+use Rattle.std.proofs.Common.{◌≡◌, ℕ, ◌+◌, ◌≤◌, true, [], ◌∷◌, ◌++◌, refl, ap, sym, ◌∙◌, subst, arith, Contains, Some}
 use Rattle.std.specs.List.{list_all}
 use Rattle.mac_base.specs.declared.block.HeadKind.{HeadKind}
 use Rattle.mac_base.specs.declared.block.HeadKind.TheVariants.{Bits24, Bits32}
@@ -14,7 +14,7 @@ use Rattle.zone_laws.proofs.Tables.{with_live_agrees, without_agrees, live_at-wi
 use Rattle.zone_records.specs.declared.slot.Slot.TheVariants as slot
 use Rattle.zone_records.specs.Changes as records
 use Rattle.zone_records.specs.Places as places
-use Rattle.zone_records.specs.Records.{ZoneRecords, block_record, Free, Relocatable, Fixed, Content}
+use Rattle.zone_records.specs.Records.{ZoneRecords, block_record, Relocatable, Fixed, Content}
 use Rattle.linked_zone.specs.Changes.{pointed, fixed, unfixed, without_block}
 use Rattle.linked_zone.specs.Fit.{has_room}
 use Rattle.linked_zone.specs.Owned.{owners_of, records_of, header_flags, slot_flags}

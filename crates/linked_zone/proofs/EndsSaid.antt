@@ -1,5 +1,5 @@
 -- What can be said in a slot: where other slots stand and where blocks' contents begin.
-use Rattle.std.proofs.Common.{◌≡◌, ℕ, zero, suc, ◌+◌, ◌*◌, ◌%◌, ◌<◌, ◌≤◌, ◌&&◌, ◌||◌, not, Bool, true, false, cond, List, [], ◌∷◌, ◌++◌, nat_le, nat_lt, refl, ap, sym, ◌∙◌, subst, arith, Contains, ◌⊎◌, inl, inr}
+use Rattle.std.proofs.Common.{◌≡◌, ℕ, zero, suc, ◌+◌, ◌*◌, ◌%◌, ◌<◌, ◌≤◌, ◌&&◌, ◌||◌, not, Bool, true, false, cond, List, [], ◌∷◌, ◌++◌, nat_le, nat_lt, refl, ap, sym, ◌∙◌, arith, Contains, inl, inr}
 use Rattle.std.specs.Prelude.{◌==◌, slice_index}
 use Rattle.std.specs.List.{list_all}
 use Rattle.std.proofs.lemmas.List.Folds.{list_all-append}
@@ -8,8 +8,7 @@ use Rattle.mac_base.specs.declared.block.Entry.{Entry}
 use Rattle.mac_base.specs.declared.block.Flags.{Flags}
 use Rattle.mac_base.specs.declared.block.HeadKind.{HeadKind}
 use Rattle.mac_base.specs.declared.block.HeadKind.TheVariants.{Bits24, Bits32}
-use Rattle.mac_base.specs.HeadKind.{Shape, head_size, smallest_block, slot_count, zone_header}
-use Rattle.mac_base.specs.HandleTable.{no_flags}
+use Rattle.mac_base.specs.HeadKind.{Shape, head_size, smallest_block, slot_count}
 use Rattle.mac_base.specs.Heap.{front_slot}
 use Rattle.mac_base.specs.Suits.{slots, slots_from, is_block_size}
 use Rattle.mac_base.specs.declared.block.Kind.{Kind}
@@ -18,7 +17,7 @@ use Rattle.mac_base.specs.ZoneState.{ZoneState}
 use Rattle.zone_laws.proofs.Maps.{both_true, total_size-append}
 use Rattle.zone_laws.proofs.SlotPlaces.{Contains-none, Contains-here, Contains-cons_cases}
 use Rattle.zone_records.specs.declared.slot.Slot.TheVariants as slot
-use Rattle.zone_records.specs.Places.{can_say, can_flag, is_unmarked}
+use Rattle.zone_records.specs.Places.{can_say, can_flag}
 use Rattle.zone_records.specs.Records.{ZoneRecords}
 use Rattle.linked_zone.specs.Owned.{slot_flags, header_flags}
 use Rattle.linked_zone.specs.Fit.{has_room}
@@ -48,17 +47,17 @@ pub flags-said : (heads : HeadKind) (flags : Flags) → can_flag heads (header_f
 flags-said Bits24 flags = refl
 flags-said Bits32 flags = refl
 
-head_even : (heads : HeadKind) → head_size heads % 4 ≡ 0
+pub head_even : (heads : HeadKind) → head_size heads % 4 ≡ 0
 head_even Bits24 = refl
 head_even Bits32 = refl
 
 -- ---- numbers of a zone
 
-sum_even : (a b : ℕ) → a % 4 ≡ 0 → b % 4 ≡ 0 → (a + b) % 4 ≡ 0
+pub sum_even : (a b : ℕ) → a % 4 ≡ 0 → b % 4 ≡ 0 → (a + b) % 4 ≡ 0
 sum_even a b even too = grind arith
 
 -- the sum of possible sizes is a multiple of four
-total-even : (s : Shape) (m : ZoneMap) → list_all (λ (e : Entry). is_block_size s e.size) m ≡ true → total_size m % 4 ≡ 0
+pub total-even : (s : Shape) (m : ZoneMap) → list_all (λ (e : Entry). is_block_size s e.size) m ≡ true → total_size m % 4 ≡ 0
 total-even s [] h = refl
 total-even s (e ∷ es) h =
     let parts = both_true (is_block_size s e.size) (list_all (λ (e : Entry). is_block_size s e.size) es) h in

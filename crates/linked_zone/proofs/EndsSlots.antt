@@ -1,20 +1,18 @@
 -- How the calls end that give a slot and take it back.
-use Rattle.std.proofs.Common.{◌≡◌, ℕ, List, [], ◌∷◌, drop, true, refl, ap, sym, ◌∙◌, subst, arith, Contains, Some}
+use Rattle.std.proofs.Common.{◌≡◌, ℕ, List, [], ◌∷◌, drop, true, refl, ap, sym, ◌∙◌, subst, Contains, Some}
 use Rattle.std.specs.Prelude.{slice_index}
 use Rattle.mac_base.specs.HandleTable.{EmptyHandle, live_at}
 use Rattle.mac_base.specs.Heap.{front_slot}
 use Rattle.mac_base.specs.Suits.{slots}
 use Rattle.mac_base.specs.ZoneState.{ZoneState}
-use Rattle.zone_laws.proofs.SlotPlaces.{Contains-later}
 use Rattle.zone_records.specs.declared.slot.Slot.{Slot}
 use Rattle.zone_records.specs.declared.slot.Slot.TheVariants as slot
 use Rattle.zone_records.specs.Changes.{with_slot, with_front}
 use Rattle.zone_records.specs.Places.{SlotAt, can_say}
 use Rattle.zone_records.specs.Records.{ZoneRecords}
 use Rattle.linked_zone.specs.Changes.{taken, given_back}
-use Rattle.linked_zone.specs.Owned.{owners_of, header_flags, slot_of}
+use Rattle.linked_zone.specs.Owned.{owners_of, header_flags}
 use Rattle.linked_zone.proofs.Standing.{Stands, Kept}
-use Rattle.linked_zone.proofs.Owning.{image}
 use Rattle.linked_zone.proofs.Ends.{slot-there, slot-read, slot-write, slot-settled, ended-same}
 use Rattle.linked_zone.proofs.EndsSaid.{front-none, next-said}
 use Rattle.linked_zone.proofs.ChangeTaken as t

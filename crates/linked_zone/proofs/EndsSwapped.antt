@@ -1,5 +1,5 @@
 -- How a zone's blocks change where one block is for something else.
-use Rattle.std.proofs.Common.{◌≡◌, ℕ, ◌+◌, ◌*◌, ◌/◌, ◌≤◌, ◌<◌, ◌&&◌, nat_le, nat_lt, max, Bool, true, false, eqb, [], ◌∷◌, ◌++◌, refl, ap, sym, ◌∙◌, subst, arith, Contains, w32}
+use Rattle.std.proofs.Common.{◌≡◌, ℕ, ◌+◌, ◌*◌, ◌/◌, ◌≤◌, ◌<◌, ◌&&◌, nat_le, nat_lt, max, Bool, true, false, eqb, [], ◌∷◌, ◌++◌, refl, ap, sym, ◌∙◌, subst, arith}
 use Rattle.std.specs.List.{list_all}
 use Rattle.std.proofs.lemmas.Bool.Decides.{nat_tests}
 use Rattle.mac_base.specs.declared.block.Entry.{Entry}
@@ -8,9 +8,9 @@ use Rattle.mac_base.specs.declared.block.HeadKind.TheVariants.{Bits24, Bits32}
 use Rattle.mac_base.specs.declared.block.Kind.{Kind}
 use Rattle.mac_base.specs.declared.block.Kind.TheVariants as kind
 use Rattle.mac_base.specs.HeadKind.{Shape, head_size, smallest_block, need}
-use Rattle.mac_base.specs.HandleTable.{live_at, live_bytes, live_flags, bytes_of, flags_of}
+use Rattle.mac_base.specs.HandleTable.{live_bytes, live_flags, bytes_of, flags_of}
 use Rattle.mac_base.specs.Heap.{Heap, front_slot}
-use Rattle.mac_base.specs.Suits.{is_block_size, has_length, slots}
+use Rattle.mac_base.specs.Suits.{is_block_size, has_length}
 use Rattle.mac_base.specs.ZoneMap.{ZoneMap, block, is_master, total_size, address_behind}
 use Rattle.mac_base.specs.ZoneState.{ZoneState}
 use Rattle.zone_laws.proofs.Maps.{Exchanged, list_all-exchanged, true_both}

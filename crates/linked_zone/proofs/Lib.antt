@@ -2,6 +2,7 @@ mod Bare
 mod ChangeBlock
 mod ChangeCut
 mod ChangeEmptied
+mod ChangeExchanged
 mod ChangeFixed
 mod ChangeFlagged
 mod ChangeGivenBack
@@ -14,7 +15,9 @@ mod ChangeUnfixed
 mod ChangeWritten
 mod Ends
 mod EndsCut
+mod EndsExchange
 mod EndsFlags
+mod EndsFollow
 mod EndsGiven
 mod EndsMaster
 mod EndsSaid
@@ -31,3 +34,4 @@ mod ReadFree
 mod ReadNumbers
 mod Reported
 mod Standing
+mod Unlent

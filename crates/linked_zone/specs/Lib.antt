@@ -7,3 +7,4 @@ pub mod Changes
 pub mod WritingBack
 pub mod Following
 pub mod Flags
+pub mod Image

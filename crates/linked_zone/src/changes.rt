@@ -23,7 +23,7 @@ impl LinkedZone {
             return None;
         }
         let Slot::Free(next) = self.records.slot(front) else {
-            return None;
+            unreachable!();
         };
         self.records.set_slot(front, Slot::Empty);
         self.records.set_front(next);

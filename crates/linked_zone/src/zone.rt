@@ -11,7 +11,6 @@ use zone_records::{Records, Slot};
 
 /// A zone with its handles and pointers. Contracts see its shape, its handle table, its zone map and its free slots in
 /// the order in which they are given. Free neighbours need not be joined. After `create` no call takes memory of the host.
-#[derive(Drop)]
 pub struct LinkedZone {
     pub(crate) records: Records,
 }
@@ -28,6 +27,13 @@ impl Model for LinkedZone {
     ghost invariant = { StandsAsRead };
 }
 
+impl Drop for LinkedZone {
+    fn drop(self) {
+        let LinkedZone { records } = self;
+        drop(records);
+    }
+}
+
 impl LinkedZone {
     ghost use Rattle.std.specs.Prelude.{◌≡◌, ◌+◌, ◌≤◌, ◌<◌, IfOk, IfSome, IfNone, IsTrue, MatchOption, Some, None, ◌∷◌, [], not, drop, Contains, ◌↔◌};
     ghost use Rattle.std.specs.List.{list_all};
@@ -41,6 +47,8 @@ impl LinkedZone {
     ghost use Rattle.linked_zone.specs.WritingBack.{WritesBackBytes};
     ghost use Rattle.linked_zone.specs.Places.{EntryAt, HasOwner, FreeAt, BlockOf, NamedAt, LowestAt, RoomFor, CanCut, CanHold, CanGrow, FreePair};
     ghost use Rattle.linked_zone.specs.Sizes.{sizes_of};
+    ghost use Rattle.linked_zone.specs.Image.{IsImage};
+    ghost use Rattle.block_bytes.specs.Walk.{Walks};
 
     /// A new zone: one free block, and no slot.
     pub fn create(alloc: Global, spec: ZoneSpec) -> Result<LinkedZone, HostFull>
@@ -58,6 +66,14 @@ impl LinkedZone {
         ensures { result ≡ sizes_of self.now }
     {
         self.records.spec()
+    }
+
+    /// The bytes of the zone, from its start to the end of its last block.
+    pub fn image(&self) -> &[u8]
+        ensures form { IsImage self.now result.now }
+        ensures walks { Walks self.now.shape.heads result.now }
+    {
+        self.records.image()
     }
 
     /// Whether a handle is live: the address of a slot that isn't free.

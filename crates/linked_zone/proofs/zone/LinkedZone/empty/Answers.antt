@@ -1,5 +1,5 @@
 use Rattle.linked_zone.specs.Changes.{without_block}
-use Rattle.linked_zone.proofs.Standing.{Stands, Kept, stands-now}
+use Rattle.linked_zone.proofs.Standing.{Kept, stands-now}
 use Rattle.linked_zone.proofs.EndsGiven.{empty-can, empty-slot, empty-ends}
 use Rattle.linked_zone.proofs.zone.LinkedZone.empty.Goals as goal
 

@@ -1,6 +1,5 @@
-use Rattle.std.proofs.Common.{◌≡◌, ◌+◌, ◌∙◌, ap, arith}
-use Rattle.mac_base.specs.HeadKind.{head_size}
-use Rattle.linked_zone.proofs.Standing.{Stands, Kept, stands-now}
+use Rattle.std.proofs.Common.{◌+◌, ◌∙◌, ap, arith}
+use Rattle.linked_zone.proofs.Standing.{stands-now}
 use Rattle.linked_zone.proofs.EndsSwapped.{room-can, head-is, room-begins}
 use Rattle.linked_zone.proofs.EndsGiven.{fix-ends}
 use Rattle.linked_zone.proofs.zone.LinkedZone.fix.Goals as goal

@@ -1,10 +1,8 @@
-use Rattle.std.proofs.Common.{◌≡◌, ◌+◌, ◌≤◌, ◌∙◌, ap, sym, subst, arith}
-use Rattle.zone_records.specs.declared.slot.Slot.TheVariants as slot
+use Rattle.std.proofs.Common.{◌≡◌, ◌+◌, ap, arith}
 use Rattle.mac_base.specs.HeadKind.{head_size}
-use Rattle.mac_base.specs.HandleTable.{no_flags}
 use Rattle.linked_zone.specs.Changes.{pointed}
 use Rattle.linked_zone.specs.Places.{RoomFor}
-use Rattle.linked_zone.proofs.Standing.{Stands, Kept, stands-now}
+use Rattle.linked_zone.proofs.Standing.{Kept, stands-now}
 use Rattle.linked_zone.proofs.EndsSwapped.{room-can, head-is, room-begins}
 use Rattle.linked_zone.proofs.EndsGiven.{point-above, point-slot, point-said, point-ends}
 use Rattle.linked_zone.proofs.zone.LinkedZone.point.Goals as goal

@@ -1,10 +1,7 @@
-use Rattle.std.proofs.Common.{◌≡◌, ◌+◌, ◌∙◌, ap, sym, arith}
-use Rattle.mac_base.specs.declared.block.HeadKind.{HeadKind}
-use Rattle.mac_base.specs.declared.block.HeadKind.TheVariants.{Bits24, Bits32}
+use Rattle.std.proofs.Common.{◌≡◌, ◌+◌, ◌∙◌, ap, arith}
 use Rattle.mac_base.specs.HeadKind.{head_size}
-use Rattle.zone_records.specs.Records.{ZoneRecords}
 use Rattle.linked_zone.specs.Changes.{flagged}
-use Rattle.linked_zone.proofs.Standing.{Stands, Kept, stands-now}
+use Rattle.linked_zone.proofs.Standing.{Kept, stands-now}
 use Rattle.linked_zone.proofs.EndsSwapped.{head-is, kind-is}
 use Rattle.linked_zone.proofs.EndsFlags.{flags-below, flags-slot, flags-said, flags-ends_slot, flags-block, flags-can, flags-ends_header}
 use Rattle.linked_zone.proofs.zone.LinkedZone.set_flags.Goals as goal

@@ -1,7 +1,7 @@
-use Rattle.std.proofs.Common.{◌≡◌, ℕ, ◌∷◌, drop, ap, sym, ◌∙◌, subst}
+use Rattle.std.proofs.Common.{◌≡◌, ℕ, ◌∷◌, drop, refl, ap, sym, ◌∙◌, subst}
 use Rattle.linked_zone.specs.Changes.{taken}
 use Rattle.linked_zone.proofs.Standing.{Kept, stands-now}
-use Rattle.linked_zone.proofs.EndsSlots.{take-first, take-slot, take-says, take-ends}
+use Rattle.linked_zone.proofs.EndsSlots.{take-none, take-first, take-slot, take-says, take-ends}
 use Rattle.linked_zone.proofs.zone.LinkedZone.take.Goals as goal
 
 pub slot-requires : goal.slot-requires
@@ -10,8 +10,11 @@ slot-requires c = take-slot c.self.inside.records c.args.self.now (stands-now c.
 pub set_slot-requires-clause-there : goal.set_slot-requires-clause-there
 set_slot-requires-clause-there c = take-slot c.self.inside.records c.args.self.now (stands-now c.self.inside c.args.self.now c.self.invariant c.self.view_is) c.front-front.result c.front-front.ensures c.if-front-eq0.false
 
-pub returns-in_default : goal.returns-in_default
-returns-in_default c = absurd (c.in_default.not-Free _ (take-says c.self.inside.records c.args.self.now (stands-now c.self.inside c.args.self.now c.self.invariant c.self.view_is) c.front-front.result c.front-front.ensures c.if-front-eq0.false c.slot.result c.slot.ensures))
+pub returns-then-front-eq0 : goal.returns-then-front-eq0
+returns-then-front-eq0 c = (take-none c.self.inside.records c.args.self.now (stands-now c.self.inside c.args.self.now c.self.invariant c.self.view_is) c.front-front.result c.front-front.ensures c.if-front-eq0.true, refl)
+
+pub unreachable-requires : goal.unreachable-requires
+unreachable-requires c = c.in_default.not-Free _ (take-says c.self.inside.records c.args.self.now (stands-now c.self.inside c.args.self.now c.self.invariant c.self.view_is) c.front-front.result c.front-front.ensures c.if-front-eq0.false c.slot.result c.slot.ensures)
 
 -- how it ends
 ends : (c : goal.After-new) → Kept c.set_front.new.self (taken c.front-front.result c.args.self.now)

@@ -1,7 +1,7 @@
 use Rattle.std.proofs.Common.{subst}
 use Rattle.linked_zone.specs.Changes.{unfixed}
 use Rattle.linked_zone.specs.Places.{NamedAt}
-use Rattle.linked_zone.proofs.Standing.{Stands, Kept, stands-now}
+use Rattle.linked_zone.proofs.Standing.{Kept, stands-now}
 use Rattle.linked_zone.proofs.EndsGiven.{unfix-can, unfix-ends}
 use Rattle.linked_zone.proofs.zone.LinkedZone.unfix.Goals as goal
 

@@ -1,0 +1,130 @@
+-- What a zone is once two neighbours that may move have changed places.
+use Rattle.std.proofs.Common.{◌≡◌, ℕ, ◌+◌, Bool, true, false, not, cond, List, [], ◌∷◌, ◌++◌, length, map, refl, ap, sym, ◌∙◌, arith, length-append, append_assoc, Option, Some, None}
+use Rattle.std.specs.Prelude.{slice_index}
+use Rattle.std.proofs.lemmas.List.Folds.{list_all-append}
+use Rattle.mac_base.specs.declared.block.Entry.{Entry}
+use Rattle.mac_base.specs.declared.block.HeadKind.{HeadKind}
+use Rattle.mac_base.specs.declared.block.Kind.{Kind}
+use Rattle.mac_base.specs.declared.block.Kind.TheVariants.{Free, Master, Ptr, Rel}
+use Rattle.mac_base.specs.HeadKind.{head_size}
+use Rattle.mac_base.specs.ZoneMap.{ZoneMap, is_master, is_named, sizes, total_size, address_behind, addresses, contents_of}
+use Rattle.mac_base.specs.HandleTable.{Live, EmptyHandle, FullHandle, Pointer, live_at, is_full}
+use Rattle.mac_base.specs.Suits.{is_handle_block, is_pointer_block, slots}
+use Rattle.mac_base.specs.ZoneState.{ZoneState}
+use Rattle.zone_laws.proofs.GapAppend.{sizes-append, length-addresses_from}
+use Rattle.zone_laws.proofs.Maps.{Exchanged, both_true, true_both, true_not, total_size-append, addresses_from-exchanged, addresses_from-skip}
+use Rattle.zone_laws.proofs.Owners.{none_named, no_length}
+use Rattle.zone_laws.proofs.SuitsTaken.{slots-same, contents-same}
+use Rattle.zone_laws.proofs.Tables.{eqb_same}
+use Rattle.linked_zone.specs.Changes.{exchanged}
+use Rattle.linked_zone.specs.Fit.{Fits}
+use Rattle.linked_zone.specs.Following.{moved_to}
+use Rattle.linked_zone.specs.Owned.{slot_of, slot_of_live, next_free}
+use Rattle.linked_zone.specs.Places.{MovablePair, is_movable}
+use Rattle.linked_zone.proofs.ChangeBlock.{contents_of-first}
+use Rattle.linked_zone.proofs.ChangeParts.{Fits-kept}
+use Rattle.linked_zone.proofs.ChangeSized.{names-one, passes-some}
+
+-- the handle of a block is full
+pub rel-full : (z : ZoneState) (h : ℕ) (before : ZoneMap) (e : Entry) (behind : ZoneMap) → Fits z → z.heap.map ≡ before ++ e ∷ behind → e.kind ≡ Rel h → is_full z.heap.table h ≡ true
+rel-full z h before e behind fits was kind = by_test (is_full z.heap.table h) (fits.coherent.handles h)
+  where
+    by_test : (b : Bool) → length (addresses z.shape (is_handle_block h) z.heap.map) ≡ cond b 1 0 → b ≡ true
+    by_test true count = refl
+    by_test false none = absurd (passes-some (address_behind z.shape []) (is_handle_block h) before e behind (ap (is_handle_block h) kind ∙ eqb_same h) (ap (addresses z.shape (is_handle_block h)) (sym was) ∙ no_length _ none))
+
+-- a slot whose handle's contents begin elsewhere says so
+pub moved-slot : (heads : HeadKind) (o : Option Live) (old new next : ℕ) → slot_of_live heads o new next ≡ moved_to new (slot_of_live heads o old next)
+moved-slot heads None old new next = refl
+moved-slot heads (Some EmptyHandle) old new next = refl
+moved-slot heads (Some (FullHandle flags bytes)) old new next = refl
+moved-slot heads (Some (Pointer bytes)) old new next = refl
+
+-- what may move is no pointer's and no master block
+no_pointer : (p : ℕ) (kind : Kind) → is_movable kind ≡ true → is_pointer_block p kind ≡ false
+no_pointer p Free moves = refl
+no_pointer p Master moves = refl
+no_pointer p (Ptr q) moves = absurd (cc moves)
+no_pointer p (Rel h) moves = refl
+
+no_master : (kind : Kind) → is_movable kind ≡ true → is_master kind ≡ false
+no_master Free moves = refl
+no_master Master moves = absurd (cc moves)
+no_master (Ptr q) moves = refl
+no_master (Rel h) moves = refl
+
+module _ (z : ZoneState) (at : ℕ) (pair : MovablePair z at) where
+  abbrev now : ZoneState
+  now = exchanged z pair
+
+  -- the blocks and those in their place
+  abbrev pub pair_exchange : Exchanged z.heap.map (exchanged z pair).heap.map
+  pair_exchange = record {
+    before = pair.before;
+    left = pair.first ∷ pair.second ∷ [];
+    right = pair.second ∷ pair.first ∷ [];
+    behind = pair.behind;
+    was = pair.map;
+    is = refl;
+    as_large = omega arith;
+  }
+
+  -- what passes neither passes the same
+  same_passes : (test : Kind → Bool) → test pair.first.kind ≡ false → test pair.second.kind ≡ false → addresses z.shape test now.heap.map ≡ addresses z.shape test z.heap.map
+  same_passes test first second = addresses_from-exchanged z.heap.map now.heap.map pair_exchange (address_behind z.shape []) test
+      (let a = address_behind z.shape [] + total_size pair.before in
+      addresses_from-skip a test pair.second (pair.first ∷ []) second ∙ addresses_from-skip (a + pair.second.size) test pair.first [] first
+      ∙ sym (addresses_from-skip a test pair.first (pair.second ∷ []) first ∙ addresses_from-skip (a + pair.first.size) test pair.second [] second))
+
+  -- as many blocks pass
+  same_count : (test : Kind → Bool) → length (addresses z.shape test now.heap.map) ≡ length (addresses z.shape test z.heap.map)
+  same_count test =
+      let one : List ℕ = cond (test pair.first.kind) (pair.first.size ∷ []) [] in
+      let two : List ℕ = cond (test pair.second.kind) (pair.second.size ∷ []) [] in
+      let rest = sizes test pair.behind in
+      let new = ap length (sizes-append test pair.before (pair.second ∷ pair.first ∷ pair.behind)) ∙ length-append (sizes test pair.before) (two ++ (one ++ rest)) in
+      let old = ap length (sizes-append test pair.before (pair.first ∷ pair.second ∷ pair.behind)) ∙ length-append (sizes test pair.before) (one ++ (two ++ rest)) in
+      let new_two = length-append two (one ++ rest) in
+      let new_one = length-append one rest in
+      let old_one = length-append one (two ++ rest) in
+      let old_two = length-append two rest in
+      let same : length (sizes test now.heap.map) ≡ length (sizes test (pair.before ++ pair.first ∷ pair.second ∷ pair.behind)) = omega arith in
+      length-addresses_from (address_behind z.shape []) test now.heap.map ∙ same ∙ sym (length-addresses_from (address_behind z.shape []) test (pair.before ++ pair.first ∷ pair.second ∷ pair.behind)) ∙ ap (λ m. length (addresses z.shape test m)) (sym pair.map)
+
+  -- the slots stay
+  pub exchanged-slots : slots z.shape (exchanged z pair).heap.map ≡ slots z.shape z.heap.map
+  exchanged-slots = slots-same z.shape z.heap.map now.heap.map (same_passes is_master (no_master pair.first.kind pair.first_moves) (no_master pair.second.kind pair.second_moves))
+
+  -- the zone still fits
+  pub exchanged-fits : Fits z → Fits (exchanged z pair)
+  exchanged-fits fits = Fits-kept z z.heap.table now.heap.map fits
+      (λ g. same_count (is_handle_block g) ∙ fits.coherent.handles g)
+      (λ p. contents-same z.shape (is_pointer_block p) z.heap.map now.heap.map (same_passes (is_pointer_block p) (no_pointer p pair.first.kind pair.first_moves) (no_pointer p pair.second.kind pair.second_moves)) ∙ fits.coherent.pointers p)
+      exchanged-slots (λ y. refl) fits.coherent.in_order fits.unlent
+
+  -- where contents begin that are in neither
+  pub exchanged-others : (y : ℕ) → is_named y pair.first.kind ≡ false → is_named y pair.second.kind ≡ false → contents_of z.shape y (exchanged z pair).heap.map ≡ contents_of z.shape y z.heap.map
+  exchanged-others y first second = ap (λ found. slice_index (map (λ a. a + head_size z.shape.heads) found) 0) (same_passes (is_named y) first second)
+
+  module _ (fits : Fits z) (y : ℕ) where
+    -- those of the first, which is not the second's
+    pub exchanged-first : is_named y pair.first.kind ≡ true → (contents_of z.shape y (exchanged z pair).heap.map ≡ at + pair.second.size + head_size z.shape.heads) × (is_named y pair.second.kind ≡ false)
+    exchanged-first named =
+        let one = names-one z y pair.before pair.first (pair.second ∷ pair.behind) fits pair.map named in
+        let parts = both_true (not (is_named y pair.second.kind)) (none_named y pair.behind) one.none_behind in
+        let none = list_all-append (λ (e : Entry). not (is_named y e.kind)) pair.before (pair.second ∷ []) ∙ true_both (none_named y pair.before) _ one.none_before (true_both (not (is_named y pair.second.kind)) true parts.0 refl) in
+        let total = total_size-append pair.before (pair.second ∷ []) in
+        let place = pair.place in
+        let there : address_behind z.shape (pair.before ++ pair.second ∷ []) + head_size z.shape.heads ≡ at + pair.second.size + head_size z.shape.heads = omega arith in
+        (ap (contents_of z.shape y) (sym (append_assoc pair.before (pair.second ∷ []) (pair.first ∷ pair.behind))) ∙ contents_of-first z.shape y (pair.before ++ pair.second ∷ []) pair.first pair.behind none named ∙ there, true_not _ parts.0)
+
+    -- and those of the second
+    pub exchanged-second : is_named y pair.second.kind ≡ true → contents_of z.shape y (exchanged z pair).heap.map ≡ at + head_size z.shape.heads
+    exchanged-second named =
+        let one = names-one z y (pair.before ++ pair.first ∷ []) pair.second pair.behind fits (pair.map ∙ sym (append_assoc pair.before (pair.first ∷ []) (pair.second ∷ pair.behind))) named in
+        let parts = both_true (none_named y pair.before) _ (sym (list_all-append (λ (e : Entry). not (is_named y e.kind)) pair.before (pair.first ∷ [])) ∙ one.none_before) in
+        contents_of-first z.shape y pair.before pair.second (pair.first ∷ pair.behind) parts.0 named ∙ ap (λ a. a + head_size z.shape.heads) (sym pair.place)
+
+  -- each slot says where its contents begin
+  pub exchanged-slot : (y : ℕ) → slot_of (exchanged z pair) y ≡ moved_to (contents_of z.shape y (exchanged z pair).heap.map) (slot_of z y)
+  exchanged-slot y = moved-slot z.shape.heads (live_at z.heap.table y) (contents_of z.shape y z.heap.map) (contents_of z.shape y now.heap.map) (next_free z.heap.free_slots y)

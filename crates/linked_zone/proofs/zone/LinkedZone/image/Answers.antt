@@ -1,0 +1,21 @@
+use Rattle.std.proofs.Common.{◌≡◌, ap, ◌∙◌, subst}
+use Rattle.mac_base.specs.HeadKind.{Shape}
+use Rattle.zone_records.specs.Image.{HasBytes}
+use Rattle.zone_records.specs.Records.{ZoneRecords, NothingLent}
+use Rattle.block_bytes.specs.Walk.{Walks}
+use Rattle.linked_zone.proofs.Standing.{stands-now}
+use Rattle.linked_zone.proofs.Unlent.{nothing-lent}
+use Rattle.linked_zone.proofs.zone.LinkedZone.image.Goals as goal
+
+pub image-requires : goal.image-requires
+image-requires c = record { nothing_lent = nothing-lent c.self.inside.records c.args.self.now (stands-now c.self.inside c.args.self.now c.self.invariant c.self.view_is) }
+
+pub returns-clause-form : goal.returns-clause-form
+returns-clause-form c =
+    let stands = stands-now c.self.inside c.args.self.now c.self.invariant c.self.view_is in
+    subst (λ (r : ZoneRecords). HasBytes r c.image.result.now) stands.blocks c.image.ensures.bytes
+
+pub returns-clause-walks : goal.returns-clause-walks
+returns-clause-walks c =
+    let stands = stands-now c.self.inside c.args.self.now c.self.invariant c.self.view_is in
+    subst (λ (r : ZoneRecords). Walks r.shape.heads c.image.result.now) stands.blocks c.image.ensures.walks
