@@ -1,6 +1,6 @@
 -- The lowest free block that is large enough, by the index.
 use Rattle.std.proofs.Common.{◌≡◌, ℕ, suc, ◌+◌, ◌-◌, ◌*◌, ◌/◌, ◌<◌, ◌≤◌, Bool, true, false, List, [], ◌∷◌, ◌++◌, length, slice_index, max, not, subst, refl, sym, ap, ◌∙◌, arith, append_assoc, append-nil, length-append, IsTrue}
-use Rattle.std.specs.Prelude.{◌&&◌, nat_le, if◌then◌else◌}
+use Rattle.std.specs.Prelude.{◌&&◌, ◌||◌, nat_le, if◌then◌else◌}
 use Rattle.std.specs.List.{list_all}
 use Rattle.std.proofs.lemmas.Bool.Decides.{nat_tests}
 use Rattle.std.proofs.lemmas.List.{get_or_append_left, get_or-append_right}
@@ -10,34 +10,39 @@ use Rattle.mac_base.specs.declared.block.HeadKind.{HeadKind}
 use Rattle.mac_base.specs.HeadKind.{zone_header}
 use Rattle.block_bytes.specs.declared.header.Role.{Role}
 use Rattle.block_bytes.specs.declared.header.Role.TheVariants.{Free, Fixed, Master, Relocatable}
-use Rattle.block_bytes.specs.Layout.{RawBlock, Layout, BlockAt, size_of, is_possible, with_blocks}
-use Rattle.block_bytes.specs.Finding.{is_free, has_room, LowestFree, NoneFree}
+use Rattle.block_bytes.specs.Layout.{RawBlock, Layout, BlockAt, is_free, has_owner, size_of, is_possible, with_blocks}
+use Rattle.block_bytes.specs.Finding.{has_room, LowestFree, NoneFree}
 use Rattle.block_bytes.specs.declared.blocks.Blocks.TheInside.{Inside}
 use Rattle.block_bytes.specs.Reading.{layout_of, IsLayout}
 use Rattle.block_bytes.specs.Starts.{mark_of, marks_of, starts_of}
-use Rattle.block_bytes.proofs.ReadBlocks.{and-true, IsPossible-from}
+use Rattle.block_bytes.proofs.ReadBlocks.{and-true, IsPossible-from, smallest-block}
 use Rattle.block_bytes.proofs.Parts.{total-ends}
-use Rattle.block_bytes.proofs.Starts.{smallest-block, unmarked, length-unmarked, length-marks_of, marks_of-append, block-marked, marked-block}
+use Rattle.block_bytes.proofs.Starts.{unmarked, length-unmarked, length-marks_of, marks_of-append, block-marked, marked-block}
 
--- what is at least this is at least the number asked for and 2, and the other way round
+-- what is at least this is at least the number asked for and 3, and the other way round
 abbrev pub IsLeast : ℕ → ℕ → Type 0
-IsLeast needed k = (needed ≤ k) × (2 ≤ k) × ((n : ℕ) → needed ≤ n → 2 ≤ n → k ≤ n)
+IsLeast needed k = (needed ≤ k) × (3 ≤ k) × ((n : ℕ) → needed ≤ n → 3 ≤ n → k ≤ n)
 
 -- a free block with so many bytes has a mark as large
-no_room : (free : Bool) (needed k n : ℕ) → IsLeast needed k → 2 ≤ n → (if free then n else 1) < k → not (free && nat_le needed n) ≡ true
-no_room false needed k n least some low = refl
-no_room true needed k n least some low = ap not (small (nat_le needed n) refl)
+no_room : (lent : Bool) (role : Role) (needed k n : ℕ) → IsTrue (not lent || has_owner role) → IsLeast needed k → 3 ≤ n → (if lent then 2 else (if is_free role then n else 1)) < k
+    → not (is_free role && nat_le needed n) ≡ true
+no_room true Free needed k n owned least some low = let no : false ≡ true = owned in cc
+no_room lent Fixed needed k n owned least some low = refl
+no_room lent Master needed k n owned least some low = refl
+no_room lent (Relocatable slot flags) needed k n owned least some low = refl
+no_room false Free needed k n owned least some low = ap not (small (nat_le needed n) refl)
   where
     small : (t : Bool) → nat_le needed n ≡ t → nat_le needed n ≡ false
     small false is = is
     small true is = let enough : needed ≤ n = grind (arith, nat_tests) in let no = least.2 n enough some in absurd (omega arith)
 
--- a block whose mark is 2 or more is free, and that is its size
-large-free : (role : Role) (n k : ℕ) → 2 ≤ k → k ≤ (if is_free role then n else 1) → (role ≡ Free) × (k ≤ n)
-large-free Free n k two large = (refl, large)
-large-free Fixed n k two large = absurd (omega arith)
-large-free Master n k two large = absurd (omega arith)
-large-free (Relocatable slot) n k two large = absurd (omega arith)
+-- a block whose mark is 3 or more is free, and that is its size
+large-free : (lent : Bool) (role : Role) (n k : ℕ) → 3 ≤ k → k ≤ (if lent then 2 else (if is_free role then n else 1)) → (role ≡ Free) × (k ≤ n)
+large-free true role n k three large = absurd (omega arith)
+large-free false Free n k three large = (refl, large)
+large-free false Fixed n k three large = absurd (omega arith)
+large-free false Master n k three large = absurd (omega arith)
+large-free false (Relocatable slot flags) n k three large = absurd (omega arith)
 
 -- where all marks are below this, no free block has so many bytes
 none-there : (heads : HeadKind) (needed k : ℕ) → IsLeast needed k → (bs : List RawBlock) → IsTrue (list_all (is_possible heads) bs)
@@ -47,7 +52,7 @@ none-there heads needed k least (b ∷ bs) possible low =
     let both = and-true (is_possible heads b) (list_all (is_possible heads) bs) possible in let p = IsPossible-from heads b both.0 in
     let large = p.large in let some = smallest-block heads in
     let n = size_of heads b / 4 - 1 in let none = length-unmarked n in let sum = length-append (unmarked n) (marks_of heads bs) in
-    let here : not (has_room heads needed b) ≡ true = no_room (is_free b.role) needed k (size_of heads b) least (omega arith) (low 0 (omega arith)) in
+    let here : not (has_room heads needed b) ≡ true = no_room b.lent b.role needed k (size_of heads b) p.lendable least (omega arith) (low 0 (omega arith)) in
     let more = none-there heads needed k least bs both.1 (λ j inside.
     let at : slice_index (unmarked n ++ marks_of heads bs) (n + j) ≡ slice_index (marks_of heads bs) (n + j - n) = get_or-append_right (unmarked n) (marks_of heads bs) n (n + j) 0 none (omega arith) in
     let back : slice_index (marks_of heads bs) (n + j - n) ≡ slice_index (marks_of heads bs) j = ap (λ (i : ℕ). slice_index (marks_of heads bs) i) (let e : n + j - n ≡ j = omega arith in e) in
@@ -87,11 +92,11 @@ module _ (l : Layout) (possible : IsTrue (list_all (is_possible l.heads) l.block
   -- the first number that is large enough is that of the lowest block that is
   pub lowest-first : (p : ℕ) → FirstAtLeast (starts_of l) k 0 p → LowestFree l needed (l.base + 4 * p)
   lowest-first p found =
-      let enough = least.0 in let two = least.1 in let large = found.large in
+      let enough = least.0 in let three = least.1 in let large = found.large in
       let b : BlockAt l (l.base + 4 * p) = block-marked l possible (l.base + 4 * p) p refl (omega arith) in
       let m = marked-block l possible (l.base + 4 * p) b in let mark = m.mark in
       let here : slice_index (starts_of l) p ≡ mark_of l.heads b.here = ap (λ (i : ℕ). slice_index (starts_of l) i) (let e : p ≡ (l.base + 4 * p - l.base) / 4 = omega arith in e) ∙ mark in
-      let free = large-free b.here.role (size_of l.heads b.here) k two (omega arith) in let size = free.1 in
+      let free = large-free b.here.lent b.here.role (size_of l.heads b.here) k three (omega arith) in let size = free.1 in
       let parts = and-true (list_all (is_possible l.heads) b.before) (list_all (is_possible l.heads) (b.here ∷ b.behind))
       (sym (list_all-append (is_possible l.heads) b.before (b.here ∷ b.behind)) ∙ sym (ap (list_all (is_possible l.heads)) b.blocks) ∙ possible) in
       let long = length-marks_of l.heads b.before parts.0 in let place = b.place in
@@ -109,9 +114,9 @@ module _ (l : Layout) (possible : IsTrue (list_all (is_possible l.heads) l.block
       let b = length-append (marks_of l.heads l.blocks) (unmarked (length l.spare / 4)) in let c = length-unmarked (zone_header / 4) in
       none j (omega arith) (omega arith))
 
--- the larger of the number asked for and 2 is such a number
-pub least-max : (needed k : ℕ) → k ≡ max needed 2 → IsLeast needed k
-least-max needed k is = (omega arith, omega arith, λ n enough two. omega arith)
+-- the larger of the number asked for and 3 is such a number
+pub least-max : (needed k : ℕ) → k ≡ max needed 3 → IsLeast needed k
+least-max needed k is = (omega arith, omega arith, λ n enough three. omega arith)
 
 module _ (z : Inside) (whole : IsLayout z) (needed k : ℕ) (least : IsLeast needed k) where
   -- what the index of the fields says is so of the zone that they stand for

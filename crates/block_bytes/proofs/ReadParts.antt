@@ -14,30 +14,30 @@ use Rattle.block_bytes.proofs.Parts.{front, rear, head, length-front, IsIn-from}
 
 module _ (z : Inside) (whole : IsLayout z) (before : List RawBlock) (here : RawBlock) (behind : List RawBlock) (is : (layout_of z).blocks ≡ before ++ here ∷ behind) where
   -- its header
-  pub header-read : ArePossible z.spec → (place : ℕ) → place ≡ zone_header + total_of z.spec.heads before → header_in z.spec.heads (drop place z.memory) ≡ header_of z.spec.heads here
+  pub header-read : ArePossible z.spec → (place : ℕ) → place ≡ zone_header + total_of z.spec.heads before → header_in z.spec.heads (drop place z.memory.bytes) ≡ header_of z.spec.heads here
   header-read small place there =
-      let i = IsIn-from z whole before here behind is in let l = layout_of z in let e = length-front l before i.header_long in
+      let i = IsIn-from z whole before here behind is in let l = layout_of z in let e = length-front l before in
       ap (λ (m : List ℕ). header_in z.spec.heads (drop place m)) i.bytes
       ∙ ap (header_in z.spec.heads) (drop_at (front l before) (head l here ++ (body here ++ rear l behind)) place (omega arith))
       ∙ header_in-head_bytes z.spec.heads z.spec.base (header_of z.spec.heads here) (body here ++ rear l behind) (omega arith) i.here_possible.few i.here_possible.told (omega arith)
 
   -- the bytes up to its contents, its contents, and those behind
-  contents-parts : z.memory ≡ (front (layout_of z) before ++ head (layout_of z) here) ++ (here.contents ++ (here.slack ++ rear (layout_of z) behind))
+  contents-parts : z.memory.bytes ≡ (front (layout_of z) before ++ head (layout_of z) here) ++ (here.contents ++ (here.slack ++ rear (layout_of z) behind))
   contents-parts = let i = IsIn-from z whole before here behind is in i.bytes ∙ simp append_assoc
 
   -- where its contents begin
   contents-place : length (front (layout_of z) before ++ head (layout_of z) here) ≡ zone_header + total_of z.spec.heads before + head_size z.spec.heads
   contents-place = let i = IsIn-from z whole before here behind is in let l = layout_of z in
-      let e = length-front l before i.header_long in let e' = length-append (front l before) (head l here) in let e'' = length-head_bytes z.spec.heads z.spec.base (header_of z.spec.heads here) in omega arith
+      let e = length-front l before in let e' = length-append (front l before) (head l here) in let e'' = length-head_bytes z.spec.heads z.spec.base (header_of z.spec.heads here) in omega arith
 
   -- its contents
-  pub contents-read : (place n : ℕ) → place ≡ zone_header + total_of z.spec.heads before + head_size z.spec.heads → n ≡ length here.contents → part z.memory place n ≡ here.contents
+  pub contents-read : (place n : ℕ) → place ≡ zone_header + total_of z.spec.heads before + head_size z.spec.heads → n ≡ length here.contents → part z.memory.bytes place n ≡ here.contents
   contents-read place n there long = let e = contents-place in let l = layout_of z in
       ap (λ (m : List ℕ). part m place n) contents-parts ∙ part-middle (front l before ++ head l here) here.contents (here.slack ++ rear l behind) place n (omega arith) long
 
   -- a part of them
   pub part-read : (place offset n : ℕ) → place ≡ zone_header + total_of z.spec.heads before + head_size z.spec.heads + offset → offset + n ≤ length here.contents
-      → part z.memory place n ≡ part here.contents offset n
+      → part z.memory.bytes place n ≡ part here.contents offset n
   part-read place offset n there fits = let e = contents-place in let l = layout_of z in
       let pre = front l before ++ head l here in let post = here.slack ++ rear l behind in
       ap (λ (m : List ℕ). part m place n) contents-parts ∙ ap (λ (k : ℕ). part (pre ++ (here.contents ++ post)) k n) (let k : place ≡ length pre + offset = omega arith in k)

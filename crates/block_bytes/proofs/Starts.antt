@@ -1,24 +1,21 @@
 -- Laws of the index: what it is where a block is another of its size or two, and what one number of it says.
 use Rattle.std.proofs.Common.{◌≡◌, ℕ, zero, suc, ◌+◌, ◌-◌, ◌*◌, ◌/◌, ◌%◌, ◌<◌, ◌≤◌, Bool, true, false, List, [], ◌∷◌, ◌++◌, length, replicate, slice_index, refl, sym, ap, ◌∙◌, ◌⊎◌, ⊎_elim, arith, append_assoc, length-append, IsTrue}
-use Rattle.std.specs.Prelude.{if◌then◌else◌}
+use Rattle.std.specs.Prelude.{if◌then◌else◌, not, ◌||◌, nat_lt}
 use Rattle.std.specs.List.{list_all}
 use Rattle.std.proofs.Math.ListN.{set}
 use Rattle.std.proofs.lemmas.Bool.{cases_lt}
+use Rattle.std.proofs.lemmas.Bool.Decides.{nat_tests}
 use Rattle.std.proofs.lemmas.List.{get_or_append_left, get_or-append_right, length-replicate, replicate-append-replicate, set_at}
 use Rattle.std.proofs.lemmas.List.Folds.{list_all-append}
 use Rattle.std.proofs.Math.Seq.{get_or-append_seam}
 use Rattle.mac_base.specs.declared.block.HeadKind.{HeadKind}
-use Rattle.mac_base.specs.declared.block.HeadKind.TheVariants.{Bits24}
-use Rattle.mac_base.specs.HeadKind.{smallest_block, zone_header}
-use Rattle.block_bytes.specs.Layout.{RawBlock, Layout, BlockAt, size_of, total_of, is_possible, with_blocks}
-use Rattle.block_bytes.specs.Finding.{is_free}
-use Rattle.block_bytes.specs.Starts.{mark_of, marks_of, starts_of}
+use Rattle.mac_base.specs.HeadKind.{zone_header}
+use Rattle.block_bytes.specs.declared.header.Role.{Role}
+use Rattle.block_bytes.specs.declared.header.Role.TheVariants.{Free, Fixed, Master, Relocatable}
+use Rattle.block_bytes.specs.Layout.{RawBlock, Layout, BlockAt, is_free, has_owner, size_of, total_of, first_free, is_possible, with_blocks}
+use Rattle.block_bytes.specs.Starts.{lent_mark, mark_of, marks_of, first_marked, starts_of}
 use Rattle.block_bytes.proofs.Rendered.{total_of-append}
-use Rattle.block_bytes.proofs.ReadBlocks.{and-true, IsPossible, IsPossible-from, head_size-positive}
-
--- every block has four bytes at least
-pub smallest-block : (heads : HeadKind) → 4 ≤ smallest_block heads
-smallest-block Bits24 = omega arith
+use Rattle.block_bytes.proofs.ReadBlocks.{and-true, IsPossible, IsPossible-from, smallest-block, head_size-positive}
 
 -- so many marks of none
 abbrev pub unmarked : ℕ → List ℕ
@@ -36,11 +33,26 @@ unmarked-at (suc n) (suc k) = unmarked-at n k
 
 -- a block's mark is above 0
 pub mark-positive : (heads : HeadKind) (b : RawBlock) → IsPossible heads b → 0 < mark_of heads b
-mark-positive heads b p = let large = p.large in let some = smallest-block heads in either (is_free b.role) (size_of heads b) (omega arith)
+mark-positive heads b p = let large = p.large in let some = smallest-block heads in either b.lent (is_free b.role) (size_of heads b) (omega arith)
   where
-    either : (free : Bool) (n : ℕ) → 0 < n → 0 < (if free then n else 1)
-    either true n positive = positive
-    either false n positive = omega arith
+    either : (lent free : Bool) (n : ℕ) → 0 < n → 0 < (if lent then 2 else (if free then n else 1))
+    either true free n positive = omega arith
+    either false true n positive = positive
+    either false false n positive = omega arith
+
+-- it is above that of a lent block where the block is free
+pub mark-free : (heads : HeadKind) (b : RawBlock) → IsPossible heads b → nat_lt lent_mark (mark_of heads b) ≡ is_free b.role
+mark-free heads b p = let large = p.large in let some = smallest-block heads in either b.lent b.role (size_of heads b) (omega arith) p.lendable
+  where
+    either : (lent : Bool) (role : Role) (n : ℕ) → 3 ≤ n → IsTrue (not lent || has_owner role) → nat_lt 2 (if lent then 2 else (if is_free role then n else 1)) ≡ is_free role
+    either true Free n large owned = let no : false ≡ true = owned in cc
+    either true Fixed n large owned = refl
+    either true Master n large owned = refl
+    either true (Relocatable slot flags) n large owned = refl
+    either false Free n large owned = grind (arith, nat_tests)
+    either false Fixed n large owned = refl
+    either false Master n large owned = refl
+    either false (Relocatable slot flags) n large owned = refl
 
 -- the marks of two lists of blocks, one behind the other
 pub marks_of-append : (heads : HeadKind) (xs ys : List RawBlock) → marks_of heads (xs ++ ys) ≡ marks_of heads xs ++ marks_of heads ys
@@ -64,13 +76,13 @@ marks_of-same heads before b c behind same mark =
     ∙ sym (marks_of-append heads before (c ∷ behind))
 
 -- how many marks stand before that of a block
-length-before : (heads : HeadKind) (before : List RawBlock) (place : ℕ) → IsTrue (list_all (is_possible heads) before) → place ≡ (zone_header + total_of heads before) / 4
+pub length-before : (heads : HeadKind) (before : List RawBlock) (place : ℕ) → IsTrue (list_all (is_possible heads) before) → place ≡ (zone_header + total_of heads before) / 4
     → length (unmarked (zone_header / 4) ++ marks_of heads before) ≡ place
 length-before heads before place possible there =
     let a = length-append (unmarked (zone_header / 4)) (marks_of heads before) in let b = length-unmarked (zone_header / 4) in let c = length-marks_of heads before possible in omega arith
 
 -- the index, with the mark of one block apart
-starts-parts : (l : Layout) (before : List RawBlock) (here : RawBlock) (behind : List RawBlock)
+pub starts-parts : (l : Layout) (before : List RawBlock) (here : RawBlock) (behind : List RawBlock)
     → starts_of (with_blocks (before ++ here ∷ behind) l) ≡ (unmarked (zone_header / 4) ++ marks_of l.heads before)
     ++ mark_of l.heads here ∷ (unmarked (size_of l.heads here / 4 - 1) ++ (marks_of l.heads behind ++ unmarked (length l.spare / 4)))
 starts-parts l before here behind =
@@ -247,3 +259,57 @@ module _ (l : Layout) (possible : IsTrue (list_all (is_possible l.heads) l.block
         mark = (λ i. slice_index (marks i) (sym before i)) ∙ get_or-append_seam front (mark_of l.heads b.here) rest 0;
         some = mark-positive l.heads b.here (IsPossible-from l.heads b.here here.0);
       }
+
+-- behind marks of none, the first free block is looked for further on
+first_marked-unmarked : (at n : ℕ) (ms : List ℕ) → first_marked at (unmarked n ++ ms) ≡ first_marked (at + 4 * n) ms
+first_marked-unmarked at zero ms = ap (λ (k : ℕ). first_marked k ms) (let e : at ≡ at + 4 * 0 = omega arith in e)
+first_marked-unmarked at (suc n) ms = first_marked-unmarked (at + 4) n ms ∙ ap (λ (k : ℕ). first_marked k ms) (let e : at + 4 + 4 * n ≡ at + 4 * suc n = omega arith in e)
+
+-- there is none among them
+first_marked-none : (at n : ℕ) → first_marked at (unmarked n) ≡ 0
+first_marked-none at zero = refl
+first_marked-none at (suc n) = first_marked-none (at + 4) n
+
+-- the first mark of a free block is the first free block's
+first_marked-marks : (heads : HeadKind) (at n : ℕ) (bs : List RawBlock) → IsTrue (list_all (is_possible heads) bs) → first_marked at (marks_of heads bs ++ unmarked n) ≡ first_free heads at bs
+first_marked-marks heads at n [] possible = first_marked-none at n
+first_marked-marks heads at n (b ∷ bs) possible =
+    let both = and-true (is_possible heads b) (list_all (is_possible heads) bs) possible in let p = IsPossible-from heads b both.0 in
+    let some = smallest-block heads in let even = p.even in let large = p.large in
+    let k = size_of heads b / 4 - 1 in
+    let more : first_marked (at + 4) ((unmarked k ++ marks_of heads bs) ++ unmarked n) ≡ first_free heads (at + size_of heads b) bs =
+    ap (first_marked (at + 4)) (append_assoc (unmarked k) (marks_of heads bs) (unmarked n)) ∙ first_marked-unmarked (at + 4) k (marks_of heads bs ++ unmarked n)
+    ∙ ap (λ (j : ℕ). first_marked j (marks_of heads bs ++ unmarked n)) (let e : at + 4 + 4 * k ≡ at + size_of heads b = omega arith in e)
+    ∙ first_marked-marks heads (at + size_of heads b) n bs both.1 in
+    λ i. if mark-free heads b p i then at else more i
+
+-- the index tells the first free block
+pub first_marked-starts : (l : Layout) → IsTrue (list_all (is_possible l.heads) l.blocks) → first_marked l.base (starts_of l) ≡ first_free l.heads (l.base + zone_header) l.blocks
+first_marked-starts l possible =
+    first_marked-unmarked l.base (zone_header / 4) (marks_of l.heads l.blocks ++ unmarked (length l.spare / 4))
+    ∙ ap (λ (k : ℕ). first_marked k (marks_of l.heads l.blocks ++ unmarked (length l.spare / 4))) (let e : l.base + 4 * (zone_header / 4) ≡ l.base + zone_header = omega arith in e)
+    ∙ first_marked-marks l.heads (l.base + zone_header) (length l.spare / 4) l.blocks possible
+
+-- a number that is the first of its size is found
+pub first_marked-found : (xs : List ℕ) (at p : ℕ) → p < length xs → 3 ≤ slice_index xs p → ((j : ℕ) → j < p → slice_index xs j < 3) → first_marked at xs ≡ at + 4 * p
+first_marked-found [] at p inside large first = absurd (omega arith)
+first_marked-found (x ∷ xs) at zero inside large first = let is : nat_lt 2 x ≡ true = above x large in
+    ap (λ (t : Bool). if t then at else first_marked (at + 4) xs) is ∙ omega arith
+  where
+    above : (x : ℕ) → 3 ≤ x → nat_lt 2 x ≡ true
+    above x large = grind (arith, nat_tests)
+first_marked-found (x ∷ xs) at (suc p) inside large first = let is : nat_lt 2 x ≡ false = below x (first 0 (omega arith)) in
+    ap (λ (t : Bool). if t then at else first_marked (at + 4) xs) is
+    ∙ first_marked-found xs (at + 4) p (omega arith) large (λ j before. first (suc j) (omega arith)) ∙ omega arith
+  where
+    below : (x : ℕ) → x < 3 → nat_lt 2 x ≡ false
+    below x small = grind (arith, nat_tests)
+
+-- where none is as large, there is none
+pub first_marked-missing : (xs : List ℕ) (at : ℕ) → ((j : ℕ) → j < length xs → slice_index xs j < 3) → first_marked at xs ≡ 0
+first_marked-missing [] at none = refl
+first_marked-missing (x ∷ xs) at none = let is : nat_lt 2 x ≡ false = below x (none 0 (omega arith)) in
+    ap (λ (t : Bool). if t then at else first_marked (at + 4) xs) is ∙ first_marked-missing xs (at + 4) (λ j inside. none (suc j) (omega arith))
+  where
+    below : (x : ℕ) → x < 3 → nat_lt 2 x ≡ false
+    below x small = grind (arith, nat_tests)

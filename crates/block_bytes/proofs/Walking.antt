@@ -1,20 +1,23 @@
 -- A walk over the blocks of a zone, from one to the one behind it.
-use Rattle.std.proofs.Common.{◌≡◌, ℕ, ◌+◌, ◌-◌, ◌<◌, ◌≤◌, Bool, true, List, [], ◌∷◌, ◌++◌, length, refl, ap, sym, ◌∙◌, arith, append_assoc, length-append, IsTrue}
-use Rattle.std.specs.Prelude.{◌&&◌, ◌==◌, ◌%◌, nat_le}
+use Rattle.std.proofs.Common.{◌≡◌, ℕ, ◌+◌, ◌-◌, ◌<◌, ◌≤◌, Bool, true, false, List, [], ◌∷◌, ◌++◌, length, refl, ap, sym, ◌∙◌, arith, append_assoc, length-append, IsTrue}
+use Rattle.std.specs.Prelude.{◌&&◌, ◌||◌, ◌==◌, ◌%◌, not, nat_le}
 use Rattle.std.specs.List.{list_all}
 use Rattle.std.proofs.lemmas.List.Folds.{list_all-append}
 use Rattle.std.proofs.Math.Seq.{take-length, drop-length}
 use Rattle.std.proofs.lemmas.Bool.Decides.{nat_tests}
 use Rattle.mac_base.specs.declared.block.HeadKind.{HeadKind}
-use Rattle.mac_base.specs.declared.block.HeadKind.TheVariants.{Bits24}
+use Rattle.mac_base.specs.declared.block.HeadKind.TheVariants.{Bits24, Bits32}
 use Rattle.mac_base.specs.HeadKind.{head_size, smallest_block}
+use Rattle.block_bytes.specs.Head.{most_over}
 use Rattle.block_bytes.specs.declared.header.Header.{Header}
 use Rattle.block_bytes.specs.declared.header.Role.TheVariants.{Free}
-use Rattle.block_bytes.specs.Layout.{RawBlock, Layout, BlockAt, body, raw_block, free_raw_block, size_of, header_of, total_of, can_be_told, is_possible, address_behind}
+use Rattle.block_bytes.specs.Layout.{RawBlock, Layout, BlockAt, body, raw_block, free_raw_block, size_of, header_of, total_of, has_owner, can_be_told, is_possible, address_behind}
+use Rattle.block_bytes.proofs.ReadBlocks.{IsPossible, IsPossible-from}
 
 -- no block is empty
 pub size_of-pos : (heads : HeadKind) (b : RawBlock) → 0 < size_of heads b
 size_of-pos Bits24 b = omega arith
+size_of-pos Bits32 b = omega arith
 
 -- the sizes of two runs of blocks
 pub total_of-append : (heads : HeadKind) (bs cs : List RawBlock) → total_of heads (bs ++ cs) ≡ total_of heads bs + total_of heads cs
@@ -94,17 +97,24 @@ block-passes l at p b all = let sum = list_all-append p b.before (b.here ∷ b.b
 
 -- all bytes of a free block are its contents
 pub held-free : (bytes : List ℕ) → raw_block Free (length bytes) bytes ≡ free_raw_block bytes
-held-free bytes = λ i. record { role = Free; contents = take-length bytes i; slack = drop-length bytes i }
+held-free bytes = λ i. record { role = Free; contents = take-length bytes i; slack = drop-length bytes i; lent = false }
+
+-- a block that is one by its parts passes the tests
+pub is_possible-from : (heads : HeadKind) (b : RawBlock) → IsPossible heads b → IsTrue (is_possible heads b)
+is_possible-from heads b p = let size = size_of heads b in let slack = length b.slack in
+    let told = can_be_told heads b.role slack in let lendable = not b.lent || has_owner b.role in
+    let even : (size % 4 == 0) ≡ true = grind (arith, nat_tests, p.even) in
+    let large : nat_le (smallest_block heads) size ≡ true = grind (arith, nat_tests, p.large) in
+    let few : nat_le slack (most_over heads) ≡ true = grind (arith, nat_tests, p.few) in
+    ap (λ (t : Bool). t && (nat_le (smallest_block heads) size && (nat_le slack (most_over heads) && (told && lendable)))) even
+    ∙ ap (λ (t : Bool). t && (nat_le slack (most_over heads) && (told && lendable))) large ∙ ap (λ (t : Bool). t && (told && lendable)) few ∙ ap (λ (t : Bool). t && lendable) p.told ∙ p.lendable
 
 -- a block that is possible is so if it is free
 pub possible-free : (heads : HeadKind) (b : RawBlock) (n : ℕ) → n ≡ length (body b) → IsTrue (is_possible heads b) → IsTrue (is_possible heads (raw_block Free n (body b)))
-possible-free heads b n long possible =
+possible-free heads b n long possible = let p = IsPossible-from heads b possible in let even = p.even in let large = p.large in
     let same : size_of heads (free_raw_block (body b)) ≡ size_of heads b = let sum = length-append b.contents b.slack in omega arith in
-    ap (λ n. is_possible heads (raw_block Free n (body b))) long ∙ ap (is_possible heads) (held-free (body b)) ∙ ap (λ n. (n % 4 == 0) && (nat_le (smallest_block heads) n && true)) same
-    ∙ first_two (size_of heads b % 4 == 0) (nat_le (smallest_block heads) (size_of heads b)) (nat_le (length b.slack) 15 && can_be_told b.role (length b.slack)) possible
-  where
-    first_two : (x y z : Bool) → (x && (y && z)) ≡ true → (x && (y && true)) ≡ true
-    first_two x y z all = grind (arith, nat_tests)
+    ap (λ n. is_possible heads (raw_block Free n (body b))) long ∙ ap (is_possible heads) (held-free (body b))
+    ∙ is_possible-from heads (free_raw_block (body b)) (record { even = omega arith; large = omega arith; few = omega arith; told = refl; lendable = refl })
 
 -- the bytes behind a block's header, as the header says them
 pub length-body : (heads : HeadKind) (b : RawBlock) (h : Header) (k : ℕ) → h ≡ header_of heads b → k ≡ head_size heads → h.size - k ≡ length (body b)

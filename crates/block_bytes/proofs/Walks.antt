@@ -1,36 +1,33 @@
 -- The bytes of possible blocks walk.
-use Rattle.std.proofs.Common.{◌≡◌, ℕ, ◌+◌, ◌%◌, ◌<◌, ◌≤◌, ◌^◌, List, [], ◌∷◌, ◌++◌, length, map, drop, ap, sym, ◌∙◌, subst, arith, append_assoc, append-nil, length-append, nat_le, ◌&&◌, true}
-use Rattle.std.specs.Prelude.{◌==◌}
+use Rattle.std.proofs.Common.{◌≡◌, ℕ, ◌+◌, ◌%◌, ◌<◌, ◌^◌, List, [], ◌∷◌, ◌++◌, length, map, drop, drop-drop, ap, sym, ◌∙◌, subst, arith, append_assoc, append-nil, length-append, true}
 use Rattle.std.specs.List.{list_all}
-use Rattle.std.proofs.lemmas.Bool.Decides.{nat_tests}
 use Rattle.std.proofs.lemmas.List.{drop_at}
 use Rattle.byteorder.specs.Numbers.{big_from-take}
 use Rattle.mac_base.specs.declared.block.HeadKind.{HeadKind}
-use Rattle.mac_base.specs.declared.block.HeadKind.TheVariants.{Bits24}
-use Rattle.mac_base.specs.HeadKind.{head_size, smallest_block}
+use Rattle.mac_base.specs.declared.block.HeadKind.TheVariants.{Bits24, Bits32}
+use Rattle.mac_base.specs.HeadKind.{head_size}
 use Rattle.zone_laws.proofs.Maps.{both_true}
+use Rattle.byteorder.specs.Endian.{big_number}
+use Rattle.block_bytes.specs.declared.header.Header.{Header}
+use Rattle.block_bytes.proofs.ReadBlocks.{IsPossible-from}
+use Rattle.block_bytes.proofs.Sizes.{is_block-from}
 use Rattle.block_bytes.specs.Head.{head_bytes, header_in}
-use Rattle.block_bytes.specs.Layout.{RawBlock, size_of, total_of, header_of, is_possible, can_be_told, rendered}
+use Rattle.block_bytes.specs.Layout.{RawBlock, size_of, total_of, header_of, is_possible, rendered}
 use Rattle.block_bytes.specs.Walk.{size_at, is_block, Follows}
 use Rattle.block_bytes.proofs.Heads.{header_in-head_bytes, length-head_bytes}
 
 -- the size at an offset is that of the header there
 size-header : (heads : HeadKind) (image : List ℕ) (at : ℕ) → size_at heads image at ≡ (header_in heads (drop at image)).size
 size-header Bits24 image at = ap (λ n. n % 0x100_0000) (big_from-take 0 4 4 (drop at image) (omega arith))
+size-header Bits32 image at = big_from-take 0 4 4 (drop (at + 4) image) (omega arith) ∙ ap (big_number 4) (sym (drop-drop 4 at image))
 
 -- the first of some blocks says its size
 first_size : (heads : HeadKind) (base : ℕ) (pre rest : List ℕ) (b : RawBlock) (at : ℕ) → at ≡ length pre → size_of heads b < 2 ^ 24 → base < 2 ^ 32 → is_possible heads b ≡ true
     → size_at heads (pre ++ (head_bytes heads base (header_of heads b) ++ rest)) at ≡ size_of heads b
-first_size heads base pre rest b at is small low possible =
-    let a = both_true (size_of heads b % 4 == 0) (nat_le (smallest_block heads) (size_of heads b) && (nat_le (length b.slack) 15 && can_be_told b.role (length b.slack))) possible in
-    let c = both_true (nat_le (smallest_block heads) (size_of heads b)) (nat_le (length b.slack) 15 && can_be_told b.role (length b.slack)) a.1 in
-    let d = both_true (nat_le (length b.slack) 15) (can_be_told b.role (length b.slack)) c.1 in
+first_size heads base pre rest b at is small low possible = let p = IsPossible-from heads b possible in
     size-header heads (pre ++ (head_bytes heads base (header_of heads b) ++ rest)) at
     ∙ ap (λ xs. (header_in heads xs).size) (drop_at pre (head_bytes heads base (header_of heads b) ++ rest) at (sym is))
-    ∙ ap (λ (h : Rattle.block_bytes.specs.declared.header.Header.Header). h.size) (header_in-head_bytes heads base (header_of heads b) rest small (few (length b.slack) d.0) d.1 low)
-  where
-    few : (n : ℕ) → nat_le n 15 ≡ true → n ≤ 15
-    few n h = grind (arith, nat_tests)
+    ∙ ap (λ (h : Header). h.size) (header_in-head_bytes heads base (header_of heads b) rest small p.few p.told low)
 
 -- possible blocks behind other bytes follow one another, and end where the bytes do
 pub follows-rendered : (heads : HeadKind) (base : ℕ) (pre : List ℕ) (bs : List RawBlock) (at : ℕ) → at ≡ length pre → total_of heads bs < 2 ^ 24 → base < 2 ^ 32 → list_all (is_possible heads) bs ≡ true
@@ -54,7 +51,4 @@ follows-rendered heads base pre (b ∷ bs) at is small low possible =
     )
   where
     block-possible : is_possible heads b ≡ true → is_block heads (size_of heads b) ≡ true
-    block-possible h =
-        let a = both_true (size_of heads b % 4 == 0) (nat_le (smallest_block heads) (size_of heads b) && (nat_le (length b.slack) 15 && can_be_told b.role (length b.slack))) h in
-        let c = both_true (nat_le (smallest_block heads) (size_of heads b)) (nat_le (length b.slack) 15 && can_be_told b.role (length b.slack)) a.1 in
-        ap (λ x. x && nat_le (smallest_block heads) (size_of heads b)) a.0 ∙ c.0
+    block-possible h = let p = IsPossible-from heads b h in is_block-from heads (size_of heads b) p.even p.large

@@ -8,6 +8,7 @@ use Rattle.mac_base.specs.HeadKind.{head_size}
 use Rattle.mac_base.specs.ZoneSizes.{ArePossible}
 use Rattle.mac_base.specs.ZoneState.{overwritten}
 use Rattle.raw_region.specs.Bytes.{written}
+use Rattle.raw_region.specs.State.{with_bytes}
 use Rattle.raw_region.proofs.Lists.{written_is}
 use Rattle.block_bytes.specs.declared.header.Header.{Header}
 use Rattle.block_bytes.specs.declared.blocks.Blocks.TheInside.{Inside}
@@ -15,8 +16,9 @@ use Rattle.block_bytes.specs.Layout.{RawBlock, BlockAt, cleared, cleared_from, s
 use Rattle.block_bytes.specs.Reading.{layout_of, IsLayout}
 use Rattle.block_bytes.specs.WritingBack.{overwritten_at, with_contents_at}
 use Rattle.block_bytes.proofs.Rendered.{written-whole}
-use Rattle.block_bytes.proofs.ReadBlocks.{head_size-positive, IsRead}
-use Rattle.block_bytes.proofs.Changes.{contents-changed}
+use Rattle.block_bytes.proofs.ReadBlocks.{head_size-positive}
+use Rattle.block_bytes.proofs.Parts.{IsRead}
+use Rattle.block_bytes.proofs.Changes.{contents-written}
 
 -- a block with other contents
 abbrev pub with_contents : RawBlock → List ℕ → RawBlock
@@ -47,7 +49,7 @@ overwritten-there heads at x bytes (b ∷ before) here behind is = let positive 
     (further at x (size_of heads b + total_of heads before) (omega arith) (omega arith))
     ∙ ap (λ (bs : List RawBlock). b ∷ bs) (overwritten-there heads (at + size_of heads b) x bytes before here behind (omega arith))
 
-module _ (z : Inside) (whole : IsLayout z) (small : ArePossible z.spec) (at : ℕ) (h : Header) (place n : ℕ) (b : BlockAt (layout_of z) at) (is : h ≡ header_of z.spec.heads b.here)
+module _ (z : Inside) (whole : IsLayout z) (small : ArePossible z.spec) (at : ℕ) (h : Header) (place n : ℕ) (b : BlockAt (layout_of z) at) (is : h ≡ header_of z.spec.heads b.here) (unlent : b.here.lent ≡ false)
     (there : place ≡ at - z.spec.base + head_size z.spec.heads) (long : n ≡ h.size - head_size z.spec.heads - h.correction) where
   -- how long the contents are
   n-is : n ≡ length b.here.contents
@@ -55,12 +57,12 @@ module _ (z : Inside) (whole : IsLayout z) (small : ArePossible z.spec) (at : �
 
   -- other contents, of the same length
   other : (ws : List ℕ) → length ws ≤ n
-      → IsRead (record z { memory = written z.memory place ws }) (with_blocks (b.before ++ with_contents b.here (written b.here.contents 0 ws) ∷ b.behind) (layout_of z))
+      → IsRead (record z { memory = with_bytes z.memory place ws }) (with_blocks (b.before ++ with_contents b.here (written b.here.contents 0 ws) ∷ b.behind) (layout_of z))
   other ws few = let e = n-is in let at_is = b.place in
-      contents-changed z whole small b.before b.here b.behind b.blocks 0 place ws (omega arith) (omega arith)
+      contents-written z whole small b.before b.here b.behind b.blocks 0 place ws unlent (omega arith) (omega arith)
 
   -- what a slice of the contents leaves
-  pub lent-read : (ws : List ℕ) → IsRead (record z { memory = written z.memory place (take n ws) }) (with_contents_at (layout_of z) at ws)
+  pub lent-read : (ws : List ℕ) → IsRead (record z { memory = with_bytes z.memory place (take n ws) }) (with_contents_at (layout_of z) at ws)
   lent-read ws = let e = n-is in let at_is = b.place in let l = layout_of z in let cut = length-take n ws in
       let read = other (take n ws) (omega arith) in
       let same : written b.here.contents 0 (take n ws) ≡ overwritten b.here.contents ws = ap (λ (k : ℕ). written b.here.contents 0 (take k ws)) e ∙ written-overwritten b.here.contents ws in
@@ -70,16 +72,16 @@ module _ (z : Inside) (whole : IsLayout z) (small : ArePossible z.spec) (at : �
       record { view = read.view ∙ ap (λ (bs : List RawBlock). with_blocks bs l) blocks; whole = read.whole }
 
   -- contents that are zero
-  pub cleared-read : IsRead (record z { memory = written z.memory place (replicate n 0) }) (with_blocks (b.before ++ cleared b.here ∷ b.behind) (layout_of z))
+  pub cleared-read : IsRead (record z { memory = with_bytes z.memory place (replicate n 0) }) (with_blocks (b.before ++ cleared b.here ∷ b.behind) (layout_of z))
   cleared-read = let e = n-is in let l = layout_of z in let zeros : length {A = ℕ} (replicate n 0) ≡ n = length-replicate {A = ℕ} n 0 in
       let read = other (replicate n 0) (omega arith) in
       let same : written b.here.contents 0 (replicate n 0) ≡ replicate (length b.here.contents) 0 = written-whole b.here.contents (replicate n 0) (omega arith) ∙ ap (λ (k : ℕ). replicate k 0) e in
       record { view = read.view ∙ ap (λ (contents : List ℕ). with_blocks (b.before ++ with_contents b.here contents ∷ b.behind) l) same; whole = read.whole }
 
   -- contents that are zero from a place on
-  pub cleared-part : (from : ℕ) → from ≤ n → IsRead (record z { memory = written z.memory (place + from) (replicate (n - from) 0) }) (with_blocks (b.before ++ cleared_from b.here from ∷ b.behind) (layout_of z))
+  pub cleared-part : (from : ℕ) → from ≤ n → IsRead (record z { memory = with_bytes z.memory (place + from) (replicate (n - from) 0) }) (with_blocks (b.before ++ cleared_from b.here from ∷ b.behind) (layout_of z))
   cleared-part from within = let e = n-is in let at_is = b.place in let l = layout_of z in let zeros : length {A = ℕ} (replicate (n - from) 0) ≡ n - from = length-replicate {A = ℕ} (n - from) 0 in
-      let read = contents-changed z whole small b.before b.here b.behind b.blocks from (place + from) (replicate (n - from) 0) (omega arith) (omega arith) in
+      let read = contents-written z whole small b.before b.here b.behind b.blocks from (place + from) (replicate (n - from) 0) unlent (omega arith) (omega arith) in
       let nothing : drop (length (replicate (n - from) 0)) (drop from b.here.contents) ≡ [] = drop_none (drop from b.here.contents) (length {A = ℕ} (replicate (n - from) 0)) (omega (arith, length-drop from b.here.contents)) in
       let same : written b.here.contents from (replicate (n - from) 0) ≡ take from b.here.contents ++ replicate (length b.here.contents - from) 0 =
       written_is b.here.contents from (replicate (n - from) 0) (omega arith)

@@ -1,10 +1,9 @@
 -- What a walk over the blocks finds.
-use Rattle.std.specs.Prelude.{◌≡◌, ℕ, ◌+◌, ◌<◌, ◌≤◌, ◌⊎◌, Bool, true, false, not, ◌&&◌, nat_le, IsTrue, []}
+use Rattle.std.specs.Prelude.{◌≡◌, ℕ, ◌+◌, ◌<◌, ◌≤◌, ◌⊎◌, Bool, not, ◌&&◌, nat_le, IsTrue, []}
 use Rattle.std.specs.List.{list_all}
 use Rattle.mac_base.specs.declared.block.HeadKind.{HeadKind}
-use Rattle.block_bytes.specs.declared.header.Role.{Role}
-use Rattle.block_bytes.specs.declared.header.Role.TheVariants.{Free, Fixed, Master, Relocatable}
-use Rattle.block_bytes.specs.Layout.{RawBlock, Layout, BlockAt, size_of, address_behind}
+use Rattle.block_bytes.specs.declared.header.Role.TheVariants.{Free}
+use Rattle.block_bytes.specs.Layout.{RawBlock, Layout, BlockAt, is_free, size_of, address_behind}
 
 -- the block at `start` has the byte at an address, in its header or behind it
 pub record HoldsByte (l : Layout) (at start : ℕ) : Type 0 where
@@ -15,13 +14,6 @@ pub record HoldsByte (l : Layout) (at start : ℕ) : Type 0 where
 -- the byte at an address lies before all blocks, or behind them
 abbrev pub LiesOutside : Layout → ℕ → Type 0
 LiesOutside l at = (at < address_behind l []) ⊎ (address_behind l l.blocks ≤ at)
-
--- whether a block is free
-abbrev pub is_free : Role → Bool
-is_free Free = true
-is_free Fixed = false
-is_free Master = false
-is_free (Relocatable slot) = false
 
 -- whether a block is free and has so many bytes, its header among them
 abbrev pub has_room : HeadKind → ℕ → RawBlock → Bool

@@ -1,19 +1,25 @@
 -- A zone as a list of blocks, each with all bytes behind its header.
-use Rattle.std.specs.Prelude.{◌≡◌, ℕ, ◌+◌, ◌-◌, ◌≤◌, ◌^◌, ◌%◌, Bool, true, ◌&&◌, ◌==◌, nat_le, nat_lt, IsTrue, List, [], ◌∷◌, ◌++◌, length, take, drop, replicate}
+use Rattle.std.specs.Prelude.{◌≡◌, ℕ, suc, ◌+◌, ◌-◌, ◌≤◌, ◌<◌, ◌^◌, ◌%◌, Bool, true, false, not, ◌&&◌, ◌||◌, ◌==◌, nat_le, nat_lt, if◌then◌else◌, IsTrue, IsFalse, List, [], ◌∷◌, ◌++◌, length, take, drop, replicate}
 use Rattle.byteorder.specs.Endian.{big_bytes}
 use Rattle.raw_region.specs.Bytes.{written}
+use Rattle.raw_region.specs.State.{Name, Loan}
+use Rattle.mac_base.specs.declared.block.Flags.{Flags}
 use Rattle.mac_base.specs.declared.block.HeadKind.{HeadKind}
+use Rattle.mac_base.specs.declared.block.HeadKind.TheVariants.{Bits24, Bits32}
 use Rattle.mac_base.specs.HeadKind.{head_size, smallest_block, zone_header}
 use Rattle.block_bytes.specs.declared.header.Header.{Header}
 use Rattle.block_bytes.specs.declared.header.Role.{Role}
 use Rattle.block_bytes.specs.declared.header.Role.TheVariants.{Free, Fixed, Master, Relocatable}
-use Rattle.block_bytes.specs.Head.{head_bytes}
+use Rattle.block_bytes.specs.Head.{most_over, head_bytes}
+use Rattle.block_bytes.specs.ZoneHead.{zone_head}
 
--- a block: what it is for, its contents, and the bytes behind them that are over
+-- a block: what it is for, its contents, the bytes behind them that are over, and whether its contents are lent. Those of a lent
+-- block are the bytes that were there when it was lent
 pub record RawBlock : Type 0 where
   pub role : Role
   pub contents : List ℕ
   pub slack : List ℕ
+  pub lent : Bool
 
 -- all bytes behind a block's header
 abbrev pub body : RawBlock → List ℕ
@@ -21,11 +27,11 @@ body b = b.contents ++ b.slack
 
 -- a block with this body, of which the first bytes are its contents
 abbrev pub raw_block : Role → ℕ → List ℕ → RawBlock
-raw_block role length bytes = record { role = role; contents = take length bytes; slack = drop length bytes }
+raw_block role length bytes = record { role = role; contents = take length bytes; slack = drop length bytes; lent = false }
 
 -- a free block with this body
 abbrev pub free_raw_block : List ℕ → RawBlock
-free_raw_block bytes = record { role = Free; contents = bytes; slack = [] }
+free_raw_block bytes = record { role = Free; contents = bytes; slack = []; lent = false }
 
 -- the physical size of a block
 abbrev pub size_of : HeadKind → RawBlock → ℕ
@@ -36,53 +42,103 @@ abbrev pub total_of : HeadKind → List RawBlock → ℕ
 total_of heads [] = 0
 total_of heads (b ∷ bs) = size_of heads b + total_of heads bs
 
+-- whether a block is free
+abbrev pub is_free : Role → Bool
+is_free Free = true
+is_free Fixed = false
+is_free Master = false
+is_free (Relocatable slot flags) = false
+
+-- whether a block is a handle's or a pointer's
+abbrev pub has_owner : Role → Bool
+has_owner Free = false
+has_owner Fixed = true
+has_owner Master = false
+has_owner (Relocatable slot flags) = true
+
+-- the sum of the sizes of the free blocks
+abbrev pub free_total : HeadKind → List RawBlock → ℕ
+free_total heads [] = 0
+free_total heads (b ∷ bs) = (if is_free b.role then size_of heads b else 0) + free_total heads bs
+
+-- where the first free block begins, if the first block begins here; 0 where none is free
+abbrev pub first_free : HeadKind → ℕ → List RawBlock → ℕ
+first_free heads at [] = 0
+first_free heads at (b ∷ bs) = if is_free b.role then at else first_free heads (at + size_of heads b) bs
+
+-- how many blocks are lent
+abbrev pub lent_count : List RawBlock → ℕ
+lent_count [] = 0
+lent_count (b ∷ bs) = if b.lent then suc (lent_count bs) else lent_count bs
+
+-- how many may be
+abbrev pub most_lent : ℕ
+most_lent = 8
+
 -- the header of a block
 abbrev pub header_of : HeadKind → RawBlock → Header
 header_of heads b = record { size = size_of heads b; role = b.role; correction = length b.slack }
 
--- whether what the block is for can be said in a header: a free block has no bytes over, an offset has 32 bits
-abbrev pub can_be_told : Role → ℕ → Bool
-can_be_told Free correction = correction == 0
-can_be_told Fixed correction = true
-can_be_told Master correction = true
-can_be_told (Relocatable slot) correction = nat_lt slot (2 ^ 32)
+-- whether a header can say these flags: in a zone of 24-bit blocks a header says none
+abbrev pub can_say : HeadKind → Flags → Bool
+can_say Bits24 flags = not flags.lock && (not flags.purge && not flags.resource)
+can_say Bits32 flags = true
 
--- whether a block of a zone may be like this: its size is a multiple of four and not below the smallest, and few bytes are over
+-- whether what the block is for can be said in a header: a free block has no bytes over, an offset has 32 bits
+abbrev pub can_be_told : HeadKind → Role → ℕ → Bool
+can_be_told heads Free correction = correction == 0
+can_be_told heads Fixed correction = true
+can_be_told heads Master correction = true
+can_be_told heads (Relocatable slot flags) correction = nat_lt slot (2 ^ 32) && can_say heads flags
+
+-- whether a block of a zone may be like this: its size is a multiple of four and not below the smallest, few bytes are over, and
+-- only a handle's or a pointer's block is lent
 abbrev pub is_possible : HeadKind → RawBlock → Bool
-is_possible heads b = (size_of heads b % 4 == 0) && (nat_le (smallest_block heads) (size_of heads b) && (nat_le (length b.slack) 15 && can_be_told b.role (length b.slack)))
+is_possible heads b = (size_of heads b % 4 == 0) && (nat_le (smallest_block heads) (size_of heads b)
+    && (nat_le (length b.slack) (most_over heads) && (can_be_told heads b.role (length b.slack) && (not b.lent || has_owner b.role))))
 
 -- blocks as bytes, one behind the other
 abbrev pub rendered : HeadKind → ℕ → List RawBlock → List ℕ
 rendered heads base [] = []
 rendered heads base (b ∷ bs) = head_bytes heads base (header_of heads b) ++ (b.contents ++ (b.slack ++ rendered heads base bs))
 
--- a zone: where it begins and how its blocks are headed, the bytes of its header, its blocks, and the bytes up to its limit
+-- a zone: the name of its memory, where it begins and how its blocks are headed, the number that its header says of the free slots,
+-- its blocks, and the bytes up to its limit
 pub record Layout : Type 0 where
+  pub name : Name
   pub heads : HeadKind
   pub base : ℕ
-  pub header : List ℕ
+  pub front : ℕ
   pub blocks : List RawBlock
   pub spare : List ℕ
 
+-- where the blocks behind these begin
+abbrev pub address_behind : Layout → List RawBlock → ℕ
+address_behind l before = l.base + zone_header + total_of l.heads before
+
+-- the bytes of its header
+abbrev pub header_bytes : Layout → List ℕ
+header_bytes l = zone_head (address_behind l l.blocks) l.front (free_total l.heads l.blocks) (first_free l.heads (address_behind l []) l.blocks)
+
 -- all its bytes
 abbrev pub image_of : Layout → List ℕ
-image_of l = l.header ++ (rendered l.heads l.base l.blocks ++ l.spare)
+image_of l = header_bytes l ++ (rendered l.heads l.base l.blocks ++ l.spare)
 
 -- those up to the end of its last block
 abbrev pub zone_bytes : Layout → List ℕ
-zone_bytes l = l.header ++ rendered l.heads l.base l.blocks
+zone_bytes l = header_bytes l ++ rendered l.heads l.base l.blocks
 
 -- the zone with other blocks
 abbrev pub with_blocks : List RawBlock → Layout → Layout
 with_blocks bs l = record l { blocks = bs }
 
--- the zone with another header
-abbrev pub with_header : List ℕ → Layout → Layout
-with_header bytes l = record l { header = bytes }
+-- the zone with another number of the free slots
+abbrev pub with_front : ℕ → Layout → Layout
+with_front n l = record l { front = n }
 
--- where the blocks behind these begin
-abbrev pub address_behind : Layout → List RawBlock → ℕ
-address_behind l before = l.base + zone_header + total_of l.heads before
+-- no block is lent
+abbrev pub NothingLent : Layout → Type 0
+NothingLent l = lent_count l.blocks ≡ 0
 
 -- a block's header stands at this address
 pub record BlockAt (l : Layout) (at : ℕ) : Type 0 where
@@ -92,7 +148,12 @@ pub record BlockAt (l : Layout) (at : ℕ) : Type 0 where
   pub blocks : l.blocks ≡ before ++ here ∷ behind
   pub place : at ≡ address_behind l before
 
--- the four bytes at this address are among the contents of a block
+-- that of a block that isn't lent
+pub record UnlentAt (l : Layout) (at : ℕ) : Type 0 where
+  pub block : BlockAt l at
+  pub unlent : block.here.lent ≡ false
+
+-- the four bytes at this address are among the contents of a block that isn't lent
 pub record WordAt (l : Layout) (at : ℕ) : Type 0 where
   pub before : List RawBlock
   pub here : RawBlock
@@ -101,6 +162,7 @@ pub record WordAt (l : Layout) (at : ℕ) : Type 0 where
   pub blocks : l.blocks ≡ before ++ here ∷ behind
   pub place : at ≡ address_behind l before + head_size l.heads + offset
   pub inside : offset + 4 ≤ length here.contents
+  pub unlent : here.lent ≡ false
 
 -- a block with a number written as four bytes of its contents
 abbrev pub with_word : RawBlock → ℕ → ℕ → RawBlock
@@ -114,24 +176,27 @@ cleared b = record b { contents = replicate (length b.contents) 0 }
 abbrev pub cleared_from : RawBlock → ℕ → RawBlock
 cleared_from b from = record b { contents = take from b.contents ++ replicate (length b.contents - from) 0 }
 
--- the block at an address has so many bytes of contents
+-- the block at an address has so many bytes of contents, and isn't lent
 pub record CanClear (l : Layout) (at from : ℕ) : Type 0 where
   pub block : BlockAt l at
   pub within : from ≤ length block.here.contents
+  pub unlent : block.here.lent ≡ false
 
--- the block at an address can be made one for this, with so many bytes of contents
+-- the block at an address isn't lent, and can be made one for this, with so many bytes of contents
 pub record CanBe (l : Layout) (at : ℕ) (role : Role) (n : ℕ) : Type 0 where
   pub block : BlockAt l at
   pub within : n ≤ length (body block.here)
   pub possible : IsTrue (is_possible l.heads (raw_block role n (body block.here)))
+  pub unlent : block.here.lent ≡ false
 
--- the block at an address can have so many bytes of contents
+-- the block at an address isn't lent, and can have so many bytes of contents
 pub record CanResize (l : Layout) (at n : ℕ) : Type 0 where
   pub block : BlockAt l at
   pub within : n ≤ length (body block.here)
   pub possible : IsTrue (is_possible l.heads (raw_block block.here.role n (body block.here)))
+  pub unlent : block.here.lent ≡ false
 
--- the block at an address can be cut in two, the first part of so many bytes with so many of contents
+-- the block at an address isn't lent, and can be cut in two, the first part of so many bytes with so many of contents
 pub record CanSplit (l : Layout) (at size n : ℕ) : Type 0 where
   pub block : BlockAt l at
   pub large : head_size l.heads ≤ size
@@ -139,6 +204,7 @@ pub record CanSplit (l : Layout) (at size n : ℕ) : Type 0 where
   pub smaller : size + head_size l.heads ≤ size_of l.heads block.here
   pub front : IsTrue (is_possible l.heads (raw_block block.here.role n (take (size - head_size l.heads) (body block.here))))
   pub rest : IsTrue (is_possible l.heads (free_raw_block (drop size (body block.here))))
+  pub unlent : block.here.lent ≡ false
 
 -- the two parts then
 abbrev pub front_of : {at size n : ℕ} → (l : Layout) → CanSplit l at size n → RawBlock
@@ -151,13 +217,62 @@ rest_of {size = size} l can = free_raw_block (drop size (body can.block.here))
 abbrev pub joint_body : Layout → RawBlock → RawBlock → List ℕ
 joint_body l b c = body b ++ (head_bytes l.heads l.base (header_of l.heads c) ++ body c)
 
--- the block at an address and the one behind it can be made one block with so many bytes of contents
-pub record CanMerge (l : Layout) (at n : ℕ) : Type 0 where
+-- two neighbours, the first at an address, neither of them lent
+pub record PairAt (l : Layout) (at : ℕ) : Type 0 where
   pub before : List RawBlock
   pub here : RawBlock
   pub next : RawBlock
   pub behind : List RawBlock
   pub blocks : l.blocks ≡ before ++ here ∷ next ∷ behind
   pub place : at ≡ address_behind l before
-  pub within : n ≤ length (joint_body l here next)
-  pub possible : IsTrue (is_possible l.heads (raw_block here.role n (joint_body l here next)))
+  pub unlent_here : here.lent ≡ false
+  pub unlent_next : next.lent ≡ false
+
+-- the block at an address and the one behind it can be made one block with so many bytes of contents
+pub record CanMerge (l : Layout) (at n : ℕ) : Type 0 where
+  pub pair : PairAt l at
+  pub within : n ≤ length (joint_body l pair.here pair.next)
+  pub possible : IsTrue (is_possible l.heads (raw_block pair.here.role n (joint_body l pair.here pair.next)))
+
+-- a block that has moved is the same, but a free one may have other bytes
+pub record IsMoved (old new : RawBlock) : Type 0 where
+  pub same : IsFalse (is_free old.role) → new ≡ old
+  pub role : new.role ≡ old.role
+  pub contents : length new.contents ≡ length old.contents
+  pub slack : new.slack ≡ old.slack
+  pub lent : new.lent ≡ old.lent
+
+-- two neighbours have changed places
+pub record Exchanged (old : Layout) {at : ℕ} (pair : PairAt old at) (new : Layout) : Type 0 where
+  pub first : RawBlock
+  pub second : RawBlock
+  pub blocks : new ≡ with_blocks (pair.before ++ first ∷ second ∷ pair.behind) old
+  pub first_moved : IsMoved pair.next first
+  pub second_moved : IsMoved pair.here second
+
+-- the block at an address can be lent: it is a handle's or a pointer's, it isn't lent yet, and few are
+pub record CanLend (l : Layout) (at : ℕ) : Type 0 where
+  pub block : BlockAt l at
+  pub owned : IsTrue (has_owner block.here.role)
+  pub unlent : block.here.lent ≡ false
+  pub few : lent_count l.blocks < most_lent
+
+-- the loan of the block at an address: its contents, in their place
+abbrev pub loan_of : {at : ℕ} → (l : Layout) → BlockAt l at → Loan
+loan_of l b = record { name = l.name; at = zone_header + total_of l.heads b.before + head_size l.heads; bytes = b.here.contents }
+
+-- a block that is lent
+abbrev pub lent_block : RawBlock → RawBlock
+lent_block b = record b { lent = true }
+
+-- this is the loan of the block at an address, maybe with other bytes
+pub record IsLoanOf (l : Layout) (at : ℕ) (loan : Loan) : Type 0 where
+  pub block : BlockAt l at
+  pub lent : block.here.lent ≡ true
+  pub name : loan.name ≡ l.name
+  pub place : loan.at ≡ zone_header + total_of l.heads block.before + head_size l.heads
+  pub long : length loan.bytes ≡ length block.here.contents
+
+-- a block that was lent, with the bytes that came back
+abbrev pub given_back : RawBlock → List ℕ → RawBlock
+given_back b bytes = record b { contents = bytes; lent = false }

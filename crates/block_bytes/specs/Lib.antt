@@ -1,4 +1,5 @@
 pub mod Head
+pub mod ZoneHead
 pub mod Layout
 pub mod Finding
 pub mod Starts

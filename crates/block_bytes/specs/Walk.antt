@@ -1,14 +1,15 @@
--- Whether bytes are those of a zone, by the sizes in its block headers. A second kind of header adds a line to `size_at`.
+-- Whether bytes are those of a zone, by the sizes in its block headers.
 use Rattle.std.specs.Prelude.{◌≡◌, ℕ, ◌+◌, ◌%◌, Bool, ◌&&◌, ◌==◌, nat_le, IsTrue, List, [], ◌∷◌, length}
 use Rattle.byteorder.specs.Endian.{big_number}
 use Rattle.mac_base.specs.declared.block.HeadKind.{HeadKind}
-use Rattle.mac_base.specs.declared.block.HeadKind.TheVariants.{Bits24}
+use Rattle.mac_base.specs.declared.block.HeadKind.TheVariants.{Bits24, Bits32}
 use Rattle.mac_base.specs.HeadKind.{smallest_block, zone_header}
 use Rattle.raw_region.specs.Bytes.{part}
 
 -- the size that the block header at an offset says
 abbrev pub size_at : HeadKind → List ℕ → ℕ → ℕ
 size_at Bits24 image at = big_number 4 (part image at 4) % 0x100_0000
+size_at Bits32 image at = big_number 4 (part image (at + 4) 4)
 
 -- whether a block can have so many bytes
 abbrev pub is_block : HeadKind → ℕ → Bool

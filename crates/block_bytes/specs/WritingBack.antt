@@ -3,14 +3,14 @@ use Rattle.std.specs.Prelude.{ℕ, ◌+◌, ◌==◌, if◌then◌else◌, List,
 use Rattle.std.specs.Borrow.{Lends, Array, MutBor, Fml, u8}
 use Rattle.mac_base.specs.declared.block.HeadKind.{HeadKind}
 use Rattle.mac_base.specs.ZoneState.{overwritten}
-use Rattle.raw_region.specs.Bytes.{written}
+use Rattle.raw_region.specs.State.{State, with_bytes}
 use Rattle.block_bytes.specs.Layout.{RawBlock, Layout, size_of, address_behind, with_blocks}
 use Rattle.block_bytes.specs.contracts.memory.Memory.{the_row as memory_row}
 use Rattle.block_bytes.specs.contracts.blocks.Blocks.{the_row as blocks_row}
 
 -- the n bytes of the memory from a place on end with what is left behind the slice
-abbrev pub WritesBackPart : MutBor (List ℕ) → ℕ → ℕ → MutBor (List ℕ) → Fml
-WritesBackPart memory at n slice = Lends memory_row (Array u8 0) memory slice (λ ws. written memory.now at (take n ws))
+abbrev pub WritesBackPart : MutBor State → ℕ → ℕ → MutBor (List ℕ) → Fml
+WritesBackPart memory at n slice = Lends memory_row (Array u8 0) memory slice (λ ws. with_bytes memory.now at (take n ws))
 
 -- the blocks, the first of which stands at an address, with bytes written over the contents of the one at x
 abbrev pub overwritten_at : HeadKind → ℕ → ℕ → List ℕ → List RawBlock → List RawBlock

@@ -1,12 +1,16 @@
 //! The list of a zone's blocks.
 
-ghost use Rattle.std.specs.Prelude.{◌≡◌, ◌+◌, ◌-◌, ◌<◌, ◌≤◌, ◌^◌, ◌++◌, ◌∷◌, [], length, replicate, IfOk, IfSome, IfNone, IsTrue, IsFalse};
+ghost use Rattle.std.specs.Prelude.{◌≡◌, ◌+◌, ◌-◌, ◌*◌, ◌<◌, ◌≤◌, ◌^◌, ◌++◌, ◌∷◌, [], length, replicate, IfOk, IfSome, IfNone, IsTrue, IsFalse};
 ghost use Rattle.std.specs.Borrow.{sem};
 ghost use Rattle.std.specs.List.{list_all};
 ghost use Rattle.byteorder.specs.Endian.{big_bytes, big_number};
 ghost use Rattle.mac_base.specs.HeadKind.{zone_header, head_size};
 ghost use Rattle.raw_region.specs.Bytes.{part, written};
+ghost use Rattle.raw_region.specs.Span.{IsFree};
+ghost use Rattle.raw_region.specs.State.{with_bytes};
 ghost use Rattle.block_bytes.specs.declared.header.Role.TheVariants.{Free};
+ghost use Rattle.block_bytes.specs.Starts.{first_marked};
+ghost use Rattle.block_bytes.specs.ZoneHead.{free_field, lowest_field};
 
 use crate::header::{Header, Role};
 use crate::memory::Memory;
@@ -14,18 +18,26 @@ use mac_base::error::HostFull;
 use mac_base::size::ZONE_HEADER;
 use mac_base::zone_spec::ZoneSpec;
 use place_numbers::Numbers;
+use raw_region::Lent;
 use std::alloc::Global;
 use std::marker::Model;
 
+/// What the index has at the place of a lent block. No block is as small.
+const LENT_MARK: u32 = 2;
+
 /// The blocks of a zone in one run of bytes, from the zone's start to its limit. A contract sees the list of the
-/// blocks, each with all bytes behind its header, beside the bytes of the zone's header and those up to the limit.
-/// That an address is that of a block is up to the caller. After `create` no call takes memory of the host.
-#[derive(Drop)]
+/// blocks, each with all bytes behind its header, beside the bytes up to the limit and the number in the zone's header that
+/// tells of the free slots. All else in that header follows from the blocks: where they end, how many bytes are free and
+/// where the lowest free block is. That an address is that of a block is up to the caller. After `create` no call takes
+/// memory of the host.
 pub struct Blocks {
     spec: ZoneSpec,
     memory: Memory,
-    /// For each four bytes of the zone a number: where a block begins with them its size if it is free, and else 1; or 0.
+    /// For each four bytes of the zone a number: where a block begins with them its size if it is free, 2 if it is lent, and
+    /// else 1; or 0.
     index: Numbers,
+    /// How many blocks are lent.
+    loans: u32,
 }
 
 impl Model for Blocks {
@@ -40,6 +52,45 @@ impl Model for Blocks {
     ghost invariant = { IsLayout };
 }
 
+impl Drop for Blocks {
+    ghost use Rattle.block_bytes.specs.Layout.{NothingLent};
+
+    /// A zone ends only when nothing of it is lent.
+    fn drop(self)
+        requires nothing_lent { NothingLent self }
+    {
+        let Blocks {
+            spec: _,
+            memory,
+            index,
+            loans: _,
+        } = self;
+        drop(memory);
+        drop(index);
+    }
+}
+
+/// Writes in the zone's header how many bytes are free, where `gained` came to them and `lost` went, and the address of the
+/// lowest free block, by the index.
+#[tactic(auto, using(raw_region::proofs::Rules::upkeep))]
+fn count_free(memory: &mut Memory, index: &Numbers, base: u32, gained: u32, lost: u32)
+    requires inside { zone_header ≤ length memory.old.bytes }
+    requires unlent { IsFree memory.old.lent 0 zone_header }
+    requires few { big_number 4 (part memory.old.bytes free_field 4) + gained < 2 ^ 32 }
+    requires counted { lost ≤ big_number 4 (part memory.old.bytes free_field 4) + gained }
+    requires small { base + 4 * length index.now < 2 ^ 32 }
+    ensures { memory.new ≡ with_bytes (with_bytes memory.old free_field (big_bytes 4 (big_number 4 (part memory.old.bytes free_field 4) + gained - lost)))
+        lowest_field (big_bytes 4 (first_marked base index.now)) }
+{
+    let _len = index.len();
+    let lowest = match index.first_at_least(LENT_MARK + 1, 0) {
+        Some(place) => base + 4 * place as u32,
+        None => 0,
+    };
+    let free = memory.free_bytes() + gained - lost;
+    memory.set_free(free, lowest);
+}
+
 impl Blocks {
     ghost use Rattle.std.specs.Prelude.{◌≡◌, ◌+◌, ◌-◌, ◌<◌, ◌≤◌, ◌^◌, ◌++◌, ◌∷◌, ◌↔◌, [], length, take, drop, replicate, IfOk, IfSome, IfNone, IsTrue, IsFalse};
     ghost use Rattle.std.specs.Borrow.{sem};
@@ -49,15 +100,15 @@ impl Blocks {
     ghost use Rattle.mac_base.specs.ZoneSizes.{shape_of};
     ghost use Rattle.raw_region.specs.Bytes.{part, written};
     ghost use Rattle.block_bytes.specs.declared.header.Role.TheVariants.{Free};
-    ghost use Rattle.block_bytes.specs.Layout.{RawBlock, Layout, BlockAt, WordAt, CanBe, CanResize, CanSplit, CanMerge, front_of, rest_of, with_word, cleared, cleared_from, CanClear, body, raw_block, free_raw_block, size_of, header_of, is_possible, joint_body, zone_bytes, with_blocks, with_header, address_behind};
+    ghost use Rattle.block_bytes.specs.Layout.{RawBlock, Layout, BlockAt, UnlentAt, WordAt, CanBe, CanResize, CanSplit, PairAt, CanMerge, Exchanged, CanLend, IsLoanOf, NothingLent, front_of, rest_of, with_word, cleared, cleared_from, CanClear, body, raw_block, free_raw_block, size_of, header_of, is_possible, joint_body, zone_bytes, with_blocks, with_front, address_behind, free_total, lent_count, most_lent, loan_of, lent_block, given_back};
     ghost use Rattle.block_bytes.specs.Finding.{HoldsByte, LiesOutside, LowestFree, NoneFree};
     ghost use Rattle.block_bytes.specs.WritingBack.{WritesBackContents};
     ghost use Rattle.block_bytes.specs.NewLayout.{new_layout};
     ghost use Rattle.block_bytes.specs.Walk.{Walks};
 
-    /// A new zone: one free block, and all bytes but those of its header are zero.
+    /// A new zone: one free block, and all its bytes and those up to the limit are zero.
     pub fn create(alloc: Global, spec: ZoneSpec) -> Result<Blocks, HostFull>
-        ensures { IfOk result (λ blocks. blocks ≡ new_layout spec) }
+        ensures { IfOk result (λ blocks. blocks ≡ new_layout blocks.name spec) }
     {
         let heads = spec.heads();
         let mut memory = Memory::create(alloc, spec.limit() as usize)?;
@@ -67,12 +118,15 @@ impl Blocks {
             role: Role::Free,
             correction: 0,
         };
+        let first = spec.base() + ZONE_HEADER;
+        memory.set_zone_head(spec.base() + spec.size(), free.size, first);
         memory.set_header(heads, ZONE_HEADER as usize, spec.base(), free);
         index.set(ZONE_HEADER as usize / 4, free.size);
         Ok(Blocks {
             spec,
             memory,
             index,
+            loans: 0,
         })
     }
 
@@ -82,7 +136,6 @@ impl Blocks {
         ensures base { result.base ≡ self.now.base }
         ensures size { result.base + result.size ≡ address_behind self.now self.now.blocks }
         ensures limit { result.base + result.limit ≡ address_behind self.now self.now.blocks + length self.now.spare }
-        ensures header { length self.now.header ≡ zone_header }
         ensures possible { IsTrue (list_all (is_possible self.now.heads) self.now.blocks) }
     {
         self.spec
@@ -95,28 +148,43 @@ impl Blocks {
         self.spec.base() + self.spec.size()
     }
 
-    /// The number in 4 bytes of the zone's header.
-    pub fn field(&self, at: usize) -> u32
-        requires { at + 4 ≤ zone_header }
-        ensures { result ≡ big_number 4 (part self.now.header at 4) }
+    /// The number in the zone's header that tells of the free slots.
+    pub fn front(&self) -> u32
+        ensures { result ≡ self.now.front }
     {
-        self.memory.word(at)
+        self.memory.front()
     }
 
-    /// Writes a number as 4 bytes of the zone's header.
-    pub fn set_field(&mut self, at: usize, number: u32)
-        requires { at + 4 ≤ zone_header }
-        ensures { self.new ≡ with_header (written self.old.header at (big_bytes 4 number)) self.old }
+    /// Writes the number in the zone's header that tells of the free slots.
+    pub fn set_front(&mut self, front: u32)
+        ensures { self.new ≡ with_front front self.old }
     {
-        self.memory.set_word(at, number);
+        let _base = self.spec.base();
+        self.memory.set_front(front);
     }
 
-    /// Writes a number as 2 bytes of the zone's header.
-    pub fn set_half_field(&mut self, at: usize, number: u16)
-        requires { at + 2 ≤ zone_header }
-        ensures { self.new ≡ with_header (written self.old.header at (big_bytes 2 number)) self.old }
+    /// The sum of the sizes of the free blocks.
+    pub fn free_bytes(&self) -> u32
+        ensures { result ≡ free_total self.now.heads self.now.blocks }
     {
-        self.memory.set_half(at, number);
+        let _base = self.spec.base();
+        self.memory.free_bytes()
+    }
+
+    /// Whether the block at an address is lent.
+    pub fn is_lent(&self, at: u32) -> bool
+        requires { BlockAt self.now at }
+        ensures { (b : BlockAt self.now at) → result ≡ b.here.lent }
+    {
+        self.index.get((at - self.spec.base()) as usize / 4) == LENT_MARK
+    }
+
+    /// How many blocks are lent.
+    pub fn lent_count(&self) -> u32
+        ensures value { result ≡ lent_count self.now.blocks }
+        ensures few { result ≤ most_lent }
+    {
+        self.loans
     }
 
     /// Whether a block's header stands at an address.
@@ -168,12 +236,12 @@ impl Blocks {
     }
 
     /// The address of the lowest free block of at least so many bytes, its header among them. No header is read: the
-    /// index tells the first place whose number is as large, and no free block has a size below 2.
+    /// index tells the first place whose number is as large, and no free block has a size below 3.
     pub fn lowest_free(&self, needed: u32) -> Option<u32>
         ensures lowest { IfSome result (λ at. LowestFree self.now needed at) }
         ensures none { IfNone result (NoneFree self.now needed) }
     {
-        let place = self.index.first_at_least(needed.max(2), 0)?;
+        let place = self.index.first_at_least(needed.max(LENT_MARK + 1), 0)?;
         Some(self.spec.base() + 4 * place as u32)
     }
 
@@ -183,22 +251,29 @@ impl Blocks {
         ensures { (can : CanBe self.old at role length)
             → self.new ≡ with_blocks (can.block.before ++ raw_block role length (body can.block.here) ∷ can.block.behind) self.old }
     {
-        let size = self.entry_at(at).size;
+        let old = self.entry_at(at);
         let heads = self.spec.heads();
         let base = self.spec.base();
         let header = Header {
-            size,
+            size: old.size,
             role,
-            correction: size - heads.head_size() - length,
+            correction: old.size - heads.head_size() - length,
         };
         let offset = at - base;
         self.memory.set_header(heads, offset as usize, base, header);
         self.index.set(offset as usize / 4, header.mark());
+        count_free(
+            &mut self.memory,
+            &self.index,
+            base,
+            header.free_bytes(),
+            old.free_bytes(),
+        );
     }
 
     /// Makes the block at an address free. All bytes behind its header stay.
     pub fn set_free(&mut self, at: u32)
-        requires { BlockAt self.old at }
+        requires { UnlentAt self.old at }
         ensures { (b : BlockAt self.old at) → self.new ≡ with_blocks (b.before ++ free_raw_block (body b.here) ∷ b.behind) self.old }
     {
         let length = self.entry_at(at).size - self.spec.heads().head_size();
@@ -217,7 +292,7 @@ impl Blocks {
     }
 
     /// Cuts the block at an address: its first `size` bytes are a block for the same, with so many bytes of contents,
-    /// and the others a free one. No byte changes but those of the two headers.
+    /// and the others a free one. No byte of contents changes.
     pub fn split(&mut self, at: u32, size: u32, length: u32)
         requires { CanSplit self.old at size length }
         ensures { (can : CanSplit self.old at size length) → self.new ≡ with_blocks (can.block.before ++ front_of self.old can ∷ rest_of self.old can ∷ can.block.behind) self.old }
@@ -241,6 +316,13 @@ impl Blocks {
         self.memory.set_header(heads, second, base, rest);
         self.index.set(offset / 4, front.mark());
         self.index.set(second / 4, rest.size);
+        count_free(
+            &mut self.memory,
+            &self.index,
+            base,
+            front.free_bytes() + rest.size,
+            whole.free_bytes(),
+        );
     }
 
     /// Makes the block at an address and the one behind it one block, for what the first is for, with so many bytes of
@@ -248,7 +330,7 @@ impl Blocks {
     pub fn merge(&mut self, at: u32, length: u32)
         requires { CanMerge self.old at length }
         ensures { (can : CanMerge self.old at length)
-            → self.new ≡ with_blocks (can.before ++ raw_block can.here.role length (joint_body self.old can.here can.next) ∷ can.behind) self.old }
+            → self.new ≡ with_blocks (can.pair.before ++ raw_block can.pair.here.role length (joint_body self.old can.pair.here can.pair.next) ∷ can.pair.behind) self.old }
     {
         let heads = self.spec.heads();
         let base = self.spec.base();
@@ -265,6 +347,58 @@ impl Blocks {
         self.memory.set_header(heads, offset, base, header);
         self.index.set(offset / 4, header.mark());
         self.index.set((next - base) as usize / 4, 0);
+        count_free(
+            &mut self.memory,
+            &self.index,
+            base,
+            header.free_bytes(),
+            first.free_bytes() + second.free_bytes(),
+        );
+    }
+
+    /// The block at an address and the one behind it change places. The bytes of a free one aren't kept.
+    pub fn exchange(&mut self, at: u32)
+        requires { PairAt self.old at }
+        ensures { (pair : PairAt self.old at) → Exchanged self.old pair self.new }
+    {
+        let heads = self.spec.heads();
+        let base = self.spec.base();
+        let first = self.entry_at(at);
+        let second = self.entry_at(at + first.size);
+        let start = (at - base) as usize;
+        self.memory.exchange(heads, base, start, first, second);
+        self.index.set(start / 4 + first.size as usize / 4, 0);
+        self.index.set(start / 4, second.mark());
+        self.index
+            .set(start / 4 + second.size as usize / 4, first.mark());
+        count_free(&mut self.memory, &self.index, base, 0, 0);
+    }
+
+    /// Lends the contents of the block at an address: who has the loan reads and writes them.
+    pub fn lend(&mut self, at: u32) -> Lent
+        requires { CanLend self.old at }
+        ensures blocks { (can : CanLend self.old at) → self.new ≡ with_blocks (can.block.before ++ lent_block can.block.here ∷ can.block.behind) self.old }
+        ensures loan { (can : CanLend self.old at) → result ≡ loan_of self.old can.block }
+    {
+        let header = self.entry_at(at);
+        let head_size = self.spec.heads().head_size();
+        let offset = at - self.spec.base();
+        let length = header.size - head_size - header.correction;
+        self.index.set(offset as usize / 4, LENT_MARK);
+        self.loans += 1;
+        self.memory
+            .lend((offset + head_size) as usize, length as usize)
+    }
+
+    /// Takes back the contents of the lent block at an address, as its holder left them.
+    pub fn give_back(&mut self, at: u32, loan: Lent)
+        requires { IsLoanOf self.old at loan }
+        ensures { (is : IsLoanOf self.old at loan) → self.new ≡ with_blocks (is.block.before ++ given_back is.block.here loan.bytes ∷ is.block.behind) self.old }
+    {
+        let offset = at - self.spec.base();
+        self.memory.give_back(loan);
+        self.index.set(offset as usize / 4, 1);
+        self.loans -= 1;
     }
 
     /// The number in 4 bytes of a block's contents.
@@ -286,7 +420,7 @@ impl Blocks {
 
     /// The contents of the block at an address.
     pub fn contents(&self, at: u32) -> &[u8]
-        requires { BlockAt self.now at }
+        requires { UnlentAt self.now at }
         ensures { (b : BlockAt self.now at) → result.now ≡ b.here.contents }
     {
         let header = self.entry_at(at);
@@ -298,7 +432,7 @@ impl Blocks {
 
     /// The contents of the block at an address, to be written.
     pub fn contents_mut(&mut self, at: u32) -> &mut [u8]
-        requires block { BlockAt self.old at }
+        requires block { UnlentAt self.old at }
         ensures* writes_back { sem 𝓛 (WritesBackContents self.entry at result) }
         ensures value { (b : BlockAt self.old at) → result.now ≡ b.here.contents }
     {
@@ -311,7 +445,7 @@ impl Blocks {
 
     /// Makes the contents of the block at an address zero.
     pub fn clear(&mut self, at: u32)
-        requires { BlockAt self.old at }
+        requires { UnlentAt self.old at }
         ensures { (b : BlockAt self.old at) → self.new ≡ with_blocks (b.before ++ cleared b.here ∷ b.behind) self.old }
     {
         let header = self.entry_at(at);
@@ -336,6 +470,7 @@ impl Blocks {
 
     /// The bytes of the zone, from its start to the end of its last block. Its blocks are possible ones.
     pub fn image(&self) -> &[u8]
+        requires nothing_lent { NothingLent self.now }
         ensures bytes { result.now ≡ zone_bytes self.now }
         ensures blocks { IsTrue (list_all (is_possible self.now.heads) self.now.blocks) }
         ensures walks { Walks self.now.heads result.now }

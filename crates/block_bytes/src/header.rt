@@ -1,9 +1,9 @@
 //! The header of a block.
 
-ghost use Rattle.std.specs.Prelude.{◌≡◌, ◌<◌, ◌≤◌, ◌^◌};
-ghost use Rattle.block_bytes.specs.Head.{role_in, header_in, first_word};
+ghost use Rattle.std.specs.Prelude.{◌≡◌, ◌≤◌};
+ghost use Rattle.block_bytes.specs.Head.{flags_byte, flags_in};
 
-use mac_base::block::HeadKind;
+use mac_base::block::Flags;
 
 /// What a block's header says it is for.
 #[derive(Clone, Copy, Debug, PartialEq, Eq)]
@@ -14,41 +14,52 @@ pub enum Role {
     Fixed,
     /// A master block, which doesn't move either.
     Master,
-    /// A relocatable block, whose master pointer stands so many bytes from the zone's start.
-    Relocatable(u32),
+    /// A relocatable block, whose master pointer stands so many bytes from the zone's start, and the flags that the header
+    /// says: none in a zone of 24-bit blocks.
+    Relocatable(u32, Flags),
 }
 
 impl Role {
     ghost use Rattle.std.specs.Prelude.{◌≡◌, ◌<◌, ◌≤◌, ◌^◌};
-    ghost use Rattle.block_bytes.specs.Head.{tag_of, word_of, role_in};
+    ghost use Rattle.block_bytes.specs.Head.{tag_of, flags_of, word_of, role_in};
 
-    /// The header's tag, with the size correction in its low four bits.
-    pub(crate) fn tag(self, correction: u32) -> u32
-        requires { correction ≤ 15 }
-        ensures { result ≡ tag_of self correction }
+    /// The header's tag, with this in its low bits.
+    pub(crate) fn tag(self, low: u32) -> u32
+        requires { low ≤ 15 }
+        ensures { result ≡ tag_of self low }
     {
         match self {
-            Role::Free => correction,
-            Role::Fixed => 64 + correction,
-            Role::Master => 80 + correction,
-            Role::Relocatable(_) => 128 + correction,
+            Role::Free => low,
+            Role::Fixed => 64 + low,
+            Role::Master => 80 + low,
+            Role::Relocatable(_, _) => 128 + low,
         }
     }
 
-    /// The header's second word, in a zone that begins at `base`.
+    /// The flags that the header says.
+    pub(crate) fn flags(self) -> Flags
+        ensures { result ≡ flags_of self }
+    {
+        match self {
+            Role::Free | Role::Fixed | Role::Master => Flags::NONE,
+            Role::Relocatable(_, flags) => flags,
+        }
+    }
+
+    /// The header's last word, in a zone that begins at `base`.
     pub(crate) fn word(self, base: u32) -> u32
         ensures { result ≡ word_of base self }
     {
         match self {
             Role::Free => 0,
             Role::Fixed | Role::Master => base,
-            Role::Relocatable(slot) => slot,
+            Role::Relocatable(slot, _) => slot,
         }
     }
 
-    /// What a tag and a header's second word say.
-    pub(crate) fn read(tag: u32, word: u32) -> Role
-        ensures { result ≡ role_in tag word }
+    /// What a tag, a byte of flags and a header's last word say.
+    pub(crate) fn read(tag: u32, flags: u32, word: u32) -> Role
+        ensures { result ≡ role_in tag flags word }
     {
         if tag < 64 {
             Role::Free
@@ -59,8 +70,29 @@ impl Role {
                 Role::Fixed
             }
         } else {
-            Role::Relocatable(word)
+            Role::Relocatable(word, flags_in(flags))
         }
+    }
+}
+
+/// Flags as a byte of a header.
+pub(crate) fn flags_byte(flags: Flags) -> u32
+    ensures { result ≡ flags_byte flags }
+{
+    let lock = if flags.lock { 128 } else { 0 };
+    let purge = if flags.purge { 64 } else { 0 };
+    let resource = if flags.resource { 32 } else { 0 };
+    lock + purge + resource
+}
+
+/// The flags that a byte of a header says.
+fn flags_in(byte: u32) -> Flags
+    ensures { result ≡ flags_in byte }
+{
+    Flags {
+        lock: byte >= 128,
+        purge: byte / 64 % 2 == 1,
+        resource: byte / 32 % 2 == 1,
     }
 }
 
@@ -75,15 +107,36 @@ pub struct Header {
 
 impl Header {
     ghost use Rattle.std.specs.Prelude.{◌≡◌};
-    ghost use Rattle.block_bytes.specs.Starts.{mark_in};
+    ghost use Rattle.block_bytes.specs.Layout.{is_free};
+    ghost use Rattle.block_bytes.specs.Starts.{mark_in, free_in};
 
-    /// What the index has at the block's place: its size if it is free, or else 1.
+    /// Whether the block is free.
+    pub(crate) fn is_free(self) -> bool
+        ensures { result ≡ is_free self.role }
+    {
+        match self.role {
+            Role::Free => true,
+            Role::Fixed | Role::Master | Role::Relocatable(_, _) => false,
+        }
+    }
+
+    /// What the index has at the block's place, unless it is lent: its size if it is free, or else 1.
     pub(crate) fn mark(self) -> u32
         ensures { result ≡ mark_in self }
     {
         match self.role {
             Role::Free => self.size,
-            Role::Fixed | Role::Master | Role::Relocatable(_) => 1,
+            Role::Fixed | Role::Master | Role::Relocatable(_, _) => 1,
+        }
+    }
+
+    /// How many bytes are free by the block: all of it, or none.
+    pub(crate) fn free_bytes(self) -> u32
+        ensures { result ≡ free_in self }
+    {
+        match self.role {
+            Role::Free => self.size,
+            Role::Fixed | Role::Master | Role::Relocatable(_, _) => 0,
         }
     }
 }

@@ -1,37 +1,59 @@
 //! The memory of a zone.
 
-ghost use Rattle.std.specs.Prelude.{◌≡◌, ◌+◌, ◌≤◌, ◌<◌, ◌^◌, length, replicate, drop, IfOk};
+ghost use Rattle.std.specs.Prelude.{◌≡◌, ◌+◌, ◌-◌, ◌≤◌, ◌<◌, ◌^◌, ◌++◌, [], ◌∷◌, length, replicate, drop, IfOk, IsTrue, IsFalse};
 ghost use Rattle.std.specs.Borrow.{sem};
 ghost use Rattle.byteorder.specs.Endian.{big_bytes, big_number};
-ghost use Rattle.mac_base.specs.HeadKind.{head_size};
+ghost use Rattle.mac_base.specs.HeadKind.{head_size, zone_header};
 ghost use Rattle.raw_region.specs.Bytes.{part, written};
-ghost use Rattle.block_bytes.specs.Head.{head_bytes, header_in};
+ghost use Rattle.raw_region.specs.Span.{IsFree, IsListed, without};
+ghost use Rattle.raw_region.specs.State.{State, with_bytes};
+ghost use Rattle.block_bytes.specs.Head.{head_bytes, header_in, most_over};
+ghost use Rattle.block_bytes.specs.ZoneHead.{zone_head, front_field, free_field, lowest_field};
+ghost use Rattle.block_bytes.specs.Layout.{is_free};
 ghost use Rattle.block_bytes.specs.WritingBack.{WritesBackPart};
 
-use crate::header::{Header, Role};
+use crate::header::{Header, Role, flags_byte};
 use mac_base::block::HeadKind;
 use mac_base::error::HostFull;
-use raw_region::Region;
+use mac_base::size::SLOT_COUNT;
+use raw_region::{Lent, Region};
 use std::alloc::Global;
 use std::marker::Model;
 
-/// The bytes of a zone from its start to its limit, of which none is lent. A contract sees the list.
+/// Where the zone's header has the address behind the last block.
+const END_FIELD: usize = 0;
+
+/// Where it has the number of the free slots.
+const FRONT_FIELD: usize = 8;
+
+/// Where it has the sum of the sizes of the free blocks.
+const FREE_FIELD: usize = 12;
+
+/// Where it has how many master pointers a master block has.
+const SLOTS_FIELD: usize = 20;
+
+/// Where it has the address of the lowest free block.
+const LOWEST_FIELD: usize = 48;
+
+/// The bytes of a zone from its start to its limit. A contract sees what it sees of the region.
 pub(crate) struct Memory {
     region: Region,
 }
 
 impl Model for Memory {
-    ghost use Rattle.std.specs.Prelude.{◌≡◌, List, ℕ, []};
+    ghost use Rattle.std.specs.Prelude.{◌≡◌};
+    ghost use Rattle.raw_region.specs.State.{State};
 
-    ghost Value = { List ℕ };
+    ghost Value = { State };
 
-    ghost view = { λ m. m.region.bytes };
-
-    ghost invariant = { λ m. m.region.lent ≡ [] };
+    ghost view = { λ m. m.region };
 }
 
 impl Drop for Memory {
-    fn drop(self) {
+    /// Memory ends only when nothing of it is lent.
+    fn drop(self)
+        requires nothing_lent { self.lent ≡ [] }
+    {
         let Memory { region } = self;
         drop(region);
     }
@@ -39,10 +61,10 @@ impl Drop for Memory {
 
 #[tactic(auto, using(raw_region::proofs::Rules::upkeep))]
 impl Memory {
-    /// So many bytes of zero.
+    /// So many bytes of zero, of which none is lent.
     pub fn create(alloc: Global, length: usize) -> Result<Memory, HostFull>
         requires { length < 2 ^ 62 }
-        ensures { IfOk result (λ memory. memory ≡ replicate length 0) }
+        ensures { IfOk result (λ memory. (memory.bytes ≡ replicate length 0) × (memory.lent ≡ [])) }
     {
         Ok(Memory {
             region: Region::create(alloc, length)?,
@@ -51,95 +73,224 @@ impl Memory {
 
     /// How many bytes there are.
     pub fn len(&self) -> usize
-        ensures { result ≡ length self.now }
+        ensures { result ≡ length self.now.bytes }
     {
         self.region.len()
     }
 
     /// The `count` bytes from `at` on.
     pub fn bytes(&self, at: usize, count: usize) -> &[u8]
-        requires { at + count ≤ length self.now }
-        ensures { result.now ≡ part self.now at count }
+        requires inside { at + count ≤ length self.now.bytes }
+        requires free { IsFree self.now.lent at count }
+        ensures { result.now ≡ part self.now.bytes at count }
     {
         self.region.bytes(at, count)
     }
 
     /// The `count` bytes from `at` on, to be written.
     pub fn bytes_mut(&mut self, at: usize, count: usize) -> &mut [u8]
-        requires inside { at + count ≤ length self.old }
+        requires inside { at + count ≤ length self.old.bytes }
+        requires free { IsFree self.old.lent at count }
         ensures* writes_back { sem 𝓛 (WritesBackPart self.entry at count result) }
-        ensures value { result.now ≡ part self.old at count }
+        ensures value { result.now ≡ part self.old.bytes at count }
     {
         self.region.bytes_mut(at, count)
     }
 
     /// Makes the `count` bytes from `at` on zero.
     pub fn clear(&mut self, at: usize, count: usize)
-        requires { at + count ≤ length self.old }
-        ensures { self.new ≡ written self.old at (replicate count 0) }
+        requires inside { at + count ≤ length self.old.bytes }
+        requires free { IsFree self.old.lent at count }
+        ensures { self.new ≡ with_bytes self.old at (replicate count 0) }
     {
         self.region.fill(at, count, 0);
     }
 
     /// The number in the 4 bytes from `at` on.
     pub fn word(&self, at: usize) -> u32
-        requires { at + 4 ≤ length self.now }
-        ensures { result ≡ big_number 4 (part self.now at 4) }
+        requires inside { at + 4 ≤ length self.now.bytes }
+        requires free { IsFree self.now.lent at 4 }
+        ensures { result ≡ big_number 4 (part self.now.bytes at 4) }
     {
         self.region.get32(at)
     }
 
     /// Writes a number as the 4 bytes from `at` on.
     pub fn set_word(&mut self, at: usize, word: u32)
-        requires { at + 4 ≤ length self.old }
-        ensures { self.new ≡ written self.old at (big_bytes 4 word) }
+        requires inside { at + 4 ≤ length self.old.bytes }
+        requires free { IsFree self.old.lent at 4 }
+        ensures { self.new ≡ with_bytes self.old at (big_bytes 4 word) }
     {
         self.region.put32(at, word);
     }
 
-    /// Writes a number as the 2 bytes from `at` on.
-    pub fn set_half(&mut self, at: usize, half: u16)
-        requires { at + 2 ≤ length self.old }
-        ensures { self.new ≡ written self.old at (big_bytes 2 half) }
+    /// Moves the `count` bytes from `from` on to the `count` bytes from `to` on.
+    pub fn slide(&mut self, from: usize, to: usize, count: usize)
+        requires from_inside { from + count ≤ length self.old.bytes }
+        requires to_inside { to + count ≤ length self.old.bytes }
+        requires from_free { IsFree self.old.lent from count }
+        requires to_free { IsFree self.old.lent to count }
+        ensures { self.new ≡ with_bytes self.old to (part self.old.bytes from count) }
     {
-        self.region.put16(at, half);
+        self.region.slide(from, to, count);
+    }
+
+    /// The bytes from `at` up to `middle` and those from `middle` up to `end` change places.
+    pub fn rotate(&mut self, at: usize, middle: usize, end: usize)
+        requires order { (at ≤ middle) × (middle ≤ end) }
+        requires inside { end ≤ length self.old.bytes }
+        requires free { IsFree self.old.lent at (end - at) }
+        ensures { self.new ≡ with_bytes self.old at (part self.old.bytes middle (end - middle) ++ part self.old.bytes at (middle - at)) }
+    {
+        self.region.rotate(at, middle, end);
+    }
+
+    /// The blocks with these headers, of which the first stands at `at`, change places. Where one of them is free only the
+    /// other moves, and its header is written anew.
+    pub fn exchange(&mut self, heads: HeadKind, base: u32, at: usize, first: Header, second: Header)
+        requires inside { at + first.size + second.size ≤ length self.old.bytes }
+        requires free { IsFree self.old.lent at (first.size + second.size) }
+        requires first_size { (first.size < 2 ^ 24) × (head_size heads ≤ first.size) }
+        requires second_size { (second.size < 2 ^ 24) × (head_size heads ≤ second.size) }
+        requires first_correction { first.correction ≤ most_over heads }
+        requires second_correction { second.correction ≤ most_over heads }
+        ensures first_free { IsTrue (is_free first.role) → self.new ≡ with_bytes (with_bytes self.old at (part self.old.bytes (at + first.size) second.size)) (at + second.size) (head_bytes heads base first) }
+        ensures second_free { IsFalse (is_free first.role) → IsTrue (is_free second.role)
+            → self.new ≡ with_bytes (with_bytes self.old (at + second.size) (part self.old.bytes at first.size)) at (head_bytes heads base second) }
+        ensures none_free { IsFalse (is_free first.role) → IsFalse (is_free second.role)
+            → self.new ≡ with_bytes self.old at (part self.old.bytes (at + first.size) second.size ++ part self.old.bytes at first.size) }
+    {
+        let _len = self.len();
+        let middle = at + first.size as usize;
+        let last = at + second.size as usize;
+        if first.is_free() {
+            self.slide(middle, at, second.size as usize);
+            self.set_header(heads, last, base, first);
+        } else if second.is_free() {
+            self.slide(at, last, first.size as usize);
+            self.set_header(heads, at, base, second);
+        } else {
+            self.rotate(at, middle, middle + second.size as usize);
+        }
+    }
+
+    /// Lends the `count` bytes from `at` on.
+    pub fn lend(&mut self, at: usize, count: usize) -> Lent
+        requires inside { at + count ≤ length self.old.bytes }
+        requires free { IsFree self.old.lent at count }
+        ensures memory { self.new ≡ record self.old { lent = (at, count) ∷ self.old.lent } }
+        ensures loan { result ≡ record { name = self.old.name; at = at; bytes = part self.old.bytes at count } }
+    {
+        self.region.lend(at, count)
+    }
+
+    /// Takes back what was lent of this memory.
+    pub fn give_back(&mut self, lent: Lent)
+        requires ours { lent.name ≡ self.old.name }
+        requires listed { IsListed self.old.lent (lent.at, length lent.bytes) }
+        ensures { self.new ≡ record (with_bytes self.old lent.at lent.bytes) { lent = without (lent.at, length lent.bytes) self.old.lent } }
+    {
+        self.region.give_back(lent);
     }
 
     /// The block header that stands at `at`.
     pub fn header(&self, heads: HeadKind, at: usize) -> Header
-        requires { at + head_size heads ≤ length self.now }
-        ensures { result ≡ header_in heads (drop at self.now) }
+        requires inside { at + head_size heads ≤ length self.now.bytes }
+        requires free { IsFree self.now.lent at (head_size heads) }
+        ensures { result ≡ header_in heads (drop at self.now.bytes) }
     {
         let _len = self.len();
+        let first = self.word(at);
+        let tag = first / 0x100_0000;
         match heads {
-            HeadKind::Bits24 => {
-                let first = self.word(at);
-                let tag = first / 0x100_0000;
-                Header {
-                    size: first % 0x100_0000,
-                    role: Role::read(tag, self.word(at + 4)),
-                    correction: tag % 16,
-                }
-            }
+            HeadKind::Bits24 => Header {
+                size: first % 0x100_0000,
+                role: Role::read(tag, 0, self.word(at + 4)),
+                correction: tag % 16,
+            },
+            HeadKind::Bits32 => Header {
+                size: self.word(at + 4),
+                role: Role::read(tag, first / 0x1_0000 % 256, self.word(at + 8)),
+                correction: first % 256,
+            },
         }
     }
 
     /// Writes a block header at `at`, in a zone that begins at `base`.
     pub fn set_header(&mut self, heads: HeadKind, at: usize, base: u32, header: Header)
-        requires inside { at + head_size heads ≤ length self.old }
+        requires inside { at + head_size heads ≤ length self.old.bytes }
+        requires free { IsFree self.old.lent at (head_size heads) }
         requires size { header.size < 2 ^ 24 }
-        requires correction { header.correction ≤ 15 }
-        ensures { self.new ≡ written self.old at (head_bytes heads base header) }
+        requires correction { header.correction ≤ most_over heads }
+        ensures { self.new ≡ with_bytes self.old at (head_bytes heads base header) }
     {
         let _len = self.len();
+        let word = header.role.word(base);
         match heads {
             HeadKind::Bits24 => {
-                self.set_word(
-                    at,
-                    header.role.tag(header.correction) * 0x100_0000 + header.size,
-                );
-                self.set_word(at + 4, header.role.word(base));
+                let tag = header.role.tag(header.correction);
+                self.set_word(at, tag * 0x100_0000 + header.size);
+                self.set_word(at + 4, word);
+            }
+            HeadKind::Bits32 => {
+                let tag = header.role.tag(0);
+                let flags = flags_byte(header.role.flags());
+                self.set_word(at, tag * 0x100_0000 + flags * 0x1_0000 + header.correction);
+                self.set_word(at + 4, header.size);
+                self.set_word(at + 8, word);
             }
         }
+    }
+
+    /// Writes the header of a zone into bytes of zero: the address behind its last block, how many bytes are free, and the
+    /// address of the lowest free block.
+    pub fn set_zone_head(&mut self, end: u32, free: u32, lowest: u32)
+        requires inside { zone_header ≤ length self.old.bytes }
+        requires unlent { self.old.lent ≡ [] }
+        requires zero { part self.old.bytes 0 zone_header ≡ replicate zone_header 0 }
+        ensures { self.new ≡ with_bytes self.old 0 (zone_head end 0 free lowest) }
+    {
+        let _len = self.len();
+        self.region.put32(END_FIELD, end);
+        self.region.put32(FREE_FIELD, free);
+        self.region.put16(SLOTS_FIELD, SLOT_COUNT as u16);
+        self.region.put32(LOWEST_FIELD, lowest);
+    }
+
+    /// The number in the zone's header of the free slots.
+    pub fn front(&self) -> u32
+        requires inside { front_field + 4 ≤ length self.now.bytes }
+        requires free { IsFree self.now.lent front_field 4 }
+        ensures { result ≡ big_number 4 (part self.now.bytes front_field 4) }
+    {
+        self.word(FRONT_FIELD)
+    }
+
+    /// Writes the number in the zone's header of the free slots.
+    pub fn set_front(&mut self, front: u32)
+        requires inside { front_field + 4 ≤ length self.old.bytes }
+        requires free { IsFree self.old.lent front_field 4 }
+        ensures { self.new ≡ with_bytes self.old front_field (big_bytes 4 front) }
+    {
+        self.set_word(FRONT_FIELD, front);
+    }
+
+    /// How many bytes are free, as the zone's header has it.
+    pub fn free_bytes(&self) -> u32
+        requires inside { free_field + 4 ≤ length self.now.bytes }
+        requires free { IsFree self.now.lent free_field 4 }
+        ensures { result ≡ big_number 4 (part self.now.bytes free_field 4) }
+    {
+        self.word(FREE_FIELD)
+    }
+
+    /// Writes in the zone's header how many bytes are free, and the address of the lowest free block.
+    pub fn set_free(&mut self, free: u32, lowest: u32)
+        requires inside { lowest_field + 4 ≤ length self.old.bytes }
+        requires unlent { IsFree self.old.lent 0 zone_header }
+        ensures { self.new ≡ with_bytes (with_bytes self.old free_field (big_bytes 4 free)) lowest_field (big_bytes 4 lowest) }
+    {
+        self.region.put32(FREE_FIELD, free);
+        self.region.put32(LOWEST_FIELD, lowest);
     }
 }

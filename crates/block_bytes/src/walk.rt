@@ -39,5 +39,6 @@ fn size_at(heads: HeadKind, image: &[u8], at: usize) -> usize
 {
     match heads {
         HeadKind::Bits24 => (BigEndian::read_u32(&image[at..at + 4]) % 0x100_0000) as usize,
+        HeadKind::Bits32 => BigEndian::read_u32(&image[at + 4..at + 8]) as usize,
     }
 }

@@ -35,9 +35,10 @@ impl LinkedZone {
         requires { live_at self.old.heap.table handle ≡ Some EmptyHandle }
         ensures { self.new ≡ given_back handle self.old }
     {
+        let slot = handle.number();
         let next = self.records.front();
-        self.records.set_slot(handle.number(), Slot::Free(next));
-        self.records.set_front(handle.number());
+        self.records.set_slot(slot, Slot::Free(next));
+        self.records.set_front(slot);
     }
 
     /// Cuts a free block in two, the first of `size` bytes.

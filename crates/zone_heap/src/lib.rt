@@ -3,5 +3,5 @@
 
 mod zone;
 
-pub use zone::{NoRoom, Zone};
 pub use block_bytes::check;
+pub use zone::{NoRoom, Zone};

@@ -1,11 +1,11 @@
 //! The zone.
 
+use linked_zone::LinkedZone;
 use mac_base::block::{Block, Flags, Status};
 use mac_base::error::HostFull;
 use mac_base::handle::{Handle, Ptr};
 use mac_base::size::{MASTER_LENGTH, ZONE_HEADER, need_for};
 use mac_base::zone_spec::{ADDRESS_END, LARGEST_LIMIT, ZoneSpec};
-use linked_zone::LinkedZone;
 use std::alloc::Global;
 use std::marker::Model;
 use thiserror::Error;
@@ -48,7 +48,7 @@ impl Zone {
     ghost use Rattle.zone_heap.specs.Placed.{placed_lowest, placed_empty, placed_pointer, resized_there};
     ghost use Rattle.mac_base.specs.BlockReport.{report_at};
     ghost use Rattle.linked_zone.specs.Image.{IsImage};
-    ghost use Rattle.linked_zone.specs.Image.{Walks};
+    ghost use Rattle.block_bytes.specs.Walk.{Walks};
     ghost use Rattle.zone_heap.specs.WritingBack.{WritesBackBytes};
 
     /// A new zone: a master block with 64 free slots, and one free block.

@@ -1,5 +1,6 @@
 -- A zone as a list of blocks, each with what it is for and what is in it. Free bytes, and those that are over, have no value.
-use Rattle.std.specs.Prelude.{ℕ, ◌+◌, Bool, true, false, List, [], ◌∷◌, length, IsTrue}
+use Rattle.std.specs.Prelude.{ℕ, ◌+◌, Bool, true, false, not, List, [], ◌∷◌, length, IsTrue}
+use Rattle.std.specs.List.{list_all}
 use Rattle.mac_base.specs.declared.block.Flags.{Flags}
 use Rattle.mac_base.specs.declared.block.Kind.{Kind}
 use Rattle.mac_base.specs.declared.block.Kind.TheVariants as kind
@@ -75,3 +76,7 @@ with_blocks bs z = record z { blocks = bs }
 -- where a zone lies, how large it is now, and how large it may become
 abbrev pub sizes_of : ZoneRecords → ZoneSizes
 sizes_of z = record { heads = z.shape.heads; base = z.shape.base; size = zone_header + total_of z.blocks; limit = z.shape.limit }
+
+-- no block is lent
+abbrev pub NothingLent : ZoneRecords → Type 0
+NothingLent z = IsTrue (list_all (λ b. not b.lent) z.blocks)

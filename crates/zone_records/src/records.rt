@@ -1,34 +1,43 @@
 //! The blocks of a zone.
 
 use crate::slot::Slot;
-use mac_base::block::{Entry, Flags};
+use block_bytes::{Blocks, Role};
+use mac_base::block::{Entry, Flags, Kind};
 use mac_base::error::HostFull;
-use mac_base::handle::Handle;
+use mac_base::handle::{Handle, Ptr};
+use mac_base::size::{MASTER_LENGTH, SLOT_COUNT};
 use mac_base::zone_spec::ZoneSpec;
 use std::alloc::Global;
 use std::marker::Model;
 
-#[derive(Drop)]
-enum Never {}
-
 /// The blocks of a zone with what is in them, and the slots of its master blocks. A contract sees the list. Free bytes
 /// and those that are over have no value there. After `create` no call takes memory of the host.
-#[derive(Drop)]
 pub struct Records {
-    never: Never,
+    blocks: Blocks,
 }
 
 impl Model for Records {
-    ghost use Rattle.std.specs.Prelude.{◌≡◌};
     ghost use Rattle.zone_records.specs.Records.{ZoneRecords};
 
     ghost Value = { ZoneRecords };
 
-    ghost use Rattle.zone_records.specs.StandIn.{anything};
+    ghost use Rattle.zone_records.specs.Reading.{records_of, IsSound};
 
-    ghost view = { anything };
+    ghost view = { records_of };
 
-    ghost invariant = { λ z. z ≡ z };
+    ghost invariant = { IsSound };
+}
+
+impl Drop for Records {
+    ghost use Rattle.zone_records.specs.Records.{NothingLent};
+
+    /// A zone ends only when nothing of it is lent.
+    fn drop(self)
+        requires nothing_lent { NothingLent self }
+    {
+        let Records { blocks } = self;
+        drop(blocks);
+    }
 }
 
 impl Records {
@@ -38,45 +47,49 @@ impl Records {
     ghost use Rattle.mac_base.specs.HeadKind.{head_size, master_length, slot_count};
     ghost use Rattle.mac_base.specs.HandleTable.{zeros, no_flags};
     ghost use Rattle.mac_base.specs.ZoneMap.{block};
-    ghost use Rattle.zone_records.specs.Records.{ZoneRecords, Fixed, Master, Relocatable, sizes_of, kind_of, length_of, bytes_of};
+    ghost use Rattle.zone_records.specs.Records.{ZoneRecords, Fixed, Master, Relocatable, sizes_of, kind_of, length_of, bytes_of, NothingLent};
     ghost use Rattle.zone_records.specs.Places.{RecordAt, FreeAt, HeldAt, HandleBlockAt, SlotAt, RoomFor, CanCut, FreePair, CanHold, CanGrow, PairAt, LowestAt, has_free, can_say, can_flag};
     ghost use Rattle.zone_records.specs.Changes.{new_records, with_front, filled, chained, emptied, flagged, with_slot, cut_in_two, joined_pair, held_there, enlarged, exchanged};
+    ghost use Rattle.zone_records.specs.Fitting.{fitted, CanKeep};
+    ghost use Rattle.zone_records.specs.Image.{HasBytes};
     ghost use Rattle.zone_records.specs.WritingBack.{WritesBackContents};
+    ghost use Rattle.block_bytes.specs.Walk.{Walks};
 
     /// A new zone: one free block, and no slot.
     pub fn create(alloc: Global, spec: ZoneSpec) -> Result<Records, HostFull>
         ensures { IfOk result (λ zone. zone ≡ new_records spec) }
     {
-        let _ = (alloc, spec);
-        Err(HostFull)
+        Ok(Records {
+            blocks: Blocks::create(alloc, spec)?,
+        })
     }
 
     /// Where the zone lies, how large it is now and how far it may grow.
     pub fn spec(&self) -> ZoneSpec
         ensures { result ≡ sizes_of self.now }
     {
-        match self.never {}
+        self.blocks.spec()
     }
 
     /// The free slot that the zone's header names first, or 0.
     pub fn front(&self) -> u32
         ensures { result ≡ self.now.front }
     {
-        match self.never {}
+        self.blocks.front()
     }
 
     /// Makes the zone's header name a free slot first.
     pub fn set_front(&mut self, slot: u32)
         ensures { self.new ≡ with_front slot self.old }
     {
-        match self.never {}
+        self.blocks.set_front(slot);
     }
 
     /// Whether a block's header stands at an address.
     pub fn is_block(&self, at: u32) -> bool
         ensures { IsTrue result ↔ RecordAt self.now at }
     {
-        match self.never {}
+        self.blocks.is_block(at)
     }
 
     /// The size of the block at an address, and what it is for.
@@ -84,7 +97,17 @@ impl Records {
         requires { RecordAt self.now at }
         ensures { (r : RecordAt self.now at) → result ≡ block (kind_of (at + head_size self.now.shape.heads) r.here.content) r.here.size }
     {
-        match self.never {}
+        let header = self.blocks.entry_at(at);
+        let kind = match header.role {
+            Role::Free => Kind::Free,
+            Role::Fixed => Kind::Ptr(Ptr::new(at + self.head_size())),
+            Role::Master => Kind::Master,
+            Role::Relocatable(offset, _) => Kind::Rel(Handle::new(self.spec().base() + offset)),
+        };
+        Entry {
+            size: header.size,
+            kind,
+        }
     }
 
     /// How many bytes of contents the block at an address has; a free one has none.
@@ -92,7 +115,13 @@ impl Records {
         requires { RecordAt self.now at }
         ensures { (r : RecordAt self.now at) → result ≡ length_of r.here.content }
     {
-        match self.never {}
+        let header = self.blocks.entry_at(at);
+        match header.role {
+            Role::Free => 0,
+            Role::Fixed | Role::Master | Role::Relocatable(_, _) => {
+                header.size - self.head_size() - header.correction
+            }
+        }
     }
 
     /// The block behind the one at an address, if there is one.
@@ -101,7 +130,7 @@ impl Records {
         ensures next { IfSome result (λ next. RecordAt self.now next × ((r : RecordAt self.now at) → next ≡ at + r.here.size)) }
         ensures last { IfNone result ((r : RecordAt self.now at) → r.behind ≡ []) }
     {
-        match self.never {}
+        self.blocks.walk(at)
     }
 
     /// The block before the one at an address, if there is one.
@@ -110,7 +139,7 @@ impl Records {
         ensures last { IfSome result (λ last. RecordAt self.now last × ((r : RecordAt self.now last) → at ≡ last + r.here.size)) }
         ensures first { IfNone result ((r : RecordAt self.now at) → r.before ≡ []) }
     {
-        match self.never {}
+        self.blocks.holder(at - 1)
     }
 
     /// The lowest free block of at least `needed` bytes, its header among them.
@@ -118,14 +147,21 @@ impl Records {
         ensures lowest { IfSome result (λ at. LowestAt self.now needed at) }
         ensures none { IfNone result (IsTrue (list_all (λ b. not (has_free needed b)) self.now.blocks)) }
     {
-        match self.never {}
+        self.blocks.lowest_free(needed)
     }
 
     /// Whether an address is that of a slot.
     pub fn is_slot(&self, at: u32) -> bool
         ensures { IsTrue result ↔ SlotAt self.now at }
     {
-        match self.never {}
+        let Some(start) = self.blocks.holder(at) else {
+            return false;
+        };
+        let first = start + self.head_size();
+        self.blocks.entry_at(start).role == Role::Master
+            && first <= at
+            && at < first + MASTER_LENGTH
+            && (at - first) % 4 == 0
     }
 
     /// What the slot at an address says.
@@ -133,7 +169,7 @@ impl Records {
         requires { SlotAt self.now at }
         ensures { (s : SlotAt self.now at) → result ≡ s.here }
     {
-        match self.never {}
+        Slot::read(self.spec().heads(), self.blocks.word(at))
     }
 
     /// Makes the slot at an address say this.
@@ -142,7 +178,8 @@ impl Records {
         requires sayable { IsTrue (can_say self.old.shape.heads slot) }
         ensures { (s : SlotAt self.old at) → self.new ≡ with_slot slot self.old s }
     {
-        match self.never {}
+        let word = slot.word(self.spec().heads());
+        self.blocks.set_word(at, word);
     }
 
     /// The flags that the header of a handle's block says: none in a zone of 24-bit blocks.
@@ -150,7 +187,10 @@ impl Records {
         requires { HandleBlockAt self.now at }
         ensures { (b : HandleBlockAt self.now at) → result ≡ b.flags }
     {
-        match self.never {}
+        match self.blocks.entry_at(at).role {
+            Role::Relocatable(_, flags) => flags,
+            Role::Free | Role::Fixed | Role::Master => Flags::NONE,
+        }
     }
 
     /// Makes the header of a handle's block say these flags.
@@ -159,7 +199,12 @@ impl Records {
         requires sayable { IsTrue (can_flag self.old.shape.heads flags) }
         ensures { (b : HandleBlockAt self.old at) → self.new ≡ flagged flags self.old b }
     {
-        match self.never {}
+        let length = self.length_at(at);
+        let role = match self.blocks.entry_at(at).role {
+            Role::Relocatable(offset, _) => Role::Relocatable(offset, flags),
+            other => other,
+        };
+        self.blocks.assign(at, role, length);
     }
 
     /// Makes a free block that of a handle, with `length` bytes of zero and no flags.
@@ -168,7 +213,10 @@ impl Records {
         requires above { self.old.shape.base ≤ handle }
         ensures { (r : RoomFor self.old at length) → self.new ≡ filled (Relocatable handle no_flags (zeros length)) self.old r.free }
     {
-        match self.never {}
+        let offset = handle.number() - self.spec().base();
+        self.blocks
+            .assign(at, Role::Relocatable(offset, Flags::NONE), length);
+        self.blocks.clear(at);
     }
 
     /// Makes a free block a nonrelocatable one with `length` bytes of zero.
@@ -176,7 +224,8 @@ impl Records {
         requires { RoomFor self.old at length }
         ensures { (r : RoomFor self.old at length) → self.new ≡ filled (Fixed (zeros length)) self.old r.free }
     {
-        match self.never {}
+        self.blocks.assign(at, Role::Fixed, length);
+        self.blocks.clear(at);
     }
 
     /// Makes a free block a master block, whose 64 slots are free: each names the one behind it as the next, and the last
@@ -186,7 +235,14 @@ impl Records {
         requires sayable { IsTrue (can_say self.old.shape.heads (Slot.Free last)) }
         ensures { (r : RoomFor self.old at master_length) → self.new ≡ filled (Master (chained slot_count (at + head_size self.old.shape.heads) last)) self.old r.free }
     {
-        match self.never {}
+        let first = at + self.head_size();
+        self.blocks.assign(at, Role::Master, MASTER_LENGTH);
+        let mut next = last;
+        for index in 0..SLOT_COUNT {
+            let slot = first + 4 * (SLOT_COUNT - 1 - index);
+            self.set_slot(slot, Slot::Free(next));
+            next = slot;
+        }
     }
 
     /// Makes the block of a handle or a pointer free.
@@ -194,7 +250,7 @@ impl Records {
         requires { HeldAt self.old at }
         ensures { (h : HeldAt self.old at) → self.new ≡ emptied self.old h }
     {
-        match self.never {}
+        self.blocks.set_free(at);
     }
 
     /// Cuts a free block in two, the first of `size` bytes.
@@ -202,7 +258,8 @@ impl Records {
         requires { CanCut self.old at size }
         ensures { (can : CanCut self.old at size) → self.new ≡ cut_in_two size self.old can.free }
     {
-        match self.never {}
+        let length = size - self.head_size();
+        self.blocks.split(at, size, length);
     }
 
     /// Makes a free block and the free one behind it one block.
@@ -210,7 +267,10 @@ impl Records {
         requires { FreePair self.old at }
         ensures { (pair : FreePair self.old at) → self.new ≡ joined_pair self.old pair }
     {
-        match self.never {}
+        let first = self.blocks.entry_at(at).size;
+        let second = self.blocks.entry_at(at + first).size;
+        let length = first + second - self.head_size();
+        self.blocks.merge(at, length);
     }
 
     /// Gives the block of a handle or a pointer `length` bytes in its first `size` bytes; the others are free. Bytes that
@@ -219,7 +279,8 @@ impl Records {
         requires { CanHold self.old at size length }
         ensures { (can : CanHold self.old at size length) → self.new ≡ held_there self.old can }
     {
-        match self.never {}
+        let kept = self.length_at(at);
+        self.fit(at, size, length, kept);
     }
 
     /// Gives the block of a handle or a pointer `length` bytes in the first `size` bytes of it and of the free one right
@@ -228,7 +289,12 @@ impl Records {
         requires { CanGrow self.old at size length }
         ensures { (can : CanGrow self.old at size length) → self.new ≡ enlarged self.old can }
     {
-        match self.never {}
+        let kept = self.length_at(at);
+        let first = self.blocks.entry_at(at).size;
+        let second = self.blocks.entry_at(at + first).size;
+        let whole = first + second - self.head_size();
+        self.blocks.merge(at, whole);
+        self.fit(at, size, length, kept);
     }
 
     /// Exchanges two neighbouring blocks, each with its bytes. A master pointer that names one of them stays as it is.
@@ -236,7 +302,7 @@ impl Records {
         requires { PairAt self.old at }
         ensures { (pair : PairAt self.old at) → self.new ≡ exchanged self.old pair }
     {
-        match self.never {}
+        self.blocks.exchange(at);
     }
 
     /// The bytes of the block of a handle or a pointer.
@@ -244,7 +310,7 @@ impl Records {
         requires { HeldAt self.now at }
         ensures { (h : HeldAt self.now at) → result.now ≡ bytes_of h.content }
     {
-        match self.never {}
+        self.blocks.contents(at)
     }
 
     /// The bytes of the block of a handle or a pointer, to be written.
@@ -253,6 +319,38 @@ impl Records {
         ensures* writes_back { sem 𝓛 (WritesBackContents self.entry at result) }
         ensures value { (h : HeldAt self.old at) → result.now ≡ bytes_of h.content }
     {
-        match self.never {}
+        self.blocks.contents_mut(at)
+    }
+
+    /// The bytes of the zone, from its start to the end of its last block.
+    pub fn image(&self) -> &[u8]
+        requires nothing_lent { NothingLent self.now }
+        ensures bytes { HasBytes self.now result.now }
+        ensures walks { Walks self.now.shape.heads result.now }
+    {
+        self.blocks.image()
+    }
+
+    /// The bytes of a block's header.
+    fn head_size(&self) -> u32
+        ensures { result ≡ head_size self.now.shape.heads }
+    {
+        self.blocks.spec().heads().head_size()
+    }
+
+    /// Gives a block that has bytes `length` of them in its first `size` bytes: the first `kept`, and zeros. The others
+    /// are a free block, if there are any.
+    fn fit(&mut self, at: u32, size: u32, length: u32, kept: u32)
+        requires { CanKeep self.old at size length kept }
+        ensures { (keep : CanKeep self.old at size length kept) → self.new ≡ fitted kept self.old keep.can }
+    {
+        if size < self.blocks.entry_at(at).size {
+            self.blocks.split(at, size, length);
+        } else {
+            self.blocks.resize(at, length);
+        }
+        if kept < length {
+            self.blocks.clear_from(at, kept);
+        }
     }
 }

@@ -2,14 +2,21 @@ use Rattle.std.proofs.Common.{◌≡◌, ◌+◌, ◌-◌, length, ap, ◌∙◌
 use Rattle.mac_base.specs.HeadKind.{head_size}
 use Rattle.block_bytes.specs.declared.header.Header.{Header}
 use Rattle.block_bytes.specs.Layout.{Layout, BlockAt, header_of, size_of}
-use Rattle.block_bytes.proofs.Here.{IsHere-from}
+use Rattle.block_bytes.proofs.Here.{IsHere-from, unlent-here}
 use Rattle.block_bytes.proofs.ReadParts.{contents-read}
 use Rattle.block_bytes.proofs.blocks.Blocks.contents.Goals as goal
 
-pub bytes-requires : goal.bytes-requires
-bytes-requires c =
-    let h = IsHere-from c.self.inside c.self.invariant c.args.self.now c.self.view_is c.args.at c.entry_at-header.result c.requires (c.entry_at-header.ensures c.requires) in
+pub bytes-requires-clause-inside : goal.bytes-requires-clause-inside
+bytes-requires-clause-inside c =
+    let h = IsHere-from c.self.inside c.self.invariant c.args.self.now c.self.view_is c.args.at c.entry_at-header.result c.requires.block (c.entry_at-header.ensures c.requires.block) in
     let e = ap head_size c.heads.ensures in omega arith
+
+pub bytes-requires-clause-free : goal.bytes-requires-clause-free
+bytes-requires-clause-free c =
+    let h = IsHere-from c.self.inside c.self.invariant c.args.self.now c.self.view_is c.args.at c.entry_at-header.result c.requires.block (c.entry_at-header.ensures c.requires.block) in
+    let e = ap head_size c.heads.ensures in
+    unlent-here c.self.inside c.self.invariant c.args.self.now c.self.view_is c.args.at c.entry_at-header.result c.requires.block (c.entry_at-header.ensures c.requires.block) c.requires.unlent
+    (c.args.at - c.base.result + c.head_size-head_size.result) (c.entry_at-header.result.size - c.head_size-head_size.result - c.entry_at-header.result.correction) (omega arith) (omega arith)
 
 pub returns : goal.returns
 returns c = λ b. let at = c.args.at in let h = c.entry_at-header.result in

@@ -1,0 +1,82 @@
+-- What counting the free bytes asks for, after bytes behind the zone's header have changed.
+use Rattle.std.proofs.Common.{◌≡◌, ℕ, ◌+◌, ◌-◌, ◌*◌, ◌/◌, ◌<◌, ◌≤◌, ◌^◌, Bool, true, false, List, ◌++◌, length, refl, sym, ap, subst, ◌∙◌, inl, arith, length-append, length-drop}
+use Rattle.std.specs.Prelude.{if◌then◌else◌}
+use Rattle.byteorder.specs.Endian.{big_number}
+use Rattle.mac_base.specs.HeadKind.{zone_header}
+use Rattle.mac_base.specs.ZoneSizes.{ArePossible}
+use Rattle.raw_region.specs.Bytes.{part, length-written}
+use Rattle.raw_region.specs.Span.{Span, IsFree}
+use Rattle.raw_region.specs.State.{State, with_bytes}
+use Rattle.raw_region.proofs.Numbers.{number-apart}
+use Rattle.block_bytes.specs.declared.header.Header.{Header}
+use Rattle.block_bytes.specs.declared.blocks.Blocks.TheInside.{Inside}
+use Rattle.block_bytes.specs.ZoneHead.{free_field}
+use Rattle.block_bytes.specs.Layout.{RawBlock, is_free, free_total}
+use Rattle.block_bytes.specs.Starts.{free_in, starts_of, marks_of}
+use Rattle.block_bytes.specs.Reading.{layout_of, IsLayout}
+use Rattle.block_bytes.proofs.Starts.{unmarked, length-unmarked, length-marks_of}
+use Rattle.block_bytes.proofs.Parts.{total-ends}
+use Rattle.block_bytes.proofs.Settled.{free-append, free-counted, free-few, header-free}
+
+-- memory that differs from a zone's behind its header alone
+pub record IsKept (z : Inside) (m : State) : Type 0 where
+  pub name : m.name ≡ z.memory.name
+  pub lent : m.lent ≡ z.memory.lent
+  pub long : length m.bytes ≡ z.spec.limit
+  pub free : big_number 4 (part m.bytes free_field 4) ≡ free_total z.spec.heads (layout_of z).blocks
+
+-- the zone's own
+pub kept-first : (z : Inside) → IsLayout z → ArePossible z.spec → IsKept z z.memory
+kept-first z whole small = record { name = refl; lent = refl; long = whole.all_bytes; free = free-counted z whole small z.memory (layout_of z).blocks whole.form }
+
+-- with bytes written
+pub kept-written : (z : Inside) (m n : State) (at : ℕ) (ws : List ℕ) → IsKept z m → n ≡ with_bytes m at ws → zone_header ≤ at → IsKept z n
+kept-written z m n at ws kept is behind = record {
+  name = ap (λ (s : State). s.name) is ∙ kept.name;
+  lent = ap (λ (s : State). s.lent) is ∙ kept.lent;
+  long = ap (λ (s : State). length s.bytes) is ∙ length-written m.bytes at ws ∙ kept.long;
+  free = ap (λ (s : State). big_number 4 (part s.bytes free_field 4)) is ∙ number-apart m.bytes at ws free_field 4 (inl (omega arith)) ∙ kept.free;
+}
+
+-- the free bytes of a block are no more than its size
+pub free_in-small : (h : Header) → free_in h ≤ h.size
+free_in-small h = either (is_free h.role)
+  where
+    either : (free : Bool) → (if free then h.size else 0) ≤ h.size
+    either true = omega arith
+    either false = omega arith
+
+-- blocks of the list have no more than all
+pub free-among : (z : Inside) (before mid behind : List RawBlock) → (layout_of z).blocks ≡ before ++ (mid ++ behind) → free_total z.spec.heads mid ≤ free_total z.spec.heads (layout_of z).blocks
+free-among z before mid behind is = let a = free-append z.spec.heads before (mid ++ behind) in let b = free-append z.spec.heads mid behind in let c = ap (free_total z.spec.heads) is in omega arith
+
+-- the index has no more numbers than the bytes have words
+index-limit : (z : Inside) → IsLayout z → 4 * length z.index ≤ z.spec.limit
+index-limit z whole = let l = layout_of z in
+    let is : length z.index ≡ length (starts_of l) = ap length whole.marked in let ends = total-ends z whole in let long = length-marks_of l.heads l.blocks whole.possible in
+    let e = length-append (unmarked (zone_header / 4)) (marks_of l.heads l.blocks ++ unmarked (length l.spare / 4)) in
+    let e' = length-append (marks_of l.heads l.blocks) (unmarked (length l.spare / 4)) in let e'' = length-unmarked (zone_header / 4) in let f = length-unmarked (length l.spare / 4) in
+    let spare : length l.spare ≡ z.spec.limit - z.spec.size = length-drop z.spec.size z.memory.bytes ∙ ap (λ (n : ℕ). n - z.spec.size) whole.all_bytes in
+    let high = whole.high in omega arith
+
+-- what `count_free` asks for
+pub record CanCount (m : State) (index : List ℕ) (base gained lost : ℕ) : Type 0 where
+  pub inside : zone_header ≤ length m.bytes
+  pub unlent : IsFree m.lent 0 zone_header
+  pub few : big_number 4 (part m.bytes free_field 4) + gained < 2 ^ 32
+  pub counted : lost ≤ big_number 4 (part m.bytes free_field 4) + gained
+  pub small : base + 4 * length index < 2 ^ 32
+
+-- it is so
+pub can-count : (z : Inside) → IsLayout z → ArePossible z.spec → (m : State) (index : List ℕ) (base gained lost : ℕ) → IsKept z m → length index ≡ length z.index → base ≡ z.spec.base
+    → gained ≤ z.spec.size → lost ≤ free_total z.spec.heads (layout_of z).blocks → CanCount m index base gained lost
+can-count z whole small m index base gained lost kept same base_is gained_few lost_few =
+    let free = kept.free in let limit = small.small_enough in let end = small.end_low_enough in let few = free-few z whole in let marks = index-limit z whole in let long = kept.long in
+    let low = whole.low in let high = whole.high in
+    record {
+      inside = omega arith;
+      unlent = subst (λ (ss : List Span). IsFree ss 0 zone_header) (sym kept.lent) (header-free z whole);
+      few = omega arith;
+      counted = omega arith;
+      small = omega arith;
+    }

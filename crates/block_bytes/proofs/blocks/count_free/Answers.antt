@@ -1,0 +1,17 @@
+use Rattle.std.proofs.Common.{◌≡◌, ◌+◌, ◌-◌, sym, ◌∙◌, arith}
+use Rattle.byteorder.specs.Endian.{big_bytes}
+use Rattle.raw_region.specs.State.{with_bytes}
+use Rattle.block_bytes.specs.Starts.{first_marked}
+use Rattle.block_bytes.specs.ZoneHead.{free_field, lowest_field}
+use Rattle.block_bytes.proofs.Starts.{first_marked-found, first_marked-missing}
+use Rattle.block_bytes.proofs.blocks.count_free.Goals as goal
+use Rattle.block_bytes.proofs.blocks.count_free.Goals.{in-Some, in-None}
+
+pub returns : goal.returns
+returns c =
+    let lowest : c.match-first_at_least.lowest ≡ first_marked c.args.base c.args.index.now = elim c.match-first_at_least.branch [
+      | in-Some w ↦ let found = w.in-Some.ensures.first in
+          w.lowest-is ∙ sym (first_marked-found c.args.index.now c.args.base w.in-Some.place found.inside.1 found.large (λ j before. found.first j (omega arith) before))
+      | in-None w ↦ w.lowest-is ∙ sym (first_marked-missing c.args.index.now c.args.base (λ j inside. w.in-None.ensures.none j (omega arith) inside))
+    ] in
+    c.set_free.ensures ∙ (λ i. with_bytes (with_bytes c.args.memory.now free_field (big_bytes 4 (c.free_bytes.ensures i + c.args.gained - c.args.lost))) lowest_field (big_bytes 4 (lowest i)))

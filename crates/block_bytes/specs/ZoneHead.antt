@@ -1,0 +1,24 @@
+-- The header of a zone as bytes.
+use Rattle.std.specs.Prelude.{ℕ, List, ◌++◌, replicate}
+use Rattle.byteorder.specs.Endian.{big_bytes}
+use Rattle.mac_base.specs.HeadKind.{slot_count}
+
+-- where it has the first free slot, the free bytes, and the header of the lowest free block
+abbrev pub front_field : ℕ
+front_field = 8
+
+abbrev pub free_field : ℕ
+free_field = 12
+
+abbrev pub lowest_field : ℕ
+lowest_field = 48
+
+-- n bytes of zero
+abbrev pub zeros : ℕ → List ℕ
+zeros n = replicate n 0
+
+-- the address behind the last block, at 0; the first free slot, at 8; the free bytes, at 12; how many master pointers a master
+-- block has, at 20; the header of the lowest free block, at 48; and zero in the other bytes
+abbrev pub zone_head : ℕ → ℕ → ℕ → ℕ → List ℕ
+zone_head end front free lowest =
+    big_bytes 4 end ++ (zeros 4 ++ (big_bytes 4 front ++ (big_bytes 4 free ++ (zeros 4 ++ (big_bytes 2 slot_count ++ (zeros 26 ++ big_bytes 4 lowest))))))

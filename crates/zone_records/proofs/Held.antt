@@ -1,0 +1,101 @@
+-- What is known of the blocks of bytes of a zone while it is changed, and when they are those of the changed one.
+use Rattle.std.proofs.Common.{◌≡◌, ℕ, ◌+◌, ◌≤◌, ◌<◌, ◌%◌, Bool, true, ◌&&◌, List, [], ◌∷◌, ◌++◌, length, refl, ap, sym, ◌∙◌, subst, arith}
+use Rattle.std.specs.Prelude.{IsTrue}
+use Rattle.std.specs.List.{list_all}
+use Rattle.std.proofs.lemmas.List.Folds.{list_all-append}
+use Rattle.mac_base.specs.HeadKind.{head_size, zone_header}
+use Rattle.zone_laws.proofs.Maps.{both_true, true_both}
+use Rattle.block_bytes.specs.Layout as raw
+use Rattle.block_bytes.specs.Layout.{RawBlock, Layout, BlockAt, size_of, with_blocks, is_possible}
+use Rattle.zone_records.specs.declared.records.Records.TheInside.{Inside}
+use Rattle.zone_records.specs.Records as records
+use Rattle.zone_records.specs.Records.{BlockRecord, ZoneRecords, total_of, address_behind}
+use Rattle.zone_records.specs.Reading.{record_in, records_in, is_sound, has_use, AreSound, IsSound}
+use Rattle.zone_records.proofs.Apart.{read, total-read, total-append, read-append, One, Two, one-of, two-of}
+
+-- blocks of bytes are those of a zone, and sound
+pub record Held (l : Layout) (z : ZoneRecords) : Type 0 where
+  pub shows : records_in l ≡ z
+  pub sound : AreSound l
+
+-- those of the fields
+pub held-now : (i : Inside) (z : ZoneRecords) → IsSound i → records_in i.blocks ≡ z → Held i.blocks z
+held-now i z inside shows = record { shows = shows; sound = inside.sound }
+
+-- so they are fields
+pub fields : (l : Layout) (z : ZoneRecords) → Held l z → IsSound (record { blocks = l })
+fields l z held = record { sound = held.sound }
+
+-- the parts of the blocks are sound where all are
+pub sound-two : (l : Layout) (xs ys : List RawBlock) → AreSound l → l.blocks ≡ xs ++ ys → (list_all (is_sound l.heads l.base) xs ≡ true) × (list_all (is_sound l.heads l.base) ys ≡ true)
+sound-two l xs ys sound is = both_true _ _ (sym (list_all-append (is_sound l.heads l.base) xs ys) ∙ sym (ap (list_all (is_sound l.heads l.base)) is) ∙ sound.blocks)
+
+-- so is each block
+pub sound-one : (l : Layout) (xs : List RawBlock) (b : RawBlock) (ys : List RawBlock) → AreSound l → l.blocks ≡ xs ++ b ∷ ys → is_sound l.heads l.base b ≡ true
+sound-one l xs b ys sound is = (both_true _ _ (sound-two l xs (b ∷ ys) sound is).1).0
+
+-- and two neighbours
+pub sound-other : (l : Layout) (xs : List RawBlock) (a b : RawBlock) (ys : List RawBlock) → AreSound l → l.blocks ≡ xs ++ a ∷ b ∷ ys → is_sound l.heads l.base b ≡ true
+sound-other l xs a b ys sound is = (both_true _ _ (both_true _ _ (sound-two l xs (a ∷ b ∷ ys) sound is).1).1).0
+
+-- where a block ends at the highest
+pub range-one : (l : Layout) (xs : List RawBlock) (b : RawBlock) (ys : List RawBlock) → AreSound l → l.blocks ≡ xs ++ b ∷ ys → raw.address_behind l xs + size_of l.heads b ≤ 0x100_0000
+range-one l xs b ys sound is =
+    let all = ap (raw.total_of l.heads) is ∙ total-append l.heads xs (b ∷ ys) in
+    let high = sound.high in
+    omega arith
+
+module _ (l : Layout) (z : ZoneRecords) (held : Held l z) where
+  -- how blocks are headed, and where the zone begins
+  pub heads-is : l.heads ≡ z.shape.heads
+  heads-is = ap (λ (z : ZoneRecords). z.shape.heads) held.shows
+
+  pub base-is : l.base ≡ z.shape.base
+  base-is = ap (λ (z : ZoneRecords). z.shape.base) held.shows
+
+  -- the address behind some blocks
+  pub address-is : (xs : List RawBlock) (before : List BlockRecord) → read l.heads l.base xs ≡ before → address_behind z.shape before ≡ raw.address_behind l xs
+  address-is xs before is =
+      let base = base-is in
+      let total = sym (ap total_of is) ∙ total-read l.heads l.base xs in
+      omega arith
+
+  -- one block by its place in the list
+  pub one : (before : List BlockRecord) (here : BlockRecord) (behind : List BlockRecord) → z.blocks ≡ before ++ here ∷ behind → One l before here behind
+  one before here behind is = one-of l before here behind (ap (λ (z : ZoneRecords). z.blocks) held.shows ∙ is)
+
+  -- two neighbours
+  pub two : (before : List BlockRecord) (here next : BlockRecord) (behind : List BlockRecord) → z.blocks ≡ before ++ here ∷ next ∷ behind → Two l before here next behind
+  two before here next behind is = two-of l before here next behind (ap (λ (z : ZoneRecords). z.blocks) held.shows ∙ is)
+
+  -- other blocks of the same size in all in the place of some, read as these
+  pub changed : (first olds news rest : List RawBlock) (before recs behind : List BlockRecord) → l.blocks ≡ first ++ (olds ++ rest) → read l.heads l.base first ≡ before → read l.heads l.base rest ≡ behind
+      → read l.heads l.base news ≡ recs → raw.total_of l.heads news ≡ raw.total_of l.heads olds → list_all (is_sound l.heads l.base) news ≡ true
+      → Held (with_blocks (first ++ (news ++ rest)) l) (records.with_blocks (before ++ (recs ++ behind)) z)
+  changed first olds news rest before recs behind is lower upper same total sound =
+      let all = sound-two l first (olds ++ rest) held.sound is in
+      let high = both_true _ _ (sym (list_all-append (is_sound l.heads l.base) olds rest) ∙ all.1) in
+      let old-total = ap (raw.total_of l.heads) is ∙ total-append l.heads first (olds ++ rest) in
+      let old-rest = total-append l.heads olds rest in
+      let new-total = total-append l.heads first (news ++ rest) in
+      let new-rest = total-append l.heads news rest in
+      let kept : raw.total_of l.heads (first ++ (news ++ rest)) ≡ raw.total_of l.heads l.blocks = omega arith in
+      let blocks : read l.heads l.base (first ++ (news ++ rest)) ≡ before ++ (recs ++ behind) =
+      read-append l.heads l.base first (news ++ rest) ∙ ap (λ rs. read l.heads l.base first ++ rs) (read-append l.heads l.base news rest) ∙ (λ i. lower i ++ (same i ++ upper i)) in
+      let top = held.sound.high in
+      record {
+        shows = (λ i. record {
+          shape = record { heads = l.heads; base = l.base; limit = zone_header + kept i + length l.spare };
+          front = l.front;
+          blocks = blocks i;
+        }) ∙ ap (records.with_blocks (before ++ (recs ++ behind))) held.shows;
+        sound = record {
+          blocks = list_all-append (is_sound l.heads l.base) first (news ++ rest) ∙ true_both _ _ all.0 (list_all-append (is_sound l.heads l.base) news rest ∙ true_both _ _ sound high.1);
+          even = held.sound.even;
+          high = omega arith;
+        };
+      }
+
+-- a block of bytes by its address
+pub block-of : (l : Layout) (at : ℕ) (xs : List RawBlock) (b : RawBlock) (ys : List RawBlock) → l.blocks ≡ xs ++ b ∷ ys → at ≡ raw.address_behind l xs → BlockAt l at
+block-of l at xs b ys is place = record { before = xs; here = b; behind = ys; blocks = is; place = place }

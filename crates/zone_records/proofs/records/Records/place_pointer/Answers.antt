@@ -1,0 +1,26 @@
+use Rattle.std.proofs.Common.{refl}
+use Rattle.block_bytes.specs.declared.header.Role.TheVariants.{Fixed}
+use Rattle.zone_records.proofs.Held.{held-now, fields}
+use Rattle.zone_records.proofs.Placing.{place-can, place-unlent, place-cleared}
+use Rattle.zone_records.proofs.records.Records.place_pointer.Goals as goal
+
+pub assign-requires : goal.assign-requires
+assign-requires c = place-can c.self.inside.blocks c.args.self.now (held-now c.self.inside c.args.self.now c.self.invariant c.self.view_is) c.args.at c.args.length c.requires Fixed (λ k. refl) refl
+
+pub clear-requires : goal.clear-requires
+clear-requires c =
+    place-unlent c.self.inside.blocks c.args.self.now (held-now c.self.inside c.args.self.now c.self.invariant c.self.view_is) c.args.at c.args.length c.requires Fixed (λ k. refl) refl c.assign.new.self c.assign.ensures
+
+pub invariant_of-self : goal.invariant_of-self
+invariant_of-self c =
+    let l = c.self.inside.blocks in
+    let z = c.args.self.now in
+    let held = held-now c.self.inside z c.self.invariant c.self.view_is in
+    fields _ _ (place-cleared l z held c.args.at c.args.length c.requires Fixed (λ k. refl) refl c.assign.new.self c.clear.new.self c.assign.ensures c.clear.ensures)
+
+pub returns : goal.returns
+returns c r =
+    let l = c.self.inside.blocks in
+    let z = c.args.self.now in
+    let held = held-now c.self.inside z c.self.invariant c.self.view_is in
+    (place-cleared l z held c.args.at c.args.length r Fixed (λ k. refl) refl c.assign.new.self c.clear.new.self c.assign.ensures c.clear.ensures).shows
