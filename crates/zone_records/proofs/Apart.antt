@@ -1,10 +1,10 @@
 -- Blocks of bytes apart where the blocks that they are are apart.
-use Rattle.std.proofs.Common.{◌≡◌, ℕ, ◌+◌, List, [], ◌∷◌, ◌++◌, map, refl, ap, sym, ◌∙◌, arith}
+use Rattle.std.proofs.Common.{◌≡◌, ℕ, ◌+◌, List, [], ◌∷◌, ◌++◌, map, refl, ap, ◌∙◌, arith}
 use Rattle.mac_base.specs.declared.block.HeadKind.{HeadKind}
 use Rattle.block_bytes.specs.Layout as raw
 use Rattle.block_bytes.specs.Layout.{RawBlock, Layout, size_of}
-use Rattle.zone_records.specs.Records.{BlockRecord, ZoneRecords, total_of}
-use Rattle.zone_records.specs.Reading.{record_in, records_in}
+use Rattle.zone_records.specs.Records.{BlockRecord, total_of}
+use Rattle.zone_records.specs.Reading.{record_in}
 
 -- the blocks that blocks of bytes are
 abbrev pub read : HeadKind → ℕ → List RawBlock → List BlockRecord

@@ -1,25 +1,25 @@
 -- A new master block, whose slots are written from the last down.
-use Rattle.std.proofs.Common.{◌≡◌, ℕ, zero, suc, ◌+◌, ◌-◌, ◌*◌, ◌%◌, ◌<◌, ◌≤◌, ◌^◌, nat_lt, ◌&&◌, true, List, [], ◌∷◌, ◌++◌, length, refl, ap, sym, ◌∙◌, subst, arith, append_assoc, append-nil, length-append}
+use Rattle.std.proofs.Common.{◌≡◌, ℕ, zero, suc, ◌+◌, ◌-◌, ◌*◌, ◌%◌, ◌<◌, ◌≤◌, ◌^◌, nat_lt, true, List, [], ◌∷◌, ◌++◌, length, refl, ap, sym, ◌∙◌, subst, arith, append_assoc, append-nil, length-append}
 use Rattle.std.specs.Prelude.{◌==◌}
 use Rattle.std.specs.List.{list_all}
 use Rattle.std.proofs.lemmas.Bool.Decides.{nat_tests}
 use Rattle.std.proofs.lemmas.List.{nil_from_length}
 use Rattle.mac_base.specs.declared.block.HeadKind.{HeadKind}
 use Rattle.mac_base.specs.declared.block.HeadKind.TheVariants.{Bits24, Bits32}
-use Rattle.mac_base.specs.HeadKind.{head_size, zone_header, slot_count, master_length}
+use Rattle.mac_base.specs.HeadKind.{head_size, slot_count, master_length}
 use Rattle.zone_laws.proofs.Maps.{both_true, true_both}
 use Rattle.block_bytes.specs.declared.header.Role.TheVariants as role
 use Rattle.block_bytes.specs.Layout as raw
 use Rattle.block_bytes.specs.Layout.{RawBlock, Layout, CanBe, raw_block, body, with_blocks, size_of}
 use Rattle.zone_records.specs.declared.slot.Slot.{Slot}
 use Rattle.zone_records.specs.declared.slot.Slot.TheVariants.{Free}
-use Rattle.zone_records.specs.Records.{Content, Master, block_record, ZoneRecords}
+use Rattle.zone_records.specs.Records.{Master, block_record, ZoneRecords}
 use Rattle.zone_records.specs.Places.{SlotAt, RoomFor, can_say}
 use Rattle.zone_records.specs.Changes.{filled, chained, with_slot}
 use Rattle.zone_records.specs.Word.{slots_in}
-use Rattle.zone_records.specs.Reading.{records_in, is_sound, AreSound}
+use Rattle.zone_records.specs.Reading.{records_in, is_sound}
 use Rattle.zone_records.proofs.ReadSlots.{length-slots_in, slots_at}
-use Rattle.zone_records.proofs.Held.{Held, heads-is, range-one, sound-two}
+use Rattle.zone_records.proofs.Held.{Held, range-one, sound-two}
 use Rattle.zone_records.proofs.Looking.{sound-parts}
 use Rattle.zone_records.proofs.Blocks.{have-parts}
 use Rattle.zone_records.proofs.Placing.{free_one, free-place, free-size, place-can, placed, place-done}

@@ -1,12 +1,12 @@
 -- Neighbours that have changed places.
-use Rattle.std.proofs.Common.{◌≡◌, ℕ, ◌+◌, true, false, List, [], ◌∷◌, ◌++◌, length, refl, ap, sym, ◌∙◌, subst, arith}
+use Rattle.std.proofs.Common.{◌≡◌, ℕ, true, false, [], ◌∷◌, length, refl, ap, sym, ◌∙◌, subst, arith}
 use Rattle.mac_base.specs.declared.block.HeadKind.{HeadKind}
 use Rattle.zone_laws.proofs.Maps.{true_both}
 use Rattle.block_bytes.specs.declared.header.Role.{Role}
 use Rattle.block_bytes.specs.declared.header.Role.TheVariants as role
 use Rattle.block_bytes.specs.Layout as raw
 use Rattle.block_bytes.specs.Layout.{RawBlock, Layout, IsMoved, Exchanged, size_of}
-use Rattle.zone_records.specs.Records.{Free, BlockRecord, ZoneRecords}
+use Rattle.zone_records.specs.Records.{BlockRecord, ZoneRecords}
 use Rattle.zone_records.specs.Places.{PairAt}
 use Rattle.zone_records.specs.Changes.{exchanged}
 use Rattle.zone_records.specs.Reading.{content_in, record_in, is_sound}

@@ -1,11 +1,10 @@
 -- How the calls end that give a block another number of bytes where it stands.
-use Rattle.std.proofs.Common.{◌≡◌, ℕ, ◌+◌, ◌-◌, ◌<◌, ◌≤◌, ◌==◌, nat_lt, Bool, true, false, cond, eqb, List, [], ◌∷◌, ◌++◌, length, replicate, take, drop, refl, ap, sym, ◌∙◌, subst, arith, append_assoc, length-append, length-take, length-take-le, length-drop, inl, inr, ◌⊎◌}
-use Rattle.std.specs.Prelude.{IsTrue}
+use Rattle.std.proofs.Common.{◌≡◌, ℕ, ◌+◌, ◌-◌, ◌<◌, ◌≤◌, nat_lt, Bool, true, false, cond, eqb, List, [], ◌∷◌, ◌++◌, length, take, drop, refl, ap, sym, ◌∙◌, subst, arith, append_assoc, length-append, length-take, length-take-le, length-drop, inl, inr, ◌⊎◌}
 use Rattle.std.specs.List.{list_all}
 use Rattle.std.proofs.lemmas.Bool.Decides.{nat_tests}
 use Rattle.std.proofs.lemmas.List.{length-replicate, take_all, take-append-le}
 use Rattle.mac_base.specs.declared.block.HeadKind.{HeadKind}
-use Rattle.mac_base.specs.HeadKind.{Shape, head_size}
+use Rattle.mac_base.specs.HeadKind.{head_size}
 use Rattle.mac_base.specs.HandleTable.{resized, zeros}
 use Rattle.zone_laws.proofs.Maps.{true_both}
 use Rattle.block_bytes.specs.declared.header.Role.{Role}
@@ -15,10 +14,10 @@ use Rattle.block_bytes.specs.Layout as raw
 use Rattle.block_bytes.specs.Layout.{RawBlock, Layout, BlockAt, body, raw_block, free_raw_block, size_of, with_blocks, is_possible, can_be_told}
 use Rattle.zone_records.specs.Records as records
 use Rattle.zone_records.specs.Records.{Content, Free, Fixed, Master, Relocatable, BlockRecord, block_record, ZoneRecords, with_bytes, bytes_of, length_of}
-use Rattle.zone_records.specs.Places.{RecordAt, HeldAt, CanFront, CanHold, can_have, has_bytes}
+use Rattle.zone_records.specs.Places.{RecordAt, HeldAt, CanHold, has_bytes}
 use Rattle.zone_records.specs.Changes.{free_record, held_there}
 use Rattle.zone_records.specs.Fitting.{fitted}
-use Rattle.zone_records.specs.Reading.{content_in, record_in, has_use, is_sound}
+use Rattle.zone_records.specs.Reading.{content_in, has_use, is_sound}
 use Rattle.zone_records.proofs.Apart.{read, One}
 use Rattle.zone_records.proofs.Held.{Held, heads-is, sound-one, changed}
 use Rattle.zone_records.proofs.Looking.{sound-parts}

@@ -1,5 +1,5 @@
 -- Flags that are written in the header of a handle's block.
-use Rattle.std.proofs.Common.{◌≡◌, ℕ, ◌+◌, ◌≤◌, ◌<◌, ◌^◌, nat_le, nat_lt, ◌&&◌, true, false, List, [], ◌∷◌, ◌++◌, length, refl, ap, sym, ◌∙◌, subst, arith, take_at, drop_at, length-append}
+use Rattle.std.proofs.Common.{◌≡◌, ℕ, ◌+◌, ◌≤◌, ◌^◌, nat_le, nat_lt, true, false, [], ◌∷◌, ◌++◌, length, refl, ap, sym, ◌∙◌, subst, arith, take_at, drop_at, length-append}
 use Rattle.std.specs.Prelude.{IsTrue}
 use Rattle.std.proofs.lemmas.Bool.Decides.{nat_tests}
 use Rattle.mac_base.specs.declared.block.HeadKind.{HeadKind}
@@ -10,10 +10,10 @@ use Rattle.block_bytes.specs.declared.header.Role.{Role}
 use Rattle.block_bytes.specs.declared.header.Role.TheVariants as role
 use Rattle.block_bytes.specs.Head.{most_over}
 use Rattle.block_bytes.specs.Layout.{RawBlock, Layout, CanBe, body, raw_block, size_of, with_blocks, can_be_told, can_say}
-use Rattle.zone_records.specs.Records.{Relocatable, BlockRecord, block_record, ZoneRecords}
+use Rattle.zone_records.specs.Records.{Relocatable, block_record, ZoneRecords}
 use Rattle.zone_records.specs.Places.{HandleBlockAt, HeldAt, can_flag}
 use Rattle.zone_records.specs.Changes.{flagged}
-use Rattle.zone_records.specs.Reading.{content_in, record_in, has_use, is_sound}
+use Rattle.zone_records.specs.Reading.{has_use, is_sound}
 use Rattle.zone_records.proofs.Apart.{One}
 use Rattle.zone_records.proofs.Held.{Held, heads-is, sound-one, changed}
 use Rattle.zone_records.proofs.Looking.{sound-parts}

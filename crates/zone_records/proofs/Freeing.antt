@@ -1,6 +1,5 @@
 -- Blocks that become free, free ones that are cut in two or made one, and zones of which nothing is lent.
-use Rattle.std.proofs.Common.{◌≡◌, ℕ, suc, ◌+◌, ◌-◌, ◌<◌, ◌≤◌, Bool, true, false, not, ◌&&◌, cond, List, [], ◌∷◌, ◌++◌, length, take, drop, refl, ap, sym, ◌∙◌, subst, arith, append_assoc, length-append, length-take-le, length-drop}
-use Rattle.std.specs.Prelude.{IsTrue}
+use Rattle.std.proofs.Common.{◌≡◌, ℕ, suc, ◌+◌, ◌-◌, ◌<◌, ◌≤◌, Bool, true, false, not, cond, List, [], ◌∷◌, ◌++◌, length, take, drop, refl, ap, sym, ◌∙◌, subst, arith, append_assoc, length-append, length-take-le, length-drop}
 use Rattle.std.specs.List.{list_all}
 use Rattle.mac_base.specs.declared.block.HeadKind.{HeadKind}
 use Rattle.mac_base.specs.declared.block.HeadKind.TheVariants.{Bits24, Bits32}
@@ -9,21 +8,20 @@ use Rattle.zone_laws.proofs.Maps.{both_true, true_both}
 use Rattle.byteorder.specs.Endian.{big_bytes}
 use Rattle.raw_region.proofs.Numbers.{length-big_bytes}
 use Rattle.block_bytes.specs.declared.header.Header.{Header}
-use Rattle.block_bytes.specs.declared.header.Role.{Role}
 use Rattle.block_bytes.specs.declared.header.Role.TheVariants as role
-use Rattle.block_bytes.specs.Head.{head_bytes, first_word, word_of, most_over}
+use Rattle.block_bytes.specs.Head.{head_bytes, first_word, word_of}
 use Rattle.block_bytes.specs.Layout as raw
 use Rattle.block_bytes.specs.Layout.{RawBlock, Layout, BlockAt, PairAt, CanSplit, CanMerge, body, raw_block, free_raw_block, size_of, header_of, front_of, rest_of, joint_body, with_blocks, lent_count}
-use Rattle.zone_records.specs.Records.{Free, BlockRecord, block_record, ZoneRecords, NothingLent}
+use Rattle.zone_records.specs.Records.{Free, BlockRecord, block_record, ZoneRecords}
 use Rattle.zone_records.specs.Places.{FreeAt, HeldAt, CanCut, FreePair}
 use Rattle.zone_records.specs.Changes.{emptied, cut_in_two, joined_pair}
-use Rattle.zone_records.specs.Reading.{content_in, record_in, is_sound}
-use Rattle.zone_records.proofs.Apart.{read, One, Two, total-append}
-use Rattle.zone_records.proofs.Held.{Held, heads-is, address-is, one, two, sound-one, sound-other, range-one, changed}
+use Rattle.zone_records.specs.Reading.{content_in, is_sound}
+use Rattle.zone_records.proofs.Apart.{read, Two, total-append}
+use Rattle.zone_records.proofs.Held.{Held, heads-is, address-is, two, sound-one, sound-other, range-one, changed}
 use Rattle.zone_records.proofs.Looking.{sound-parts}
 use Rattle.zone_records.proofs.Holding.{held_one, held-block, held-size}
 use Rattle.zone_records.proofs.Blocks.{sized, sized-head, sized-sum, size-body, raw-parts, sound-raw, sound-free, sound-possible, free-told}
-use Rattle.zone_records.proofs.Placing.{free_one, free-block, free-size, free-is, free-long, free-place, free-role}
+use Rattle.zone_records.proofs.Placing.{free_one, free-block, free-size, free-is, free-long, free-role}
 
 -- where nothing of the list is lent, no block of bytes is
 pub none-lent : (heads : HeadKind) (base : ℕ) (bs : List RawBlock) → list_all (λ b. not b.lent) (read heads base bs) ≡ true → lent_count bs ≡ 0

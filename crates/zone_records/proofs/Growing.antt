@@ -1,5 +1,5 @@
 -- How the call ends that gives a block bytes of the free one behind it.
-use Rattle.std.proofs.Common.{◌≡◌, ℕ, ◌+◌, ◌-◌, ◌<◌, ◌≤◌, true, false, List, [], ◌∷◌, ◌++◌, length, take, drop, refl, ap, sym, ◌∙◌, subst, arith, append_assoc, take_at}
+use Rattle.std.proofs.Common.{◌≡◌, ℕ, ◌+◌, ◌-◌, ◌≤◌, true, false, List, [], ◌∷◌, ◌++◌, length, take, refl, ap, sym, ◌∙◌, subst, arith, append_assoc, take_at}
 use Rattle.std.proofs.lemmas.List.{take_all}
 use Rattle.mac_base.specs.HeadKind.{head_size}
 use Rattle.mac_base.specs.HandleTable.{resized}
@@ -10,10 +10,10 @@ use Rattle.block_bytes.specs.Layout as raw
 use Rattle.block_bytes.specs.Layout.{RawBlock, Layout, BlockAt, CanMerge, body, raw_block, size_of, header_of, joint_body, with_blocks}
 use Rattle.zone_records.specs.Records as records
 use Rattle.zone_records.specs.Records.{Content, Free, Fixed, Master, Relocatable, BlockRecord, block_record, ZoneRecords, with_bytes, bytes_of, length_of}
-use Rattle.zone_records.specs.Places.{RecordAt, HeldAt, CanHold, CanGrow, has_bytes}
+use Rattle.zone_records.specs.Places.{RecordAt, CanHold, CanGrow, has_bytes}
 use Rattle.zone_records.specs.Changes.{enlarged, free_record}
 use Rattle.zone_records.specs.Fitting.{fitted, CanKeep}
-use Rattle.zone_records.specs.Reading.{content_in, record_in, is_sound}
+use Rattle.zone_records.specs.Reading.{content_in, is_sound}
 use Rattle.zone_records.proofs.Apart.{Two, total-append}
 use Rattle.zone_records.proofs.Held.{Held, heads-is, address-is, two, sound-one, sound-other, range-one, changed}
 use Rattle.zone_records.proofs.Looking.{sound-parts}

@@ -1,25 +1,20 @@
 -- What the header of a block says of it, and where its contents are.
-use Rattle.std.proofs.Common.{◌≡◌, ℕ, ◌+◌, ◌-◌, ◌*◌, ◌≤◌, ◌<◌, ◌^◌, nat_lt, ◌==◌, Bool, true, false, List, [], ◌∷◌, ◌++◌, length, refl, ap, sym, ◌∙◌, subst, arith, inl, inr, ◌⊎◌}
-use Rattle.std.specs.Prelude.{IsTrue}
+use Rattle.std.proofs.Common.{◌≡◌, ℕ, ◌+◌, ◌-◌, ◌≤◌, ◌<◌, ◌^◌, nat_lt, true, List, length, refl, ap, sym, ◌∙◌, arith, inl, inr, ◌⊎◌}
 use Rattle.std.proofs.lemmas.Bool.Decides.{nat_tests}
 use Rattle.mac_base.specs.declared.block.HeadKind.{HeadKind}
 use Rattle.mac_base.specs.declared.block.Flags.{Flags}
-use Rattle.mac_base.specs.declared.block.Entry.{Entry}
 use Rattle.mac_base.specs.declared.block.Kind.{Kind}
 use Rattle.mac_base.specs.declared.block.Kind.TheVariants as kind
-use Rattle.mac_base.specs.HeadKind.{head_size, master_length}
-use Rattle.mac_base.specs.HandleTable.{no_flags}
+use Rattle.mac_base.specs.HeadKind.{head_size}
 use Rattle.mac_base.specs.ZoneMap.{block}
 use Rattle.block_bytes.specs.declared.header.Header.{Header}
 use Rattle.block_bytes.specs.declared.header.Role.{Role}
 use Rattle.block_bytes.specs.declared.header.Role.TheVariants as role
-use Rattle.block_bytes.specs.Layout.{RawBlock, Layout, BlockAt, UnlentAt, size_of, header_of}
-use Rattle.zone_records.specs.Records.{Content, Free, Fixed, Master, Relocatable, BlockRecord, block_record, ZoneRecords, kind_of, length_of, bytes_of, with_bytes}
-use Rattle.zone_records.specs.Places.{RecordAt, HeldAt, HandleBlockAt, has_bytes}
-use Rattle.zone_records.specs.Reading.{content_in, record_in, has_use, is_sound}
-use Rattle.zone_records.proofs.Apart.{One}
-use Rattle.zone_records.proofs.Held.{Held, heads-is, base-is, address-is, one, range-one, sound-one}
-use Rattle.zone_records.proofs.Ranked.{head-some}
+use Rattle.block_bytes.specs.Layout.{RawBlock, Layout, BlockAt, size_of, header_of}
+use Rattle.zone_records.specs.Records.{BlockRecord, ZoneRecords, kind_of, length_of, bytes_of, with_bytes}
+use Rattle.zone_records.specs.Places.{RecordAt, has_bytes}
+use Rattle.zone_records.specs.Reading.{content_in, has_use}
+use Rattle.zone_records.proofs.Held.{Held, heads-is, base-is, range-one, sound-one}
 use Rattle.zone_records.proofs.Looking.{of-record, size-of, sound-parts}
 
 -- the kind that a role says

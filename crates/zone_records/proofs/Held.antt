@@ -1,16 +1,15 @@
 -- What is known of the blocks of bytes of a zone while it is changed, and when they are those of the changed one.
-use Rattle.std.proofs.Common.{◌≡◌, ℕ, ◌+◌, ◌≤◌, ◌<◌, ◌%◌, Bool, true, ◌&&◌, List, [], ◌∷◌, ◌++◌, length, refl, ap, sym, ◌∙◌, subst, arith}
-use Rattle.std.specs.Prelude.{IsTrue}
+use Rattle.std.proofs.Common.{◌≡◌, ℕ, ◌+◌, ◌≤◌, true, List, ◌∷◌, ◌++◌, length, ap, sym, ◌∙◌, arith}
 use Rattle.std.specs.List.{list_all}
 use Rattle.std.proofs.lemmas.List.Folds.{list_all-append}
-use Rattle.mac_base.specs.HeadKind.{head_size, zone_header}
+use Rattle.mac_base.specs.HeadKind.{zone_header}
 use Rattle.zone_laws.proofs.Maps.{both_true, true_both}
 use Rattle.block_bytes.specs.Layout as raw
 use Rattle.block_bytes.specs.Layout.{RawBlock, Layout, BlockAt, size_of, with_blocks, is_possible}
 use Rattle.zone_records.specs.declared.records.Records.TheInside.{Inside}
 use Rattle.zone_records.specs.Records as records
 use Rattle.zone_records.specs.Records.{BlockRecord, ZoneRecords, total_of, address_behind}
-use Rattle.zone_records.specs.Reading.{record_in, records_in, is_sound, has_use, AreSound, IsSound}
+use Rattle.zone_records.specs.Reading.{records_in, is_sound, AreSound, IsSound}
 use Rattle.zone_records.proofs.Apart.{read, total-read, total-append, read-append, One, Two, one-of, two-of}
 
 -- blocks of bytes are those of a zone, and sound

@@ -1,5 +1,5 @@
 -- The block of a handle or a pointer, and its bytes.
-use Rattle.std.proofs.Common.{◌≡◌, ℕ, ◌+◌, ◌-◌, ◌<◌, ◌≤◌, ◌%◌, Bool, true, false, cond, not, ◌&&◌, ◌||◌, nat_le, List, [], ◌∷◌, ◌++◌, length, take, drop, refl, ap, sym, ◌∙◌, subst, arith, length-append, length-take, length-drop}
+use Rattle.std.proofs.Common.{◌≡◌, ℕ, ◌+◌, ◌<◌, ◌%◌, Bool, true, false, cond, not, ◌&&◌, ◌||◌, nat_le, List, [], ◌∷◌, ◌++◌, length, take, drop, refl, ap, sym, ◌∙◌, subst, arith, length-append, length-take, length-drop}
 use Rattle.std.specs.Prelude.{◌==◌}
 use Rattle.std.proofs.lemmas.Bool.Decides.{nat_tests}
 use Rattle.mac_base.specs.declared.block.HeadKind.{HeadKind}
@@ -19,8 +19,8 @@ use Rattle.zone_records.specs.Records.{Content, Relocatable, BlockRecord, block_
 use Rattle.zone_records.specs.Places.{HeldAt, HandleBlockAt, has_bytes}
 use Rattle.zone_records.specs.WritingBack.{overwritten_at, with_contents_at}
 use Rattle.zone_records.specs.Reading.{content_in, record_in, has_use, is_sound}
-use Rattle.zone_records.proofs.Apart.{read, total-read, One}
-use Rattle.zone_records.proofs.Held.{Held, heads-is, base-is, address-is, one, sound-one, changed}
+use Rattle.zone_records.proofs.Apart.{read, One}
+use Rattle.zone_records.proofs.Held.{Held, base-is, address-is, one, sound-one, changed}
 use Rattle.zone_records.proofs.Ranked.{head-some}
 use Rattle.zone_records.proofs.Headers.{bytes-same, with-same}
 

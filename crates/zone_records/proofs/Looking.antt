@@ -1,7 +1,7 @@
 -- What the calls that look for a block find.
-use Rattle.std.proofs.Common.{◌≡◌, ℕ, ◌+◌, ◌-◌, ◌≤◌, ◌%◌, ◌==◌, Bool, not, ◌&&◌, ◌||◌, true, false, nat_le, List, [], ◌∷◌, ◌++◌, length, refl, ap, sym, ◌∙◌, subst, arith, inl, inr, IsTrue, Option, Some, None, IfNone}
+use Rattle.std.proofs.Common.{◌≡◌, ℕ, ◌+◌, ◌-◌, ◌%◌, ◌==◌, Bool, not, ◌&&◌, ◌||◌, true, false, nat_le, List, [], ◌∷◌, ◌++◌, length, refl, ap, sym, ◌∙◌, arith, inl, inr, IsTrue, Option, Some, None, IfNone}
 use Rattle.std.specs.List.{list_all}
-use Rattle.mac_base.specs.HeadKind.{head_size, smallest_block}
+use Rattle.mac_base.specs.HeadKind.{smallest_block}
 use Rattle.mac_base.specs.declared.block.HeadKind.{HeadKind}
 use Rattle.zone_laws.proofs.Maps.{both_true}
 use Rattle.block_bytes.specs.declared.header.Role.{Role}
@@ -10,10 +10,10 @@ use Rattle.block_bytes.specs.Layout as raw
 use Rattle.block_bytes.specs.Head.{most_over}
 use Rattle.block_bytes.specs.Layout.{RawBlock, Layout, BlockAt, size_of, is_possible, can_be_told}
 use Rattle.block_bytes.specs.Finding.{HoldsByte, LiesOutside, LowestFree, NoneFree, has_room}
-use Rattle.zone_records.specs.Records.{Content, Free, BlockRecord, ZoneRecords, total_of, address_behind}
-use Rattle.zone_records.specs.Places.{RecordAt, FreeAt, LowestAt, is_free, has_free}
+use Rattle.zone_records.specs.Records.{Free, BlockRecord, ZoneRecords}
+use Rattle.zone_records.specs.Places.{RecordAt, LowestAt, is_free, has_free}
 use Rattle.zone_records.specs.Reading.{content_in, record_in, has_use, is_sound}
-use Rattle.zone_records.proofs.Apart.{read, total-read, read-append, One, one-of}
+use Rattle.zone_records.proofs.Apart.{read, read-append}
 use Rattle.zone_records.proofs.Held.{Held, address-is, one, sound-one}
 use Rattle.zone_records.proofs.Ranked.{head-some, rank, one-block, within, none_before}
 

@@ -1,5 +1,5 @@
 -- A free block that is made another.
-use Rattle.std.proofs.Common.{◌≡◌, ℕ, ◌+◌, ◌-◌, ◌<◌, ◌≤◌, ◌^◌, nat_lt, true, false, List, [], ◌∷◌, ◌++◌, length, take, drop, replicate, refl, ap, sym, ◌∙◌, subst, arith}
+use Rattle.std.proofs.Common.{◌≡◌, ℕ, ◌+◌, ◌-◌, ◌<◌, ◌≤◌, ◌^◌, nat_lt, true, false, List, [], ◌∷◌, ◌++◌, length, replicate, refl, ap, sym, ◌∙◌, subst, arith}
 use Rattle.std.proofs.lemmas.Bool.Decides.{nat_tests}
 use Rattle.std.proofs.lemmas.List.{length-replicate}
 use Rattle.mac_base.specs.declared.block.HeadKind.{HeadKind}
@@ -11,10 +11,10 @@ use Rattle.block_bytes.specs.declared.header.Role.{Role}
 use Rattle.block_bytes.specs.declared.header.Role.TheVariants as role
 use Rattle.block_bytes.specs.Head as head
 use Rattle.block_bytes.specs.Layout.{RawBlock, Layout, BlockAt, UnlentAt, CanBe, body, raw_block, cleared, size_of, with_blocks, can_be_told, can_say}
-use Rattle.zone_records.specs.Records.{Content, Free, Relocatable, BlockRecord, block_record, ZoneRecords}
-use Rattle.zone_records.specs.Places.{FreeAt, RoomFor, can_have}
+use Rattle.zone_records.specs.Records.{Free, Relocatable, BlockRecord, block_record, ZoneRecords}
+use Rattle.zone_records.specs.Places.{FreeAt, RoomFor}
 use Rattle.zone_records.specs.Changes.{filled}
-use Rattle.zone_records.specs.Reading.{content_in, record_in, has_use, is_sound}
+use Rattle.zone_records.specs.Reading.{content_in, has_use, is_sound}
 use Rattle.zone_records.proofs.Apart.{One}
 use Rattle.zone_records.proofs.Held.{Held, heads-is, base-is, address-is, one, changed}
 use Rattle.zone_records.proofs.Holding.{sound-same}

@@ -4,7 +4,6 @@ use Rattle.mac_base.specs.declared.block.HeadKind.{HeadKind}
 use Rattle.mac_base.specs.declared.block.HeadKind.TheVariants.{Bits24, Bits32}
 use Rattle.mac_base.specs.HeadKind.{head_size}
 use Rattle.block_bytes.specs.Layout.{RawBlock, Layout, BlockAt, size_of, total_of, address_behind}
-use Rattle.block_bytes.specs.Finding.{LiesOutside}
 use Rattle.zone_records.proofs.Apart.{total-append}
 
 -- every block has a header

@@ -1,5 +1,5 @@
 -- The slots that the bytes of a master block's contents say, one read and one written.
-use Rattle.std.proofs.Common.{◌≡◌, ℕ, zero, suc, ◌+◌, ◌*◌, ◌<◌, ◌≤◌, ◌^◌, List, [], ◌∷◌, ◌++◌, length, take, drop, refl, ap, sym, ◌∙◌, arith, length-drop, drop-drop, drop_at, take_at, ◌⊎◌, inl, inr}
+use Rattle.std.proofs.Common.{◌≡◌, ℕ, zero, suc, ◌+◌, ◌*◌, ◌<◌, ◌≤◌, ◌^◌, List, [], ◌∷◌, ◌++◌, length, take, drop, refl, ap, ◌∙◌, arith, length-drop, drop-drop, drop_at, take_at}
 use Rattle.std.specs.Prelude.{IsTrue}
 use Rattle.byteorder.specs.Endian.{big_bytes, big_number}
 use Rattle.raw_region.specs.Bytes.{part, written}

@@ -1,5 +1,5 @@
 -- Slots: where they stand, what they say, and one that is written.
-use Rattle.std.proofs.Common.{◌≡◌, ℕ, ◌+◌, ◌-◌, ◌*◌, ◌/◌, ◌%◌, ◌<◌, ◌≤◌, Bool, true, false, List, [], ◌∷◌, ◌++◌, length, refl, ap, sym, ◌∙◌, subst, arith, inl, inr}
+use Rattle.std.proofs.Common.{◌≡◌, ℕ, ◌+◌, ◌-◌, ◌*◌, ◌/◌, ◌%◌, ◌<◌, ◌≤◌, true, List, [], ◌∷◌, ◌++◌, length, refl, ap, sym, ◌∙◌, subst, arith, inl, inr}
 use Rattle.std.specs.Prelude.{IsTrue}
 use Rattle.std.proofs.lemmas.Bool.Decides.{nat_tests}
 use Rattle.byteorder.specs.Endian.{big_bytes, big_number}
@@ -7,18 +7,17 @@ use Rattle.raw_region.specs.Bytes.{part, written, length-written}
 use Rattle.mac_base.specs.declared.block.HeadKind.{HeadKind}
 use Rattle.mac_base.specs.HeadKind.{head_size, slot_count}
 use Rattle.zone_laws.proofs.Maps.{true_both}
-use Rattle.block_bytes.specs.declared.header.Header.{Header}
 use Rattle.block_bytes.specs.declared.header.Role.{Role}
 use Rattle.block_bytes.specs.declared.header.Role.TheVariants as role
 use Rattle.block_bytes.specs.Layout.{RawBlock, Layout, BlockAt, WordAt, size_of, with_blocks, with_word, address_behind, has_owner}
 use Rattle.block_bytes.specs.Finding.{HoldsByte, LiesOutside}
 use Rattle.zone_records.specs.declared.slot.Slot.{Slot}
-use Rattle.zone_records.specs.Records.{Content, Master, BlockRecord, block_record, ZoneRecords}
+use Rattle.zone_records.specs.Records.{Master, BlockRecord, block_record, ZoneRecords}
 use Rattle.zone_records.specs.Places.{SlotAt, can_say}
 use Rattle.zone_records.specs.Changes.{with_slot}
 use Rattle.zone_records.specs.Word.{slot_word, slot_in, slots_in}
 use Rattle.zone_records.specs.Reading.{content_in, record_in, has_use, is_sound}
-use Rattle.zone_records.proofs.Apart.{read, One}
+use Rattle.zone_records.proofs.Apart.{One}
 use Rattle.zone_records.proofs.ReadSlots.{length-slots_in, slot-read, slot-written, slots_at}
 use Rattle.zone_records.proofs.Held.{Held, heads-is, address-is, one, sound-one, range-one, changed}
 use Rattle.zone_records.proofs.Ranked.{one-block, within}

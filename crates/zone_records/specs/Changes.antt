@@ -1,13 +1,13 @@
 -- What each change makes of a zone's blocks.
-use Rattle.std.specs.Prelude.{ℕ, zero, suc, ◌+◌, ◌-◌, ◌==◌, if◌then◌else◌, List, [], ◌∷◌, ◌++◌, replicate}
+use Rattle.std.specs.Prelude.{ℕ, zero, suc, ◌+◌, ◌-◌, ◌==◌, if◌then◌else◌, List, [], ◌∷◌, ◌++◌}
 use Rattle.mac_base.specs.declared.block.Flags.{Flags}
-use Rattle.mac_base.specs.HeadKind.{zone_header, head_size, slot_count}
-use Rattle.mac_base.specs.HandleTable.{no_flags, zeros, resized}
+use Rattle.mac_base.specs.HeadKind.{zone_header}
+use Rattle.mac_base.specs.HandleTable.{resized}
 use Rattle.mac_base.specs.ZoneSizes.{ZoneSizes, shape_of}
 use Rattle.zone_records.specs.declared.slot.Slot.{Slot}
 use Rattle.zone_records.specs.declared.slot.Slot.TheVariants as slot
-use Rattle.zone_records.specs.Records.{Content, Free, Fixed, Master, Relocatable, BlockRecord, block_record, ZoneRecords, with_blocks, with_bytes, bytes_of}
-use Rattle.zone_records.specs.Places.{RecordAt, FreeAt, HeldAt, HandleBlockAt, SlotAt, FreePair, CanHold, CanGrow, PairAt}
+use Rattle.zone_records.specs.Records.{Content, Free, Master, Relocatable, BlockRecord, block_record, ZoneRecords, with_blocks, with_bytes, bytes_of}
+use Rattle.zone_records.specs.Places.{FreeAt, HeldAt, HandleBlockAt, SlotAt, FreePair, CanHold, CanGrow, PairAt}
 
 -- a new zone: one free block, and no slot
 abbrev pub new_records : ZoneSizes → ZoneRecords

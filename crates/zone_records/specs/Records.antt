@@ -1,11 +1,11 @@
 -- A zone as a list of blocks, each with what it is for and what is in it. Free bytes, and those that are over, have no value.
-use Rattle.std.specs.Prelude.{ℕ, ◌+◌, Bool, true, false, not, List, [], ◌∷◌, length, IsTrue}
+use Rattle.std.specs.Prelude.{ℕ, ◌+◌, Bool, false, not, List, [], ◌∷◌, length, IsTrue}
 use Rattle.std.specs.List.{list_all}
 use Rattle.mac_base.specs.declared.block.Flags.{Flags}
 use Rattle.mac_base.specs.declared.block.Kind.{Kind}
 use Rattle.mac_base.specs.declared.block.Kind.TheVariants as kind
-use Rattle.mac_base.specs.HeadKind.{Shape, head_size, zone_header, master_length}
-use Rattle.mac_base.specs.ZoneSizes.{ZoneSizes, shape_of}
+use Rattle.mac_base.specs.HeadKind.{Shape, zone_header, master_length}
+use Rattle.mac_base.specs.ZoneSizes.{ZoneSizes}
 use Rattle.zone_records.specs.declared.slot.Slot.{Slot}
 
 -- what a block is for, and its contents: bytes, or the slots of a master block. A handle's block also says its flags in a

@@ -3,7 +3,6 @@ use Rattle.std.specs.Prelude.{ℕ, zero, suc, ◌+◌, ◌-◌, ◌*◌, ◌/◌
 use Rattle.byteorder.specs.Endian.{big_number}
 use Rattle.mac_base.specs.declared.block.HeadKind.{HeadKind}
 use Rattle.mac_base.specs.declared.block.HeadKind.TheVariants.{Bits24, Bits32}
-use Rattle.mac_base.specs.declared.block.Flags.{Flags}
 use Rattle.mac_base.specs.FlagState.{state_of, flags_from}
 use Rattle.mac_base.specs.HandleTable.{no_flags}
 use Rattle.zone_records.specs.declared.slot.Slot.{Slot}

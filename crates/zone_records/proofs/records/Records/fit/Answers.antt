@@ -1,4 +1,4 @@
-use Rattle.std.proofs.Common.{◌≡◌, ◌<◌, ◌≤◌, ◌∙◌, ap, arith}
+use Rattle.std.proofs.Common.{◌≡◌, ◌∙◌, ap, arith}
 use Rattle.block_bytes.specs.declared.header.Header.{Header}
 use Rattle.zone_records.specs.declared.records.Records.TheInside.{Inside}
 use Rattle.zone_records.specs.Fitting.{fitted, CanKeep}

@@ -1,4 +1,4 @@
-use Rattle.std.proofs.Common.{◌≤◌, ◌∙◌, arith}
+use Rattle.std.proofs.Common.{◌∙◌, arith}
 use Rattle.zone_records.specs.Places.{CanHold}
 use Rattle.zone_records.specs.Fitting.{CanKeep}
 use Rattle.zone_records.proofs.Fitted.{held_record, held-all, length-held}

@@ -1,5 +1,4 @@
-use Rattle.std.proofs.Common.{◌≡◌, ◌+◌, ◌-◌, ◌*◌, ap, arith}
-use Rattle.mac_base.specs.HeadKind.{head_size}
+use Rattle.std.proofs.Common.{◌+◌, ◌-◌, ◌*◌, ap, arith}
 use Rattle.zone_records.proofs.Held.{held-now, fields}
 use Rattle.zone_records.proofs.Chaining.{master-range, master-can, master-done, master-starts, master-slot, master-sayable, master-more, master-ends}
 use Rattle.zone_records.proofs.records.Records.place_master.Goals as goal

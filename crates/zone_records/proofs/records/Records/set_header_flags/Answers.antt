@@ -1,6 +1,5 @@
-use Rattle.std.proofs.Common.{◌≡◌, ◌∙◌, ap, sym}
+use Rattle.std.proofs.Common.{◌∙◌, ap}
 use Rattle.block_bytes.specs.declared.header.Header.{Header}
-use Rattle.block_bytes.specs.declared.header.Role.TheVariants.{Relocatable}
 use Rattle.zone_records.specs.Places.{HandleBlockAt}
 use Rattle.zone_records.specs.Changes.{flagged}
 use Rattle.zone_records.proofs.Held.{Held, held-now, fields}

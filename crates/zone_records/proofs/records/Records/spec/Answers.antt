@@ -1,6 +1,5 @@
 use Rattle.std.proofs.Common.{◌≡◌, ◌+◌, ◌∙◌, ap, sym, arith}
 use Rattle.mac_base.specs.HeadKind.{zone_header}
-use Rattle.mac_base.specs.ZoneSizes.{ZoneSizes}
 use Rattle.zone_records.specs.Records.{ZoneRecords, total_of}
 use Rattle.zone_records.proofs.Apart.{total-read}
 use Rattle.zone_records.proofs.Held.{held-now, heads-is, base-is}
