@@ -9,6 +9,3 @@ mod walk;
 pub use blocks::Blocks;
 pub use header::{Header, Role};
 pub use walk::check;
-
-#[cfg(test)]
-mod tests;

@@ -2,6 +2,8 @@
 
 use mac_base::block::{Flags, HeadKind};
 use mac_base::zone_spec::ZoneSpec;
+use std::alloc::Global;
+use std::process::Abort;
 use zone_heap::{Zone, check};
 
 /// A word of a zone: where it stands, and what it is.
@@ -102,9 +104,16 @@ const LOCKED: Flags = Flags {
 };
 
 /// Compares the bytes of a zone of these blocks after NewHandle 100, and after the handle was locked.
-fn compare(rt: &HostRuntime, heads: HeadKind, number: u32, mut image: [u8; 4096], locked: Word) {
+fn compare(
+    rt: &impl Abort,
+    alloc: Global,
+    heads: HeadKind,
+    number: u32,
+    mut image: [u8; 4096],
+    locked: Word,
+) {
     let spec = ZoneSpec::with_kind(0x10_0000, 4096, 4096, heads).expect(rt, "there is such a zone");
-    let mut zone = Zone::create(rt.alloc(), spec).expect(rt, "the host has memory");
+    let mut zone = Zone::create(alloc, spec).expect(rt, "the host has memory");
     let handle = zone.place_rel(100).expect(rt, "the zone has room");
     assert_eq!(rt; handle.number(), number);
     assert_eq!(rt; zone.image(), &image[..]);
@@ -121,6 +130,7 @@ fn compare(rt: &HostRuntime, heads: HeadKind, number: u32, mut image: [u8; 4096]
 fn a_new_handle_leaves_the_bytes_of_the_format(rt: HostRuntime) {
     compare(
         &rt,
+        rt.alloc(),
         HeadKind::Bits24,
         0x0010_003c,
         new_handle_24(),
@@ -128,11 +138,21 @@ fn a_new_handle_leaves_the_bytes_of_the_format(rt: HostRuntime) {
     );
     compare(
         &rt,
+        rt.alloc(),
         HeadKind::Bits32,
         0x0010_0040,
         new_handle_32(),
         (0x140, 0x8080_0000),
     );
+}
+
+/// Writes over the first two bytes of a block, if the number has one.
+fn write_front(zone: &mut Zone, block: u32) {
+    if zone.has_block(block) {
+        if let Some(bytes) = zone.bytes_mut(block).get_mut(..2) {
+            bytes.copy_from_slice(b"BB");
+        }
+    }
 }
 
 #[test]
@@ -142,10 +162,7 @@ fn a_handle_that_is_disposed_of_leaves_the_lowest_free_block(rt: HostRuntime) {
     let first = zone.place_rel(1000).expect(&rt, "the zone has room");
     let second = zone.place_rel(1000).expect(&rt, "the zone has room");
     zone.place_rel(1000).expect(&rt, "the zone has room");
-    assert!(rt; zone.has_block(second.number()), "it has a block");
-    if let Some(bytes) = zone.bytes_mut(second.number()).get_mut(..2) {
-        bytes.copy_from_slice(b"BB");
-    }
+    write_front(&mut zone, second.number());
     assert!(rt; zone.is_live(first), "it is live");
     zone.release(first);
     let mut image = image_of(&DISPOSED_24, (0x48, 0x138), 0x0110_0004, 0x0100_0000);
@@ -173,5 +190,6 @@ fn a_zone_is_told_from_other_bytes(rt: HostRuntime) {
             "with a last block of {size} bytes"
         );
     }
+    assert!(rt; check(HeadKind::Bits24, &[0; 52]), "without a block");
     assert!(rt; !check(HeadKind::Bits24, &[0; 51]), "under 52 bytes");
 }
