@@ -148,19 +148,30 @@ module _ (z : Inside) (whole : IsLayout z) (small : ArePossible z.spec) (before 
       ∙ mark-set l before here first second behind (omega arith) i.before_possible (IsPossible-from z.spec.heads first possible) (IsPossible-from z.spec.heads second possible') place next there there')
       base_is (omega arith) settles
 
--- what the first free block is doesn't change where one block is another of its size, for the same
-first_free-same : (heads : HeadKind) (at : ℕ) (before : List RawBlock) (b c : RawBlock) (behind : List RawBlock) → size_of heads b ≡ size_of heads c → b.role ≡ c.role
+-- what the first free block is doesn't change where one block is another of its size, free or not as before
+first_free-same : (heads : HeadKind) (at : ℕ) (before : List RawBlock) (b c : RawBlock) (behind : List RawBlock) → size_of heads b ≡ size_of heads c → is_free b.role ≡ is_free c.role
     → first_free heads at (before ++ b ∷ behind) ≡ first_free heads at (before ++ c ∷ behind)
-first_free-same heads at [] b c behind size role = λ i. if is_free (role i) then at else first_free heads (at + size i) behind
-first_free-same heads at (x ∷ before) b c behind size role = ap (λ (n : ℕ). if is_free x.role then at else n) (first_free-same heads (at + size_of heads x) before b c behind size role)
+first_free-same heads at [] b c behind size free = λ i. if free i then at else first_free heads (at + size i) behind
+first_free-same heads at (x ∷ before) b c behind size free = ap (λ (n : ℕ). if is_free x.role then at else n) (first_free-same heads (at + size_of heads x) before b c behind size free)
 
 -- nor how many bytes are free
-free_total-same : (heads : HeadKind) (before : List RawBlock) (b c : RawBlock) (behind : List RawBlock) → size_of heads b ≡ size_of heads c → b.role ≡ c.role
+free_total-same : (heads : HeadKind) (before : List RawBlock) (b c : RawBlock) (behind : List RawBlock) → size_of heads b ≡ size_of heads c → is_free b.role ≡ is_free c.role
     → free_total heads (before ++ b ∷ behind) ≡ free_total heads (before ++ c ∷ behind)
-free_total-same heads [] b c behind size role = λ i. (if is_free (role i) then size i else 0) + free_total heads behind
-free_total-same heads (x ∷ before) b c behind size role = ap (λ (n : ℕ). (if is_free x.role then size_of heads x else 0) + n) (free_total-same heads before b c behind size role)
+free_total-same heads [] b c behind size free = λ i. (if free i then size i else 0) + free_total heads behind
+free_total-same heads (x ∷ before) b c behind size free = ap (λ (n : ℕ). (if is_free x.role then size_of heads x else 0) + n) (free_total-same heads before b c behind size free)
 
 module _ (z : Inside) (whole : IsLayout z) (small : ArePossible z.spec) (before : List RawBlock) (here : RawBlock) (behind : List RawBlock) (is : (layout_of z).blocks ≡ before ++ here ∷ behind) where
+  -- with a block of its size in the place of one, free or not as that one, all blocks have the same size
+  pub total-same : (b : RawBlock) → size_of z.spec.heads b ≡ size_of z.spec.heads here → total_of z.spec.heads (before ++ b ∷ behind) ≡ total_of z.spec.heads (layout_of z).blocks
+  total-same b size = let sum = total_of-append z.spec.heads before (b ∷ behind) in let sum' = (IsIn-from z whole before here behind is).sum in omega arith
+
+  -- and the zone's header says the same
+  pub header-same : (b : RawBlock) → size_of z.spec.heads b ≡ size_of z.spec.heads here → is_free b.role ≡ is_free here.role → header_bytes (layout_of z) ≡ header_bytes (with_blocks (before ++ b ∷ behind) (layout_of z))
+  header-same b size free = let l = layout_of z in
+      sym (λ j. zone_head (l.base + zone_header + total-same b size j) l.front
+      ((free_total-same z.spec.heads before b here behind size free ∙ sym (ap (free_total z.spec.heads) is)) j)
+      ((first_free-same z.spec.heads (address_behind l []) before b here behind size free ∙ sym (ap (first_free z.spec.heads (address_behind l [])) is)) j))
+
   -- other contents of the same length, and maybe lent or not
   pub contents-changed : (lent : Bool) (contents : List ℕ) (m : State) (index : List ℕ) (loans offset place : ℕ) (ws : List ℕ) → place ≡ zone_header + total_of z.spec.heads before + head_size z.spec.heads + offset
       → offset + length ws ≤ length here.contents → contents ≡ written here.contents offset ws → m.name ≡ z.memory.name → m.bytes ≡ written z.memory.bytes place ws
@@ -174,23 +185,18 @@ module _ (z : Inside) (whole : IsLayout z) (small : ArePossible z.spec) (before 
       let long : length contents ≡ length here.contents = ap length contents_are ∙ length-written here.contents offset ws in
       let pre = front l before ++ head l here in let post = here.slack ++ rear l behind in
       let e = length-front l before in let e' = length-head_bytes z.spec.heads z.spec.base (header_of z.spec.heads here) in let e'' = length-append (front l before) (head l here) in
-      let sum = total_of-append z.spec.heads before (b ∷ behind) in let sum' = i.sum in
       let parts : z.memory.bytes ≡ pre ++ (here.contents ++ post) = i.bytes ∙ grouped_back (front l before) (head l here) here.contents here.slack (rear l behind) in
       let size : size_of z.spec.heads b ≡ size_of z.spec.heads here = omega arith in
       let same : head_bytes z.spec.heads z.spec.base (header_of z.spec.heads here) ≡ head l b =
       ap (λ (n : ℕ). head_bytes z.spec.heads z.spec.base (record { size = n; role = here.role; correction = length here.slack })) (sym size) in
-      let total : total_of z.spec.heads (before ++ b ∷ behind) ≡ total_of z.spec.heads l.blocks = omega arith in
-      let header : header_bytes l ≡ header_bytes (with_blocks (before ++ b ∷ behind) l) =
-      sym (λ j. zone_head (l.base + zone_header + total j) l.front
-      ((free_total-same z.spec.heads before b here behind size refl ∙ sym (ap (free_total z.spec.heads) is)) j)
-      ((first_free-same z.spec.heads (address_behind l []) before b here behind size refl ∙ sym (ap (first_free z.spec.heads (address_behind l [])) is)) j)) in
+      let header = header-same b size refl in
       let stale : m.bytes ≡ stale_image l (before ++ b ∷ behind) =
       bytes ∙ ap (λ (m : List ℕ). written m place ws) parts ∙ written-within pre here.contents post place offset ws (omega arith) fits
       ∙ ap (λ (cs : List ℕ). pre ++ (cs ++ post)) (sym contents_are)
       ∙ append_assoc (front l before) (head l here) (contents ++ post) ∙ ap (λ (h : List ℕ). front l before ++ (h ++ (contents ++ post))) same
       ∙ ap (λ (m : List ℕ). front l before ++ (head l b ++ m)) (sym (append_assoc contents here.slack (rear l behind))) ∙ sym (image-parts l before b behind) in
       changed z whole small (before ++ b ∷ behind) m index loans named
-      (stale ∙ ap (λ (h : List ℕ). h ++ (rendered l.heads l.base (before ++ b ∷ behind) ++ l.spare)) header) total
+      (stale ∙ ap (λ (h : List ℕ). h ++ (rendered l.heads l.base (before ++ b ∷ behind) ++ l.spare)) header) (total-same b size)
       (possible-with z.spec.heads before (b ∷ behind) i.before_possible (possible-more z.spec.heads b behind possible i.behind_possible))
       marks spans loans_are few (front-fits z whole)
 

@@ -13,7 +13,7 @@ use Rattle.block_bytes.specs.declared.header.Header.{Header}
 use Rattle.block_bytes.specs.declared.header.Role.{Role}
 use Rattle.block_bytes.specs.declared.header.Role.TheVariants.{Free, Fixed, Master, Relocatable}
 use Rattle.block_bytes.specs.Head.{most_over, tag_of, word_of, flags_byte, flags_of, first_word, head_bytes, role_in, flags_in, header_in}
-use Rattle.block_bytes.specs.Layout.{can_say, can_be_told}
+use Rattle.block_bytes.specs.Layout.{is_free, can_say, can_be_told}
 
 -- how long a header is
 pub length-head_bytes : (heads : HeadKind) (base : ℕ) (h : Header) → length (head_bytes heads base h) ≡ head_size heads
@@ -22,6 +22,17 @@ length-head_bytes Bits24 base h = let e = length-big_bytes 4 (first_word Bits24 
 length-head_bytes Bits32 base h = let e = length-big_bytes 4 (first_word Bits32 h) in let e' = length-big_bytes 4 (word_of base h.role) in let e'' = length-big_bytes 4 h.size in
     let sum = length-append (big_bytes 4 (first_word Bits32 h)) (big_bytes 4 h.size ++ big_bytes 4 (word_of base h.role)) in
     let sum' = length-append (big_bytes 4 h.size) (big_bytes 4 (word_of base h.role)) in omega arith
+
+-- that of a free block names no zone
+word-free : (base other : ℕ) (role : Role) → is_free role ≡ true → word_of base role ≡ word_of other role
+word-free base other Free free = refl
+word-free base other Fixed free = absurd (cc free)
+word-free base other Master free = absurd (cc free)
+word-free base other (Relocatable slot flags) free = refl
+
+pub head-free : (heads : HeadKind) (base other : ℕ) (h : Header) → is_free h.role ≡ true → head_bytes heads base h ≡ head_bytes heads other h
+head-free Bits24 base other h free = ap (λ w. big_bytes 4 (first_word Bits24 h) ++ big_bytes 4 w) (word-free base other h.role free)
+head-free Bits32 base other h free = ap (λ w. big_bytes 4 (first_word Bits32 h) ++ (big_bytes 4 h.size ++ big_bytes 4 w)) (word-free base other h.role free)
 
 -- a tag is one byte
 tag-small : (role : Role) (low : ℕ) → low ≤ 15 → tag_of role low < 256

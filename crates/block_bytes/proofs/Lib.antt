@@ -9,6 +9,7 @@ pub mod Spans
 pub mod Parts
 pub mod Settled
 pub mod Changes
+pub mod Roles
 pub mod ReadParts
 pub mod Counting
 pub mod Here

@@ -189,6 +189,16 @@ pub record CanBe (l : Layout) (at : ℕ) (role : Role) (n : ℕ) : Type 0 where
   pub possible : IsTrue (is_possible l.heads (raw_block role n (body block.here)))
   pub unlent : block.here.lent ≡ false
 
+-- a block that is for something else
+abbrev pub in_role : RawBlock → Role → RawBlock
+in_role b role = record b { role = role }
+
+-- the block at an address, lent or not, can be one for this with its contents, and is as free then as now
+pub record CanTurn (l : Layout) (at : ℕ) (role : Role) : Type 0 where
+  pub block : BlockAt l at
+  pub possible : IsTrue (is_possible l.heads (in_role block.here role))
+  pub same : is_free role ≡ is_free block.here.role
+
 -- the block at an address isn't lent, and can have so many bytes of contents
 pub record CanResize (l : Layout) (at n : ℕ) : Type 0 where
   pub block : BlockAt l at

@@ -100,7 +100,7 @@ impl Blocks {
     ghost use Rattle.mac_base.specs.ZoneSizes.{shape_of};
     ghost use Rattle.raw_region.specs.Bytes.{part, written};
     ghost use Rattle.block_bytes.specs.declared.header.Role.TheVariants.{Free};
-    ghost use Rattle.block_bytes.specs.Layout.{RawBlock, Layout, BlockAt, UnlentAt, WordAt, CanBe, CanResize, CanSplit, PairAt, CanMerge, Exchanged, CanLend, IsLoanOf, NothingLent, front_of, rest_of, with_word, cleared, cleared_from, CanClear, body, raw_block, free_raw_block, size_of, header_of, is_possible, joint_body, zone_bytes, with_blocks, with_front, address_behind, free_total, lent_count, most_lent, loan_of, lent_block, given_back};
+    ghost use Rattle.block_bytes.specs.Layout.{RawBlock, Layout, BlockAt, UnlentAt, WordAt, CanBe, CanTurn, CanResize, CanSplit, PairAt, CanMerge, Exchanged, CanLend, IsLoanOf, NothingLent, in_role, front_of, rest_of, with_word, cleared, cleared_from, CanClear, body, raw_block, free_raw_block, size_of, header_of, is_possible, joint_body, zone_bytes, with_blocks, with_front, address_behind, free_total, lent_count, most_lent, loan_of, lent_block, given_back};
     ghost use Rattle.block_bytes.specs.Finding.{HoldsByte, LiesOutside, LowestFree, NoneFree};
     ghost use Rattle.block_bytes.specs.WritingBack.{WritesBackContents};
     ghost use Rattle.block_bytes.specs.NewLayout.{new_layout};
@@ -271,6 +271,24 @@ impl Blocks {
         );
     }
 
+    /// Makes the block at an address one for something else, as free as before. Its contents stay, and it may be lent: only
+    /// its header is written.
+    pub fn set_role(&mut self, at: u32, role: Role)
+        requires { CanTurn self.old at role }
+        ensures { (can : CanTurn self.old at role) → self.new ≡ with_blocks (can.block.before ++ in_role can.block.here role ∷ can.block.behind) self.old }
+    {
+        let old = self.entry_at(at);
+        let heads = self.spec.heads();
+        let base = self.spec.base();
+        let header = Header {
+            size: old.size,
+            role,
+            correction: old.correction,
+        };
+        self.memory
+            .set_header(heads, (at - base) as usize, base, header);
+    }
+
     /// Makes the block at an address free. All bytes behind its header stay.
     pub fn set_free(&mut self, at: u32)
         requires { UnlentAt self.old at }
@@ -366,7 +384,7 @@ impl Blocks {
         let first = self.entry_at(at);
         let second = self.entry_at(at + first.size);
         let start = (at - base) as usize;
-        self.memory.exchange(heads, base, start, first, second);
+        self.memory.exchange(heads, start, first, second);
         self.index.set(start / 4 + first.size as usize / 4, 0);
         self.index.set(start / 4, second.mark());
         self.index

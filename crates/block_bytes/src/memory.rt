@@ -146,17 +146,17 @@ impl Memory {
     }
 
     /// The blocks with these headers, of which the first stands at `at`, change places. Where one of them is free only the
-    /// other moves, and its header is written anew.
-    pub fn exchange(&mut self, heads: HeadKind, base: u32, at: usize, first: Header, second: Header)
+    /// other moves, and the free one's header, which names no zone, is written anew.
+    pub fn exchange(&mut self, heads: HeadKind, at: usize, first: Header, second: Header)
         requires inside { at + first.size + second.size ≤ length self.old.bytes }
         requires free { IsFree self.old.lent at (first.size + second.size) }
         requires first_size { (first.size < 2 ^ 24) × (head_size heads ≤ first.size) }
         requires second_size { (second.size < 2 ^ 24) × (head_size heads ≤ second.size) }
         requires first_correction { first.correction ≤ most_over heads }
         requires second_correction { second.correction ≤ most_over heads }
-        ensures first_free { IsTrue (is_free first.role) → self.new ≡ with_bytes (with_bytes self.old at (part self.old.bytes (at + first.size) second.size)) (at + second.size) (head_bytes heads base first) }
+        ensures first_free { IsTrue (is_free first.role) → self.new ≡ with_bytes (with_bytes self.old at (part self.old.bytes (at + first.size) second.size)) (at + second.size) (head_bytes heads 0 first) }
         ensures second_free { IsFalse (is_free first.role) → IsTrue (is_free second.role)
-            → self.new ≡ with_bytes (with_bytes self.old (at + second.size) (part self.old.bytes at first.size)) at (head_bytes heads base second) }
+            → self.new ≡ with_bytes (with_bytes self.old (at + second.size) (part self.old.bytes at first.size)) at (head_bytes heads 0 second) }
         ensures none_free { IsFalse (is_free first.role) → IsFalse (is_free second.role)
             → self.new ≡ with_bytes self.old at (part self.old.bytes (at + first.size) second.size ++ part self.old.bytes at first.size) }
     {
@@ -165,10 +165,10 @@ impl Memory {
         let last = at + second.size as usize;
         if first.is_free() {
             self.slide(middle, at, second.size as usize);
-            self.set_header(heads, last, base, first);
+            self.set_header(heads, last, 0, first);
         } else if second.is_free() {
             self.slide(at, last, first.size as usize);
-            self.set_header(heads, at, base, second);
+            self.set_header(heads, at, 0, second);
         } else {
             self.rotate(at, middle, middle + second.size as usize);
         }

@@ -7,6 +7,7 @@ use Rattle.mac_base.specs.declared.block.HeadKind.{HeadKind}
 use Rattle.mac_base.specs.declared.block.HeadKind.TheVariants.{Bits24, Bits32}
 use Rattle.mac_base.specs.HeadKind.{head_size, smallest_block, zone_header}
 use Rattle.mac_base.specs.ZoneSizes.{ZoneSizes, ArePossible}
+use Rattle.mac_base.specs.ZoneState.{Memory}
 use Rattle.zone_laws.proofs.Maps.{true_both}
 use Rattle.zone_laws.proofs.SlotPlaces.{Contains-none}
 use Rattle.zone_records.specs.Records.{ZoneRecords}
@@ -20,8 +21,8 @@ unfolding IsDistinct
 nothing_twice = tt
 
 -- it fits: it has no handle, no pointer and no slot
-bare-fits : (sizes : ZoneSizes) → Fits (bare_zone sizes)
-bare-fits sizes = record {
+bare-fits : (memory : Memory) (sizes : ZoneSizes) → Fits (bare_zone memory sizes)
+bare-fits memory sizes = record {
   coherent = record {
     handles = λ h. refl;
     pointers = λ p. refl;
@@ -32,16 +33,16 @@ bare-fits sizes = record {
     free = λ x. ((λ c. absurd (Contains-none x c)), (λ c. absurd (Contains-none x c.0)));
     once = nothing_twice;
   };
-  unlent = refl;
+  loans = record { in_order = refl; few = omega arith };
 }
 
 -- new blocks are those of such a zone
-pub bare-stands : (r : ZoneRecords) (sizes : ZoneSizes) → ArePossible sizes → r ≡ new_records sizes → Stands r (bare_zone sizes)
-bare-stands r sizes possible is =
+pub bare-stands : (r : ZoneRecords) (memory : Memory) (sizes : ZoneSizes) → ArePossible sizes → r ≡ new_records memory sizes → Stands r (bare_zone memory sizes)
+bare-stands r memory sizes possible is =
     let large = possible.large_enough in
     let within = possible.within in record {
       blocks = is;
-      fits = bare-fits sizes;
+      fits = bare-fits memory sizes;
       sizes = true_both _ true (true_both _ _ (whole sizes.size possible.even_size large) (above sizes.heads sizes.size large)) refl;
       rooms = room sizes.heads (sizes.size - zone_header) (omega arith);
       within = omega arith;

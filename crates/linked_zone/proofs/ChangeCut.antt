@@ -4,6 +4,7 @@ use Rattle.std.specs.Prelude.{slice_index}
 use Rattle.mac_base.specs.declared.block.Kind.{Kind}
 use Rattle.mac_base.specs.declared.block.Kind.TheVariants.{Free}
 use Rattle.mac_base.specs.HeadKind.{head_size}
+use Rattle.mac_base.specs.Loans.{LoansFit}
 use Rattle.mac_base.specs.ZoneMap.{ZoneMap, block, is_master, is_named, total_size, address_behind, addresses, addresses_from}
 use Rattle.mac_base.specs.Suits.{is_handle_block, is_pointer_block}
 use Rattle.mac_base.specs.ZoneState.{ZoneState}
@@ -14,6 +15,7 @@ use Rattle.linked_zone.specs.Places.{FreeAt, FreePair}
 use Rattle.linked_zone.specs.Changes.{with_map, cut_in_two, joined_pair}
 use Rattle.linked_zone.specs.Fit.{Fits}
 use Rattle.linked_zone.proofs.ChangeParts.{same_slot, Fits-kept}
+use Rattle.linked_zone.proofs.Lent.{loans-replaced}
 
 -- what passes no free block does not pass these
 free_pair-skip : (at : ℕ) (test : Kind → Bool) (n k : ℕ) → test Free ≡ false → addresses_from at test (block Free n ∷ block Free k ∷ []) ≡ []
@@ -21,12 +23,12 @@ free_pair-skip at test n k free = addresses_from-skip at test (block Free n) (bl
 
 module _ (z : ZoneState) (m : ZoneMap) (same : (test : Kind → Bool) → test Free ≡ false → addresses z.shape test m ≡ addresses z.shape test z.heap.map) where
   -- a zone whose blocks but the free ones stay fits
-  free_changed-fits : Fits z → Fits (with_map m z)
-  free_changed-fits fits = Fits-kept z z.heap.table m fits
+  free_changed-fits : Fits z → LoansFit (with_map m z).heap → Fits (with_map m z)
+  free_changed-fits fits loans = Fits-kept z z.heap.table m fits
       (λ g. ap length (same (is_handle_block g) refl) ∙ fits.coherent.handles g)
       (λ p. contents-same z.shape (is_pointer_block p) z.heap.map m (same (is_pointer_block p) refl) ∙ fits.coherent.pointers p)
       (slots-same z.shape z.heap.map m (same is_master refl))
-      (λ x. refl) fits.coherent.in_order fits.unlent
+      (λ x. refl) fits.coherent.in_order loans
 
   -- and its master pointers stay
   free_changed-pointers : (x : ℕ) → slot_of (with_map m z) x ≡ slot_of z x
@@ -52,6 +54,7 @@ module _ (z : ZoneState) (at size : ℕ) (free : FreeAt z at) (smaller : size < 
   -- a zone with a free block cut in two still fits
   pub cut-fits : Fits z → Fits (cut_in_two size z free)
   cut-fits fits = free_changed-fits z (cut_in_two size z free).heap.map cut_same fits
+      (loans-replaced z.heap (cut_in_two size z free).heap free.before cut_exchange.left cut_exchange.right free.behind fits.loans refl free.map refl refl)
 
   -- all master pointers stay
   pub cut-pointers : (x : ℕ) → slot_of (cut_in_two size z free) x ≡ slot_of z x
@@ -77,6 +80,7 @@ module _ (z : ZoneState) (at : ℕ) (pair : FreePair z at) where
   -- a zone with two free neighbours made one still fits
   pub joined-fits : Fits z → Fits (joined_pair z pair)
   joined-fits fits = free_changed-fits z (joined_pair z pair).heap.map joined_same fits
+      (loans-replaced z.heap (joined_pair z pair).heap pair.before joined_exchange.left joined_exchange.right pair.behind fits.loans refl pair.map refl refl)
 
   -- all master pointers stay
   pub joined-pointers : (x : ℕ) → slot_of (joined_pair z pair) x ≡ slot_of z x

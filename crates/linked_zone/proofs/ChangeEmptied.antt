@@ -6,18 +6,19 @@ use Rattle.mac_base.specs.declared.block.Kind.{Kind}
 use Rattle.mac_base.specs.declared.block.Kind.TheVariants.{Free, Master, Ptr, Rel}
 use Rattle.mac_base.specs.HeadKind.{head_size}
 use Rattle.mac_base.specs.ZoneMap.{ZoneMap, block, total_size, addresses, addresses_from, address_behind, contents_addresses, contents_of}
-use Rattle.mac_base.specs.HandleTable.{HandleTable, EmptyHandle, live_at, live_full, live_handle, live_pointer, is_full, is_handle, is_pointer, with_live}
+use Rattle.mac_base.specs.HandleTable.{HandleTable, EmptyHandle, live_at, live_full, live_handle, live_pointer, is_full, is_handle, is_lent, is_pointer, with_live}
 use Rattle.mac_base.specs.Suits.{is_handle_block, is_pointer_block, slots}
-use Rattle.mac_base.specs.ZoneState.{ZoneState}
+use Rattle.mac_base.specs.ZoneState.{ZoneState, with_heap}
 use Rattle.zone_laws.proofs.GapAppend.{addresses_from-append, addresses_from-none}
 use Rattle.zone_laws.proofs.Tables.{AgreeBut, live_at-with_live_same, with_live_agrees, in_order-with_live, by_number, eqb_same, eqb_swap, eqb-true-is, full_handle, handle_no_pointer}
 use Rattle.zone_laws.proofs.Owners.{none_named, none_named-from, no_length}
 use Rattle.zone_records.specs.declared.slot.Slot.TheVariants as slot
 use Rattle.linked_zone.specs.Owned.{slot_of, next_free, slot_of_live}
 use Rattle.linked_zone.specs.Places.{BlockOf}
-use Rattle.linked_zone.specs.Changes.{with_heap, freed, without_block}
+use Rattle.linked_zone.specs.Changes.{freed, without_block}
 use Rattle.linked_zone.specs.Fit.{Fits}
 use Rattle.linked_zone.proofs.ChangeParts.{same_slot, no_map, Fits-kept}
+use Rattle.linked_zone.proofs.Lent.{loans-replaced}
 use Rattle.linked_zone.proofs.ChangeBlock.{freed-only, none_handle, contents_of-first, swapped-addresses, swapped-slots, swapped-pointers, swapped-contents}
 
 -- the kind of the block of a handle
@@ -113,8 +114,8 @@ module _ (z : ZoneState) (h : ℕ) (fits : Fits z) (full : is_full z.heap.table 
     has : live_at u h ≡ Some EmptyHandle
     has = live_at-with_live_same h EmptyHandle z.heap.table
 
-    fits_apart : Fits (with_heap (record { table = u; map = m; free_slots = z.heap.free_slots }) z)
-    fits_apart = Fits-kept z u m fits
+    fits_apart : is_lent z.heap.table h ≡ false → Fits (with_heap (record { table = u; map = m; free_slots = z.heap.free_slots }) z)
+    fits_apart unlent = Fits-kept z u m fits
         (by_number (λ g. length (addresses z.shape (is_handle_block g) m) ≡ cond (is_full u g) 1 0) h
         (ap length (none_left (is_handle_block h) refl (none_handle h b.before emptied-none_before) (none_handle h b.behind emptied-none_behind)) ∙ ap (λ o. cond (live_full o) 1 0) (sym has))
         (λ g apart. ap length (swapped-addresses z b.before (Rel h) Free b.size b.behind b.map (is_handle_block g) (sym (eqb_swap h g ∙ apart))) ∙ fits.coherent.handles g ∙ ap (λ o. cond (live_full o) 1 0) (sym (agree.others g apart))))
@@ -123,7 +124,9 @@ module _ (z : ZoneState) (h : ℕ) (fits : Fits z) (full : is_full z.heap.table 
         (λ p apart. swapped-pointers z b.before (Rel h) Free b.size b.behind b.map p refl ∙ fits.coherent.pointers p ∙ ap (λ o. cond (live_pointer o) (p ∷ []) []) (sym (agree.others p apart))))
         (swapped-slots z b.before (Rel h) Free b.size b.behind b.map refl)
         (by_number (λ y. is_handle u y ≡ is_handle z.heap.table y) h (ap live_handle has ∙ sym (full_handle z.heap.table h full)) (λ y apart. ap live_handle (agree.others y apart)))
-        (in_order-with_live h EmptyHandle z.heap.table fits.coherent.in_order) fits.unlent
+        (in_order-with_live h EmptyHandle z.heap.table fits.coherent.in_order)
+        (loans-replaced z.heap (record { table = u; map = m; free_slots = z.heap.free_slots }) b.before (block (Rel h) b.size ∷ []) (block Free b.size ∷ []) b.behind fits.loans refl b.map refl
+        (sym (ap (λ c. cond c (h ∷ []) []) unlent)))
       where
         none_left : (test : Kind → Bool) → test Free ≡ false → IsTrue (list_all (λ (e : Entry). not (test e.kind)) b.before) → IsTrue (list_all (λ (e : Entry). not (test e.kind)) b.behind) → addresses z.shape test m ≡ []
         none_left test free before behind =
@@ -132,9 +135,9 @@ module _ (z : ZoneState) (h : ℕ) (fits : Fits z) (full : is_full z.heap.table 
             ∙ ap (λ c. cond c (here ∷ []) [] ++ addresses_from (here + b.size) test b.behind) free
             ∙ addresses_from-none (here + b.size) test b.behind behind
 
-    -- the zone still fits
-    pub emptied-fits : Fits (without_block h z)
-    emptied-fits = subst (λ m. Fits (with_heap (record { table = u; map = m; free_slots = z.heap.free_slots }) z)) (sym emptied-map) fits_apart
+    -- the zone still fits, where the handle isn't lent
+    pub emptied-fits : is_lent z.heap.table h ≡ false → Fits (without_block h z)
+    emptied-fits unlent = subst (λ m. Fits (with_heap (record { table = u; map = m; free_slots = z.heap.free_slots }) z)) (sym emptied-map) (fits_apart unlent)
 
     -- its master pointer says that it is empty
     pub emptied-pointer : slot_of (without_block h z) h ≡ slot.Empty

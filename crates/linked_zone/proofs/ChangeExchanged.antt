@@ -24,6 +24,7 @@ use Rattle.linked_zone.specs.Places.{MovablePair, is_movable}
 use Rattle.linked_zone.proofs.ChangeBlock.{contents_of-first}
 use Rattle.linked_zone.proofs.ChangeParts.{Fits-kept}
 use Rattle.linked_zone.proofs.ChangeSized.{names-one, passes-some}
+use Rattle.linked_zone.proofs.Lent.{loans-replaced, here-skip}
 
 -- the handle of a block is full
 pub rel-full : (z : ZoneState) (h : ℕ) (before : ZoneMap) (e : Entry) (behind : ZoneMap) → Fits z → z.heap.map ≡ before ++ e ∷ behind → e.kind ≡ Rel h → is_full z.heap.table h ≡ true
@@ -100,7 +101,10 @@ module _ (z : ZoneState) (at : ℕ) (pair : MovablePair z at) where
   exchanged-fits fits = Fits-kept z z.heap.table now.heap.map fits
       (λ g. same_count (is_handle_block g) ∙ fits.coherent.handles g)
       (λ p. contents-same z.shape (is_pointer_block p) z.heap.map now.heap.map (same_passes (is_pointer_block p) (no_pointer p pair.first.kind pair.first_moves) (no_pointer p pair.second.kind pair.second_moves)) ∙ fits.coherent.pointers p)
-      exchanged-slots (λ y. refl) fits.coherent.in_order fits.unlent
+      exchanged-slots (λ y. refl) fits.coherent.in_order
+      (loans-replaced z.heap now.heap pair.before pair_exchange.left pair_exchange.right pair.behind fits.loans refl pair.map refl
+      (here-skip z.heap.table pair.second (pair.first ∷ []) pair.second_here ∙ here-skip z.heap.table pair.first [] pair.first_here
+      ∙ sym (here-skip z.heap.table pair.first (pair.second ∷ []) pair.first_here ∙ here-skip z.heap.table pair.second [] pair.second_here)))
 
   -- where contents begin that are in neither
   pub exchanged-others : (y : ℕ) → is_named y pair.first.kind ≡ false → is_named y pair.second.kind ≡ false → contents_of z.shape y (exchanged z pair).heap.map ≡ contents_of z.shape y z.heap.map

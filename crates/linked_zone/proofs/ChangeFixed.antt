@@ -5,7 +5,7 @@ use Rattle.mac_base.specs.declared.block.Kind.{Kind}
 use Rattle.mac_base.specs.declared.block.Kind.TheVariants.{Free, Master, Ptr, Rel}
 use Rattle.mac_base.specs.HeadKind.{head_size, slot_count}
 use Rattle.mac_base.specs.ZoneMap.{ZoneMap, block, is_free, is_master, total_size, addresses, addresses_from, address_behind, contents_addresses}
-use Rattle.mac_base.specs.HandleTable.{HandleTable, Live, Pointer, zeros, live_at, live_full, live_handle, live_pointer, is_full, is_handle, is_pointer, with_live}
+use Rattle.mac_base.specs.HandleTable.{HandleTable, Live, Pointer, zeros, live_at, live_full, live_handle, live_pointer, is_full, is_handle, is_lent, is_pointer, with_live}
 use Rattle.mac_base.specs.Suits.{is_handle_block, is_pointer_block, slots}
 use Rattle.mac_base.specs.ZoneState.{ZoneState}
 use Rattle.zone_laws.proofs.GapAppend.{addresses_from-append}
@@ -18,6 +18,7 @@ use Rattle.linked_zone.specs.Places.{FreeAt}
 use Rattle.linked_zone.specs.Changes.{fixed}
 use Rattle.linked_zone.specs.Fit.{Fits, HasRooms}
 use Rattle.linked_zone.proofs.ChangeParts.{Contains-map, same_slot, none_named-fits, Fits-kept}
+use Rattle.linked_zone.proofs.Lent.{loans-replaced, not-lent}
 use Rattle.linked_zone.proofs.ChangeBlock.{none_pointer, none_named-parts, addresses-only, swapped-addresses, swapped-slots, swapped-pointers, swapped-contents}
 
 free_not_master : (kind : Kind) → is_free kind ≡ true → is_master kind ≡ false
@@ -70,8 +71,15 @@ module _ (z : ZoneState) (n at : ℕ) (free : FreeAt z at) (fits : Fits z) (room
   not_full : is_full z.heap.table p ≡ false
   not_full = false_from (is_full z.heap.table p) (λ full. cc (full_handle z.heap.table p full, fixed-no_handle))
 
+  none_all : none_named p z.heap.map ≡ true
+  none_all = none_named-fits z p fits not_full fixed-no_pointer
+
+  -- it isn't lent
+  pub fixed-unlent : is_lent z.heap.table p ≡ false
+  fixed-unlent = not-lent z.heap fits.loans p none_all
+
   none : (none_named p free.before ≡ true) × (none_named p free.behind ≡ true)
-  none = none_named-parts p free.before (block Free free.size) free.behind (ap (none_named p) (sym free.map) ∙ none_named-fits z p fits not_full fixed-no_pointer)
+  none = none_named-parts p free.before (block Free free.size) free.behind (ap (none_named p) (sym free.map) ∙ none_all)
 
   -- no block before the free one bears the pointer's name
   pub fixed-none_before : none_named p free.before ≡ true
@@ -111,7 +119,9 @@ module _ (z : ZoneState) (n at : ℕ) (free : FreeAt z at) (fits : Fits z) (room
       (λ q apart. swapped-pointers z free.before Free (Ptr p) free.size free.behind free.map q (eqb_swap p q ∙ apart) ∙ fits.coherent.pointers q ∙ ap (λ o. cond (live_pointer o) (q ∷ []) []) (sym (agree.others q apart))))
       (swapped-slots z free.before Free (Ptr p) free.size free.behind free.map refl)
       (by_number (λ y. is_handle u y ≡ is_handle z.heap.table y) p (ap live_handle has ∙ sym fixed-no_handle) (λ y apart. ap live_handle (agree.others y apart)))
-      (in_order-with_live p l z.heap.table fits.coherent.in_order) fits.unlent
+      (in_order-with_live p l z.heap.table fits.coherent.in_order)
+      (loans-replaced z.heap (record { table = u; map = m; free_slots = z.heap.free_slots }) free.before (block Free free.size ∷ []) (block (Ptr p) free.size ∷ []) free.behind fits.loans refl free.map refl
+      (ap (λ c. cond c (p ∷ []) []) fixed-unlent))
     where
       full : (g : ℕ) → is_full u g ≡ is_full z.heap.table g
       full = by_number (λ g. is_full u g ≡ is_full z.heap.table g) p (ap live_full has ∙ sym not_full) (λ g apart. ap live_full (agree.others g apart))

@@ -11,6 +11,7 @@ use Rattle.linked_zone.specs.Owned.{slot_flags, slot_of, next_free, slot_of_live
 use Rattle.linked_zone.specs.Changes.{flagged}
 use Rattle.linked_zone.specs.Fit.{Fits}
 use Rattle.linked_zone.proofs.ChangeParts.{same_slot, Fits-same_map}
+use Rattle.linked_zone.proofs.Lent.{loans-kept}
 
 module _ (z : ZoneState) (h : ℕ) (flags : Flags) (fits : Fits z) (full : is_full z.heap.table h ≡ true) where
   -- the slot is one of the zone's
@@ -35,7 +36,8 @@ module _ (z : ZoneState) (h : ℕ) (flags : Flags) (fits : Fits z) (full : is_fu
       (ap live_full has ∙ sym full)
       (ap live_pointer has ∙ sym (handle_no_pointer z.heap.table h (full_handle z.heap.table h full)))
       (ap live_handle has ∙ sym (full_handle z.heap.table h full))
-      (in_order-with_live h l z.heap.table fits.coherent.in_order) fits.unlent
+      (in_order-with_live h l z.heap.table fits.coherent.in_order)
+      (loans-kept z.heap (record { table = u; map = z.heap.map; free_slots = z.heap.free_slots }) fits.loans refl refl)
 
   -- its master pointer says the flags and where its block's contents begin
   pub flagged-pointer : slot_of (flagged h flags z) h ≡ slot.Full (slot_flags z.shape.heads flags) (contents_of z.shape h z.heap.map)

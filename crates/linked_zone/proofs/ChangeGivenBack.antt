@@ -13,6 +13,7 @@ use Rattle.linked_zone.specs.Owned.{slot_of, next_free, slot_of_live}
 use Rattle.linked_zone.specs.Changes.{given_back}
 use Rattle.linked_zone.specs.Fit.{Fits}
 use Rattle.linked_zone.proofs.ChangeParts.{same_slot, next_free-skip, next_free-front}
+use Rattle.linked_zone.proofs.Lent.{loans-kept}
 
 module _ (z : ZoneState) (h : ℕ) (fits : Fits z) (empty : live_at z.heap.table h ≡ Some EmptyHandle) where
   -- the slot is one of the zone's
@@ -61,7 +62,7 @@ module _ (z : ZoneState) (h : ℕ) (fits : Fits z) (empty : live_at z.heap.table
           ));
       once = IsDistinct-more h z.heap.free_slots not_free fits.slots.once;
     };
-    unlent = fits.unlent;
+    loans = loans-kept z.heap (given_back h z).heap fits.loans refl refl;
   }
 
   -- its master pointer says which slot is given behind it

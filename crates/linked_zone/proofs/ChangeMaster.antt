@@ -28,6 +28,7 @@ use Rattle.linked_zone.specs.Places.{RoomFor}
 use Rattle.linked_zone.specs.Changes.{with_master}
 use Rattle.linked_zone.specs.Fit.{Fits, HasRooms}
 use Rattle.linked_zone.proofs.ChangeParts.{same_slot, next_free-skip, next_free-front, slots_from-bounds, Contains-map}
+use Rattle.linked_zone.proofs.Lent.{loans-replaced}
 use Rattle.linked_zone.proofs.ChangeBlock.{swapped-addresses, swapped-pointers, swapped-contents}
 
 -- behind a slot of n that isn't the last one, the next one is given
@@ -251,7 +252,7 @@ module _ (z : ZoneState) (at : ℕ) (r : RoomFor z at master_length) (fits : Fit
       );
       once = slots_from-distinct slot_count (at + head) z.heap.free_slots (λ x own c. master-apart x ((fits.slots.free x).0 c).0 own) fits.slots.once;
     };
-    unlent = fits.unlent;
+    loans = loans-replaced z.heap (with_master z r.free).heap r.free.before (block Free r.free.size ∷ []) (block Master r.free.size ∷ []) r.free.behind fits.loans refl r.free.map refl refl;
   }
 
   -- a new slot says which is given behind it

@@ -7,16 +7,16 @@ use Rattle.std.proofs.lemmas.List.Elements.{Contains-append_cases}
 use Rattle.mac_base.specs.declared.block.Kind.{Kind}
 use Rattle.mac_base.specs.declared.block.Kind.TheVariants.{Free, Master, Ptr, Rel}
 use Rattle.mac_base.specs.HeadKind.{Shape, zone_header, head_size, slot_count}
+use Rattle.mac_base.specs.Loans.{LoansFit}
 use Rattle.mac_base.specs.ZoneMap.{ZoneMap, is_master, address_behind, addresses, addresses_from, contents_addresses, contents_of}
 use Rattle.mac_base.specs.HandleTable.{HandleTable, live_at, live_full, live_handle, live_pointer, is_full, is_handle, is_pointer}
 use Rattle.mac_base.specs.Suits.{is_handle_block, is_pointer_block, slots, slots_from}
-use Rattle.mac_base.specs.ZoneState.{ZoneState}
+use Rattle.mac_base.specs.ZoneState.{ZoneState, with_heap}
 use Rattle.zone_laws.proofs.Tables.{AgreeBut, by_number, eqb_same, eqb_swap}
 use Rattle.zone_laws.proofs.Owners.{none_named, none_named-from, no_length}
 use Rattle.zone_laws.proofs.SlotPlaces.{slot_no_contents, Contains-none, Contains-here, Contains-later, Contains-cons_cases}
 use Rattle.zone_laws.proofs.SlotOwners.{false_from}
 use Rattle.linked_zone.specs.Owned.{slot_of, next_free, slot_of_live}
-use Rattle.linked_zone.specs.Changes.{with_heap}
 use Rattle.linked_zone.specs.Fit.{Fits, HasRooms}
 
 -- two zones say the same of a slot where it has the same in both
@@ -110,9 +110,9 @@ none_named-fits z x fits full pointer = none_named-from (address_behind z.shape 
 -- a zone whose slots, handles and free slots stay fits where its blocks are those that its table has
 pub Fits-kept : (z : ZoneState) (u : HandleTable) (m : ZoneMap) → Fits z → ((g : ℕ) → length (addresses z.shape (is_handle_block g) m) ≡ cond (is_full u g) 1 0)
     → ((p : ℕ) → contents_addresses z.shape (is_pointer_block p) m ≡ cond (is_pointer u p) (p ∷ []) []) → slots z.shape m ≡ slots z.shape z.heap.map
-    → ((x : ℕ) → is_handle u x ≡ is_handle z.heap.table x) → IsTrue (is_sorted nat_cmp u.live) → u.lent ≡ []
+    → ((x : ℕ) → is_handle u x ≡ is_handle z.heap.table x) → IsTrue (is_sorted nat_cmp u.live) → LoansFit (record { table = u; map = m; free_slots = z.heap.free_slots })
     → Fits (with_heap (record { table = u; map = m; free_slots = z.heap.free_slots }) z)
-Fits-kept z u m fits handles pointers same live rise unlent = record {
+Fits-kept z u m fits handles pointers same live rise loans = record {
   coherent = record {
     handles = handles;
     pointers = pointers;
@@ -126,13 +126,13 @@ Fits-kept z u m fits handles pointers same live rise unlent = record {
     );
     once = fits.slots.once;
   };
-  unlent = unlent;
+  loans = loans;
 }
 
 -- the same where the blocks stay, and x has a block or not, and is a pointer or not, as before
 pub Fits-same_map : (z : ZoneState) (x : ℕ) (u : HandleTable) → Fits z → AgreeBut x z.heap.table u → is_full u x ≡ is_full z.heap.table x → is_pointer u x ≡ is_pointer z.heap.table x
-    → is_handle u x ≡ is_handle z.heap.table x → IsTrue (is_sorted nat_cmp u.live) → u.lent ≡ [] → Fits (with_heap (record { table = u; map = z.heap.map; free_slots = z.heap.free_slots }) z)
-Fits-same_map z x u fits agree full pointer handle rise unlent = Fits-kept z u z.heap.map fits
+    → is_handle u x ≡ is_handle z.heap.table x → IsTrue (is_sorted nat_cmp u.live) → LoansFit (record { table = u; map = z.heap.map; free_slots = z.heap.free_slots }) → Fits (with_heap (record { table = u; map = z.heap.map; free_slots = z.heap.free_slots }) z)
+Fits-same_map z x u fits agree full pointer handle rise loans = Fits-kept z u z.heap.map fits
     (by_number (λ g. length (addresses z.shape (is_handle_block g) z.heap.map) ≡ cond (is_full u g) 1 0) x
     (fits.coherent.handles x ∙ ap (λ b. cond b 1 0) (sym full))
     (λ g apart. fits.coherent.handles g ∙ ap (λ o. cond (live_full o) 1 0) (sym (agree.others g apart))))
@@ -141,4 +141,4 @@ Fits-same_map z x u fits agree full pointer handle rise unlent = Fits-kept z u z
     (λ p apart. fits.coherent.pointers p ∙ ap (λ o. cond (live_pointer o) (p ∷ []) []) (sym (agree.others p apart))))
     refl
     (by_number (λ y. is_handle u y ≡ is_handle z.heap.table y) x handle (λ y apart. ap live_handle (agree.others y apart)))
-    rise unlent
+    rise loans

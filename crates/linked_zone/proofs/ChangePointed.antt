@@ -1,9 +1,9 @@
 -- What a zone is once an empty handle has a block that was free.
-use Rattle.std.proofs.Common.{◌≡◌, ℕ, ◌+◌, true, cond, [], ◌∷◌, ◌++◌, length, Some, refl, ap, sym, ◌∙◌, Contains, ne_eqb}
+use Rattle.std.proofs.Common.{◌≡◌, ℕ, ◌+◌, true, false, cond, [], ◌∷◌, ◌++◌, length, Some, refl, ap, sym, ◌∙◌, Contains, ne_eqb}
 use Rattle.mac_base.specs.declared.block.Kind.TheVariants.{Free, Rel}
 use Rattle.mac_base.specs.HeadKind.{head_size}
 use Rattle.mac_base.specs.ZoneMap.{ZoneMap, block, addresses, contents_addresses, contents_of}
-use Rattle.mac_base.specs.HandleTable.{HandleTable, Live, EmptyHandle, FullHandle, no_flags, zeros, live_at, live_full, live_handle, live_pointer, is_full, is_handle, is_pointer, with_live}
+use Rattle.mac_base.specs.HandleTable.{HandleTable, Live, EmptyHandle, FullHandle, no_flags, zeros, live_at, live_full, live_handle, live_pointer, is_full, is_handle, is_lent, is_pointer, with_live}
 use Rattle.mac_base.specs.Suits.{is_handle_block, is_pointer_block, slots}
 use Rattle.mac_base.specs.ZoneState.{ZoneState}
 use Rattle.zone_laws.proofs.Tables.{AgreeBut, live_at-with_live_same, with_live_agrees, in_order-with_live, by_number, eqb_same, eqb_swap}
@@ -14,6 +14,7 @@ use Rattle.linked_zone.specs.Places.{FreeAt}
 use Rattle.linked_zone.specs.Changes.{pointed}
 use Rattle.linked_zone.specs.Fit.{Fits}
 use Rattle.linked_zone.proofs.ChangeParts.{same_slot, none_named-fits, Fits-kept}
+use Rattle.linked_zone.proofs.Lent.{loans-replaced, not-lent}
 use Rattle.linked_zone.proofs.ChangeBlock.{none_handle, none_named-parts, addresses-only, contents_of-first, swapped-addresses, swapped-slots, swapped-pointers, swapped-contents}
 
 module _ (z : ZoneState) (h n at : ℕ) (free : FreeAt z at) (fits : Fits z) (empty : live_at z.heap.table h ≡ Some EmptyHandle) where
@@ -24,6 +25,10 @@ module _ (z : ZoneState) (h n at : ℕ) (free : FreeAt z at) (fits : Fits z) (em
   -- no block bears the handle's name
   pub pointed-none : none_named h z.heap.map ≡ true
   pointed-none = none_named-fits z h fits (ap live_full empty) (ap live_pointer empty)
+
+  -- it isn't lent
+  pub pointed-unlent : is_lent z.heap.table h ≡ false
+  pointed-unlent = not-lent z.heap fits.loans h pointed-none
 
   none : (none_named h free.before ≡ true) × (none_named h free.behind ≡ true)
   none = none_named-parts h free.before (block Free free.size) free.behind (ap (none_named h) (sym free.map) ∙ pointed-none)
@@ -63,7 +68,9 @@ module _ (z : ZoneState) (h n at : ℕ) (free : FreeAt z at) (fits : Fits z) (em
       (λ p apart. swapped-pointers z free.before Free (Rel h) free.size free.behind free.map p refl ∙ fits.coherent.pointers p ∙ ap (λ o. cond (live_pointer o) (p ∷ []) []) (sym (agree.others p apart))))
       (swapped-slots z free.before Free (Rel h) free.size free.behind free.map refl)
       (by_number (λ y. is_handle u y ≡ is_handle z.heap.table y) h (ap live_handle has ∙ sym (ap live_handle empty)) (λ y apart. ap live_handle (agree.others y apart)))
-      (in_order-with_live h l z.heap.table fits.coherent.in_order) fits.unlent
+      (in_order-with_live h l z.heap.table fits.coherent.in_order)
+      (loans-replaced z.heap (record { table = u; map = m; free_slots = z.heap.free_slots }) free.before (block Free free.size ∷ []) (block (Rel h) free.size ∷ []) free.behind fits.loans refl free.map refl
+      (ap (λ c. cond c (h ∷ []) []) pointed-unlent))
 
   -- its contents begin behind the block's header
   pub pointed-contents : contents_of z.shape h (pointed h n z free).heap.map ≡ at + head_size z.shape.heads

@@ -1,17 +1,18 @@
 -- What a zone is once the block of a handle or a pointer has another size where it stands, and its owner another number of bytes.
 use Rattle.std.proofs.Common.{◌≡◌, ℕ, suc, ◌+◌, ◌-◌, ◌≤◌, Bool, true, false, cond, List, [], ◌∷◌, ◌++◌, length, map, Some, None, Option, refl, ap, sym, ◌∙◌, arith, ne_eqb, length-append, append_assoc, ◌==◌, ◌||◌, ◌⊎◌, inl, inr}
 use Rattle.std.specs.Prelude.{slice_index}
-use Rattle.std.specs.List.{list_all}
+use Rattle.std.specs.List.{filter, list_all}
 use Rattle.std.proofs.lemmas.Bool.Decides.{nat_tests}
 use Rattle.mac_base.specs.declared.block.Entry.{Entry}
 use Rattle.mac_base.specs.declared.block.Kind.{Kind}
 use Rattle.mac_base.specs.declared.block.Kind.TheVariants.{Free, Master, Ptr, Rel}
 use Rattle.mac_base.specs.HeadKind.{head_size}
 use Rattle.mac_base.specs.declared.block.HeadKind.{HeadKind}
+use Rattle.mac_base.specs.Loans.{owner_of, owners}
 use Rattle.mac_base.specs.ZoneMap.{ZoneMap, block, free_block, is_free, is_master, is_named, total_size, free_bytes, free_size, addresses, addresses_from, address_behind, contents_addresses, contents_of}
-use Rattle.mac_base.specs.HandleTable.{HandleTable, Live, EmptyHandle, FullHandle, Pointer, live_at, live_bytes, live_full, live_handle, live_pointer, bytes_of, has_block, is_full, is_handle, is_pointer, refilled, resized, with_live}
+use Rattle.mac_base.specs.HandleTable.{HandleTable, Live, EmptyHandle, FullHandle, Pointer, live_at, live_bytes, live_full, live_handle, live_pointer, bytes_of, has_block, is_full, is_handle, is_lent, is_pointer, refilled, resized, with_live}
 use Rattle.mac_base.specs.Suits.{is_handle_block, is_pointer_block}
-use Rattle.mac_base.specs.ZoneState.{ZoneState}
+use Rattle.mac_base.specs.ZoneState.{ZoneState, with_heap}
 use Rattle.zone_laws.proofs.Joined.{free_kind}
 use Rattle.zone_laws.proofs.Maps.{both_true, Exchanged, addresses_from-exchanged, addresses_from-skip}
 use Rattle.zone_laws.proofs.GapAppend.{addresses_from-append}
@@ -20,13 +21,14 @@ use Rattle.zone_laws.proofs.Tables.{AgreeBut, live_at-with_live_same, with_live_
 use Rattle.zone_laws.proofs.Owners.{none_named, none_named-from, no_length}
 use Rattle.linked_zone.specs.Owned.{slot_of, next_free, slot_of_live}
 use Rattle.linked_zone.specs.Places.{CanFront}
-use Rattle.linked_zone.specs.Changes.{with_heap, sized}
+use Rattle.linked_zone.specs.Changes.{sized}
 use Rattle.linked_zone.specs.Fit.{Fits}
 use Rattle.linked_zone.proofs.ChangeParts.{same_slot, no_map, Fits-kept}
 use Rattle.linked_zone.proofs.ChangeBlock.{contents_of-first}
+use Rattle.linked_zone.proofs.Lent.{loans-replaced, owners-free}
 
 -- a handle with a block or a pointer keeps what it is when its bytes change, and what its slot says
-record Refilled (bytes : List ℕ) (o : Option Live) : Type 0 where
+pub record Refilled (bytes : List ℕ) (o : Option Live) : Type 0 where
   pub full : live_full (Some (refilled bytes o)) ≡ live_full o
   pub pointer : live_pointer (Some (refilled bytes o)) ≡ live_pointer o
   pub handle : live_handle (Some (refilled bytes o)) ≡ live_handle o
@@ -34,7 +36,7 @@ record Refilled (bytes : List ℕ) (o : Option Live) : Type 0 where
   pub word : (heads : HeadKind) (a n : ℕ) → slot_of_live heads (Some (refilled bytes o)) a n ≡ slot_of_live heads o a n
 
 -- a handle with a block does, and a pointer
-refilled_block : (bytes : List ℕ) (o : Option Live) → (live_full o || live_pointer o) ≡ true → Refilled bytes o
+pub refilled_block : (bytes : List ℕ) (o : Option Live) → (live_full o || live_pointer o) ≡ true → Refilled bytes o
 refilled_block bytes None h = absurd (cc h)
 refilled_block bytes (Some EmptyHandle) h = absurd (cc h)
 refilled_block bytes (Some (FullHandle flags old)) h = record { full = refl; pointer = refl; handle = refl; holds = refl; word = λ heads a n. refl }
@@ -180,6 +182,10 @@ total_free_block n = elim (n == 0) as (λ b. (n == 0) ≡ b → total_size (cond
 no_free_block : (at : ℕ) (test : Kind → Bool) (n : ℕ) → test Free ≡ false → addresses_from at test (free_block n) ≡ []
 no_free_block at test n free = elim (n == 0) as (λ b. addresses_from at test (cond b [] (block Free n ∷ [])) ≡ []) [ true ↦ refl | false ↦ addresses_from-skip at test (block Free n) [] free ]
 
+-- it has no owner
+owners-over : (n : ℕ) → owners (free_block n) ≡ []
+owners-over n = elim (n == 0) as (λ b. owners (cond b [] (block Free n ∷ [])) ≡ []) [ true ↦ refl | false ↦ refl ]
+
 -- the free bytes of free blocks
 all_free : (m : ZoneMap) → list_all (λ (e : Entry). is_free e.kind) m ≡ true → free_bytes m ≡ total_size m
 all_free [] h = refl
@@ -249,7 +255,10 @@ module _ (z : ZoneState) (x whole size n : ℕ) (fits : Fits z) (r : Room z x wh
       (λ p. contents-same z.shape (is_pointer_block p) z.heap.map sized_map (sized_same (is_pointer_block p) refl) ∙ fits.coherent.pointers p ∙ ap (λ b. cond b (p ∷ []) []) (sym (pointer p)))
       (slots-same z.shape z.heap.map sized_map (sized_same is_master refl))
       (by_number (λ y. is_handle u y ≡ is_handle z.heap.table y) x (ap live_handle has ∙ same.handle) (λ y apart. ap live_handle (agree.others y apart)))
-      (in_order-with_live x l z.heap.table fits.coherent.in_order) fits.unlent
+      (in_order-with_live x l z.heap.table fits.coherent.in_order)
+      (loans-replaced z.heap sized_zone.heap r.before (r.here ∷ r.room) (block r.here.kind size ∷ free_block (whole - size)) r.behind fits.loans refl r.map
+      (append_assoc r.before (block r.here.kind size ∷ free_block (whole - size)) r.behind)
+      (ap (λ os. filter (is_lent z.heap.table) (owner_of r.here.kind ++ os)) (owners-over (whole - size) ∙ sym (owners-free r.room r.free))))
     where
       full : (g : ℕ) → is_full u g ≡ is_full z.heap.table g
       full = by_number (λ y. is_full u y ≡ is_full z.heap.table y) x (ap live_full has ∙ same.full) (λ y apart. ap live_full (agree.others y apart))

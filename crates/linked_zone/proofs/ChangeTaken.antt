@@ -17,6 +17,7 @@ use Rattle.linked_zone.specs.Owned.{slot_of, next_free, slot_of_live}
 use Rattle.linked_zone.specs.Changes.{taken}
 use Rattle.linked_zone.specs.Fit.{Fits, HasRooms}
 use Rattle.linked_zone.proofs.ChangeParts.{same_slot, next_free-skip, next_free-front, slot-no_pointer}
+use Rattle.linked_zone.proofs.Lent.{loans-kept}
 
 -- the other free slots are just the slots that aren't live once the front one is
 front_slot-taken : (h : ℕ) (hs all : List ℕ) (t u : HandleTable) → IsDistinct nat_eq (h ∷ hs) → ((x : ℕ) → Contains (h ∷ hs) x ↔ (Contains all x × IsFalse (is_handle t x))) → AgreeBut h t u → is_handle u h ≡ true
@@ -84,7 +85,7 @@ module _ (z : ZoneState) (h : ℕ) (hs : List ℕ) (fits : Fits z) (rooms : HasR
           (subst (λ xs. (x : ℕ) → Contains xs x ↔ (Contains (slots z.shape z.heap.map) x × IsFalse (is_handle z.heap.table x))) front fits.slots.free) agree (ap live_handle has));
       once = subst (IsDistinct nat_eq) (sym rest) (IsDistinct-tail nat_eq h hs once_front);
     };
-    unlent = fits.unlent;
+    loans = loans-kept z.heap (taken h z).heap fits.loans refl refl;
   }
     where
       once_front : IsDistinct nat_eq (h ∷ hs)

@@ -4,21 +4,22 @@ use Rattle.mac_base.specs.declared.block.Kind.{Kind}
 use Rattle.mac_base.specs.declared.block.Kind.TheVariants.{Free, Master, Ptr, Rel}
 use Rattle.mac_base.specs.HeadKind.{head_size}
 use Rattle.mac_base.specs.ZoneMap.{ZoneMap, block, is_named, total_size, addresses, addresses_from, address_behind, contents_addresses, contents_of}
-use Rattle.mac_base.specs.HandleTable.{HandleTable, live_at, live_full, live_handle, live_pointer, is_full, is_handle, is_pointer, without}
+use Rattle.mac_base.specs.HandleTable.{HandleTable, live_at, live_full, live_handle, live_pointer, is_full, is_handle, is_lent, is_pointer, without}
 use Rattle.mac_base.specs.Suits.{is_handle_block, is_pointer_block}
-use Rattle.mac_base.specs.ZoneState.{ZoneState}
+use Rattle.mac_base.specs.ZoneState.{ZoneState, with_heap}
 use Rattle.zone_laws.proofs.GapAppend.{addresses_from-append, addresses_from-none}
 use Rattle.zone_laws.proofs.SlotOwners.{false_from}
 use Rattle.zone_laws.proofs.Tables.{AgreeBut, live_at-without_same, without_agrees, in_order-without, by_number, eqb_swap, eqb-true-is, pointer_no_handle}
 use Rattle.zone_laws.proofs.Owners.{none_named, no_length}
 use Rattle.linked_zone.specs.Owned.{slot_of}
 use Rattle.linked_zone.specs.Places.{NamedAt}
-use Rattle.linked_zone.specs.Changes.{with_heap, unfixed}
+use Rattle.linked_zone.specs.Changes.{unfixed}
 use Rattle.linked_zone.specs.Fit.{Fits}
 use Rattle.linked_zone.proofs.ChangeParts.{same_slot, Fits-kept}
 use Rattle.linked_zone.proofs.ChangeBlock.{none_pointer, swapped-addresses, swapped-slots, swapped-pointers, swapped-contents}
 use Rattle.linked_zone.proofs.ChangeSized.{names-one, passes-some}
 use Rattle.linked_zone.proofs.ChangeBlock.{freed-only}
+use Rattle.linked_zone.proofs.Lent.{loans-replaced}
 
 module _ (z : ZoneState) (p at : ℕ) (fits : Fits z) (live : is_pointer z.heap.table p ≡ true) (b : NamedAt z p at) where
   no_handle : (is_handle z.heap.table p ≡ false) × (is_full z.heap.table p ≡ false)
@@ -73,22 +74,24 @@ module _ (z : ZoneState) (p at : ℕ) (fits : Fits z) (live : is_pointer z.heap.
       ∙ ap (λ found. found ++ addresses_from (here + b.here.size) (is_pointer_block p) b.behind) (addresses_from-none start (is_pointer_block p) b.before (none_pointer p b.before unfixed-none_before))
       ∙ addresses_from-none (here + b.here.size) (is_pointer_block p) b.behind (none_pointer p b.behind unfixed-none_behind))
 
-  fits_apart : Fits (with_heap (record { table = u; map = m; free_slots = z.heap.free_slots }) z)
-  fits_apart = Fits-kept z u m fits
+  fits_apart : is_lent z.heap.table p ≡ false → Fits (with_heap (record { table = u; map = m; free_slots = z.heap.free_slots }) z)
+  fits_apart unlent = Fits-kept z u m fits
       (λ g. ap length (swapped-addresses z b.before (Ptr p) Free b.here.size b.behind unfixed-was (is_handle_block g) refl) ∙ fits.coherent.handles g ∙ ap (λ c. cond c 1 0) (sym (full g)))
       (by_number (λ q. contents_addresses z.shape (is_pointer_block q) m ≡ cond (is_pointer u q) (q ∷ []) []) p
       (no_block ∙ ap (λ o. cond (live_pointer o) (p ∷ []) []) (sym gone))
       (λ q apart. swapped-pointers z b.before (Ptr p) Free b.here.size b.behind unfixed-was q (sym (eqb_swap p q ∙ apart)) ∙ fits.coherent.pointers q ∙ ap (λ o. cond (live_pointer o) (q ∷ []) []) (sym (agree.others q apart))))
       (swapped-slots z b.before (Ptr p) Free b.here.size b.behind unfixed-was refl)
       (by_number (λ y. is_handle u y ≡ is_handle z.heap.table y) p (ap live_handle gone ∙ sym no_handle.0) (λ y apart. ap live_handle (agree.others y apart)))
-      (in_order-without p z.heap.table fits.coherent.in_order) fits.unlent
+      (in_order-without p z.heap.table fits.coherent.in_order)
+      (loans-replaced z.heap (record { table = u; map = m; free_slots = z.heap.free_slots }) b.before (block (Ptr p) b.here.size ∷ []) (block Free b.here.size ∷ []) b.behind fits.loans refl unfixed-was refl
+      (sym (ap (λ c. cond c (p ∷ []) []) unlent)))
     where
       full : (g : ℕ) → is_full u g ≡ is_full z.heap.table g
       full = by_number (λ g. is_full u g ≡ is_full z.heap.table g) p (ap live_full gone ∙ sym no_handle.1) (λ g apart. ap live_full (agree.others g apart))
 
-  -- the zone still fits
-  pub unfixed-fits : Fits (unfixed p z)
-  unfixed-fits = subst (λ m. Fits (with_heap (record { table = u; map = m; free_slots = z.heap.free_slots }) z)) (sym unfixed-map) fits_apart
+  -- the zone still fits, where the pointer isn't lent
+  pub unfixed-fits : is_lent z.heap.table p ≡ false → Fits (unfixed p z)
+  unfixed-fits unlent = subst (λ m. Fits (with_heap (record { table = u; map = m; free_slots = z.heap.free_slots }) z)) (sym unfixed-map) (fits_apart unlent)
 
   -- the master pointers of all others stay
   pub unfixed-others : (x : ℕ) → (x ≡ p → ⊥) → slot_of (unfixed p z) x ≡ slot_of z x

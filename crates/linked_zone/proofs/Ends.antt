@@ -6,7 +6,7 @@ use Rattle.mac_base.specs.HeadKind.{Shape}
 use Rattle.mac_base.specs.ZoneMap.{ZoneMap, total_size, address_behind}
 use Rattle.mac_base.specs.Heap.{Heap}
 use Rattle.mac_base.specs.Suits.{slots, is_block_size}
-use Rattle.mac_base.specs.ZoneState.{ZoneState}
+use Rattle.mac_base.specs.ZoneState.{Memory, ZoneState, with_heap}
 use Rattle.zone_laws.proofs.Maps.{Exchanged, total_size-exchanged, list_all-exchanged}
 use Rattle.zone_laws.proofs.Tables.{eqb-true-is, eqb_same}
 use Rattle.zone_records.specs.declared.slot.Slot.{Slot}
@@ -14,7 +14,6 @@ use Rattle.zone_records.specs.Records.{BlockRecord, ZoneRecords}
 use Rattle.zone_records.specs.Records as records
 use Rattle.zone_records.specs.Changes.{with_slot}
 use Rattle.zone_records.specs.Places.{SlotAt}
-use Rattle.linked_zone.specs.Changes.{with_heap}
 use Rattle.linked_zone.specs.Fit.{Fits, has_room}
 use Rattle.linked_zone.specs.Owned.{Owners, owners_of, records_of, records_from}
 use Rattle.linked_zone.proofs.Standing.{Stands, Kept, kept}
@@ -22,23 +21,23 @@ use Rattle.linked_zone.proofs.Owning.{image, records-middle, records-place, reco
 
 -- ---- a slot
 
-module _ (r : ZoneRecords) (s : Shape) (front : ℕ) (o : Owners) (m : ZoneMap) (is : r ≡ image s front o m) (rooms : list_all (has_room s) m ≡ true) (h : ℕ) (c : Contains (slots s m) h) where
+module _ (r : ZoneRecords) (memory : Memory) (s : Shape) (front : ℕ) (o : Owners) (m : ZoneMap) (is : r ≡ image memory s front o m) (rooms : list_all (has_room s) m ≡ true) (h : ℕ) (c : Contains (slots s m) h) where
   -- it stands there
   pub slot-there : SlotAt r h
-  slot-there = subst (λ r. SlotAt r h) (sym is) (slot-at s front o m h rooms c)
+  slot-there = subst (λ r. SlotAt r h) (sym is) (slot-at memory s front o m h rooms c)
 
   -- what is read there
   pub slot-read : (said : Slot) → ((t : SlotAt r h) → said ≡ t.here) → said ≡ o.slot h
-  slot-read said reads = (subst (λ (r : ZoneRecords). (t : SlotAt r h) → said ≡ t.here) is reads) (slot-at s front o m h rooms c)
+  slot-read said reads = (subst (λ (r : ZoneRecords). (t : SlotAt r h) → said ≡ t.here) is reads) (slot-at memory s front o m h rooms c)
 
   -- and what it is to write there
-  pub slot-write : (n : ZoneRecords) (w : Slot) → ((t : SlotAt r h) → n ≡ with_slot w r t) → n ≡ image s front (slot_set o h w) m
-  slot-write n w writes = (subst (λ (r : ZoneRecords). (t : SlotAt r h) → n ≡ with_slot w r t) is writes) (slot-at s front o m h rooms c) ∙ slot-written s front o m h rooms c w
+  pub slot-write : (n : ZoneRecords) (w : Slot) → ((t : SlotAt r h) → n ≡ with_slot w r t) → n ≡ image memory s front (slot_set o h w) m
+  slot-write n w writes = (subst (λ (r : ZoneRecords). (t : SlotAt r h) → n ≡ with_slot w r t) is writes) (slot-at memory s front o m h rooms c) ∙ slot-written memory s front o m h rooms c w
 
 -- with one slot written the blocks are those of owners who say this there and the same elsewhere
-pub slot-settled : (s : Shape) (front : ℕ) (o p : Owners) (m : ZoneMap) (h : ℕ) (w : Slot) → p.slot h ≡ w → ((x : ℕ) → (x ≡ h → ⊥) → p.slot x ≡ o.slot x) → ((x : ℕ) → p.flags x ≡ o.flags x) → ((x : ℕ) → p.bytes x ≡ o.bytes x)
-    → image s front (slot_set o h w) m ≡ image s front p m
-slot-settled s front o p m h w here others flags bytes = sym (image-same s front (slot_set o h w) p m (λ x _. by_test x (eqb x h) refl) flags bytes)
+pub slot-settled : (memory : Memory) (s : Shape) (front : ℕ) (o p : Owners) (m : ZoneMap) (h : ℕ) (w : Slot) → p.slot h ≡ w → ((x : ℕ) → (x ≡ h → ⊥) → p.slot x ≡ o.slot x) → ((x : ℕ) → p.flags x ≡ o.flags x) → ((x : ℕ) → p.bytes x ≡ o.bytes x) → ((x : ℕ) → p.lent x ≡ o.lent x)
+    → image memory s front (slot_set o h w) m ≡ image memory s front p m
+slot-settled memory s front o p m h w here others flags bytes lent = sym (image-same memory s front (slot_set o h w) p m (λ x _. by_test x (eqb x h) refl) flags bytes lent)
   where
     by_test : (x : ℕ) (b : Bool) → eqb x h ≡ b → p.slot x ≡ cond b w (o.slot x)
     by_test x true is = ap p.slot (eqb-true-is x h is) ∙ here
@@ -73,11 +72,11 @@ module _ (z : ZoneState) (heap : Heap) (x : Exchanged z.heap.map heap.map) where
   -- with another middle part they are those of the new map, for owners who say the same in slots and have the same before and behind
   pub parts-after : (n : ZoneRecords) (front : ℕ) (q : Owners) → SameSlots (owners_of z) q z.shape (address_behind z.shape []) x.before
       → SameSlots (owners_of z) q z.shape ((address_behind z.shape [] + total_size x.before) + total_size x.left) x.behind → SameNamed (owners_of z) q x.before → SameNamed (owners_of z) q x.behind
-      → n ≡ record { shape = z.shape; front = front; blocks = lower (owners_of z) z.shape x.before ++ (middle q z.shape x.before x.right ++ upper (owners_of z) z.shape x.before x.left x.behind) }
-      → n ≡ image z.shape front q heap.map
+      → n ≡ record { memory = z.memory; shape = z.shape; front = front; blocks = lower (owners_of z) z.shape x.before ++ (middle q z.shape x.before x.right ++ upper (owners_of z) z.shape x.before x.left x.behind) }
+      → n ≡ image z.memory z.shape front q heap.map
   parts-after n front q slot later first second is =
-      is ∙ ap (λ bs. record { shape = z.shape; front = front; blocks = bs }) (sym (records-replaced o q z.shape (address_behind z.shape []) x.before x.left x.right x.behind x.as_large slot later first second))
-      ∙ ap (image z.shape front q) (sym x.is)
+      is ∙ ap (λ bs. record { memory = z.memory; shape = z.shape; front = front; blocks = bs }) (sym (records-replaced o q z.shape (address_behind z.shape []) x.before x.left x.right x.behind x.as_large slot later first second))
+      ∙ ap (image z.memory z.shape front q) (sym x.is)
 
   -- blocks of the changed zone stand for it
   pub ended : (r n : ZoneRecords) → Stands r z → Fits (with_heap heap z) → list_all (λ (e : Entry). is_block_size z.shape e.size) x.right ≡ true → list_all (has_room z.shape) x.right ≡ true

@@ -24,11 +24,11 @@ use Rattle.linked_zone.proofs.ChangeCut.{cut_exchange, cut-fits, cut-pointers, j
 -- free blocks in place of others
 free_ends : (r n : ZoneRecords) (z : ZoneState) (m : ZoneMap) (x : Exchanged z.heap.map m) → Stands r z → Fits (with_map m z) → ((y : ℕ) → slot_of (with_map m z) y ≡ slot_of z y)
     → list_all (λ (e : Entry). is_block_size z.shape e.size) x.right ≡ true → list_all (has_room z.shape) x.right ≡ true
-    → n ≡ record { shape = z.shape; front = front_slot z.heap; blocks = lower (owners_of z) z.shape x.before ++ (middle (owners_of z) z.shape x.before x.right ++ upper (owners_of z) z.shape x.before x.left x.behind) }
+    → n ≡ record { memory = z.memory; shape = z.shape; front = front_slot z.heap; blocks = lower (owners_of z) z.shape x.before ++ (middle (owners_of z) z.shape x.before x.right ++ upper (owners_of z) z.shape x.before x.left x.behind) }
     → Kept n (with_map m z)
 free_ends r n z m x held fits slots sizes rooms is = ended z (with_map m z).heap x r n held fits sizes rooms
-    (parts-after z (with_map m z).heap x n (front_slot z.heap) (owners_of z) (λ y _. refl) (λ y _. refl) (λ y _. (refl, refl)) (λ y _. (refl, refl)) is
-    ∙ sym (image-same z.shape (front_slot z.heap) (owners_of z) (owners_of (with_map m z)) m (λ y _. slots y) (λ y. refl) (λ y. refl)))
+    (parts-after z (with_map m z).heap x n (front_slot z.heap) (owners_of z) (λ y _. refl) (λ y _. refl) (λ y _. (refl, refl, refl)) (λ y _. (refl, refl, refl)) is
+    ∙ sym (image-same z.memory z.shape (front_slot z.heap) (owners_of z) (owners_of (with_map m z)) m (λ y _. slots y) (λ y. refl) (λ y. refl) (λ y. refl)))
 
 module _ (r : ZoneRecords) (z : ZoneState) (held : Stands r z) where
   module _ (at size : ℕ) (can : CanCut z at size) where

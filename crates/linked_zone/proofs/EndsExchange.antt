@@ -9,25 +9,26 @@ use Rattle.mac_base.specs.declared.block.Kind.TheVariants as kind
 use Rattle.mac_base.specs.HeadKind.{head_size}
 use Rattle.mac_base.specs.HandleTable.{Live, EmptyHandle, FullHandle, Pointer, live_at, live_full}
 use Rattle.mac_base.specs.Heap.{front_slot}
+use Rattle.mac_base.specs.Loans.{is_here}
 use Rattle.mac_base.specs.Suits.{is_block_size, slots}
 use Rattle.mac_base.specs.ZoneMap.{block, is_named, total_size, address_behind, contents_of}
 use Rattle.mac_base.specs.ZoneState.{ZoneState}
-use Rattle.zone_laws.proofs.Maps.{both_true, total_size-append, list_all-exchanged}
+use Rattle.zone_laws.proofs.Maps.{both_true, true_not, total_size-append, list_all-exchanged}
 use Rattle.zone_laws.proofs.Tables.{eqb_same, full_handle}
 use Rattle.zone_records.specs.declared.slot.Slot.TheVariants as slot
 use Rattle.zone_records.specs.Changes as records
 use Rattle.zone_records.specs.Places.{PairAt, RecordAt, can_say}
-use Rattle.zone_records.specs.Records.{ZoneRecords, Content, block_record, kind_of}
+use Rattle.zone_records.specs.Records.{ZoneRecords, Content, kind_of}
 use Rattle.linked_zone.specs.Changes.{exchanged}
 use Rattle.linked_zone.specs.Fit.{has_room}
 use Rattle.linked_zone.specs.Following.{moved_to, CanFollow, followed}
-use Rattle.linked_zone.specs.Owned.{Owners, owners_of, records_of, content_of, slot_flags, slot_of, slot_of_live, next_free}
+use Rattle.linked_zone.specs.Owned.{Owners, owners_of, records_of, record_of, content_of, lent_of, slot_flags, slot_of, slot_of_live, next_free}
 use Rattle.linked_zone.specs.Places.{MovablePair, EntryAt, is_movable}
 use Rattle.linked_zone.proofs.Standing.{Stands, Kept}
 use Rattle.linked_zone.proofs.Owning.{image, image-same}
 use Rattle.linked_zone.proofs.Located.{of-entry, entry-read}
 use Rattle.linked_zone.proofs.Ends.{lower, upper, parts-before, parts-place, parts-after, ended}
-use Rattle.linked_zone.proofs.EndsFollow.{following, Follows, follows-from, following-can, following-image, following-slot, following-flags, following-bytes}
+use Rattle.linked_zone.proofs.EndsFollow.{following, Follows, follows-from, following-can, following-image, following-slot, following-flags, following-bytes, following-lent}
 use Rattle.linked_zone.proofs.EndsSaid.{part-passes, contents-said, full-said, entry-even, entry-room, entry-end, total-even, sum_even, head_even}
 use Rattle.linked_zone.proofs.ChangeExchanged.{rel-full, pair_exchange, exchanged-fits, exchanged-slots, exchanged-first, exchanged-second, exchanged-others, exchanged-slot}
 
@@ -37,6 +38,13 @@ content-moves o a b kind.Free moves = refl
 content-moves o a b kind.Master moves = absurd (cc moves)
 content-moves o a b (kind.Ptr p) moves = absurd (cc moves)
 content-moves o a b (kind.Rel h) moves = refl
+
+-- what isn't lent has a block that isn't
+here-unlent : (z : ZoneState) (k : Kind) → is_here z.heap.table k ≡ true → lent_of (owners_of z) k ≡ false
+here-unlent z kind.Free here = refl
+here-unlent z kind.Master here = refl
+here-unlent z (kind.Ptr p) here = true_not _ here
+here-unlent z (kind.Rel h) here = true_not _ here
 
 -- a handle's slot can say where its block's contents are to begin
 moved-said : (heads : HeadKind) (l : Option Live) (old new next : ℕ) → live_full l ≡ true → ((flags : Flags) → can_say heads (slot.Full (slot_flags heads flags) new) ≡ true) → can_say heads (moved_to new (slot_of_live heads l old next)) ≡ true
@@ -103,13 +111,13 @@ module _ (r : ZoneRecords) (z : ZoneState) (held : Stands r z) (at : ℕ) (pair 
   abbrev there : PairAt (records_of z) at
   there = record {
     before = lower (owners_of z) z.shape pair.before;
-    first = block_record (content_of (owners_of z) ((address_behind z.shape [] + total_size pair.before) + head_size z.shape.heads) pair.first.kind) pair.first.size;
-    second = block_record (content_of (owners_of z) (((address_behind z.shape [] + total_size pair.before) + pair.first.size) + head_size z.shape.heads) pair.second.kind) pair.second.size;
+    first = record_of (owners_of z) z.shape (address_behind z.shape [] + total_size pair.before) pair.first;
+    second = record_of (owners_of z) z.shape ((address_behind z.shape [] + total_size pair.before) + pair.first.size) pair.second;
     behind = upper (owners_of z) z.shape pair.before (pair.first ∷ pair.second ∷ []) pair.behind;
     blocks = parts-before z now.heap (pair_exchange z at pair);
     place = parts-place z now.heap (pair_exchange z at pair) at pair.place;
-    here_first = refl;
-    here_second = refl;
+    here_first = here-unlent z pair.first.kind pair.first_here;
+    here_second = here-unlent z pair.second.kind pair.second_here;
   }
 
   -- the two are neighbours among the blocks
@@ -189,11 +197,11 @@ module _ (r : ZoneRecords) (z : ZoneState) (held : Stands r z) (at : ℕ) (pair 
 
   -- the blocks with the two in their new places, with this in them
   abbrev both : Content → Content → ZoneRecords
-  both c d = record { shape = z.shape; front = front_slot z.heap; blocks = lower (owners_of z) z.shape pair.before ++ block_record c pair.second.size ∷ block_record d pair.first.size ∷ upper (owners_of z) z.shape pair.before (pair.first ∷ pair.second ∷ []) pair.behind }
+  both c d = record { memory = z.memory; shape = z.shape; front = front_slot z.heap; blocks = lower (owners_of z) z.shape pair.before ++ record { size = pair.second.size; content = c; lent = lent_of (owners_of z) pair.second.kind } ∷ record { size = pair.first.size; content = d; lent = lent_of (owners_of z) pair.first.kind } ∷ upper (owners_of z) z.shape pair.before (pair.first ∷ pair.second ∷ []) pair.behind }
 
   module _ (m : ZoneRecords) (is : (p : PairAt r at) → m ≡ records.exchanged r p) where
-    placed : m ≡ image z.shape (front_slot z.heap) (owners_of z) now.heap.map
-    placed = parts-after z now.heap (pair_exchange z at pair) m (front_slot z.heap) (owners_of z) (λ y _. refl) (λ y _. refl) (λ y _. (refl, refl)) (λ y _. (refl, refl))
+    placed : m ≡ image z.memory z.shape (front_slot z.heap) (owners_of z) now.heap.map
+    placed = parts-after z now.heap (pair_exchange z at pair) m (front_slot z.heap) (owners_of z) (λ y _. refl) (λ y _. refl) (λ y _. (refl, refl, refl)) (λ y _. (refl, refl, refl))
         ((subst (λ (r : ZoneRecords). (p : PairAt r at) → m ≡ records.exchanged r p) held.blocks is) there
         ∙ ap (λ c. both c (content_of (owners_of z) (start + head_size z.shape.heads) pair.first.kind)) (content-moves (owners_of z) ((start + pair.first.size) + head_size z.shape.heads) (start + head_size z.shape.heads) pair.second.kind pair.second_moves)
         ∙ ap (λ c. both (content_of (owners_of z) (start + head_size z.shape.heads) pair.second.kind) c) (content-moves (owners_of z) (start + head_size z.shape.heads) ((start + pair.second.size) + head_size z.shape.heads) pair.first.kind pair.first_moves))
@@ -201,21 +209,22 @@ module _ (r : ZoneRecords) (z : ZoneState) (held : Stands r z) (at : ℕ) (pair 
     module _ (k : Kind) (a : ℕ) (second : k ≡ pair.second.kind) (begins : a ≡ at + head_size z.shape.heads) where
       -- the second's slot can follow
       pub exchange-follows : CanFollow m k a
-      exchange-follows = can_as m k pair.second.kind a low second begins (following-can z.shape (front_slot z.heap) (owners_of z) now.heap.map rooms_now low m pair.second.kind placed follows_second)
+      exchange-follows = can_as m k pair.second.kind a low second begins (following-can z.memory z.shape (front_slot z.heap) (owners_of z) now.heap.map rooms_now low m pair.second.kind placed follows_second)
 
       module _ (n : ZoneRecords) (followed_is : (can : CanFollow m k a) → n ≡ followed m k a can) (j : Kind) (b : ℕ) (first : j ≡ pair.first.kind) (begins_first : b ≡ at + pair.second.size + head_size z.shape.heads) where
-        moved : n ≡ image z.shape (front_slot z.heap) after_second now.heap.map
-        moved = following-image z.shape (front_slot z.heap) (owners_of z) now.heap.map rooms_now low m n pair.second.kind placed follows_second (then_as m n k pair.second.kind a low second begins followed_is)
+        moved : n ≡ image z.memory z.shape (front_slot z.heap) after_second now.heap.map
+        moved = following-image z.memory z.shape (front_slot z.heap) (owners_of z) now.heap.map rooms_now low m n pair.second.kind placed follows_second (then_as m n k pair.second.kind a low second begins followed_is)
 
         -- so can the first's
         pub exchange-follows_first : CanFollow n j b
-        exchange-follows_first = can_as n j pair.first.kind b high first begins_first (following-can z.shape (front_slot z.heap) after_second now.heap.map rooms_now high n pair.first.kind moved follows_first)
+        exchange-follows_first = can_as n j pair.first.kind b high first begins_first (following-can z.memory z.shape (front_slot z.heap) after_second now.heap.map rooms_now high n pair.first.kind moved follows_first)
 
         -- both have
         pub exchange-ends : (l : ZoneRecords) → ((can : CanFollow n j b) → l ≡ followed n j b can) → Kept l (exchanged z pair)
         exchange-ends l last = ended z now.heap (pair_exchange z at pair) r l held (exchanged-fits z at pair held.fits)
             (swapped_all (is_block_size z.shape pair.first.size) (is_block_size z.shape pair.second.size) sizes_were) rooms
-            (following-image z.shape (front_slot z.heap) after_second now.heap.map rooms_now high n l pair.first.kind moved follows_first (then_as n l j pair.first.kind b high first begins_first last)
-            ∙ sym (image-same z.shape (front_slot z.heap) (following pair.first.kind high after_second) (owners_of now) now.heap.map (λ y _. slots_now y)
+            (following-image z.memory z.shape (front_slot z.heap) after_second now.heap.map rooms_now high n l pair.first.kind moved follows_first (then_as n l j pair.first.kind b high first begins_first last)
+            ∙ sym (image-same z.memory z.shape (front_slot z.heap) (following pair.first.kind high after_second) (owners_of now) now.heap.map (λ y _. slots_now y)
             (λ y. sym (following-flags pair.first.kind high after_second y ∙ following-flags pair.second.kind low (owners_of z) y))
-            (λ y. sym (following-bytes pair.first.kind high after_second y ∙ following-bytes pair.second.kind low (owners_of z) y))))
+            (λ y. sym (following-bytes pair.first.kind high after_second y ∙ following-bytes pair.second.kind low (owners_of z) y))
+            (λ y. sym (following-lent pair.first.kind high after_second y ∙ following-lent pair.second.kind low (owners_of z) y))))

@@ -4,7 +4,7 @@ use Rattle.mac_base.specs.declared.block.Flags.{Flags}
 use Rattle.mac_base.specs.declared.block.HeadKind.TheVariants.{Bits24, Bits32}
 use Rattle.mac_base.specs.declared.block.Kind.TheVariants as kind
 use Rattle.mac_base.specs.HeadKind.{head_size}
-use Rattle.mac_base.specs.HandleTable.{Live, EmptyHandle, FullHandle, Pointer, live_at, live_bytes, live_flags, live_full, is_full, bytes_of}
+use Rattle.mac_base.specs.HandleTable.{Live, EmptyHandle, FullHandle, Pointer, live_at, live_bytes, live_flags, live_full, is_full, is_lent, bytes_of}
 use Rattle.mac_base.specs.Heap.{front_slot}
 use Rattle.mac_base.specs.ZoneMap.{block, contents_of}
 use Rattle.mac_base.specs.ZoneState.{ZoneState}
@@ -13,7 +13,7 @@ use Rattle.zone_records.specs.declared.slot.Slot.TheVariants as slot
 use Rattle.zone_records.specs.Changes as records
 use Rattle.zone_records.specs.Places as places
 use Rattle.zone_records.specs.Places.{can_say, can_flag}
-use Rattle.zone_records.specs.Records.{ZoneRecords, Relocatable, block_record}
+use Rattle.zone_records.specs.Records.{ZoneRecords, handle_record}
 use Rattle.linked_zone.specs.Changes.{flagged}
 use Rattle.linked_zone.specs.Owned.{owners_of, records_of, slot_flags, header_flags, slot_of, slot_of_live, next_free}
 use Rattle.linked_zone.specs.Places.{BlockOf, EntryAt}
@@ -62,11 +62,11 @@ module _ (r : ZoneRecords) (z : ZoneState) (held : Stands r z) (h at : ℕ) (fla
     flags-ends_slot k n same writes =
         let there = subst (λ k. (s : places.SlotAt r k) → n ≡ records.with_slot (slot.Full flags contents) r s) same writes in
         ended-same r n z now.heap held refl (flagged-fits z h flags held.fits full)
-        (slot-write r z.shape (front_slot z.heap) (owners_of z) z.heap.map held.blocks held.rooms h (emptied-slot z h held.fits full) n (slot.Full flags contents) there
-        ∙ slot-settled z.shape (front_slot z.heap) (owners_of z) (owners_of now) z.heap.map h (slot.Full flags contents)
+        (slot-write r z.memory z.shape (front_slot z.heap) (owners_of z) z.heap.map held.blocks held.rooms h (emptied-slot z h held.fits full) n (slot.Full flags contents) there
+        ∙ slot-settled z.memory z.shape (front_slot z.heap) (owners_of z) (owners_of now) z.heap.map h (slot.Full flags contents)
         (flagged-pointer z h flags held.fits full ∙ ap (λ g. slot.Full g (contents_of z.shape h z.heap.map)) said_whole ∙ ap (slot.Full flags) (emptied-contents z h held.fits full at b ∙ sym begins))
         (flagged-others z h flags held.fits full) (λ y. ap (λ k. header_flags k (live_flags (live_at now.heap.table y))) bits ∙ sym (ap (λ k. header_flags k (live_flags (live_at z.heap.table y))) bits))
-        (flagged-bytes z h flags held.fits full))
+        (flagged-bytes z h flags held.fits full) (λ y. refl))
 
   abbrev there : places.HandleBlockAt (records_of z) at
   there = record {
@@ -75,6 +75,7 @@ module _ (r : ZoneRecords) (z : ZoneState) (held : Stands r z) (h at : ℕ) (fla
     handle = h;
     flags = (owners_of z).flags h;
     bytes = (owners_of z).bytes h;
+    lent = (owners_of z).lent h;
     behind = upper (owners_of z) z.shape b.before (block (kind.Rel h) b.size ∷ []) b.behind;
     blocks = swapped-before r z held z.heap h b.before (kind.Rel h) (kind.Rel h) b.size b.behind b.map b.map refl;
     place = swapped-place r z held z.heap h b.before (kind.Rel h) (kind.Rel h) b.size b.behind b.map b.map refl at b.place;
@@ -95,14 +96,14 @@ module _ (r : ZoneRecords) (z : ZoneState) (held : Stands r z) (h at : ℕ) (fla
         let has = live_at-with_live_same h (FullHandle flags (bytes_of z.heap.table h)) z.heap.table in
         ended-same r n z now.heap held refl (flagged-fits z h flags held.fits full)
         (swapped-after r z held now.heap h b.before (kind.Rel h) (kind.Rel h) b.size b.behind b.map b.map refl n (emptied-none_before z h held.fits full at b) (emptied-none_behind z h held.fits full at b)
-        (with_live_agrees h (FullHandle flags (bytes_of z.heap.table h)) z.heap.table)
+        (with_live_agrees h (FullHandle flags (bytes_of z.heap.table h)) z.heap.table) (λ y _. refl)
         ((subst (λ (r : ZoneRecords). (b : places.HandleBlockAt r at) → n ≡ records.flagged flags r b) held.blocks is) there
         ∙ ap (λ g. says g (bytes_of z.heap.table h)) (sym (ap (λ l. header_flags z.shape.heads (live_flags l)) has ∙ ap (λ k. header_flags k flags) bits))
         ∙ ap (λ bytes. says (header_flags z.shape.heads (live_flags (live_at now.heap.table h))) bytes) (sym (ap live_bytes has)))
-        ∙ sym (image-same z.shape (front_slot z.heap) (with_table z now) (owners_of now) z.heap.map (λ y _. same_slot y (eqb y h) refl) (λ y. refl) (λ y. refl)))
+        ∙ sym (image-same z.memory z.shape (front_slot z.heap) (with_table z now) (owners_of now) z.heap.map (λ y _. same_slot y (eqb y h) refl) (λ y. refl) (λ y. refl) (λ y. refl)))
       where
         says : Flags → List ℕ → ZoneRecords
-        says g bytes = record { shape = z.shape; front = front_slot z.heap; blocks = lower (owners_of z) z.shape b.before ++ block_record (Relocatable h g bytes) b.size ∷ upper (owners_of z) z.shape b.before (block (kind.Rel h) b.size ∷ []) b.behind }
+        says g bytes = record { memory = z.memory; shape = z.shape; front = front_slot z.heap; blocks = lower (owners_of z) z.shape b.before ++ handle_record h g bytes b.size (is_lent z.heap.table h) ∷ upper (owners_of z) z.shape b.before (block (kind.Rel h) b.size ∷ []) b.behind }
 
         same_slot : (y : ℕ) (b : Bool) → eqb y h ≡ b → slot_of now y ≡ slot_of z y
         same_slot y false apart = flagged-others z h flags held.fits full y (λ same. absurd (cc (ap (λ x. eqb x h) same ∙ eqb_same h, apart)))

@@ -8,6 +8,7 @@ use Rattle.mac_base.specs.declared.block.Kind.TheVariants as kind
 use Rattle.mac_base.specs.HeadKind.{Shape}
 use Rattle.mac_base.specs.Suits.{slots}
 use Rattle.mac_base.specs.ZoneMap.{ZoneMap, is_named}
+use Rattle.mac_base.specs.ZoneState.{Memory}
 use Rattle.zone_laws.proofs.Tables.{eqb_swap, eqb-true-is}
 use Rattle.zone_records.specs.declared.slot.Slot.{Slot}
 use Rattle.zone_records.specs.declared.slot.Slot.TheVariants as slot
@@ -77,25 +78,25 @@ follows-from o s m kind.Master contents each = tt
 follows-from o s m (kind.Ptr p) contents each = tt
 follows-from o s m (kind.Rel h) contents each = each h refl
 
-module _ (s : Shape) (front : ℕ) (o : Owners) (m : ZoneMap) (rooms : list_all (has_room s) m ≡ true) (contents : ℕ) where
-  abbrev can_follow : (k : Kind) → Follows o s m k contents → CanFollow (image s front o m) k contents
+module _ (memory : Memory) (s : Shape) (front : ℕ) (o : Owners) (m : ZoneMap) (rooms : list_all (has_room s) m ≡ true) (contents : ℕ) where
+  abbrev can_follow : (k : Kind) → Follows o s m k contents → CanFollow (image memory s front o m) k contents
   can_follow kind.Free known = tt
   can_follow kind.Master known = tt
   can_follow (kind.Ptr p) known = tt
-  can_follow (kind.Rel h) known = record { there = slot-at s front o m h rooms known.0; said = known.1 }
+  can_follow (kind.Rel h) known = record { there = slot-at memory s front o m h rooms known.0; said = known.1 }
 
-  is_followed : (k : Kind) (known : Follows o s m k contents) → followed (image s front o m) k contents (can_follow k known) ≡ image s front (following k contents o) m
+  is_followed : (k : Kind) (known : Follows o s m k contents) → followed (image memory s front o m) k contents (can_follow k known) ≡ image memory s front (following k contents o) m
   is_followed kind.Free known = refl
   is_followed kind.Master known = refl
   is_followed (kind.Ptr p) known = refl
-  is_followed (kind.Rel h) known = slot-written s front o m h rooms known.0 (moved_to contents (o.slot h))
+  is_followed (kind.Rel h) known = slot-written memory s front o m h rooms known.0 (moved_to contents (o.slot h))
 
   -- a slot among them can follow
-  pub following-can : (r : ZoneRecords) (k : Kind) → r ≡ image s front o m → Follows o s m k contents → CanFollow r k contents
+  pub following-can : (r : ZoneRecords) (k : Kind) → r ≡ image memory s front o m → Follows o s m k contents → CanFollow r k contents
   following-can r k is known = subst (λ r. CanFollow r k contents) (sym is) (can_follow k known)
 
   -- and they are those of the owners with it
-  pub following-image : (r n : ZoneRecords) (k : Kind) → r ≡ image s front o m → Follows o s m k contents → ((can : CanFollow r k contents) → n ≡ followed r k contents can) → n ≡ image s front (following k contents o) m
+  pub following-image : (r n : ZoneRecords) (k : Kind) → r ≡ image memory s front o m → Follows o s m k contents → ((can : CanFollow r k contents) → n ≡ followed r k contents can) → n ≡ image memory s front (following k contents o) m
   following-image r n k is known then = (subst (λ (r : ZoneRecords). (can : CanFollow r k contents) → n ≡ followed r k contents can) is then) (can_follow k known) ∙ is_followed k known
 
 -- what each slot says then
@@ -121,3 +122,10 @@ following-bytes kind.Free contents o y = refl
 following-bytes kind.Master contents o y = refl
 following-bytes (kind.Ptr p) contents o y = refl
 following-bytes (kind.Rel h) contents o y = refl
+
+-- and what is lent
+pub following-lent : (k : Kind) (contents : ℕ) (o : Owners) (y : ℕ) → (following k contents o).lent y ≡ o.lent y
+following-lent kind.Free contents o y = refl
+following-lent kind.Master contents o y = refl
+following-lent (kind.Ptr p) contents o y = refl
+following-lent (kind.Rel h) contents o y = refl

@@ -58,7 +58,7 @@ module _ (r : ZoneRecords) (z : ZoneState) (held : Stands r z) (at last : ℕ) (
       (part-passes (has_room z.shape) room.free.before (block kind.Master room.free.size ∷ []) room.free.behind now.heap.map refl (master-rooms z at room held.fits held.rooms))
       (parts-after z now.heap x n (front_slot now.heap) (owners_of now)
       (λ y c. master-old_pointer z at room held.fits held.rooms y (master-before z at room held.fits held.rooms y c))
-      (λ y c. master-old_pointer z at room held.fits held.rooms y (master-behind z at room held.fits held.rooms y c)) (λ y _. (refl, refl)) (λ y _. (refl, refl))
+      (λ y c. master-old_pointer z at room held.fits held.rooms y (master-behind z at room held.fits held.rooms y c)) (λ y _. (refl, refl, refl)) (λ y _. (refl, refl, refl))
       (last_is ∙ ap (λ f. with_front f m) is ∙ ap (with_front first) filled
-      ∙ ap (λ ss. record { shape = z.shape; front = first; blocks = lower (owners_of z) z.shape room.free.before ++ block_record (Master ss) room.free.size ∷ upper (owners_of z) z.shape room.free.before x.left room.free.behind })
+      ∙ ap (λ ss. record { memory = z.memory; shape = z.shape; front = first; blocks = lower (owners_of z) z.shape room.free.before ++ block_record (Master ss) room.free.size ∷ upper (owners_of z) z.shape room.free.before x.left room.free.behind })
       (own ∙ ap (λ a. map (slot_of now) (slots_from slot_count a)) there)))

@@ -7,7 +7,7 @@ use Rattle.mac_base.specs.declared.block.Entry.{Entry}
 use Rattle.mac_base.specs.declared.block.Kind.{Kind}
 use Rattle.mac_base.specs.declared.block.Kind.TheVariants as kind
 use Rattle.mac_base.specs.HeadKind.{Shape, head_size}
-use Rattle.mac_base.specs.HandleTable.{HandleTable, Live, EmptyHandle, FullHandle, Pointer, live_at, live_flags, flags_of, bytes_of, refilled, resized, with_bytes, has_block}
+use Rattle.mac_base.specs.HandleTable.{HandleTable, Live, EmptyHandle, FullHandle, Pointer, live_at, live_flags, flags_of, bytes_of, refilled, resized, with_bytes, has_block, is_lent}
 use Rattle.mac_base.specs.Heap.{front_slot}
 use Rattle.mac_base.specs.Suits.{is_block_size}
 use Rattle.mac_base.specs.ZoneMap.{ZoneMap, block, free_block, is_master, is_named, total_size, address_behind}
@@ -21,15 +21,15 @@ use Rattle.zone_records.specs.Changes as changes
 use Rattle.zone_records.specs.Places as places
 use Rattle.linked_zone.specs.Changes.{held_there, enlarged}
 use Rattle.linked_zone.specs.Fit.{Fits, has_room}
-use Rattle.linked_zone.specs.Owned.{Owners, owners_of, header_flags, content_of, records_from, records_of}
+use Rattle.linked_zone.specs.Owned.{Owners, owners_of, header_flags, content_of, lent_of, records_from, records_of}
 use Rattle.linked_zone.specs.Places.{NamedAt, CanFront, CanHold, CanGrow}
 use Rattle.linked_zone.proofs.Standing.{Stands, Kept}
-use Rattle.linked_zone.proofs.Owning.{same_but}
+use Rattle.linked_zone.proofs.Owning.{SameOf, same_but}
 use Rattle.linked_zone.proofs.Ends.{lower, middle, upper, parts-before, parts-place, parts-after, ended}
 use Rattle.linked_zone.proofs.EndsSaid.{size-room}
 use Rattle.linked_zone.proofs.EndsSwapped.{length-had}
 use Rattle.linked_zone.proofs.ChangeSized.{Room, sized_zone, sized_exchange, sized-one, sized-fits, sized-pointers, sized-bytes, sized-other_bytes, names-one, named-contents}
-use Rattle.linked_zone.proofs.Found.{named-held}
+use Rattle.linked_zone.proofs.Found.{named-held, named-lent}
 
 -- ---- flags
 
@@ -59,7 +59,7 @@ content-named o q at x (kind.Rel h) named flags = let is = eqb-true-is h x named
     ap (λ y. records.Relocatable h (q.flags y) (q.bytes y)) is ∙ ap (λ f. records.Relocatable h f (q.bytes x)) (flags ∙ ap o.flags (sym is))
 
 -- it is no master block
-named-other : (x : ℕ) (k : Kind) → is_named x k ≡ true → is_master k ≡ false
+pub named-other : (x : ℕ) (k : Kind) → is_named x k ≡ true → is_master k ≡ false
 named-other x kind.Free named = refl
 named-other x kind.Master named = absurd (cc named)
 named-other x (kind.Ptr p) named = refl
@@ -77,7 +77,7 @@ free-passes p n is = by_test (n == 0) refl
     by_test true none = refl
     by_test false some = true_both (p (block kind.Free n)) true (is some) refl
 
-module _ (r : ZoneRecords) (z : ZoneState) (held : Stands r z) (x whole size n : ℕ) (room : Room z x whole size n) where
+module _ (r : ZoneRecords) (z : ZoneState) (held : Stands r z) (x whole size n : ℕ) (unlent : is_lent z.heap.table x ≡ false) (room : Room z x whole size n) where
   -- the zone then, and its owners
   abbrev pub now : ZoneState
   now = sized_zone z x whole size n held.fits room
@@ -98,6 +98,7 @@ module _ (r : ZoneRecords) (z : ZoneState) (held : Stands r z) (x whole size n :
 
   -- with the other bytes in the first of them the blocks stand for the zone
   pub sized-ends : (m : ZoneRecords) → m ≡ record {
+    memory = z.memory;
     shape = z.shape;
     front = front_slot z.heap;
     blocks = lower (owners_of z) z.shape room.before ++ block_record (changes.sized n (content_of (owners_of z) there room.here.kind)) size ∷ changes.free_record (whole - size)
@@ -108,14 +109,15 @@ module _ (r : ZoneRecords) (z : ZoneState) (held : Stands r z) (x whole size n :
       let q = owners_of now in
       let one = sized-one z x whole size n held.fits room in
       let none_behind = (both_true (none_named x room.room) (none_named x room.behind) (sym (list_all-append _ room.room room.behind) ∙ one.none_behind)).1 in
-      let same : (y : ℕ) → eqb y x ≡ false → (q.flags y ≡ o.flags y) × (q.bytes y ≡ o.bytes y) = λ y apart.
-      (ap (header_flags z.shape.heads) (flags-stay x (resized n (bytes_of z.heap.table x)) z.heap.table y), sized-other_bytes z x whole size n held.fits room y (λ is. absurd (cc (apart, is, eqb_same x)))) in
+      let same : (y : ℕ) → eqb y x ≡ false → SameOf o q y = λ y apart.
+      (ap (header_flags z.shape.heads) (flags-stay x (resized n (bytes_of z.heap.table x)) z.heap.table y), sized-other_bytes z x whole size n held.fits room y (λ is. absurd (cc (apart, is, eqb_same x))), refl) in
       let content : content_of q there room.here.kind ≡ changes.sized n (content_of o there room.here.kind) =
       content-named o q there x room.here.kind room.named (ap (header_flags z.shape.heads) (flags-stay x (resized n (bytes_of z.heap.table x)) z.heap.table x))
       ∙ ap (λ bytes. records.with_bytes bytes (content_of o there room.here.kind)) (sized-bytes z x whole size n held.fits room ∙ ap (resized n) (sym (named-held o there x room.here.kind room.named).1)) in
       let above = upper o z.shape room.before (room.here ∷ room.room) room.behind in
       let part : middle q z.shape room.before (block room.here.kind size ∷ free_block (whole - size)) ≡ block_record (changes.sized n (content_of o there room.here.kind)) size ∷ changes.free_record (whole - size) =
-      ap (λ c. block_record c size ∷ records_from q z.shape ((address_behind z.shape [] + total_size room.before) + size) (free_block (whole - size))) content
+      ap (λ c. record { size = size; content = c; lent = lent_of q room.here.kind } ∷ records_from q z.shape ((address_behind z.shape [] + total_size room.before) + size) (free_block (whole - size))) content
+      ∙ ap (λ l. record { size = size; content = changes.sized n (content_of o there room.here.kind); lent = l } ∷ records_from q z.shape ((address_behind z.shape [] + total_size room.before) + size) (free_block (whole - size))) (named-lent q x room.here.kind room.named ∙ unlent)
       ∙ ap (λ bs. block_record (changes.sized n (content_of o there room.here.kind)) size ∷ bs) (free-record q z.shape ((address_behind z.shape [] + total_size room.before) + size) (whole - size)) in
       ended z now.heap (sized_exchange z x whole size n held.fits room) r m held (sized-fits z x whole size n held.fits room)
       (true_both (is_block_size z.shape size) _ room.fits.front (free-passes (λ (e : Entry). is_block_size z.shape e.size) (whole - size) over-size))
@@ -123,7 +125,7 @@ module _ (r : ZoneRecords) (z : ZoneState) (held : Stands r z) (x whole size n :
       (free-passes (has_room z.shape) (whole - size) (λ some. size-room z.shape kind.Free (whole - size) refl (over-size some))))
       (parts-after z now.heap (sized_exchange z x whole size n held.fits room) m (front_slot z.heap) q (λ y c. sized-pointers z x whole size n held.fits room y) (λ y c. sized-pointers z x whole size n held.fits room y)
       (same_but o q x room.before one.none_before same) (same_but o q x room.behind none_behind same)
-      (is ∙ ap (λ bs. record { shape = z.shape; front = front_slot z.heap; blocks = bs })
+      (is ∙ ap (λ bs. record { memory = z.memory; shape = z.shape; front = front_slot z.heap; blocks = bs })
       (append_assoc (lower o z.shape room.before) (block_record (changes.sized n (content_of o there room.here.kind)) size ∷ changes.free_record (whole - size)) above
       ∙ ap (λ bs. lower o z.shape room.before ++ (bs ++ above)) (sym part))))
 
@@ -141,7 +143,7 @@ named-place z x at before e behind fits map named there =
     let place = there.place in
     omega arith
 
-module _ (r : ZoneRecords) (z : ZoneState) (held : Stands r z) (x size n : ℕ) where
+module _ (r : ZoneRecords) (z : ZoneState) (held : Stands r z) (x size n : ℕ) (unlent : is_lent z.heap.table x ≡ false) where
   module _ (can : CanHold z x size n) where
     -- the block has an owner
     pub hold-block : has_block z.heap.table x ≡ true
@@ -158,7 +160,9 @@ module _ (r : ZoneRecords) (z : ZoneState) (held : Stands r z) (x size n : ℕ) 
           size = can.here.size;
           content = content_of (owners_of z) ((address_behind z.shape [] + total_size can.before) + head_size z.shape.heads) can.here.kind;
           behind = upper (owners_of z) z.shape can.before (can.here ∷ []) can.behind;
-          blocks = parts-before z (held_there z can).heap (sized_exchange z x can.here.size size n held.fits hold_room);
+          blocks = parts-before z (held_there z can).heap (sized_exchange z x can.here.size size n held.fits hold_room)
+              ∙ ap (λ l. lower (owners_of z) z.shape can.before ++ record { size = can.here.size; content = content_of (owners_of z) ((address_behind z.shape [] + total_size can.before) + head_size z.shape.heads) can.here.kind; lent = l } ∷ upper (owners_of z) z.shape can.before (can.here ∷ []) can.behind)
+              (named-lent (owners_of z) x can.here.kind can.named ∙ unlent);
           place = parts-place z (held_there z can).heap (sized_exchange z x can.here.size size n held.fits hold_room) at (named-place z x at can.before can.here can.behind held.fits can.map can.named named);
           held = (named-held (owners_of z) ((address_behind z.shape [] + total_size can.before) + head_size z.shape.heads) x can.here.kind can.named).0;
         };
@@ -171,7 +175,7 @@ module _ (r : ZoneRecords) (z : ZoneState) (held : Stands r z) (x size n : ℕ) 
 
       -- it is
       pub hold-ends : (m : ZoneRecords) → ((c : places.CanHold r at size n) → m ≡ changes.held_there r c) → Kept m (held_there z can)
-      hold-ends m is = sized-ends r z held x can.here.size size n hold_room m ((subst (λ (r : ZoneRecords). (c : places.CanHold r at size n) → m ≡ changes.held_there r c) held.blocks is) hold_there)
+      hold-ends m is = sized-ends r z held x can.here.size size n unlent hold_room m ((subst (λ (r : ZoneRecords). (c : places.CanHold r at size n) → m ≡ changes.held_there r c) held.blocks is) hold_there)
 
   module _ (can : CanGrow z x size n) where
     -- the block has an owner
@@ -189,7 +193,9 @@ module _ (r : ZoneRecords) (z : ZoneState) (held : Stands r z) (x size n : ℕ) 
         content = content_of (owners_of z) ((address_behind z.shape [] + total_size can.before) + head_size z.shape.heads) can.here.kind;
         second = can.free;
         behind = upper (owners_of z) z.shape can.before (can.here ∷ block kind.Free can.free ∷ []) can.behind;
-        blocks = parts-before z (enlarged z can).heap (sized_exchange z x (can.here.size + can.free) size n held.fits grow_room);
+        blocks = parts-before z (enlarged z can).heap (sized_exchange z x (can.here.size + can.free) size n held.fits grow_room)
+            ∙ ap (λ l. lower (owners_of z) z.shape can.before ++ record { size = can.here.size; content = content_of (owners_of z) ((address_behind z.shape [] + total_size can.before) + head_size z.shape.heads) can.here.kind; lent = l } ∷ block_record records.Free can.free ∷ upper (owners_of z) z.shape can.before (can.here ∷ block kind.Free can.free ∷ []) can.behind)
+            (named-lent (owners_of z) x can.here.kind can.named ∙ unlent);
         place = parts-place z (enlarged z can).heap (sized_exchange z x (can.here.size + can.free) size n held.fits grow_room) at
             (named-place z x at can.before can.here (block kind.Free can.free ∷ can.behind) held.fits can.map can.named named);
         held = (named-held (owners_of z) ((address_behind z.shape [] + total_size can.before) + head_size z.shape.heads) x can.here.kind can.named).0;
@@ -202,4 +208,4 @@ module _ (r : ZoneRecords) (z : ZoneState) (held : Stands r z) (x size n : ℕ) 
 
       -- it does
       pub grow-ends : (m : ZoneRecords) → ((c : places.CanGrow r at size n) → m ≡ changes.enlarged r c) → Kept m (enlarged z can)
-      grow-ends m is = sized-ends r z held x (can.here.size + can.free) size n grow_room m ((subst (λ (r : ZoneRecords). (c : places.CanGrow r at size n) → m ≡ changes.enlarged r c) held.blocks is) grow_there)
+      grow-ends m is = sized-ends r z held x (can.here.size + can.free) size n unlent grow_room m ((subst (λ (r : ZoneRecords). (c : places.CanGrow r at size n) → m ≡ changes.enlarged r c) held.blocks is) grow_there)

@@ -24,7 +24,7 @@ module _ (r : ZoneRecords) (z : ZoneState) (held : Stands r z) where
 
   -- a zone's slot is one of its blocks'
   pub own-slot : (h k : ℕ) → k ≡ h → Contains (slots z.shape z.heap.map) h → SlotAt r k
-  own-slot h k same c = subst (λ k. SlotAt r k) (sym same) (slot-there r z.shape (front_slot z.heap) (owners_of z) z.heap.map held.blocks held.rooms h c)
+  own-slot h k same c = subst (λ k. SlotAt r k) (sym same) (slot-there r z.memory z.shape (front_slot z.heap) (owners_of z) z.heap.map held.blocks held.rooms h c)
 
   -- its blocks say slots as the zone's kind does
   pub says-kind : (s : Slot) → can_say z.shape.heads s ≡ true → can_say r.shape.heads s ≡ true
@@ -51,7 +51,7 @@ module _ (r : ZoneRecords) (z : ZoneState) (held : Stands r z) where
     -- it says which is next
     pub take-says : (said : Slot) → ((s : SlotAt r front) → said ≡ s.here) → said ≡ slot.Free (front_slot (taken front z).heap)
     take-says said reads =
-        slot-read r z.shape (front_slot z.heap) (owners_of z) z.heap.map held.blocks held.rooms front (t.taken-slot z front (drop 1 z.heap.free_slots) held.fits held.rooms take-first) said reads
+        slot-read r z.memory z.shape (front_slot z.heap) (owners_of z) z.heap.map held.blocks held.rooms front (t.taken-slot z front (drop 1 z.heap.free_slots) held.fits held.rooms take-first) said reads
         ∙ t.taken-next z front (drop 1 z.heap.free_slots) held.fits held.rooms take-first
 
     -- it is taken
@@ -62,9 +62,9 @@ module _ (r : ZoneRecords) (z : ZoneState) (held : Stands r z) where
         let next_is : next ≡ front_slot (taken front z).heap = cc (take-says (slot.Free next) reads) in
         ended-same r n z (taken front z).heap held refl (t.taken-fits z front hs held.fits held.rooms take-first)
         (last ∙ ap (λ x. with_front x m) next_is
-        ∙ ap (with_front (front_slot (taken front z).heap)) (slot-write r z.shape (front_slot z.heap) (owners_of z) z.heap.map held.blocks held.rooms front c m slot.Empty writes)
-        ∙ slot-settled z.shape (front_slot (taken front z).heap) (owners_of z) (owners_of (taken front z)) z.heap.map front slot.Empty (t.taken-pointer z front hs held.fits held.rooms take-first)
-        (t.taken-others z front hs held.fits held.rooms take-first) (λ x. ap (header_flags z.shape.heads) (t.taken-flags z front hs held.fits held.rooms take-first x)) (t.taken-bytes z front hs held.fits held.rooms take-first))
+        ∙ ap (with_front (front_slot (taken front z).heap)) (slot-write r z.memory z.shape (front_slot z.heap) (owners_of z) z.heap.map held.blocks held.rooms front c m slot.Empty writes)
+        ∙ slot-settled z.memory z.shape (front_slot (taken front z).heap) (owners_of z) (owners_of (taken front z)) z.heap.map front slot.Empty (t.taken-pointer z front hs held.fits held.rooms take-first)
+        (t.taken-others z front hs held.fits held.rooms take-first) (λ x. ap (header_flags z.shape.heads) (t.taken-flags z front hs held.fits held.rooms take-first x)) (t.taken-bytes z front hs held.fits held.rooms take-first) (λ x. refl))
 
   -- ---- a slot given back
 
@@ -77,6 +77,6 @@ module _ (r : ZoneRecords) (z : ZoneState) (held : Stands r z) where
       let there : (s : SlotAt r h) → m ≡ with_slot (slot.Free next) r s = subst (λ k. (s : SlotAt r k) → m ≡ with_slot (slot.Free next) r s) same writes in
       ended-same r n z (given_back h z).heap held refl (g.given_back-fits z h held.fits empty)
       (last ∙ ap (λ x. with_front x m) again
-      ∙ ap (with_front h) (slot-write r z.shape (front_slot z.heap) (owners_of z) z.heap.map held.blocks held.rooms h (g.given_back-slot z h held.fits empty) m (slot.Free next) there)
-      ∙ slot-settled z.shape h (owners_of z) (owners_of (given_back h z)) z.heap.map h (slot.Free next) (g.given_back-pointer z h held.fits empty ∙ ap slot.Free (sym (is ∙ front-is)))
-      (g.given_back-others z h held.fits empty) (λ x. ap (header_flags z.shape.heads) (g.given_back-flags z h held.fits empty x)) (g.given_back-bytes z h held.fits empty))
+      ∙ ap (with_front h) (slot-write r z.memory z.shape (front_slot z.heap) (owners_of z) z.heap.map held.blocks held.rooms h (g.given_back-slot z h held.fits empty) m (slot.Free next) there)
+      ∙ slot-settled z.memory z.shape h (owners_of z) (owners_of (given_back h z)) z.heap.map h (slot.Free next) (g.given_back-pointer z h held.fits empty ∙ ap slot.Free (sym (is ∙ front-is)))
+      (g.given_back-others z h held.fits empty) (λ x. ap (header_flags z.shape.heads) (g.given_back-flags z h held.fits empty x)) (g.given_back-bytes z h held.fits empty) (λ x. refl))

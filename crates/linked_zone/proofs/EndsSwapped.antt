@@ -8,11 +8,11 @@ use Rattle.mac_base.specs.declared.block.HeadKind.TheVariants.{Bits24, Bits32}
 use Rattle.mac_base.specs.declared.block.Kind.{Kind}
 use Rattle.mac_base.specs.declared.block.Kind.TheVariants as kind
 use Rattle.mac_base.specs.HeadKind.{Shape, head_size, smallest_block, need}
-use Rattle.mac_base.specs.HandleTable.{live_bytes, live_flags, bytes_of, flags_of}
+use Rattle.mac_base.specs.HandleTable.{live_bytes, live_flags, is_lent}
 use Rattle.mac_base.specs.Heap.{Heap, front_slot}
 use Rattle.mac_base.specs.Suits.{is_block_size, has_length}
 use Rattle.mac_base.specs.ZoneMap.{ZoneMap, block, is_master, total_size, address_behind}
-use Rattle.mac_base.specs.ZoneState.{ZoneState}
+use Rattle.mac_base.specs.ZoneState.{ZoneState, with_heap}
 use Rattle.zone_laws.proofs.Maps.{Exchanged, list_all-exchanged, true_both}
 use Rattle.zone_laws.proofs.Owners.{none_named}
 use Rattle.zone_laws.proofs.Tables.{AgreeBut}
@@ -22,13 +22,12 @@ use Rattle.zone_records.specs.declared.slot.Slot.TheVariants as slot
 use Rattle.mac_base.specs.ZoneSizes.{ZoneSizes}
 use Rattle.mac_base.specs.declared.block.Flags.{Flags}
 use Rattle.zone_records.specs.Places.{can_have, can_say, has_bytes, most_over}
-use Rattle.zone_records.specs.Records.{ZoneRecords, block_record, sizes_of}
-use Rattle.linked_zone.specs.Changes.{with_heap}
+use Rattle.zone_records.specs.Records.{ZoneRecords, sizes_of}
 use Rattle.linked_zone.specs.Fit.{Fits, has_room}
-use Rattle.linked_zone.specs.Owned.{Owners, owners_of, records_of, content_of, header_flags, slot_flags}
+use Rattle.linked_zone.specs.Owned.{Owners, owners_of, records_of, record_of, content_of, lent_of, header_flags, slot_flags}
 use Rattle.linked_zone.specs.Places.{RoomFor, EntryAt}
 use Rattle.linked_zone.proofs.Standing.{Stands, Kept}
-use Rattle.linked_zone.proofs.Owning.{image, same_but}
+use Rattle.linked_zone.proofs.Owning.{image, SameOf, same_but}
 use Rattle.linked_zone.proofs.Ends.{lower, upper, parts-before, parts-after, parts-place, ended}
 use Rattle.linked_zone.proofs.EndsSaid.{part-passes, size-room, contents-said, entry-below}
 
@@ -36,9 +35,9 @@ use Rattle.linked_zone.proofs.EndsSaid.{part-passes, size-room, contents-said, e
 abbrev pub block_swapped : (old new before : ZoneMap) (a b : Kind) (n : ℕ) (behind : ZoneMap) → old ≡ before ++ block a n ∷ behind → new ≡ before ++ block b n ∷ behind → Exchanged old new
 block_swapped old new before a b n behind was is = record { before = before; left = block a n ∷ []; right = block b n ∷ []; behind = behind; was = was; is = is; as_large = refl }
 
--- the owners of a zone's slots, with the flags and the bytes of another
+-- the owners of a zone's slots, with the flags, the bytes and the loans of another
 abbrev pub with_table : ZoneState → ZoneState → Owners
-with_table z w = record { slot = (owners_of z).slot; flags = (owners_of w).flags; bytes = (owners_of w).bytes }
+with_table z w = record { slot = (owners_of z).slot; flags = (owners_of w).flags; bytes = (owners_of w).bytes; lent = (owners_of w).lent }
 
 module _ (r : ZoneRecords) (z : ZoneState) (held : Stands r z) (heap : Heap) (h : ℕ) (before : ZoneMap) (a b : Kind) (n : ℕ) (behind : ZoneMap) (was : z.heap.map ≡ before ++ block a n ∷ behind)
     (is : heap.map ≡ before ++ block b n ∷ behind) (other : is_master b ≡ false) where
@@ -64,38 +63,40 @@ module _ (r : ZoneRecords) (z : ZoneState) (held : Stands r z) (heap : Heap) (h 
   swapped-rooms = list_all-exchanged z.heap.map heap.map e (has_room z.shape) rooms_now held.rooms
 
   -- what was in the block
-  pub swapped-before : (records_of z).blocks ≡ lower (owners_of z) z.shape before ++ block_record (content_of (owners_of z) ((address_behind z.shape [] + total_size before) + head_size z.shape.heads) a) n ∷ upper (owners_of z) z.shape before e.left behind
+  pub swapped-before : (records_of z).blocks ≡ lower (owners_of z) z.shape before ++ record_of (owners_of z) z.shape (address_behind z.shape [] + total_size before) (block a n) ∷ upper (owners_of z) z.shape before e.left behind
   swapped-before = parts-before z heap e
 
   pub swapped-place : (at : ℕ) → at ≡ address_behind z.shape before → at ≡ records.address_behind z.shape (lower (owners_of z) z.shape before)
   swapped-place at is = parts-place z heap e at is
 
-  -- the block's place, where it has bytes
-  abbrev pub block-there : (at : ℕ) → at ≡ address_behind z.shape before → has_bytes (content_of (owners_of z) ((address_behind z.shape [] + total_size before) + head_size z.shape.heads) a) ≡ true → places.HeldAt (records_of z) at
-  block-there at is bytes = record {
+  -- the block's place, where it has bytes that aren't lent
+  abbrev pub block-there : (at : ℕ) → at ≡ address_behind z.shape before → has_bytes (content_of (owners_of z) ((address_behind z.shape [] + total_size before) + head_size z.shape.heads) a) ≡ true → lent_of (owners_of z) a ≡ false → places.HeldAt (records_of z) at
+  block-there at is bytes unlent = record {
     before = lower (owners_of z) z.shape before;
     size = n;
     content = content_of (owners_of z) ((address_behind z.shape [] + total_size before) + head_size z.shape.heads) a;
     behind = upper (owners_of z) z.shape before (block a n ∷ []) behind;
-    blocks = swapped-before;
+    blocks = swapped-before ∙ ap (λ l. lower (owners_of z) z.shape before ++ record { size = n; content = content_of (owners_of z) ((address_behind z.shape [] + total_size before) + head_size z.shape.heads) a; lent = l } ∷ upper (owners_of z) z.shape before (block a n ∷ []) behind) unlent;
     place = swapped-place at is;
     held = bytes;
   }
 
   -- with what its new owner has in it the blocks are those of the new map, where no other block is the owner's
   pub swapped-after : (m : ZoneRecords) → none_named h before ≡ true → none_named h behind ≡ true → AgreeBut h z.heap.table heap.table
+      → ((y : ℕ) → eqb y h ≡ false → is_lent heap.table y ≡ is_lent z.heap.table y)
       → m ≡ record {
+        memory = z.memory;
         shape = z.shape;
         front = front_slot z.heap;
         blocks = lower (owners_of z) z.shape before
-            ++ block_record (content_of (with_table z (with_heap heap z)) ((address_behind z.shape [] + total_size before) + head_size z.shape.heads) b) n ∷ upper (owners_of z) z.shape before e.left behind;
+            ++ record_of (with_table z (with_heap heap z)) z.shape (address_behind z.shape [] + total_size before) (block b n) ∷ upper (owners_of z) z.shape before e.left behind;
       }
-      → m ≡ image z.shape (front_slot z.heap) (with_table z (with_heap heap z)) heap.map
-  swapped-after m none_before none_behind agree = parts-after z heap e m (front_slot z.heap) (with_table z (with_heap heap z)) (λ y _. refl) (λ y _. refl)
+      → m ≡ image z.memory z.shape (front_slot z.heap) (with_table z (with_heap heap z)) heap.map
+  swapped-after m none_before none_behind agree lents = parts-after z heap e m (front_slot z.heap) (with_table z (with_heap heap z)) (λ y _. refl) (λ y _. refl)
       (same_but (owners_of z) (with_table z (with_heap heap z)) h before none_before same) (same_but (owners_of z) (with_table z (with_heap heap z)) h behind none_behind same)
     where
-      same : (y : ℕ) → eqb y h ≡ false → (header_flags z.shape.heads (flags_of heap.table y) ≡ header_flags z.shape.heads (flags_of z.heap.table y)) × (bytes_of heap.table y ≡ bytes_of z.heap.table y)
-      same y apart = (ap (λ l. header_flags z.shape.heads (live_flags l)) (agree.others y apart), ap live_bytes (agree.others y apart))
+      same : (y : ℕ) → eqb y h ≡ false → SameOf (owners_of z) (with_table z (with_heap heap z)) y
+      same y apart = (ap (λ l. header_flags z.shape.heads (live_flags l)) (agree.others y apart), ap live_bytes (agree.others y apart), lents y apart)
 
   -- they stand for the zone
   pub swapped-ended : (m : ZoneRecords) → Fits (with_heap heap z) → m ≡ records_of (with_heap heap z) → Kept m (with_heap heap z)

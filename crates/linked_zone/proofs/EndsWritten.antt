@@ -11,20 +11,19 @@ use Rattle.mac_base.specs.ZoneMap.{ZoneMap, total_size, address_behind}
 use Rattle.mac_base.specs.ZoneState.{ZoneState, overwritten, with_contents}
 use Rattle.zone_laws.proofs.Maps.{Exchanged, both_true}
 use Rattle.zone_laws.proofs.Tables.{eqb_same}
-use Rattle.zone_records.specs.Records.{ZoneRecords, BlockRecord, block_record, with_bytes}
+use Rattle.zone_records.specs.Records.{ZoneRecords, BlockRecord, with_bytes}
 use Rattle.zone_records.specs.Records as records
 use Rattle.zone_records.specs.WritingBack.{overwritten_at, with_contents_at}
 use Rattle.linked_zone.specs.Fit.{has_room}
-use Rattle.linked_zone.specs.Owned.{Owners, owners_of, header_flags, content_of, records_from}
+use Rattle.linked_zone.specs.Owned.{Owners, owners_of, header_flags, content_of, lent_of, record_of, records_from}
 use Rattle.linked_zone.specs.Places.{NamedAt}
 use Rattle.linked_zone.proofs.Standing.{Stands, Kept}
-use Rattle.linked_zone.proofs.Owning.{same_but}
+use Rattle.linked_zone.proofs.Owning.{SameOf, same_but}
 use Rattle.linked_zone.proofs.Ends.{lower, upper, parts-after, ended-same}
 use Rattle.linked_zone.proofs.EndsSized.{flags-stay, content-named}
 use Rattle.linked_zone.proofs.ChangeSized.{names-one}
 use Rattle.linked_zone.proofs.ChangeWritten.{written-fits, written-pointers, written-bytes, written-other_bytes}
 use Rattle.linked_zone.proofs.Found.{named-held}
-use Rattle.linked_zone.proofs.Located.{record_of}
 use Rattle.linked_zone.proofs.ReadNumbers.{room_some}
 
 -- a block with bytes written over its own
@@ -63,21 +62,21 @@ module _ (r : ZoneRecords) (z : ZoneState) (held : Stands r z) (x at : ℕ) (has
       let start = address_behind z.shape [] in
       let there = (start + total_size place.before) + head_size z.shape.heads in
       let one = names-one z x place.before place.here place.behind held.fits place.map place.named in
-      let same : (y : ℕ) → eqb y x ≡ false → (q.flags y ≡ o.flags y) × (q.bytes y ≡ o.bytes y) = λ y apart.
-      (ap (header_flags z.shape.heads) (flags-stay x (overwritten (bytes_of z.heap.table x) ws) z.heap.table y), written-other_bytes z x ws held.fits has y (λ is. absurd (cc (apart, is, eqb_same x)))) in
+      let same : (y : ℕ) → eqb y x ≡ false → SameOf o q y = λ y apart.
+      (ap (header_flags z.shape.heads) (flags-stay x (overwritten (bytes_of z.heap.table x) ws) z.heap.table y), written-other_bytes z x (overwritten (bytes_of z.heap.table x) ws) held.fits has y (λ is. absurd (cc (apart, is, eqb_same x))), refl) in
       let content : content_of q there place.here.kind ≡ with_bytes (overwritten (records.bytes_of (content_of o there place.here.kind)) ws) (content_of o there place.here.kind) =
       content-named o q there x place.here.kind place.named (ap (header_flags z.shape.heads) (flags-stay x (overwritten (bytes_of z.heap.table x) ws) z.heap.table x))
-      ∙ ap (λ bytes. with_bytes bytes (content_of o there place.here.kind)) (written-bytes z x ws held.fits has ∙ ap (λ old. overwritten old ws) (sym (named-held o there x place.here.kind place.named).1)) in
+      ∙ ap (λ bytes. with_bytes bytes (content_of o there place.here.kind)) (written-bytes z x (overwritten (bytes_of z.heap.table x) ws) held.fits has ∙ ap (λ old. overwritten old ws) (sym (named-held o there x place.here.kind place.named).1)) in
       let whole : Exchanged z.heap.map w.heap.map = record { before = place.before; left = place.here ∷ []; right = place.here ∷ []; behind = place.behind; was = place.map; is = place.map; as_large = refl } in
       let rooms = (both_true (list_all (has_room z.shape) place.before) _ (sym (ap (list_all (has_room z.shape)) place.map ∙ list_all-append (has_room z.shape) place.before (place.here ∷ place.behind)) ∙ held.rooms)).0 in
       let address = place.place in
       let end : (start + total_size place.before) + place.here.size ≡ (start + total_size place.before) + total_size (place.here ∷ []) = omega arith in
-      ended-same r (with_contents_at r at ws) z w.heap held refl (written-fits z x ws held.fits has)
-      (parts-after z w.heap whole (with_contents_at r at ws) (front_slot z.heap) q (λ y c. written-pointers z x ws held.fits has y) (λ y c. written-pointers z x ws held.fits has y)
+      ended-same r (with_contents_at r at ws) z w.heap held refl (written-fits z x (overwritten (bytes_of z.heap.table x) ws) held.fits has)
+      (parts-after z w.heap whole (with_contents_at r at ws) (front_slot z.heap) q (λ y c. written-pointers z x (overwritten (bytes_of z.heap.table x) ws) held.fits has y) (λ y c. written-pointers z x (overwritten (bytes_of z.heap.table x) ws) held.fits has y)
       (same_but o q x place.before one.none_before same) (same_but o q x place.behind one.none_behind same)
       (ap (λ r. with_contents_at r at ws) held.blocks
-      ∙ ap (λ bs. record { shape = z.shape; front = front_slot z.heap; blocks = bs })
+      ∙ ap (λ bs. record { memory = z.memory; shape = z.shape; front = front_slot z.heap; blocks = bs })
       (ap (λ m. overwritten_at start at ws (records_from o z.shape start m)) place.map
       ∙ overwritten-there o z.shape start at ws place.before place.here place.behind rooms (omega arith)
       ∙ ap (λ a. lower o z.shape place.before ++ (written_over ws (record_of o z.shape (start + total_size place.before) place.here) ∷ records_from o z.shape a place.behind)) end
-      ∙ ap (λ c. lower o z.shape place.before ++ (block_record c place.here.size ∷ upper o z.shape place.before (place.here ∷ []) place.behind)) (sym content))))
+      ∙ ap (λ c. lower o z.shape place.before ++ (record { size = place.here.size; content = c; lent = lent_of o place.here.kind } ∷ upper o z.shape place.before (place.here ∷ []) place.behind)) (sym content))))

@@ -9,7 +9,7 @@ use Rattle.mac_base.specs.declared.block.Kind.{Kind}
 use Rattle.mac_base.specs.declared.block.Kind.TheVariants as kind
 use Rattle.mac_base.specs.HeadKind.{head_size}
 use Rattle.mac_base.specs.ZoneMap.{ZoneMap, block, is_named, addresses_from, address_behind, contents_of, total_size}
-use Rattle.mac_base.specs.HandleTable.{Live, EmptyHandle, FullHandle, Pointer, live_at, live_full, live_flags, live_handle, live_pointer, no_flags, flags_of, is_full, is_handle, is_pointer, has_block, bytes_of}
+use Rattle.mac_base.specs.HandleTable.{Live, EmptyHandle, FullHandle, Pointer, live_at, live_full, live_flags, live_handle, live_pointer, no_flags, flags_of, is_full, is_handle, is_pointer, has_block, is_lent, bytes_of}
 use Rattle.mac_base.specs.Suits.{slots, is_handle_block, is_pointer_block, wanted_length}
 use Rattle.mac_base.specs.ZoneState.{ZoneState}
 use Rattle.zone_laws.proofs.Owners.{nothing_passes, no_length}
@@ -21,7 +21,7 @@ use Rattle.zone_records.specs.Records.{BlockRecord, ZoneRecords, block_record, C
 use Rattle.zone_records.specs.Records as records
 use Rattle.zone_records.specs.Places.{RecordAt, SlotAt, HeldAt, HandleBlockAt, has_bytes}
 use Rattle.linked_zone.specs.Flags.{flags_there}
-use Rattle.linked_zone.specs.Owned.{Owners, slot_flags, header_flags, next_free, slot_of_live, slot_of, owners_of, content_of, records_of}
+use Rattle.linked_zone.specs.Owned.{Owners, slot_flags, header_flags, next_free, slot_of_live, slot_of, owners_of, content_of, lent_of, records_of}
 use Rattle.linked_zone.specs.Places.{EntryAt, HasOwner, BlockOf, NamedAt}
 use Rattle.linked_zone.specs.Sizes.{sizes_of}
 use Rattle.linked_zone.specs.Fit.{Fits}
@@ -49,7 +49,7 @@ pub record OfSlot (r : ZoneRecords) (z : ZoneState) (x : ℕ) : Type 0 where
   pub says : there.here ≡ slot_of z x
 
 pub of-slot : (r : ZoneRecords) (z : ZoneState) → Stands r z → (x : ℕ) → Contains (slots z.shape z.heap.map) x → OfSlot r z x
-of-slot r z stands x c = subst (λ r. OfSlot r z x) (sym stands.blocks) (record { there = slot-at z.shape (records_of z).front (owners_of z) z.heap.map x stands.rooms c; says = refl })
+of-slot r z stands x c = subst (λ r. OfSlot r z x) (sym stands.blocks) (record { there = slot-at z.memory z.shape (records_of z).front (owners_of z) z.heap.map x stands.rooms c; says = refl })
 
 -- the same of a number that is the slot's
 pub slot-there : (r : ZoneRecords) (z : ZoneState) → Stands r z → (x n : ℕ) → n ≡ x → Contains (slots z.shape z.heap.map) x → SlotAt r n
@@ -152,6 +152,7 @@ of-handle r z stands h at b =
         handle = h;
         flags = header_flags z.shape.heads (flags_of z.heap.table h);
         bytes = bytes_of z.heap.table h;
+        lent = is_lent z.heap.table h;
         behind = there.behind;
         blocks = there.blocks ∙ ap (λ b. there.before ++ b ∷ there.behind) mine.here;
         place = there.place;
@@ -322,12 +323,19 @@ named-held o at x kind.Master named = absurd (cc named)
 named-held o at x (kind.Ptr p) named = (refl, ap o.bytes (eqb-true-is p x named))
 named-held o at x (kind.Rel h) named = (refl, ap o.bytes (eqb-true-is h x named))
 
+-- and is lent where its owner is
+pub named-lent : (o : Owners) (x : ℕ) (k : Kind) → is_named x k ≡ true → lent_of o k ≡ o.lent x
+named-lent o x kind.Free named = absurd (cc named)
+named-lent o x kind.Master named = absurd (cc named)
+named-lent o x (kind.Ptr p) named = ap o.lent (eqb-true-is p x named)
+named-lent o x (kind.Rel h) named = ap o.lent (eqb-true-is h x named)
+
 pub record OfNamed (r : ZoneRecords) (z : ZoneState) (x at : ℕ) : Type 0 where
   pub there : HeldAt r at
   pub bytes : records.bytes_of there.content ≡ bytes_of z.heap.table x
 
-pub of-named : (r : ZoneRecords) (z : ZoneState) → Stands r z → (x at : ℕ) → NamedAt z x at → OfNamed r z x at
-of-named r z stands x at n =
+pub of-named : (r : ZoneRecords) (z : ZoneState) → Stands r z → (x at : ℕ) → is_lent z.heap.table x ≡ false → NamedAt z x at → OfNamed r z x at
+of-named r z stands x at unlent n =
     let mine = of-entry r z stands.blocks at (record { before = n.before; here = n.here; behind = n.behind; map = n.map; place = n.place }) in
     let there = mine.there in
     let held = named-held (owners_of z) (at + head_size z.shape.heads) x n.here.kind n.named in
@@ -337,7 +345,8 @@ of-named r z stands x at n =
         size = n.here.size;
         content = content_of (owners_of z) (at + head_size z.shape.heads) n.here.kind;
         behind = there.behind;
-        blocks = there.blocks ∙ ap (λ b. there.before ++ b ∷ there.behind) mine.here;
+        blocks = there.blocks ∙ ap (λ b. there.before ++ b ∷ there.behind) mine.here
+            ∙ ap (λ l. there.before ++ record { size = n.here.size; content = content_of (owners_of z) (at + head_size z.shape.heads) n.here.kind; lent = l } ∷ there.behind) (named-lent (owners_of z) x n.here.kind n.named ∙ unlent);
         place = there.place;
         held = held.0;
       };

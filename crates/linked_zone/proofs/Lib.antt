@@ -19,6 +19,7 @@ mod EndsExchange
 mod EndsFlags
 mod EndsFollow
 mod EndsGiven
+mod EndsLoans
 mod EndsMaster
 mod EndsSaid
 mod EndsSized
@@ -26,6 +27,7 @@ mod EndsSlots
 mod EndsSwapped
 mod EndsWritten
 mod Found
+mod Lent
 mod Located
 mod Owning
 mod ReadBack

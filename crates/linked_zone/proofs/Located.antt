@@ -17,7 +17,7 @@ use Rattle.zone_records.specs.declared.slot.Slot.{Slot}
 use Rattle.zone_records.specs.Records.{BlockRecord, ZoneRecords, block_record, Free, Master, total_of, kind_of}
 use Rattle.zone_records.specs.Places.{RecordAt, SlotAt}
 use Rattle.zone_records.specs.Places as records
-use Rattle.linked_zone.specs.Owned.{Owners, owners_of, content_of, records_from, records_of}
+use Rattle.linked_zone.specs.Owned.{Owners, owners_of, content_of, record_of, records_from, records_of}
 use Rattle.linked_zone.specs.Places.{EntryAt, LowestAt}
 use Rattle.linked_zone.specs.Fit.{Fits, HasRooms}
 use Rattle.linked_zone.proofs.Owning.{records_from-append, records-total}
@@ -29,10 +29,6 @@ use Rattle.linked_zone.proofs.ReadBack.{all-pointers}
 pub IfNone_then : {P Q : Type 0} (r : Option ℕ) → IfNone r P → (P → Q) → IfNone r Q
 IfNone_then None h f = f h
 IfNone_then (Some n) h f = tt
-
--- the block of an entry whose header stands at an address
-abbrev pub record_of : Owners → Shape → ℕ → Entry → BlockRecord
-record_of o s at e = block_record (content_of o (at + head_size s.heads) e.kind) e.size
 
 -- ---- the block of an entry
 

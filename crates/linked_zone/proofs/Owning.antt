@@ -8,6 +8,7 @@ use Rattle.mac_base.specs.declared.block.Kind.TheVariants as kind
 use Rattle.mac_base.specs.HeadKind.{Shape, head_size, slot_count}
 use Rattle.mac_base.specs.ZoneMap.{ZoneMap, is_master, is_named, total_size, address_behind, addresses_from}
 use Rattle.mac_base.specs.Suits.{slots, slots_from}
+use Rattle.mac_base.specs.ZoneState.{Memory}
 use Rattle.zone_laws.proofs.Maps.{both_true}
 use Rattle.zone_laws.proofs.Owners.{none_named}
 use Rattle.zone_laws.proofs.SlotPlaces.{slots_at, has_room, slots_at-above, Contains-cons_cases, Contains-none, Contains-here, Contains-later}
@@ -17,11 +18,11 @@ use Rattle.zone_records.specs.Records.{BlockRecord, ZoneRecords, block_record, M
 use Rattle.zone_records.specs.Records as records
 use Rattle.zone_records.specs.Changes.{with_slot}
 use Rattle.zone_records.specs.Places.{SlotAt}
-use Rattle.linked_zone.specs.Owned.{Owners, content_of, records_from}
+use Rattle.linked_zone.specs.Owned.{Owners, content_of, lent_of, record_of, records_from}
 
 -- the blocks of a map with what is written for their owners, in a zone whose header names this free slot first
-abbrev pub image : Shape → ℕ → Owners → ZoneMap → ZoneRecords
-image s front o m = record { shape = s; front = front; blocks = records_from o s (address_behind s []) m }
+abbrev pub image : Memory → Shape → ℕ → Owners → ZoneMap → ZoneRecords
+image memory s front o m = record { memory = memory; shape = s; front = front; blocks = records_from o s (address_behind s []) m }
 
 -- ---- parts of a map
 
@@ -30,7 +31,7 @@ pub records_from-append : (o : Owners) (s : Shape) (at : ℕ) (xs ys : ZoneMap) 
 records_from-append o s at [] ys = let same : at ≡ at + 0 = omega arith in ap (λ a. records_from o s a ys) same
 records_from-append o s at (e ∷ es) ys =
     let same : (at + e.size) + total_size es ≡ at + (e.size + total_size es) = omega arith in
-    ap (λ bs. block_record (content_of o (at + head_size s.heads) e.kind) e.size ∷ bs)
+    ap (λ bs. record_of o s at e ∷ bs)
     (records_from-append o s (at + e.size) es ys ∙ ap (λ a. records_from o s (at + e.size) es ++ records_from o s a ys) same)
 
 -- they are as large as those of the map
@@ -54,9 +55,13 @@ records-middle o s at before middle behind =
 abbrev pub SameSlots : Owners → Owners → Shape → ℕ → ZoneMap → Type 0
 SameSlots o p s at m = (x : ℕ) → Contains (slots_at (head_size s.heads) slot_count at m) x → p.slot x ≡ o.slot x
 
--- they have the same for each number that names a block of a map
+-- they have the same for a number
+abbrev pub SameOf : Owners → Owners → ℕ → Type 0
+SameOf o p x = (p.flags x ≡ o.flags x) × (p.bytes x ≡ o.bytes x) × (p.lent x ≡ o.lent x)
+
+-- they do for each number that names a block of a map
 abbrev pub SameNamed : Owners → Owners → ZoneMap → Type 0
-SameNamed o p m = (x : ℕ) → none_named x m ≡ false → (p.flags x ≡ o.flags x) × (p.bytes x ≡ o.bytes x)
+SameNamed o p m = (x : ℕ) → none_named x m ≡ false → SameOf o p x
 
 slots_at-cons : (head n at size : ℕ) (k : Kind) (es : ZoneMap) → slots_at head n at (record { size = size; kind = k } ∷ es) ≡ cond (is_master k) (slots_from n (at + head)) [] ++ slots_at head n (at + size) es
 slots_at-cons head n at size k es = by_test (is_master k)
@@ -70,7 +75,7 @@ map-same f g [] same = refl
 map-same f g (x ∷ xs) same = ap (λ y. y ∷ map g xs) (same x (Contains-here x xs)) ∙ ap (λ ys. f x ∷ ys) (map-same f g xs (λ y c. same y (Contains-later x xs y c)))
 
 content-same : (o p : Owners) (at : ℕ) (k : Kind) → ((x : ℕ) → Contains (cond (is_master k) (slots_from slot_count at) []) x → p.slot x ≡ o.slot x)
-    → ((x : ℕ) → is_named x k ≡ true → (p.flags x ≡ o.flags x) × (p.bytes x ≡ o.bytes x)) → content_of p at k ≡ content_of o at k
+    → ((x : ℕ) → is_named x k ≡ true → SameOf o p x) → content_of p at k ≡ content_of o at k
 content-same o p at kind.Free slot named = refl
 content-same o p at kind.Master slot named = ap Master (map-same o.slot p.slot (slots_from slot_count at) slot)
 content-same o p at (kind.Ptr q) slot named = ap records.Fixed (named q (eqb_same q)).1
@@ -78,15 +83,22 @@ content-same o p at (kind.Rel h) slot named =
     let same = named h (eqb_same h) in
     ap (λ f. records.Relocatable h f (p.bytes h)) same.0 ∙ ap (records.Relocatable h (o.flags h)) same.1
 
+lent-same : (o p : Owners) (k : Kind) → ((x : ℕ) → is_named x k ≡ true → SameOf o p x) → lent_of p k ≡ lent_of o k
+lent-same o p kind.Free named = refl
+lent-same o p kind.Master named = refl
+lent-same o p (kind.Ptr q) named = (named q (eqb_same q)).2
+lent-same o p (kind.Rel h) named = (named h (eqb_same h)).2
+
 -- then the blocks are the same
 pub records-same : (o p : Owners) (s : Shape) (at : ℕ) (m : ZoneMap) → SameSlots o p s at m → SameNamed o p m → records_from p s at m ≡ records_from o s at m
 records-same o p s at [] slot named = refl
 records-same o p s at (e ∷ es) slot named =
     let cons = slots_at-cons (head_size s.heads) slot_count at e.size e.kind es in
-    ap (λ c. block_record c e.size ∷ records_from p s (at + e.size) es) (content-same o p (at + head_size s.heads) e.kind
-    (λ x c. slot x (subst (λ xs. Contains xs x) (sym cons) (Contains-append_left _ _ x c)))
-    (λ x is. named x (ap (λ b. not b && none_named x es) is)))
-    ∙ ap (λ bs. block_record (content_of o (at + head_size s.heads) e.kind) e.size ∷ bs) (records-same o p s (at + e.size) es
+    let here : (x : ℕ) → is_named x e.kind ≡ true → SameOf o p x = λ x is. named x (ap (λ b. not b && none_named x es) is) in
+    ap (λ c. record { size = e.size; content = c; lent = lent_of p e.kind } ∷ records_from p s (at + e.size) es) (content-same o p (at + head_size s.heads) e.kind
+    (λ x c. slot x (subst (λ xs. Contains xs x) (sym cons) (Contains-append_left _ _ x c))) here)
+    ∙ ap (λ l. record { size = e.size; content = content_of o (at + head_size s.heads) e.kind; lent = l } ∷ records_from p s (at + e.size) es) (lent-same o p e.kind here)
+    ∙ ap (λ bs. record_of o s at e ∷ bs) (records-same o p s (at + e.size) es
     (λ x c. slot x (subst (λ xs. Contains xs x) (sym cons) (Contains-append_right _ _ x c)))
     (λ x is. named x (later (not (is_named x e.kind)) (none_named x es) is)))
   where
@@ -94,11 +106,11 @@ records-same o p s at (e ∷ es) slot named =
     later true b is = is
     later false b is = refl
 
--- owners that agree but for the bytes and flags of h, which names none of the blocks
-pub same_but : (o p : Owners) (h : ℕ) (m : ZoneMap) → none_named h m ≡ true → ((x : ℕ) → eqb x h ≡ false → (p.flags x ≡ o.flags x) × (p.bytes x ≡ o.bytes x)) → SameNamed o p m
+-- owners that agree but for h, which names none of the blocks
+pub same_but : (o p : Owners) (h : ℕ) (m : ZoneMap) → none_named h m ≡ true → ((x : ℕ) → eqb x h ≡ false → SameOf o p x) → SameNamed o p m
 same_but o p h m none same x named = by_test (eqb x h) refl
   where
-    by_test : (b : Bool) → eqb x h ≡ b → (p.flags x ≡ o.flags x) × (p.bytes x ≡ o.bytes x)
+    by_test : (b : Bool) → eqb x h ≡ b → SameOf o p x
     by_test true is = absurd (cc (ap (λ y. none_named y m) (eqb-true-is x h is), named, none))
     by_test false is = same x is
 
@@ -117,7 +129,7 @@ records-replaced o p s at before left right behind large slot later first second
 
 -- the owners with another slot h
 abbrev pub slot_set : Owners → ℕ → Slot → Owners
-slot_set o h w = record { slot = λ x. cond (eqb x h) w (o.slot x); flags = o.flags; bytes = o.bytes }
+slot_set o h w = record { slot = λ x. cond (eqb x h) w (o.slot x); flags = o.flags; bytes = o.bytes; lent = o.lent }
 
 set-here : (f : ℕ → Slot) (h : ℕ) (w : Slot) → cond (eqb h h) w (f h) ≡ w
 set-here f h w = ap (λ b. cond b w (f h)) (eqb_same h)
@@ -195,7 +207,7 @@ in_front o s at size h kind.Master es rooms c =
       has = ap (λ ys. block_record (Master ys) size ∷ records_from o s (at + size) es) among.has;
       sets = λ w. ap (λ ys. block_record (Master ys) size ∷ records_from (slot_set o h w) s (at + size) es) (among.sets w)
           ∙ ap (λ bs. block_record (Master (among.before ++ w ∷ among.behind)) size ∷ bs) (records-same o (slot_set o h w) s (at + size) es
-          (λ x d. set-other o.slot h w x (λ same. let above = slots_at-above (head_size s.heads) slot_count (at + size) es x room.1 d in omega arith)) (λ x d. (refl, refl)));
+          (λ x d. set-other o.slot h w x (λ same. let above = slots_at-above (head_size s.heads) slot_count (at + size) es x room.1 d in omega arith)) (λ x d. (refl, refl, refl)));
     }
 
 -- each slot of a map is one of the blocks'
@@ -211,16 +223,16 @@ slot-in o s at (e ∷ es) h rooms c = elim (Contains-append_cases _ _ h (subst (
         let room = both_true (has_room (head_size s.heads) slot_count e) (list_all (has_room (head_size s.heads) slot_count) es) rooms in
         let above = slots_at-above (head_size s.heads) slot_count (at + e.size) es h room.1 later in
         record {
-          before = block_record (content_of o (at + head_size s.heads) e.kind) e.size ∷ rest.before;
+          before = record_of o s at e ∷ rest.before;
           size = rest.size;
           slots_before = rest.slots_before;
           slots_behind = rest.slots_behind;
           behind = rest.behind;
           place = (let place = rest.place in omega arith);
-          has = ap (λ bs. block_record (content_of o (at + head_size s.heads) e.kind) e.size ∷ bs) rest.has;
-          sets = λ w. ap (λ c. block_record c e.size ∷ records_from (slot_set o h w) s (at + e.size) es)
-              (content-same o (slot_set o h w) (at + head_size s.heads) e.kind (λ x d. set-other o.slot h w x (λ same. not_here x same d)) (λ x is. (refl, refl)))
-              ∙ ap (λ bs. block_record (content_of o (at + head_size s.heads) e.kind) e.size ∷ bs) (rest.sets w);
+          has = ap (λ bs. record_of o s at e ∷ bs) rest.has;
+          sets = λ w. ap (λ c. record { size = e.size; content = c; lent = lent_of o e.kind } ∷ records_from (slot_set o h w) s (at + e.size) es)
+              (content-same o (slot_set o h w) (at + head_size s.heads) e.kind (λ x d. set-other o.slot h w x (λ same. not_here x same d)) (λ x is. (refl, refl, refl)))
+              ∙ ap (λ bs. record_of o s at e ∷ bs) (rest.sets w);
         }
       where
         not_here : (x : ℕ) → x ≡ h → Contains (cond (is_master e.kind) (slots_from slot_count (at + head_size s.heads)) []) x → ⊥
@@ -235,12 +247,12 @@ slot-in o s at (e ∷ es) h rooms c = elim (Contains-append_cases _ _ h (subst (
                 let large : head_size s.heads + 4 * slot_count ≤ e.size = (let here = room.0 in grind (arith, nat_tests)) in
                 omega arith
 
-module _ (s : Shape) (front : ℕ) (o : Owners) (m : ZoneMap) (h : ℕ) (rooms : list_all (has_room (head_size s.heads) slot_count) m ≡ true) (c : Contains (slots s m) h) where
+module _ (memory : Memory) (s : Shape) (front : ℕ) (o : Owners) (m : ZoneMap) (h : ℕ) (rooms : list_all (has_room (head_size s.heads) slot_count) m ≡ true) (c : Contains (slots s m) h) where
   abbrev there : SlotIn o s (address_behind s []) m h
   there = slot-in o s (address_behind s []) m h rooms c
 
   -- a slot of the map is one of the blocks'
-  abbrev pub slot-at : SlotAt (image s front o m) h
+  abbrev pub slot-at : SlotAt (image memory s front o m) h
   slot-at = let place = there.place in record {
     before = there.before;
     size = there.size;
@@ -257,10 +269,10 @@ module _ (s : Shape) (front : ℕ) (o : Owners) (m : ZoneMap) (h : ℕ) (rooms :
   slot-says = refl
 
   -- and to write there is to have another owner
-  pub slot-written : (w : Slot) → with_slot w (image s front o m) slot-at ≡ image s front (slot_set o h w) m
-  slot-written w = ap (λ bs. record { shape = s; front = front; blocks = bs }) (sym (there.sets w))
+  pub slot-written : (w : Slot) → with_slot w (image memory s front o m) slot-at ≡ image memory s front (slot_set o h w) m
+  slot-written w = ap (λ bs. record { memory = memory; shape = s; front = front; blocks = bs }) (sym (there.sets w))
 
 -- owners that say the same of all have the same blocks
-pub image-same : (s : Shape) (front : ℕ) (o p : Owners) (m : ZoneMap) → ((x : ℕ) → Contains (slots s m) x → p.slot x ≡ o.slot x) → ((x : ℕ) → p.flags x ≡ o.flags x) → ((x : ℕ) → p.bytes x ≡ o.bytes x)
-    → image s front p m ≡ image s front o m
-image-same s front o p m slot flags bytes = ap (λ bs. record { shape = s; front = front; blocks = bs }) (records-same o p s (address_behind s []) m slot (λ x is. (flags x, bytes x)))
+pub image-same : (memory : Memory) (s : Shape) (front : ℕ) (o p : Owners) (m : ZoneMap) → ((x : ℕ) → Contains (slots s m) x → p.slot x ≡ o.slot x) → ((x : ℕ) → p.flags x ≡ o.flags x) → ((x : ℕ) → p.bytes x ≡ o.bytes x) → ((x : ℕ) → p.lent x ≡ o.lent x)
+    → image memory s front p m ≡ image memory s front o m
+image-same memory s front o p m slot flags bytes lent = ap (λ bs. record { memory = memory; shape = s; front = front; blocks = bs }) (records-same o p s (address_behind s []) m slot (λ x is. (flags x, bytes x, lent x)))

@@ -22,7 +22,7 @@ use Rattle.linked_zone.specs.Reading.{either_flags, live_in, next_said, all_slot
 use Rattle.linked_zone.specs.Fit.{Fits, HasRooms}
 use Rattle.linked_zone.proofs.ReadNumbers.{numbers, rising-numbers, slot-numbers, pointer-numbers, entry_of, entries-read}
 use Rattle.linked_zone.proofs.ReadFree.{length-among, next-named, chain-all}
-use Rattle.linked_zone.proofs.ReadBlocks.{full_entry, pointers-there, ArePointersThere, map-back, slots-back, lives-there-back, lives-back}
+use Rattle.linked_zone.proofs.ReadBlocks.{full_entry, pointers-there, ArePointersThere, map-back, lents-back, slots-back, lives-there-back, lives-back}
 
 -- flags in one of the two places are read
 flags-back : (heads : HeadKind) (flags : Flags) → either_flags (slot_flags heads flags) (header_flags heads flags) ≡ flags
@@ -150,5 +150,6 @@ pub read_back : (z : ZoneState) → Fits z → HasRooms z → 0x1000 ≤ z.shape
 read_back z fits rooms low =
     let table = table-back z fits rooms in
     let map = map-back (owners_of z) z.shape z.heap.table (address_behind z.shape []) z.heap.map (all-pointers z fits rooms) in
+    let lent = lents-back (owners_of z) z.shape z.heap.table (address_behind z.shape []) z.heap.map (all-pointers z fits rooms) ∙ sym fits.loans.in_order in
     let free = free-back z fits rooms (omega arith) in
-    λ i. record { shape = z.shape; heap = record { table = record { live = table i; lent = sym fits.unlent i }; map = map i; free_slots = free i } }
+    λ i. record { memory = z.memory; shape = z.shape; heap = record { table = record { live = table i; lent = lent i }; map = map i; free_slots = free i } }

@@ -1,13 +1,15 @@
 -- What is read off the blocks that a zone map and its owners call for.
 use Rattle.std.proofs.Common.{◌≡◌, ℕ, zero, suc, ◌+◌, true, false, cond, eqb, List, [], ◌∷◌, ◌++◌, map, flat_map, Option, Some, None, refl, ap, sym, ◌∙◌, subst, Contains}
 use Rattle.std.specs.Prelude.{⊤}
+use Rattle.std.specs.List.{filter}
 use Rattle.std.proofs.lemmas.Grind.{flat_map-append}
 use Rattle.std.proofs.lemmas.List.{map-append}
-use Rattle.std.proofs.lemmas.List.Elements.{Contains-append_left, Contains-append_right}
+use Rattle.std.proofs.lemmas.List.Elements.{Contains-append_left, Contains-append_right, filter-append}
 use Rattle.mac_base.specs.declared.block.Flags.{Flags}
 use Rattle.mac_base.specs.declared.block.Kind.{Kind}
 use Rattle.mac_base.specs.declared.block.Kind.TheVariants.{Free, Master, Ptr, Rel}
 use Rattle.mac_base.specs.HeadKind.{Shape, head_size, slot_count}
+use Rattle.mac_base.specs.Loans.{owner_of, owners}
 use Rattle.mac_base.specs.ZoneMap.{ZoneMap, block, is_master, addresses_from}
 use Rattle.mac_base.specs.HandleTable.{HandleTable, Live, EmptyHandle, FullHandle, Pointer, live_at, bytes_of, live_bytes, live_pointer, is_pointer}
 use Rattle.mac_base.specs.Suits.{slots_from, is_handle_block, is_pointer_block}
@@ -15,8 +17,8 @@ use Rattle.zone_laws.proofs.Tables.{eqb_same, eqb-true-is}
 use Rattle.zone_laws.proofs.SlotPlaces.{Contains-here, Contains-later, slots_at}
 use Rattle.zone_records.specs.declared.slot.Slot.{Slot}
 use Rattle.zone_records.specs.Records.{BlockRecord, kind_of}
-use Rattle.linked_zone.specs.Owned.{Owners, content_of, records_from}
-use Rattle.linked_zone.specs.Reading.{map_in, addressed, either_flags, live_there, lives_there, live_in, live_of, lives_in, slots_of, all_slots}
+use Rattle.linked_zone.specs.Owned.{Owners, content_of, lent_of, records_from}
+use Rattle.linked_zone.specs.Reading.{map_in, lents_in, addressed, either_flags, live_there, lives_there, live_in, live_of, lives_in, slots_of, all_slots}
 use Rattle.linked_zone.proofs.ReadNumbers.{slots_at-first, numbers_of, numbers, entry_of}
 
 -- ---- pointers
@@ -62,6 +64,22 @@ map-back o s t at [] there = refl
 map-back o s t at (e ∷ es) there =
     ap (λ k. block k e.size ∷ map_in s (at + e.size) (records_from o s (at + e.size) es)) (kind-back o t (at + head_size s.heads) e.kind there.0)
     ∙ ap (λ (m : ZoneMap). e ∷ m) (map-back o s t (at + e.size) es there.1)
+
+-- ---- what is lent
+
+-- so is what is lent
+pub lents-back : (o : Owners) (s : Shape) (t : HandleTable) (at : ℕ) (m : ZoneMap) → ArePointersThere t (head_size s.heads) at m → lents_in s at (records_from o s at m) ≡ filter o.lent (owners m)
+lents-back o s t at [] there = refl
+lents-back o s t at (e ∷ es) there =
+    ap (λ k. cond (lent_of o e.kind) (owner_of k) [] ++ lents_in s (at + e.size) (records_from o s (at + e.size) es)) (kind-back o t (at + head_size s.heads) e.kind there.0)
+    ∙ ap (λ xs. cond (lent_of o e.kind) (owner_of e.kind) [] ++ xs) (lents-back o s t (at + e.size) es there.1)
+    ∙ ap (λ xs. xs ++ filter o.lent (owners es)) (own e.kind) ∙ sym (filter-append o.lent (owner_of e.kind) (owners es))
+  where
+    own : (k : Kind) → cond (lent_of o k) (owner_of k) [] ≡ filter o.lent (owner_of k)
+    own Free = refl
+    own Master = refl
+    own (Ptr p) = refl
+    own (Rel h) = refl
 
 -- ---- the slots
 

@@ -7,22 +7,17 @@ use Rattle.mac_base.specs.HeadKind.{zone_header, head_size, slot_count}
 use Rattle.mac_base.specs.ZoneMap.{ZoneMap, block, free_block, is_named}
 use Rattle.mac_base.specs.ZoneSizes.{ZoneSizes, shape_of}
 use Rattle.mac_base.specs.HandleTable.{HandleTable, EmptyHandle, FullHandle, Pointer, new_table, no_flags, zeros, bytes_of, resized, with_live, with_bytes, with_flags, without, emptied}
-use Rattle.mac_base.specs.Heap.{Heap}
 use Rattle.mac_base.specs.Suits.{slots_from}
-use Rattle.mac_base.specs.ZoneState.{ZoneState}
+use Rattle.mac_base.specs.ZoneState.{Memory, ZoneState, with_heap}
 use Rattle.linked_zone.specs.Places.{FreeAt, FreePair, CanHold, CanGrow, MovablePair}
-
--- the zone with another heap
-abbrev pub with_heap : Heap → ZoneState → ZoneState
-with_heap heap z = record z { heap = heap }
 
 -- the zone with another map
 abbrev pub with_map : ZoneMap → ZoneState → ZoneState
 with_map m z = record z { heap = record { table = z.heap.table; map = m; free_slots = z.heap.free_slots } }
 
 -- a new zone without a slot: one free block
-abbrev pub bare_zone : ZoneSizes → ZoneState
-bare_zone sizes = record { shape = shape_of sizes; heap = record { table = new_table; map = block Free (sizes.size - zone_header) ∷ []; free_slots = [] } }
+abbrev pub bare_zone : Memory → ZoneSizes → ZoneState
+bare_zone memory sizes = record { memory = memory; shape = shape_of sizes; heap = record { table = new_table; map = block Free (sizes.size - zone_header) ∷ []; free_slots = [] } }
 
 -- the free slot h, which is the next to be given, is an empty handle
 abbrev pub taken : ℕ → ZoneState → ZoneState

@@ -1,13 +1,11 @@
 -- When a handle table, a zone map and free slots fit each other, so that bytes can stand for them.
-use Rattle.std.specs.Prelude.{◌≡◌, ℕ, ◌+◌, ◌*◌, ◌↔◌, Bool, not, ◌&&◌, ◌||◌, nat_lt, nat_le, IsTrue, IsFalse, if◌then◌else◌, [], ◌∷◌, length, Contains, nat_eq}
-use Rattle.std.specs.Ordering.{nat_cmp}
-use Rattle.std.specs.List.{IsDistinct, list_all}
-use Rattle.std.specs.FinMap.{is_sorted}
+use Rattle.std.specs.Prelude.{◌+◌, ◌*◌, Bool, not, ◌&&◌, ◌||◌, nat_lt, nat_le, IsTrue}
+use Rattle.std.specs.List.{list_all}
 use Rattle.mac_base.specs.declared.block.Entry.{Entry}
 use Rattle.mac_base.specs.HeadKind.{Shape, head_size, slot_count}
-use Rattle.mac_base.specs.ZoneMap.{addresses, contents_addresses, is_master}
-use Rattle.mac_base.specs.HandleTable.{is_full, is_handle, is_pointer}
+use Rattle.mac_base.specs.ZoneMap.{is_master}
 use Rattle.mac_base.specs.Suits.{Coherent, is_block_size}
+use Rattle.mac_base.specs.Loans.{LoansFit}
 use Rattle.mac_base.specs.Sound.{FreeSlots}
 use Rattle.mac_base.specs.ZoneState.{ZoneState}
 
@@ -15,8 +13,8 @@ use Rattle.mac_base.specs.ZoneState.{ZoneState}
 pub record Fits (z : ZoneState) : Type 0 where
   pub coherent : Coherent z.shape z.heap.table z.heap.map
   pub slots : FreeSlots z.shape z.heap
-  -- nothing is lent
-  pub unlent : z.heap.table.lent ≡ []
+  -- what is lent has blocks, and is few
+  pub loans : LoansFit z.heap
 
 -- all sizes are multiples of four, and no smaller than the smallest block
 abbrev pub HasSizes : ZoneState → Type 0

@@ -8,3 +8,4 @@ pub mod WritingBack
 pub mod Following
 pub mod Flags
 pub mod Image
+pub mod Loans

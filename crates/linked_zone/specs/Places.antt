@@ -5,6 +5,7 @@ use Rattle.mac_base.specs.declared.block.Entry.{Entry}
 use Rattle.mac_base.specs.declared.block.Kind.TheVariants.{Free, Master, Ptr, Rel}
 use Rattle.mac_base.specs.declared.block.Kind.{Kind}
 use Rattle.mac_base.specs.HandleTable.{is_handle}
+use Rattle.mac_base.specs.Loans.{is_here}
 use Rattle.mac_base.specs.ZoneMap.{ZoneMap, block, has_free, is_named, address_behind}
 use Rattle.mac_base.specs.Suits.{is_block_size, has_length}
 use Rattle.mac_base.specs.HeadKind.{Shape}
@@ -111,7 +112,7 @@ is_movable Master = false
 is_movable (Ptr p) = false
 is_movable (Rel h) = true
 
--- two neighbours that may move, the first at an address
+-- two neighbours that may move and aren't lent, the first at an address
 pub record MovablePair (z : ZoneState) (at : ℕ) : Type 0 where
   pub before : ZoneMap
   pub first : Entry
@@ -121,3 +122,5 @@ pub record MovablePair (z : ZoneState) (at : ℕ) : Type 0 where
   pub place : at ≡ address_behind z.shape before
   pub first_moves : IsTrue (is_movable first.kind)
   pub second_moves : IsTrue (is_movable second.kind)
+  pub first_here : IsTrue (is_here z.heap.table first.kind)
+  pub second_here : IsTrue (is_here z.heap.table second.kind)

@@ -2,6 +2,7 @@
 use Rattle.std.specs.Prelude.{◌≡◌, ℕ, zero, suc, ◌+◌, ◌%◌, ◌≤◌, ◌==◌, ◌||◌, if◌then◌else◌, List, [], ◌∷◌, ◌++◌, length, flat_map}
 use Rattle.mac_base.specs.declared.block.Flags.{Flags}
 use Rattle.mac_base.specs.HeadKind.{Shape, head_size, zone_header}
+use Rattle.mac_base.specs.Loans.{owner_of}
 use Rattle.mac_base.specs.ZoneMap.{ZoneMap, block, total_size}
 use Rattle.mac_base.specs.HandleTable.{Live, EmptyHandle, FullHandle, Pointer}
 use Rattle.mac_base.specs.ZoneState.{ZoneState}
@@ -56,6 +57,11 @@ abbrev pub lives_in : Shape → List BlockRecord → ℕ → List BlockRecord �
 lives_in s all at [] = []
 lives_in s all at (b ∷ bs) = live_of all (at + head_size s.heads) b.content ++ lives_in s all (at + b.size) bs
 
+-- the handles and pointers whose blocks are lent, the first block at an address, in the order of these
+abbrev pub lents_in : Shape → ℕ → List BlockRecord → List ℕ
+lents_in s at [] = []
+lents_in s at (b ∷ bs) = (if b.lent then owner_of (kind_of (at + head_size s.heads) b.content) else []) ++ lents_in s (at + b.size) bs
+
 -- the slots of a block whose contents begin at an address
 abbrev pub slots_of : ℕ → Content → List (ℕ × Slot)
 slots_of at Free = []
@@ -87,9 +93,10 @@ chain (suc n) all x = if x == 0 then [] else x ∷ chain n all (next_named x all
 -- the zone that blocks stand for
 abbrev pub state_in : ZoneRecords → ZoneState
 state_in z = let start = address_behind z.shape [] in let all = all_slots z.shape start z.blocks in record {
+  memory = z.memory;
   shape = z.shape;
   heap = record {
-    table = record { live = lives_in z.shape z.blocks start z.blocks; lent = [] };
+    table = record { live = lives_in z.shape z.blocks start z.blocks; lent = lents_in z.shape start z.blocks };
     map = map_in z.shape start z.blocks;
     free_slots = chain (length all) all z.front;
   };

@@ -6,8 +6,8 @@ use mac_base::handle::{Handle, Ptr};
 use zone_records::{Records, Slot};
 
 impl LinkedZone {
-    ghost use Rattle.std.specs.Prelude.{◌≡◌, ◌+◌, IsTrue, MatchOption, Some, ◌∷◌, [], drop};
-    ghost use Rattle.mac_base.specs.HandleTable.{EmptyHandle, is_full, is_pointer, live_at};
+    ghost use Rattle.std.specs.Prelude.{◌≡◌, ◌+◌, IsTrue, IsFalse, MatchOption, Some, ◌∷◌, [], drop};
+    ghost use Rattle.mac_base.specs.HandleTable.{EmptyHandle, is_full, is_lent, is_pointer, live_at};
     ghost use Rattle.mac_base.specs.HeadKind.{master_length, head_size};
     ghost use Rattle.linked_zone.specs.Changes.{taken, given_back, pointed, without_block, fixed, unfixed, cut_in_two, joined_pair, with_master, exchanged};
     ghost use Rattle.linked_zone.specs.Places.{RoomFor, CanCut, FreePair, MovablePair};
@@ -95,7 +95,8 @@ impl LinkedZone {
 
     /// Makes a pointer's block free. The pointer isn't live any more.
     pub fn unfix(&mut self, pointer: Ptr)
-        requires { IsTrue (is_pointer self.old.heap.table pointer) }
+        requires live { IsTrue (is_pointer self.old.heap.table pointer) }
+        requires here { IsFalse (is_lent self.old.heap.table pointer) }
         ensures { self.new ≡ unfixed pointer self.old }
     {
         let at = self.place_of(pointer.number());
@@ -104,7 +105,8 @@ impl LinkedZone {
 
     /// Empties a handle that has a block: the block is free, and the handle stays live.
     pub fn empty(&mut self, handle: Handle)
-        requires { IsTrue (is_full self.old.heap.table handle) }
+        requires full { IsTrue (is_full self.old.heap.table handle) }
+        requires here { IsFalse (is_lent self.old.heap.table handle) }
         ensures { self.new ≡ without_block handle self.old }
     {
         let at = self.block_of(handle);

@@ -3,6 +3,7 @@
 
 mod changes;
 mod flags;
+mod loans;
 mod sizes;
 mod zone;
 

@@ -28,18 +28,24 @@ impl Model for LinkedZone {
 }
 
 impl Drop for LinkedZone {
-    fn drop(self) {
+    ghost use Rattle.std.specs.Prelude.{◌≡◌, []};
+
+    /// A zone ends only when nothing of it is lent.
+    fn drop(self)
+        requires nothing_lent { self.heap.table.lent ≡ [] }
+    {
         let LinkedZone { records } = self;
         drop(records);
     }
 }
 
 impl LinkedZone {
-    ghost use Rattle.std.specs.Prelude.{◌≡◌, ◌+◌, ◌≤◌, ◌<◌, IfOk, IfSome, IfNone, IsTrue, MatchOption, Some, None, ◌∷◌, [], not, drop, Contains, ◌↔◌};
+    ghost use Rattle.std.specs.Prelude.{◌≡◌, ◌+◌, ◌≤◌, ◌<◌, IfOk, IfSome, IfNone, IsTrue, IsFalse, MatchOption, Some, None, ◌∷◌, [], not, drop, length, Contains, ◌↔◌};
     ghost use Rattle.std.specs.List.{list_all};
     ghost use Rattle.std.specs.Borrow.{sem};
-    ghost use Rattle.mac_base.specs.HandleTable.{EmptyHandle, has_block, is_handle, is_full, is_pointer, live_at, bytes_of, flags_of};
+    ghost use Rattle.mac_base.specs.HandleTable.{EmptyHandle, has_block, is_handle, is_full, is_lent, is_pointer, live_at, bytes_of, flags_of};
     ghost use Rattle.mac_base.specs.HeadKind.{master_length, head_size};
+    ghost use Rattle.mac_base.specs.Loans.{most_loans, LoansFit};
     ghost use Rattle.mac_base.specs.Suits.{slots, wanted_length};
     ghost use Rattle.mac_base.specs.BlockReport.{report_at, block_flags};
     ghost use Rattle.mac_base.specs.ZoneMap.{has_free, contents_of};
@@ -52,7 +58,7 @@ impl LinkedZone {
 
     /// A new zone: one free block, and no slot.
     pub fn create(alloc: Global, spec: ZoneSpec) -> Result<LinkedZone, HostFull>
-        ensures { IfOk result (λ zone. zone ≡ bare_zone spec) }
+        ensures { IfOk result (λ zone. zone ≡ bare_zone zone.memory spec) }
     {
         let starts_high_enough = spec.base() >= LOWEST_BASE;
         prove!(starts_high_enough);
@@ -61,15 +67,17 @@ impl LinkedZone {
         })
     }
 
-    /// Where the zone lies, how large it is now and how far it may grow.
+    /// Where the zone lies, how large it is now and how far it may grow. What is lent has blocks, and is few.
     pub fn spec(&self) -> ZoneSpec
-        ensures { result ≡ sizes_of self.now }
+        ensures sizes { result ≡ sizes_of self.now }
+        ensures loans { LoansFit self.now.heap }
     {
         self.records.spec()
     }
 
     /// The bytes of the zone, from its start to the end of its last block.
     pub fn image(&self) -> &[u8]
+        requires nothing_lent { self.now.heap.table.lent ≡ [] }
         ensures form { IsImage self.now result.now }
         ensures walks { Walks self.now.shape.heads result.now }
     {
@@ -101,6 +109,30 @@ impl LinkedZone {
         self.is_pointer(Ptr::new(block))
             || (self.is_slot(Handle::new(block))
                 && matches!(self.records.slot(block), Slot::Full(..)))
+    }
+
+    /// Whether a handle or a pointer that has a block is lent.
+    pub fn is_lent(&self, block: u32) -> bool
+        requires { IsTrue (has_block self.now.heap.table block) }
+        ensures { result ≡ is_lent self.now.heap.table block }
+    {
+        self.records.is_lent(self.place_of(block))
+    }
+
+    /// How many blocks are lent.
+    pub fn lent_count(&self) -> u32
+        ensures value { result ≡ length self.now.heap.table.lent }
+        ensures few { result ≤ most_loans }
+    {
+        self.records.lent_count()
+    }
+
+    /// How many bytes a handle or a pointer has in its block, which may be lent.
+    pub fn length(&self, block: u32) -> u32
+        requires { IsTrue (has_block self.now.heap.table block) }
+        ensures { result ≡ length (bytes_of self.now.heap.table block) }
+    {
+        self.records.length_at(self.place_of(block))
     }
 
     /// The address of the block of a handle or a pointer that has one.
@@ -143,7 +175,8 @@ impl LinkedZone {
 
     /// The bytes of a handle or a pointer that has a block.
     pub fn contents(&self, block: u32) -> &[u8]
-        requires { IsTrue (has_block self.now.heap.table block) }
+        requires block { IsTrue (has_block self.now.heap.table block) }
+        requires here { IsFalse (is_lent self.now.heap.table block) }
         ensures { result.now ≡ bytes_of self.now.heap.table block }
     {
         self.records.contents(self.place_of(block))

@@ -11,6 +11,7 @@ pub mod Compaction
 pub mod Request
 pub mod Serve
 pub mod Heap
+pub mod Loans
 pub mod Sound
 pub mod ZoneState
 pub mod FlagState

@@ -3,11 +3,21 @@ use Rattle.std.specs.Prelude.{ℕ, List, ◌++◌, length, take, drop}
 use Rattle.mac_base.specs.HeadKind.{Shape}
 use Rattle.mac_base.specs.HandleTable.{with_bytes, bytes_of}
 use Rattle.mac_base.specs.Heap.{Heap, with_table}
+use denote.RawPtr.{Ptr}
 
--- where the zone lies and how far it may grow, and its heap
+-- which memory of the host a zone stands in: a loan of one of its blocks names it as well
+abbrev pub Memory : Type 0
+Memory = Ptr
+
+-- the memory that a zone stands in, where it lies and how far it may grow, and its heap
 pub record ZoneState : Type 0 where
+  pub memory : Memory
   pub shape : Shape
   pub heap : Heap
+
+-- the zone with another heap
+abbrev pub with_heap : Heap → ZoneState → ZoneState
+with_heap heap z = record z { heap = heap }
 
 -- bytes with others written over the first of them. There are as many as before
 abbrev pub overwritten : List ℕ → List ℕ → List ℕ

@@ -1,7 +1,7 @@
 -- Which calls can be made yet.
 use Rattle.std.specs.Prelude.{Bool, true, false}
 use Rattle.mac_calls.specs.declared.call.Call.{Call}
-use Rattle.mac_calls.specs.declared.call.Call.TheVariants.{Memory, MemError}
+use Rattle.mac_calls.specs.declared.call.Call.TheVariants.{Memory, Loan, MemError}
 use Rattle.mac_calls.specs.declared.memory_call.MemoryCall.{MemoryCall}
 use Rattle.mac_calls.specs.declared.memory_call.MemoryCall.TheVariants as memory_call
 
@@ -31,4 +31,5 @@ is_built_memory _ = true
 -- whether a call can be made yet
 abbrev pub is_built : Call → Bool
 is_built (Memory call) = is_built_memory call
+is_built (Loan call) = true
 is_built MemError = true

@@ -51,6 +51,10 @@ signature call_name.Deref = gives (codes "Deref") (Number ∷ [])
 signature call_name.Poke = does (codes "Poke") (Number ∷ Number ∷ Bytes ∷ [])
 signature call_name.Peek = does (codes "Peek") (Number ∷ Number ∷ Number ∷ [])
 signature call_name.ZoneMap = gives (codes "ZoneMap") []
+signature call_name.Lend = does (codes "Lend") (Number ∷ [])
+signature call_name.LentPeek = does (codes "LentPeek") (Number ∷ Number ∷ Number ∷ [])
+signature call_name.LentPoke = does (codes "LentPoke") (Number ∷ Number ∷ Bytes ∷ [])
+signature call_name.Return = does (codes "Return") (Number ∷ [])
 signature call_name.MemError = does (codes "MemError") []
 
 -- the calls whose names have so many bytes

@@ -9,3 +9,4 @@ pub mod ExactStep
 pub mod RequestRun
 pub mod MemoryStep
 pub mod FirstRuns
+pub mod Loans

@@ -7,6 +7,7 @@ use Rattle.mac_base.specs.HeadKind.{Shape, max_size}
 use Rattle.mac_base.specs.ZoneMap.{handle_at}
 use Rattle.mac_base.specs.HandleTable.{bytes_of, is_handle, is_pointer, is_full, is_locked, is_lent}
 use Rattle.mac_base.specs.Heap.{Heap}
+use Rattle.mac_base.specs.Loans.{may_be_lent}
 use Rattle.mac_base.specs.FlagState.{state_locks}
 use Rattle.mac_calls.specs.declared.memory_call.MemoryCall.{MemoryCall}
 use Rattle.mac_calls.specs.declared.memory_call.MemoryCall.TheVariants as memory_call
@@ -23,6 +24,8 @@ pub data Test : Type 0 where
   IsSize IsState : ℕ → Test
   -- n bytes from an offset on are within the block of x
   IsWithin : ℕ → ℕ → ℕ → Test
+  -- x is lent;  x may be lent
+  IsLent MayBeLent : ℕ → Test
   -- the handle is not lent, or the state keeps it locked
   KeepsLent : ℕ → ℕ → Test
   -- a handle's contents begin at the address
@@ -47,6 +50,8 @@ refused_by s heap (NotLocked code h) = unless_passed code (not (is_locked heap.t
 refused_by s heap (IsSize n) = unless_passed ParamErr (nat_le n max_size)
 refused_by s heap (IsState n) = unless_passed ParamErr (nat_le n 255)
 refused_by s heap (IsWithin x at n) = unless_passed ParamErr (nat_le (at + n) (length (bytes_of heap.table x)))
+refused_by s heap (IsLent x) = unless_passed ParamErr (is_lent heap.table x)
+refused_by s heap (MayBeLent x) = unless_passed ParamErr (may_be_lent heap.table x)
 refused_by s heap (KeepsLent h n) = unless_passed MemLockedErr (state_locks n || not (is_lent heap.table h))
 refused_by s heap (IsContents a) = unless_passed MemBcErr (is_some (handle_at s a heap.map))
 

@@ -1,5 +1,6 @@
 //! The calls of the toolbox.
 
+use crate::loan_call::LoanCall;
 use crate::memory_call::MemoryCall;
 
 /// A call of the toolbox with its operands.
@@ -7,6 +8,8 @@ use crate::memory_call::MemoryCall;
 pub enum Call<'a> {
     /// A call of the Memory Manager.
     Memory(MemoryCall<'a>),
+    /// A call on blocks that are lent.
+    Loan(LoanCall<'a>),
     /// The code of the last call other than MemError (Inside Macintosh: Memory, Errors).
     MemError,
 }
@@ -21,7 +24,7 @@ impl Call<'_> {
     {
         match self {
             Call::Memory(call) => call.is_built(),
-            Call::MemError => true,
+            Call::Loan(_) | Call::MemError => true,
         }
     }
 }

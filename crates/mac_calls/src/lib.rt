@@ -3,11 +3,13 @@
 #![tactic(auto)]
 
 mod call;
+mod loan_call;
 mod memory_call;
 mod reply;
 mod table;
 
 pub use call::Call;
+pub use loan_call::LoanCall;
 pub use memory_call::{MemoryCall, Span};
 pub use reply::{BlockList, Outcome, Reply, Results};
 pub use table::{ALL_CALLS, CallName, OperandKind, Signature};

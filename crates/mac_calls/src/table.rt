@@ -29,11 +29,15 @@ pub enum CallName {
     Poke,
     Peek,
     ZoneMap,
+    Lend,
+    LentPeek,
+    LentPoke,
+    Return,
     MemError,
 }
 
 /// All calls.
-pub const ALL_CALLS: [CallName; 23] = [
+pub const ALL_CALLS: [CallName; 27] = [
     CallName::NewHandle,
     CallName::NewEmptyHandle,
     CallName::NewPtr,
@@ -56,6 +60,10 @@ pub const ALL_CALLS: [CallName; 23] = [
     CallName::Poke,
     CallName::Peek,
     CallName::ZoneMap,
+    CallName::Lend,
+    CallName::LentPeek,
+    CallName::LentPoke,
+    CallName::Return,
     CallName::MemError,
 ];
 
@@ -156,6 +164,10 @@ impl CallName {
             CallName::Poke => does(b"Poke", &[Number, Number, Bytes]),
             CallName::Peek => does(b"Peek", &[Number, Number, Number]),
             CallName::ZoneMap => gives(b"ZoneMap", &[]),
+            CallName::Lend => does(b"Lend", &[Number]),
+            CallName::LentPeek => does(b"LentPeek", &[Number, Number, Number]),
+            CallName::LentPoke => does(b"LentPoke", &[Number, Number, Bytes]),
+            CallName::Return => does(b"Return", &[Number]),
             CallName::MemError => does(b"MemError", &[]),
         }
     }
@@ -179,14 +191,16 @@ fn calls_of_length(length: usize) -> &'static [CallName]
     ensures { result.now ≡ calls.of_length length }
 {
     match length {
-        4 => &[CallName::Poke, CallName::Peek],
+        4 => &[CallName::Poke, CallName::Peek, CallName::Lend],
         5 => &[CallName::HLock, CallName::Deref],
-        6 => &[CallName::NewPtr, CallName::HPurge],
+        6 => &[CallName::NewPtr, CallName::HPurge, CallName::Return],
         7 => &[CallName::HUnlock, CallName::ZoneMap],
         8 => &[
             CallName::HNoPurge,
             CallName::HSetRBit,
             CallName::HClrRBit,
+            CallName::LentPeek,
+            CallName::LentPoke,
             CallName::MemError,
         ],
         9 => &[

@@ -5,7 +5,7 @@ use Rattle.clap.specs.Words.{Text, kind_of}
 use Rattle.macheap.specs.declared.asked.Asked.{Asked}
 use Rattle.macheap.specs.declared.asked.Asked.TheVariants.{Run, Help}
 use Rattle.macheap.specs.declared.asked.NotAsked.{NotAsked}
-use Rattle.macheap.specs.declared.asked.NotAsked.TheVariants.{Words, NoNumber, Spec, HostFull}
+use Rattle.macheap.specs.declared.asked.NotAsked.TheVariants.{Words, NoNumber, Mode, Spec, HostFull}
 use Rattle.macheap.specs.Asking.{Asks}
 use Rattle.macheap.specs.Program.{Answers, Refuses, ProgramEnds, ran, helped, told, full}
 
@@ -21,7 +21,8 @@ answered_known words asked read_failed write_failed (Some script) status written
 refused : (words : List Text) (error : NotAsked) (read_failed write_failed : Type 0) (input : List ℕ) (status : ℕ) (written : List ℕ) → Asks words (Err error) → Refuses error write_failed status written → ProgramEnds words read_failed write_failed input status written
 refused words (Words fault) read_failed write_failed input status written asks refuses = told (inl (kind_of fault, asks.0, asks.1)) refuses.0 refuses.1
 refused words (NoNumber option) read_failed write_failed input status written asks refuses = told (inr (inl (option.now, asks))) refuses.0 refuses.1
-refused words (Spec fault) read_failed write_failed input status written asks refuses = told (inr (inr (fault, asks))) refuses.0 refuses.1
+refused words (Mode mode) read_failed write_failed input status written asks refuses = told (inr (inr (inl (mode, asks)))) refuses.0 refuses.1
+refused words (Spec fault) read_failed write_failed input status written asks refuses = told (inr (inr (inr (fault, asks)))) refuses.0 refuses.1
 refused words HostFull read_failed write_failed input status written asks refuses = full refuses.0 refuses.1
 
 -- it was told why nothing was asked for

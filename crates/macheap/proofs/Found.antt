@@ -16,8 +16,8 @@ use Rattle.clap.proofs.WalkLemmas.{first_value-rows}
 use Rattle.macheap.specs.declared.asked.Asked.{Asked}
 use Rattle.macheap.specs.declared.asked.Asked.TheVariants.{Run, Help}
 use Rattle.macheap.specs.declared.asked.NotAsked.{NotAsked}
-use Rattle.macheap.specs.declared.asked.NotAsked.TheVariants.{Words, NoNumber, Spec, HostFull}
-use Rattle.macheap.specs.Options.{options, faults, value_of, IsDecimal}
+use Rattle.macheap.specs.declared.asked.NotAsked.TheVariants.{Words, NoNumber, Mode, Spec, HostFull}
+use Rattle.macheap.specs.Options.{options, faults, value_of, IsDecimal, IsNumberOf, IsNoNumber}
 use Rattle.macheap.specs.Asking.{Asks, GivesNoNumber, MeansNoRun, IsNoNumberFault}
 
 pub options_free : is_simple_and_free options ≡ true
@@ -37,6 +37,14 @@ value_found command words m name got is has found =
 pub matched : (command : Command) (words : List Text) → app_of command ≡ options → (is_simple_and_free (app_of command) ≡ true → fault_of (app_of command) words ≡ []) → faults words ≡ []
 matched command words is none = ap (λ (a : App). fault_of a words) (sym is) ∙ none (ap is_simple_and_free is ∙ options_free)
 
+-- a number that an option's value gives, as the words give it
+pub number_found : (command : Command) (words : List Text) (m : ArgMatches) (name : Text) (got : Option Text) (default n : ℕ) → app_of command ≡ options → HasMatchesOf (app_of command) words m → got ≡ first_value (found_of m) name → IsNumberOf got default n → IsNumberOf (value_of name words) default n
+number_found command words m name got default n is has found given = subst (λ (o : Option Text). IsNumberOf o default n) (value_found command words m name got is has found) given
+
+-- a value that is no number, as the words give it
+pub no_number_found : (command : Command) (words : List Text) (m : ArgMatches) (name : Text) (got : Option Text) → app_of command ≡ options → HasMatchesOf (app_of command) words m → got ≡ first_value (found_of m) name → IsNoNumber got → IsNoNumber (value_of name words)
+no_number_found command words m name got is has found none = subst IsNoNumber (value_found command words m name got is has found) none
+
 -- an error of the parse asks for help, or says that the words don't match
 pub unmatched : (words : List Text) (e : Error) (r : Result Asked NotAsked) → HasKind (faults words) e → MeansNoRun (kind_of e) r → Asks words r
 unmatched words e (Ok (Run sizes)) has means = absurd means
@@ -45,6 +53,7 @@ unmatched words e (Ok (Help text)) (inr among) means = (subst (λ (k : ErrorKind
 unmatched words e (Err (Words fault)) (inl full) means = absurd (means.1 full)
 unmatched words e (Err (Words fault)) (inr among) means = (subst (λ (k : ErrorKind). IsAmong k (faults words)) (sym means.2) among, λ same. means.0 (sym means.2 ∙ same))
 unmatched words e (Err (NoNumber option)) has means = absurd means
+unmatched words e (Err (Mode mode)) has means = absurd means
 unmatched words e (Err (Spec fault)) has means = absurd means
 unmatched words e (Err HostFull) has means = tt
 
@@ -59,6 +68,7 @@ full_asks words (Err e) full = subst (λ (x : NotAsked). Asks words (Err x)) (sy
 pub no_number_asks : (words : List Text) (e : NotAsked) (name : Text) → IsNoNumberFault name e → GivesNoNumber words name → Asks words (Err e)
 no_number_asks words (NoNumber option) name is none = subst (λ (t : Text). GivesNoNumber words t) (sym is) none
 no_number_asks words (Words fault) name is none = absurd is
+no_number_asks words (Mode mode) name is none = absurd is
 no_number_asks words (Spec fault) name is none = absurd is
 no_number_asks words HostFull name is none = absurd is
 

@@ -1,29 +1,33 @@
 -- What the words of the command line ask for.
-use Rattle.std.specs.Prelude.{◌≡◌, ◌≢◌, ℕ, List, [], Some, Result, Ok, Err, codes}
+use Rattle.std.specs.Prelude.{◌≡◌, ◌≢◌, ℕ, List, [], Some, None, Result, Ok, Err, codes}
 use Rattle.clap.specs.Words.{Text, IsAmong, kind_of}
 use Rattle.clap.specs.declared.error.kind.ErrorKind.{ErrorKind}
 use Rattle.clap.specs.declared.error.kind.ErrorKind.TheVariants.{DisplayHelp, OutOfMemory}
-use Rattle.mac_base.specs.declared.block.HeadKind.TheVariants.{Bits24}
+use Rattle.mac_base.specs.declared.block.HeadKind.{HeadKind}
 use Rattle.mac_base.specs.declared.zone_spec.BadSpec.{BadSpec}
 use Rattle.mac_base.specs.ZoneSizes.{ZoneSizes, ArePossible, first_fault}
 use Rattle.macheap.specs.declared.asked.Asked.{Asked}
 use Rattle.macheap.specs.declared.asked.Asked.TheVariants.{Run, Help}
 use Rattle.macheap.specs.declared.asked.NotAsked.{NotAsked}
-use Rattle.macheap.specs.declared.asked.NotAsked.TheVariants.{Words, NoNumber, Spec, HostFull}
-use Rattle.macheap.specs.Options.{faults, value_of, IsNumberOf, IsNoNumber}
+use Rattle.macheap.specs.declared.asked.NotAsked.TheVariants.{Words, NoNumber, Mode, Spec, HostFull}
+use Rattle.macheap.specs.Options.{faults, heads_of, value_of, IsNumberOf, IsNoNumber}
 
--- the words match the options, and give these numbers: the zone's first address and its size in bytes
-pub record GivesNumbers (words : List Text) (base size : ℕ) : Type 0 where
+-- the words match the options, and give these numbers: the zone's first address, its size in bytes, and the mode
+pub record GivesNumbers (words : List Text) (base size mode : ℕ) : Type 0 where
   pub matched : faults words ≡ []
   pub size_given : IsNumberOf (value_of (codes "zone") words) 4096 size
   pub base_given : IsNumberOf (value_of (codes "base") words) 0x10_0000 base
+  pub mode_given : IsNumberOf (value_of (codes "mode") words) 24 mode
 
--- the words ask for a run on a zone of these sizes, of 24-bit blocks, which doesn't grow
+-- the words ask for a run on a zone of these sizes, of blocks as the mode has them, which doesn't grow
 pub record AsksForRun (words : List Text) (sizes : ZoneSizes) : Type 0 where
   pub base : ℕ
   pub size : ℕ
-  pub numbers : GivesNumbers words base size
-  pub is : sizes ≡ record { heads = Bits24; base = base; size = size; limit = size }
+  pub mode : ℕ
+  pub heads : HeadKind
+  pub numbers : GivesNumbers words base size mode
+  pub headed : heads_of mode ≡ Some heads
+  pub is : sizes ≡ record { heads = heads; base = base; size = size; limit = size }
   pub possible : ArePossible sizes
 
 -- the words ask for help
@@ -34,14 +38,22 @@ AsksForHelp words = IsAmong DisplayHelp (faults words)
 abbrev pub DontMatch : List Text → Type 0
 DontMatch words = (fault : ErrorKind) × IsAmong fault (faults words) × (fault ≢ DisplayHelp)
 
--- the words match the options, and this is the first of them whose value is no number: `zone`, or `base` where that of `zone` is one
+-- the words match the options, and this is the first of `zone`, `base` and `mode` whose value is no number
 pub data GivesNoNumber (words : List Text) (option : Text) : Type 0 where
   of_zone : option ≡ codes "zone" → faults words ≡ [] → IsNoNumber (value_of (codes "zone") words) → GivesNoNumber words option
-  of_base : option ≡ codes "base" → faults words ≡ [] → (size : ℕ) → IsNumberOf (value_of (codes "zone") words) 4096 size → IsNoNumber (value_of (codes "base") words) → GivesNoNumber words option
+  of_base : option ≡ codes "base" → faults words ≡ [] → (size : ℕ) → IsNumberOf (value_of (codes "zone") words) 4096 size
+      → IsNoNumber (value_of (codes "base") words) → GivesNoNumber words option
+  of_mode : option ≡ codes "mode" → faults words ≡ [] → (size base : ℕ) → IsNumberOf (value_of (codes "zone") words) 4096 size
+      → IsNumberOf (value_of (codes "base") words) 0x10_0000 base → IsNoNumber (value_of (codes "mode") words) → GivesNoNumber words option
 
--- the words give numbers, and no zone has these sizes for this reason
+-- the words give numbers, and there is no such mode
+abbrev pub GivesNoMode : List Text → ℕ → Type 0
+GivesNoMode words mode = (base : ℕ) × (size : ℕ) × GivesNumbers words base size mode × (heads_of mode ≡ None)
+
+-- the words give numbers and a mode, and no zone has these sizes for this reason
 abbrev pub GivesNoZone : List Text → BadSpec → Type 0
-GivesNoZone words fault = (base : ℕ) × (size : ℕ) × GivesNumbers words base size × (first_fault base size size ≡ Some fault)
+GivesNoZone words fault = (base : ℕ) × (size : ℕ) × (mode : ℕ) × (heads : HeadKind)
+    × GivesNumbers words base size mode × (heads_of mode ≡ Some heads) × (first_fault base size size ≡ Some fault)
 
 -- What the words ask for, or why they ask for nothing; what is shown or told of it is of that kind. Want of memory may come at any time.
 abbrev pub Asks : List Text → Result Asked NotAsked → Type 0
@@ -49,6 +61,7 @@ Asks words (Ok (Run sizes)) = AsksForRun words sizes
 Asks words (Ok (Help text)) = AsksForHelp words × (kind_of text ≡ DisplayHelp)
 Asks words (Err (Words fault)) = IsAmong (kind_of fault) (faults words) × (kind_of fault ≢ DisplayHelp)
 Asks words (Err (NoNumber option)) = GivesNoNumber words option.now
+Asks words (Err (Mode mode)) = GivesNoMode words mode
 Asks words (Err (Spec fault)) = GivesNoZone words fault
 Asks words (Err HostFull) = Unit {0}
 

@@ -1,7 +1,9 @@
 -- The options of the command line, and the numbers that they give.
-use Rattle.std.specs.Prelude.{◌≡◌, ℕ, ◌<◌, ◌^◌, List, Option, Some, None, codes}
+use Rattle.std.specs.Prelude.{◌≡◌, ℕ, ◌<◌, ◌^◌, ◌==◌, if◌then◌else◌, List, Option, Some, None, codes}
 use Rattle.std.specs.Str.Parse.{IsNumeral, digits_value}
 use Rattle.clap.specs.Words.{App, Rule, Text, Kinds, new_app, new_rule, with_rule, matches_of, first_of, fault_of}
+use Rattle.mac_base.specs.declared.block.HeadKind.{HeadKind}
+use Rattle.mac_base.specs.declared.block.HeadKind.TheVariants.{Bits24, Bits32}
 use Rattle.clap.specs.declared.builder.ArgAction.TheVariants.{Set}
 
 -- an option that stands once at most, as `--name`, and takes a value
@@ -10,7 +12,7 @@ option_named name = record (new_rule name) { long = Some name; action = Some Set
 
 -- the program and its options
 abbrev pub options : App
-options = with_rule (with_rule (new_app (codes "macheap")) (option_named (codes "zone"))) (option_named (codes "base"))
+options = with_rule (with_rule (with_rule (new_app (codes "macheap")) (option_named (codes "zone"))) (option_named (codes "base"))) (option_named (codes "mode"))
 
 -- the ways in which the words don't match the options, of which `--help` is one; none where they do
 abbrev pub faults : List Text → Kinds
@@ -34,3 +36,7 @@ IsNumberOf (Some text) default n = IsDecimal text × (n ≡ digits_value 10 text
 abbrev pub IsNoNumber : Option Text → Type 0
 IsNoNumber None = ⊥
 IsNoNumber (Some text) = ¬ IsDecimal text
+
+-- how blocks are headed in this mode: there are two, 24 and 32
+abbrev pub heads_of : ℕ → Option HeadKind
+heads_of mode = if mode == 24 then Some Bits24 else if mode == 32 then Some Bits32 else None

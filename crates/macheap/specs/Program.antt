@@ -12,7 +12,7 @@ use Rattle.macheap.specs.declared.asked.Asked.{Asked}
 use Rattle.macheap.specs.declared.asked.Asked.TheVariants.{Run, Help}
 use Rattle.macheap.specs.declared.asked.NotAsked.{NotAsked}
 use Rattle.macheap.specs.declared.asked.NotAsked.TheVariants.{HostFull}
-use Rattle.macheap.specs.Asking.{AsksForRun, AsksForHelp, DontMatch, GivesNoNumber, GivesNoZone}
+use Rattle.macheap.specs.Asking.{AsksForRun, AsksForHelp, DontMatch, GivesNoNumber, GivesNoMode, GivesNoZone}
 
 -- What must have failed where a run ended so: a read, a write, or nothing.
 abbrev pub Because : RunEnd → Type 0 → Type 0 → Type 0
@@ -40,9 +40,9 @@ abbrev pub Refuses : NotAsked → Type 0 → ℕ → List ℕ → Type 0
 Refuses HostFull write_failed status written = (status ≡ 1) × TellsNoMemory write_failed written
 Refuses other write_failed status written = (status ≡ 2) × (written ≡ [])
 
--- the words are bad, or give numbers of which there is no zone
+-- the words are bad, or give numbers of which there is no mode or no zone
 abbrev pub AreBad : List Text → Type 0
-AreBad words = DontMatch words ⊎ (((option : Text) × GivesNoNumber words option) ⊎ ((fault : BadSpec) × GivesNoZone words fault))
+AreBad words = DontMatch words ⊎ (((option : Text) × GivesNoNumber words option) ⊎ (((mode : ℕ) × GivesNoMode words mode) ⊎ ((fault : BadSpec) × GivesNoZone words fault)))
 
 -- With these words and this input, the program may end with this status, having written this to its output, where this says that a read failed, and this that a write did.
 pub data ProgramEnds (words : List Text) (read_failed write_failed : Type 0) (input : List ℕ) (status : ℕ) (written : List ℕ) : Type 0 where

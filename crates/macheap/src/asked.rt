@@ -5,10 +5,11 @@ ghost use Rattle.std.specs.Char.{is_ascii_digit};
 ghost use Rattle.std.specs.List.{list_all};
 ghost use Rattle.clap.specs.Words.{app_of, kind_of, rule_of};
 ghost use Rattle.macheap.specs.Asking.{Asks, MeansNoRun, IsNoNumberFault};
-ghost use Rattle.macheap.specs.Options.{option_named, options, IsNumberOf, IsNoNumber};
+ghost use Rattle.macheap.specs.Options.{heads_of, option_named, options, IsNumberOf, IsNoNumber};
 
 use clap::error::ErrorKind;
 use clap::{Arg, ArgAction, Command};
+use mac_base::block::HeadKind;
 use mac_base::zone_spec::{BadSpec, ZoneSpec};
 use std::alloc::{AllocError, Global};
 use std::convert::AsStr;
@@ -19,6 +20,9 @@ pub const DEFAULT_ZONE: u32 = 4096;
 
 /// The address at which a zone begins where `--base` doesn't give one.
 pub const DEFAULT_BASE: u32 = 0x10_0000;
+
+/// The mode where `--mode` doesn't give one.
+pub const DEFAULT_MODE: u32 = 24;
 
 /// What the words ask for.
 #[derive(Debug, Drop)]
@@ -38,6 +42,9 @@ pub enum NotAsked {
     /// An option's value is no number.
     #[error("error: --{0} takes decimal digits for a number up to 4294967295; see 'macheap --help'")]
     NoNumber(&'static str),
+    /// There is no such mode.
+    #[error("error: --mode is 24 or 32, and not {0}; see 'macheap --help'")]
+    Mode(u32),
     /// There is no zone of these sizes.
     #[error("error: {0}; give other numbers with --zone and --base, see 'macheap --help'")]
     Spec(BadSpec),
@@ -75,10 +82,13 @@ fn command<'a>(alloc: Global) -> Result<Command<'a>, AllocError>
 {
     let zone_help = "The zone's size in bytes, a multiple of 4 from 1024 to 1048576 (default 4096)";
     let base_help = "The address of its first byte, a multiple of 4 from 4096 on (default 1048576)";
+    let mode_help =
+        "The headers of its blocks: 24 for those of 8 bytes, 32 for those of 12 (default 24)";
     Command::new(alloc, "macheap")
         .about("Runs the script of standard input on a new heap zone, and writes each call's reply")
         .arg(number_option(alloc, "zone", zone_help))?
-        .arg(number_option(alloc, "base", base_help))
+        .arg(number_option(alloc, "base", base_help))?
+        .arg(number_option(alloc, "mode", mode_help))
 }
 
 /// What the words ask for, of which the first is the program's name.
@@ -91,9 +101,24 @@ pub fn asked_by<S: AsStr>(alloc: Global, words: &[S]) -> Result<Asked, NotAsked>
     };
     let zone = number("zone", matches.get_str("zone"), DEFAULT_ZONE)?;
     let base = number("base", matches.get_str("base"), DEFAULT_BASE)?;
-    match ZoneSpec::new(base, zone, zone) {
+    let mode = number("mode", matches.get_str("mode"), DEFAULT_MODE)?;
+    let Some(heads) = heads_of(mode) else {
+        return Err(NotAsked::Mode(mode));
+    };
+    match ZoneSpec::with_kind(base, zone, zone, heads) {
         Ok(spec) => Ok(Asked::Run(spec)),
         Err(fault) => Err(NotAsked::Spec(fault)),
+    }
+}
+
+/// How blocks are headed in this mode, if there is such a mode.
+fn heads_of(mode: u32) -> Option<HeadKind>
+    ensures { result ≡ heads_of mode }
+{
+    match mode {
+        24 => Some(HeadKind::Bits24),
+        32 => Some(HeadKind::Bits32),
+        _ => None,
     }
 }
 

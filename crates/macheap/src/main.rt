@@ -1,10 +1,8 @@
-//! Runs a script of calls on a heap zone: `macheap [--zone N] [--base N] < script`.
+//! Runs a script of calls on a heap zone: `macheap [--zone N] [--base N] [--mode 24|32] < script`.
 #![tactic(auto)]
 
 mod asked;
 mod program;
-#[cfg(test)]
-mod tests;
 
 use program::{BAD_WORDS, program};
 use script_run::{Counted, status, tell_no_memory};

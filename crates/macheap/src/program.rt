@@ -66,7 +66,7 @@ fn refuse<W: Write, M: Write>(error: &NotAsked, output: &mut Counted<W>, message
 {
     match error {
         NotAsked::HostFull => status(tell_no_memory(output)),
-        NotAsked::Words(_) | NotAsked::NoNumber(_) | NotAsked::Spec(_) => {
+        NotAsked::Words(_) | NotAsked::NoNumber(_) | NotAsked::Mode(_) | NotAsked::Spec(_) => {
             let _ = writeln!(messages, "{error}");
             BAD_WORDS
         }

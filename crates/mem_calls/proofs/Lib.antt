@@ -1,4 +1,5 @@
 pub mod Attempts
+pub mod KeptLoans
 pub mod NewHandles
 pub mod Passing
 pub mod Resizing

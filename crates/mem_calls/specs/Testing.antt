@@ -1,5 +1,5 @@
 -- What the tests of a call's operands answer.
-use Rattle.std.specs.Prelude.{◌≡◌, ℕ, nat_le, List, [], Option, Some, None, Result, MatchResult, IfOk}
+use Rattle.std.specs.Prelude.{◌≡◌, ℕ, nat_le, List, Option, Some, None, Result, MatchResult}
 use Rattle.mac_base.specs.declared.error.OsErr.{OsErr}
 use Rattle.mac_base.specs.declared.error.OsErr.TheVariants.{ParamErr}
 use Rattle.mac_calls.specs.Tests.{Test, first_refusal, unless_passed}
@@ -17,7 +17,3 @@ Tests z tests result = Answers (first_refusal z.shape z.heap tests) result
 -- it is the refusal of a size
 abbrev pub TestsSize : {T : Type 0} → ℕ → Result T OsErr → Type 0
 TestsSize n result = Answers (unless_passed ParamErr (nat_le n max_size)) result
-
--- where there is no error, nothing is lent
-abbrev pub FindsUnlent : {T : Type 0} → ZoneState → Result T OsErr → Type 0
-FindsUnlent z result = IfOk result (λ _. z.heap.table.lent ≡ [])

@@ -113,3 +113,17 @@ module _ (x : Inside) (bounded : IsBounded x) (k at v j : ℕ) (low : v < k) whe
       let three : get_or x.middle.items (j / 32 / 32) 0 ≤ get_or x.high.items at 0 = rw up at (bounded.high.above (j / 32 / 32)) in
       let same = get_or_default x.high.items at 0 v inside in
       seen (omega arith)
+
+-- where a number is written, zeros maybe put before it, the bounds are right at the other places
+pub but-written : (bs old xs ys zs : List ℕ) (k p n : ℕ) → AreBounds old xs → bs ≡ old → ys ≡ xs ++ replicate k 0 → zs ≡ set ys p n → length ys ≤ 32 * length old → AreBoundsBut bs zs p
+but-written bs old xs ys zs k p n bounds same padded written room = record {
+  count = rw (written, same, length-set) room;
+  above = λ j apart. rw (written, same, get_or-set_other, padded, padded-at) (bounds.above j);
+}
+
+-- there is room for the bounds over numbers that reach to a place
+pub extended : (xs ys : List ℕ) (p count room : ℕ) → ys ≡ xs ++ replicate (p + 1 - length xs) 0 → length xs ≤ count → p < count → count ≤ room → length ys ≤ room
+extended xs ys p count room is fits inside covers =
+    let long = ap length is in let sum = length-append xs (replicate (p + 1 - length xs) 0) in
+    let zeros : length {A = ℕ} (replicate (p + 1 - length xs) 0) ≡ p + 1 - length xs = length-replicate {A = ℕ} (p + 1 - length xs) 0 in
+    omega arith

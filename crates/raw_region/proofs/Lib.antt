@@ -10,6 +10,7 @@ pub mod Moved
 pub mod Moves
 pub mod Numbers
 pub mod Opens
+pub mod Pieces
 pub mod Places
 pub mod Rows
 pub mod Rules

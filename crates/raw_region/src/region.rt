@@ -11,6 +11,7 @@ use std::marker::Model;
 mod access;
 mod blocks;
 mod loans;
+mod pieces;
 
 /// One run of bytes, of which ranges can be lent out. A contract sees its name, the bytes by offset and the ranges that
 /// are lent. Which bytes a call reads or writes, and that none of them is lent, is up to the caller: no call tests it

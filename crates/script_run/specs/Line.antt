@@ -12,7 +12,7 @@ use Rattle.script_run.specs.declared.machine.Machine.{Machine}
 
 -- before the first line: a new zone, no refusal, and no variables
 abbrev pub start_of : ZoneSizes → Machine
-start_of sizes = record { toolbox = record { zone = record { shape = shape_of sizes; heap = new_heap (shape_of sizes) sizes.size }; refused = None }; variables = [] }
+start_of sizes = record { toolbox = record { shape = shape_of sizes; heap = new_heap (shape_of sizes) sizes.size; loans = []; refused = None }; variables = [] }
 
 -- the variables, where the one that a line assigns has this value
 abbrev pub assigned : Option ℕ → ℕ → Variables → Variables

@@ -2,6 +2,8 @@
 #![tactic(auto)]
 
 #[cfg(test)]
+mod loans;
+#[cfg(test)]
 mod reply;
 #[cfg(test)]
 mod run;

@@ -8,11 +8,13 @@ use std::io::{ErrorKind, Read, Write};
 use std::process::Abort;
 use std::test::Fail;
 
-/// A reader of bytes that gives at most `piece` of them in a read, and fails at the end if it is to. It counts its reads.
+/// A reader of bytes that gives at most `piece` of them in a read. The read of number `fault` fails and loses nothing,
+/// and so does one at the end if the reader is to fail there. It counts its reads.
 #[derive(Drop)]
 struct Pieces<'a> {
     rest: &'a [u8],
     piece: usize,
+    fault: usize,
     fails: bool,
     reads: usize,
 }
@@ -21,6 +23,9 @@ impl Read for Pieces<'_> {
     fn read(&mut self, buf: &mut [u8]) -> io::Result<usize> {
         self.reads = self.reads.saturating_add(1);
         let count = self.rest.len().min(self.piece).min(buf.len());
+        if self.reads == self.fault {
+            return Err(io::Error::from(ErrorKind::Interrupted));
+        }
         if count == 0 && self.fails {
             return Err(io::Error::from(ErrorKind::Other));
         }
@@ -31,19 +36,37 @@ impl Read for Pieces<'_> {
     }
 }
 
-/// A writer that takes at most `piece` bytes in a write. Once it has `room` bytes it fails, or takes nothing more.
+/// A reader that gives at most `piece` of these bytes in a read, and then ends.
+fn reader_of(rest: &[u8], piece: usize) -> Pieces<'_> {
+    Pieces {
+        rest,
+        piece,
+        fault: 0,
+        fails: false,
+        reads: 0,
+    }
+}
+
+/// A writer that takes at most `piece` bytes in a write. Once it has `room` bytes it fails, or takes nothing more. The
+/// write of number `fault` fails and takes nothing. It keeps how many bytes each write was to take.
 #[derive(Drop)]
 struct Paper {
     text: Vec<u8>,
     piece: usize,
     room: usize,
+    fault: usize,
     fails: bool,
+    lengths: Vec<usize>,
 }
 
 impl Write for Paper {
     fn write(&mut self, buf: &[u8]) -> io::Result<usize> {
+        self.lengths.push(buf.len())?;
         let room = self.room.saturating_sub(self.text.len());
         let count = buf.len().min(self.piece).min(room);
+        if self.lengths.len() == self.fault {
+            return Err(io::Error::from(ErrorKind::Interrupted));
+        }
         if count == 0 && self.fails {
             return Err(io::Error::from(ErrorKind::Other));
         }
@@ -56,21 +79,88 @@ impl Write for Paper {
     }
 }
 
-/// Runs a script on a zone of 4096 bytes at 1048576, and gives how that ended and what was written.
-fn run_script(alloc: Global, script: &[u8]) -> Result<(RunEnd, Vec<u8>), Fail> {
+/// A writer that takes at most `piece` bytes in a write, and fails or takes nothing more once it has `room` bytes.
+fn writer_with(alloc: Global, piece: usize, room: usize, fails: bool) -> Paper {
+    Paper {
+        text: Vec::new(alloc),
+        piece,
+        room,
+        fault: 0,
+        fails,
+        lengths: Vec::new(alloc),
+    }
+}
+
+/// How a run ended, what was written, how often reader and writer failed, how often was read and how much each write had.
+#[derive(Drop)]
+struct Seen {
+    end: RunEnd,
+    text: Vec<u8>,
+    failures: (u64, u64),
+    reads: usize,
+    lengths: Vec<usize>,
+}
+
+/// Runs what a reader gives on a zone of 4096 bytes at 1048576.
+fn run_on(alloc: Global, reader: Pieces<'_>, writer: Paper) -> Result<Seen, Fail> {
     let spec = ZoneSpec::new(0x10_0000, 4096, 4096)?;
-    let mut reader = Counted::new(script);
-    let mut writer = Counted::new(Vec::new(alloc));
+    let mut reader = Counted::new(reader);
+    let mut writer = Counted::new(writer);
     let end = run(alloc, &mut reader, &mut writer, spec);
-    Ok((end, writer.into_inner()))
+    let failures = (reader.failures(), writer.failures());
+    let paper = writer.into_inner();
+    Ok(Seen {
+        end,
+        text: paper.text,
+        failures,
+        reads: reader.inner().reads,
+        lengths: paper.lengths,
+    })
+}
+
+/// How often a reader and a writer have failed in a run that ends so.
+fn failures_of(end: RunEnd) -> (u64, u64) {
+    match end {
+        RunEnd::ReadFault => (1, 0),
+        RunEnd::WriteFault => (0, 1),
+        RunEnd::Finished | RunEnd::ScriptFault(_) | RunEnd::NoMemory => (0, 0),
+    }
+}
+
+/// A run ended so and has written this, and nothing failed but what this end tells of.
+fn check_seen(rt: &impl Abort, seen: &Seen, end: RunEnd, text: &[u8], what: usize) {
+    let found = (seen.end, seen.failures, seen.text.as_slice());
+    assert_eq!(rt; found, (end, failures_of(end), text), "{what}");
+}
+
+/// A run of a script ends so and writes this.
+fn check_run(
+    rt: &impl Abort,
+    alloc: Global,
+    script: &[u8],
+    end: RunEnd,
+    output: &[u8],
+) -> Result<(), Fail> {
+    let reader = reader_of(script, usize::MAX);
+    let seen = run_on(
+        alloc,
+        reader,
+        writer_with(alloc, usize::MAX, usize::MAX, false),
+    )?;
+    check_seen(rt, &seen, end, output, 0);
+    Ok(())
 }
 
 /// A run of each script finishes, and writes this.
 fn check_replies(rt: &impl Abort, alloc: Global, rows: &[(&str, &str)]) -> Result<(), Fail> {
     for (script, output) in rows {
-        let (end, written) = run_script(alloc, script.as_bytes())?;
-        assert_eq!(rt; end, RunEnd::Finished, "{script}");
-        assert_eq!(rt; written.as_slice(), output.as_bytes(), "{script}");
+        check_run(
+            rt,
+            alloc,
+            script.as_bytes(),
+            RunEnd::Finished,
+            output.as_bytes(),
+        )?;
     }
     Ok(())
 }
@@ -258,339 +348,239 @@ Peek h 9 0: -50
 Peek p 20 1: -50
 ";
 
-/// How a run ends that makes such a call, and what it writes: what was prepared, ZoneMap, the call, MemError and ZoneMap.
-fn run_refused(alloc: Global, call: &str) -> Result<(RunEnd, Vec<u8>), Fail> {
-    let (before, _) = PREPARED;
+/// A run of what was prepared, ZoneMap, a call, MemError and ZoneMap writes that the call is refused by this code, and the
+/// same map twice.
+fn check_refusal(rt: &impl Abort, alloc: Global, call: &str, code: &str) -> Result<(), Fail> {
+    let (before, prepared) = PREPARED;
+    let name = call.split_once(' ').unwrap_or((call, "")).0;
     let script = format!(in alloc; "{before}ZoneMap\n{call}\nMemError\nZoneMap\n")?;
-    run_script(alloc, script.as_bytes())
-}
-
-/// What it is to write where the call is refused by this code.
-fn refused_text(alloc: Global, call: &str, code: &str) -> Result<String, Fail> {
-    let (_, prepared) = PREPARED;
-    let name = call.split(' ').next().unwrap_or("");
-    let text = format!(in alloc;
+    let output = format!(in alloc;
         "{prepared}6 {PREPARED_MAP}7 {name} {code}\n8 MemError {code} 0\n9 {PREPARED_MAP}"
     )?;
-    Ok(text)
+    check_run(
+        rt,
+        alloc,
+        script.as_bytes(),
+        RunEnd::Finished,
+        output.as_bytes(),
+    )
 }
 
 #[test]
 fn refusals_change_nothing(rt: HostRuntime) -> Result<(), Fail> {
     for line in REFUSALS.lines() {
         let (call, code) = line.split_once(": ").unwrap_or((line, ""));
-        let (end, written) = run_refused(rt.alloc(), call)?;
-        let output = refused_text(rt.alloc(), call, code)?;
-        assert_eq!(rt; end, RunEnd::Finished, "{line}");
-        assert_eq!(rt; written.as_slice(), output.as_bytes(), "{line}");
+        check_refusal(&rt, rt.alloc(), call, code)?;
     }
     Ok(())
 }
 
-#[test]
-fn a_zone_has_sixty_four_handles(rt: HostRuntime) -> Result<(), Fail> {
-    let mut script = String::new(rt.alloc());
-    for _ in 0..64 {
+/// A script of so many NewEmptyHandle, and then of these lines.
+fn script_of_handles(alloc: Global, count: u32, last: &str) -> Result<String, Fail> {
+    let mut script = String::new(alloc);
+    for _ in 0..count {
         script.push_str("NewEmptyHandle\n")?;
     }
-    script.push_str("ZoneMap\nNewEmptyHandle\nMemError\nNewHandle 0\nZoneMap\nNewPtr 0\n")?;
-    let (end, written) = run_script(rt.alloc(), script.as_bytes())?;
-    let map = "ZoneMap 2 0\n  $00100034 264 master\n  $0010013C 3780 free\n";
-    let last = format!(in rt.alloc();
-        "64 NewEmptyHandle $00100138 0\n65 {map}66 NewEmptyHandle -108\n67 MemError -108 0\n68 NewHandle -108\n69 {map}70 NewPtr $00100144 0\n"
-    )?;
-    assert_eq!(rt; end, RunEnd::Finished);
-    assert!(rt; written.ends_with(last.as_bytes()));
+    script.push_str(last)?;
+    Ok(script)
+}
+
+/// What the calls behind sixty-three NewEmptyHandle print.
+const FULL: &str = "\
+64 NewEmptyHandle $00100138 0
+65 ZoneMap 2 0
+  $00100034 264 master
+  $0010013C 3780 free
+66 NewEmptyHandle -108
+67 MemError -108 0
+68 NewHandle -108
+69 ZoneMap 2 0
+  $00100034 264 master
+  $0010013C 3780 free
+70 NewPtr $00100144 0
+";
+
+#[test]
+fn a_zone_has_sixty_four_handles(rt: HostRuntime) -> Result<(), Fail> {
+    let calls = "ZoneMap\nNewEmptyHandle\nMemError\nNewHandle 0\nZoneMap\nNewPtr 0\n";
+    let script = script_of_handles(rt.alloc(), 64, calls)?;
+    let reader = reader_of(script.as_bytes(), usize::MAX);
+    let writer = writer_with(rt.alloc(), usize::MAX, usize::MAX, false);
+    let seen = run_on(rt.alloc(), reader, writer)?;
+    assert!(rt; seen.end == RunEnd::Finished && seen.text.ends_with(FULL.as_bytes()));
     Ok(())
+}
+
+/// A script has its first fault in this line.
+fn check_fault(rt: &impl Abort, alloc: Global, script: &[u8], line: u32) -> Result<(), Fail> {
+    let output = format!(in alloc; "script fault at line {line}\n")?;
+    check_run(
+        rt,
+        alloc,
+        script,
+        RunEnd::ScriptFault(line),
+        output.as_bytes(),
+    )
 }
 
 #[test]
 fn faulty_scripts_run_nothing(rt: HostRuntime) -> Result<(), Fail> {
-    let long = vec![in rt.alloc(); b'\n'; 1_048_577]?;
-    let full = vec![in rt.alloc(); b'#'; 1_048_576]?;
-    let rows: [(&[u8], RunEnd, &str); 7] = [
-        (
-            b"ZoneMap\nNewHandl 3",
-            RunEnd::ScriptFault(2),
-            "script fault at line 2\n",
-        ),
-        (
-            b"DisposeHandle h",
-            RunEnd::ScriptFault(1),
-            "script fault at line 1\n",
-        ),
-        (
-            b"\n# gz comes later\ngz 1\n",
-            RunEnd::ScriptFault(3),
-            "script fault at line 3\n",
-        ),
-        (
-            b"h = NewHandle 1\nx = HLock h\n",
-            RunEnd::ScriptFault(2),
-            "script fault at line 2\n",
-        ),
-        (
-            b"x = MemError\n",
-            RunEnd::ScriptFault(1),
-            "script fault at line 1\n",
-        ),
-        (
-            long.as_slice(),
-            RunEnd::ScriptFault(0),
-            "script fault at line 0\n",
-        ),
-        (full.as_slice(), RunEnd::Finished, ""),
-    ];
-    for (script, end, output) in rows {
-        let (ended, written) = run_script(rt.alloc(), script)?;
-        assert_eq!(rt; ended, end, "{output}");
-        assert_eq!(rt; written.as_slice(), output.as_bytes(), "{output}");
-    }
+    let alloc = rt.alloc();
+    check_fault(&rt, alloc, b"ZoneMap\nNewHandl 3", 2)?;
+    check_fault(&rt, alloc, b"DisposeHandle h", 1)?;
+    check_fault(&rt, alloc, b"\n# gz comes later\ngz 1\n", 3)?;
+    check_fault(&rt, alloc, b"h = NewHandle 1\nx = HLock h\n", 2)?;
+    check_fault(&rt, alloc, b"x = MemError\n", 1)
+}
+
+#[test]
+fn a_script_has_so_many_bytes(rt: HostRuntime) -> Result<(), Fail> {
+    let alloc = rt.alloc();
+    let long = vec![in alloc; b'\n'; 1_048_577]?;
+    let full = vec![in alloc; b'#'; 1_048_576]?;
+    check_fault(&rt, alloc, &long, 0)?;
+    check_run(&rt, alloc, &full, RunEnd::Finished, b"")
+}
+
+/// A script, and what it prints in three writes.
+const SHORT: (&[u8], &[u8]) = (
+    b"h = NewHandle 2\nPoke h 0 \"Hi\"\nPeek h 0 2\n",
+    b"1 NewHandle $0010003C 0\n2 Poke 0\n3 Peek \"Hi\" 0\n",
+);
+
+/// A run of that script ends so, where so much is read and written at once, the writer has room for so many bytes, and
+/// reader and writer fail or not.
+fn check_failure(
+    rt: &impl Abort,
+    alloc: Global,
+    row: (usize, usize, bool, bool, RunEnd, usize),
+) -> Result<(), Fail> {
+    let (read, written, reader_fails, writer_fails, end, room) = row;
+    let (script, whole) = SHORT;
+    let mut reader = reader_of(script, read);
+    reader.fails = reader_fails;
+    let seen = run_on(
+        alloc,
+        reader,
+        writer_with(alloc, written, room, writer_fails),
+    )?;
+    check_seen(rt, &seen, end, &whole[..room.min(whole.len())], room);
     Ok(())
 }
 
 #[test]
 fn failures_end_a_run(rt: HostRuntime) -> Result<(), Fail> {
-    let script = b"h = NewHandle 2\nPoke h 0 \"Hi\"\nPeek h 0 2\n";
-    let whole = "1 NewHandle $0010003C 0\n2 Poke 0\n3 Peek \"Hi\" 0\n";
-    // how much is read and written at once, how many bytes the writer has room for, and whether reader and writer fail
-    let rows: [(usize, usize, bool, bool, RunEnd, usize); 7] = [
-        (1, 1, false, false, RunEnd::Finished, 48),
-        (7, 5, false, true, RunEnd::Finished, 48),
-        (7, 48, true, false, RunEnd::ReadFault, 0),
-        (0, 48, true, false, RunEnd::ReadFault, 0),
-        (48, 48, false, true, RunEnd::WriteFault, 30),
-        (48, 48, false, false, RunEnd::WriteFault, 30),
-        (48, 3, false, true, RunEnd::WriteFault, 0),
-    ];
-    let spec = ZoneSpec::new(0x10_0000, 4096, 4096)?;
-    for (read, written, reader_fails, writer_fails, end, room) in rows {
-        let mut reader = Counted::new(Pieces {
-            rest: script,
-            piece: read,
-            fails: reader_fails,
-            reads: 0,
-        });
-        let mut writer = Counted::new(Paper {
-            text: Vec::new(rt.alloc()),
-            piece: written,
-            room,
-            fails: writer_fails,
-        });
-        let ended = run(rt.alloc(), &mut reader, &mut writer, spec);
-        assert_eq!(rt; ended, end);
-        let count = room.min(whole.len());
-        assert_eq!(rt; writer.inner().text.as_slice(), &whole.as_bytes()[..count]);
-        assert_eq!(rt; reader.failures() > 0, end == RunEnd::ReadFault);
-        assert_eq!(rt; writer.failures() > 0, end == RunEnd::WriteFault);
-    }
-    Ok(())
+    let alloc = rt.alloc();
+    check_failure(&rt, alloc, (1, 1, false, false, RunEnd::Finished, 48))?;
+    check_failure(&rt, alloc, (7, 5, false, true, RunEnd::Finished, 48))?;
+    check_failure(&rt, alloc, (7, 48, true, false, RunEnd::ReadFault, 0))?;
+    check_failure(&rt, alloc, (0, 48, true, false, RunEnd::ReadFault, 0))?;
+    check_failure(&rt, alloc, (48, 48, false, true, RunEnd::WriteFault, 30))?;
+    check_failure(&rt, alloc, (48, 48, false, false, RunEnd::WriteFault, 30))?;
+    check_failure(&rt, alloc, (48, 3, false, true, RunEnd::WriteFault, 0))
 }
 
 /// A script, and what it prints.
-const MAPPED: (&str, &str) = (
-    "h = NewHandle 100\nZoneMap",
-    "1 NewHandle $0010003C 0\n2 ZoneMap 3 0\n  $00100034 264 master\n  $0010013C 108 rel $0010003C 100 ---\n  $001001A8 3672 free\n",
+const MAPPED: (&[u8], &[u8]) = (
+    b"h = NewHandle 100\nZoneMap",
+    b"1 NewHandle $0010003C 0\n2 ZoneMap 3 0\n  $00100034 264 master\n  $0010013C 108 rel $0010003C 100 ---\n  $001001A8 3672 free\n",
 );
 
-/// How a run of that script ends on paper that has room for so many bytes and then fails or takes nothing, and what it
-/// has written.
-fn written_on(alloc: Global, room: usize, fails: bool) -> Result<(RunEnd, Vec<u8>), Fail> {
+/// Each byte of what that script prints may be the last before writing fails, or before nothing more is taken.
+fn check_rooms(rt: &impl Abort, alloc: Global, fails: bool) -> Result<(), Fail> {
     let (script, output) = MAPPED;
-    let spec = ZoneSpec::new(0x10_0000, 4096, 4096)?;
-    let mut reader = Counted::new(script.as_bytes());
-    let mut writer = Counted::new(Paper {
-        text: Vec::new(alloc),
-        piece: output.len(),
-        room,
-        fails,
-    });
-    let end = run(alloc, &mut reader, &mut writer, spec);
-    Ok((end, writer.into_inner().text))
+    for room in 0..output.len() {
+        let writer = writer_with(alloc, output.len(), room, fails);
+        let seen = run_on(alloc, reader_of(script, script.len()), writer)?;
+        check_seen(
+            rt,
+            &seen,
+            RunEnd::WriteFault,
+            &output[..room.min(output.len())],
+            room,
+        );
+    }
+    Ok(())
 }
 
 #[test]
 fn each_byte_may_be_the_last_before_writing_fails(rt: HostRuntime) -> Result<(), Fail> {
-    let (_, output) = MAPPED;
-    for room in 0..output.len() {
-        let count = room.min(output.len());
-        let (end, text) = written_on(rt.alloc(), room, true)?;
-        assert_eq!(rt; end, RunEnd::WriteFault, "{room}");
-        assert_eq!(rt; text.as_slice(), &output.as_bytes()[..count], "{room}");
-    }
-    Ok(())
+    check_rooms(&rt, rt.alloc(), true)
 }
 
 #[test]
 fn each_byte_may_be_the_last_that_is_taken(rt: HostRuntime) -> Result<(), Fail> {
-    let (_, output) = MAPPED;
-    for room in 0..output.len() {
-        let count = room.min(output.len());
-        let (end, text) = written_on(rt.alloc(), room, false)?;
-        assert_eq!(rt; end, RunEnd::WriteFault, "{room}");
-        assert_eq!(rt; text.as_slice(), &output.as_bytes()[..count], "{room}");
-    }
-    Ok(())
+    check_rooms(&rt, rt.alloc(), false)
 }
 
 #[test]
 fn each_byte_may_be_the_last_before_reading_fails(rt: HostRuntime) -> Result<(), Fail> {
     let (script, _) = MAPPED;
-    let spec = ZoneSpec::new(0x10_0000, 4096, 4096)?;
     for given in 0..=script.len() {
-        let count = given.min(script.len());
-        let mut reader = Counted::new(Pieces {
-            rest: &script.as_bytes()[..count],
-            piece: script.len(),
-            fails: true,
-            reads: 0,
-        });
-        let mut writer = Counted::new(Vec::new(rt.alloc()));
-        let end = run(rt.alloc(), &mut reader, &mut writer, spec);
-        assert_eq!(rt; end, RunEnd::ReadFault, "{given}");
-        assert_eq!(rt; writer.inner().len(), 0, "{given}");
-        assert_eq!(rt; reader.failures(), 1, "{given}");
+        let mut reader = reader_of(&script[..given.min(script.len())], script.len());
+        reader.fails = true;
+        let writer = writer_with(rt.alloc(), usize::MAX, usize::MAX, false);
+        let seen = run_on(rt.alloc(), reader, writer)?;
+        check_seen(&rt, &seen, RunEnd::ReadFault, b"", given);
     }
     Ok(())
 }
 
-/// A reader that fails once, in its second read, and would give the rest after that; one byte in a read.
-#[derive(Drop)]
-struct Hiccup<'a> {
-    rest: &'a [u8],
-    reads: usize,
-}
-
-impl Read for Hiccup<'_> {
-    fn read(&mut self, buf: &mut [u8]) -> io::Result<usize> {
-        self.reads = self.reads.saturating_add(1);
-        if self.reads == 2 {
-            return Err(io::Error::from(ErrorKind::Interrupted));
-        }
-        let count = self.rest.len().min(1).min(buf.len());
-        let rest = self.rest;
-        buf[..count].copy_from_slice(&rest[..count]);
-        self.rest = &rest[count..];
-        Ok(count)
-    }
-}
-
+/// The second read fails, and would give the rest if it were tried again; one byte in a read.
 #[test]
 fn a_read_that_failed_is_not_tried_again(rt: HostRuntime) -> Result<(), Fail> {
-    let spec = ZoneSpec::new(0x10_0000, 4096, 4096)?;
-    let mut reader = Counted::new(Hiccup {
-        rest: b"ZoneMap",
-        reads: 0,
-    });
-    let mut writer = Counted::new(Vec::new(rt.alloc()));
-    let end = run(rt.alloc(), &mut reader, &mut writer, spec);
-    assert_eq!(rt; end, RunEnd::ReadFault);
-    assert_eq!(rt; reader.inner().reads, 2);
-    assert_eq!(rt; reader.failures(), 1);
-    assert_eq!(rt; writer.inner().len(), 0);
+    let mut reader = reader_of(b"ZoneMap", 1);
+    reader.fault = 2;
+    let writer = writer_with(rt.alloc(), usize::MAX, usize::MAX, false);
+    let seen = run_on(rt.alloc(), reader, writer)?;
+    check_seen(&rt, &seen, RunEnd::ReadFault, b"", 0);
+    assert_eq!(rt; seen.reads, 2);
     Ok(())
 }
 
-/// A writer that fails once, in its second write, and would take the rest after that.
-#[derive(Drop)]
-struct Blot {
-    writes: usize,
-}
-
-impl Write for Blot {
-    fn write(&mut self, buf: &[u8]) -> io::Result<usize> {
-        self.writes = self.writes.saturating_add(1);
-        if self.writes == 2 {
-            return Err(io::Error::from(ErrorKind::Interrupted));
-        }
-        Ok(buf.len())
-    }
-
-    fn flush(&mut self) -> io::Result<()> {
-        Ok(())
-    }
-}
-
+/// The second write fails, and would take the rest if it were tried again.
 #[test]
 fn a_write_that_failed_is_not_tried_again(rt: HostRuntime) -> Result<(), Fail> {
-    let spec = ZoneSpec::new(0x10_0000, 4096, 4096)?;
-    let script = b"h = NewHandle 2\nPoke h 0 \"Hi\"\nPeek h 0 2\n";
-    let mut reader = Counted::new(script.as_slice());
-    let mut writer = Counted::new(Blot { writes: 0 });
-    let end = run(rt.alloc(), &mut reader, &mut writer, spec);
-    assert_eq!(rt; end, RunEnd::WriteFault);
-    assert_eq!(rt; writer.inner().writes, 2);
-    assert_eq!(rt; writer.failures(), 1);
+    let (script, whole) = SHORT;
+    let mut writer = writer_with(rt.alloc(), usize::MAX, usize::MAX, false);
+    writer.fault = 2;
+    let seen = run_on(rt.alloc(), reader_of(script, script.len()), writer)?;
+    check_seen(&rt, &seen, RunEnd::WriteFault, &whole[..24], 0);
+    assert_eq!(rt; seen.lengths.len(), 2);
     Ok(())
-}
-
-/// A writer that takes all, and keeps how long each write was.
-#[derive(Drop)]
-struct Pages {
-    lengths: Vec<usize>,
-}
-
-impl Write for Pages {
-    fn write(&mut self, buf: &[u8]) -> io::Result<usize> {
-        self.lengths.push(buf.len())?;
-        Ok(buf.len())
-    }
-
-    fn flush(&mut self) -> io::Result<()> {
-        Ok(())
-    }
 }
 
 #[test]
 fn each_reply_is_one_write(rt: HostRuntime) -> Result<(), Fail> {
-    let spec = ZoneSpec::new(0x10_0000, 4096, 4096)?;
-    let script = b"h = NewHandle 2\nPoke h 0 \"Hi\"\nPeek h 0 2\n";
-    let mut reader = Counted::new(script.as_slice());
-    let mut writer = Counted::new(Pages {
-        lengths: Vec::new(rt.alloc()),
-    });
-    let end = run(rt.alloc(), &mut reader, &mut writer, spec);
-    assert_eq!(rt; end, RunEnd::Finished);
+    let (script, whole) = SHORT;
+    let writer = writer_with(rt.alloc(), usize::MAX, usize::MAX, false);
+    let seen = run_on(rt.alloc(), reader_of(script, script.len()), writer)?;
+    check_seen(&rt, &seen, RunEnd::Finished, whole, 0);
     let lengths: [usize; 3] = [24, 9, 14];
-    assert_eq!(rt; writer.inner().lengths.as_slice(), lengths.as_slice());
+    assert_eq!(rt; seen.lengths.as_slice(), lengths.as_slice());
+    Ok(())
+}
+
+/// A script of so many bytes of a comment is read byte by byte, and ends so.
+fn check_reads(rt: &impl Abort, alloc: Global, count: usize, end: RunEnd) -> Result<(), Fail> {
+    let script = vec![in alloc; b'#'; count]?;
+    let writer = writer_with(alloc, usize::MAX, usize::MAX, false);
+    let seen = run_on(alloc, reader_of(&script, 1), writer)?;
+    assert_eq!(rt; (seen.end, seen.reads <= 1_048_578), (end, true), "{count}");
     Ok(())
 }
 
 #[test]
 fn reads_are_no_more_than_the_bytes_and_two(rt: HostRuntime) -> Result<(), Fail> {
-    let spec = ZoneSpec::new(0x10_0000, 4096, 4096)?;
-    let script = vec![in rt.alloc(); b'#'; 1_048_580]?;
-    let rows: [(usize, RunEnd); 3] = [
-        (1_048_576, RunEnd::Finished),
-        (1_048_577, RunEnd::ScriptFault(0)),
-        (1_048_580, RunEnd::ScriptFault(0)),
-    ];
-    for (length, want) in rows {
-        let count = length.min(script.len());
-        let mut reader = Counted::new(Pieces {
-            rest: &script[..count],
-            piece: 1,
-            fails: false,
-            reads: 0,
-        });
-        let mut writer = Counted::new(Vec::new(rt.alloc()));
-        let end = run(rt.alloc(), &mut reader, &mut writer, spec);
-        assert_eq!(rt; end, want, "{length}");
-        assert!(rt; reader.inner().reads <= 1_048_578, "{length}");
-    }
-    Ok(())
+    let alloc = rt.alloc();
+    check_reads(&rt, alloc, 1_048_576, RunEnd::Finished)?;
+    check_reads(&rt, alloc, 1_048_577, RunEnd::ScriptFault(0))?;
+    check_reads(&rt, alloc, 1_048_580, RunEnd::ScriptFault(0))
 }
 
 #[test]
 fn ends_have_their_status(rt: HostRuntime) {
-    let rows = [
-        (RunEnd::Finished, 0),
-        (RunEnd::NoMemory, 1),
-        (RunEnd::ReadFault, 1),
-        (RunEnd::WriteFault, 1),
-        (RunEnd::ScriptFault(2), 3),
-    ];
-    for (end, want) in rows {
-        assert_eq!(rt; status(end), want);
-    }
+    let two = status(RunEnd::ReadFault) == 1 && status(RunEnd::WriteFault) == 1;
+    assert!(rt; status(RunEnd::Finished) == 0 && status(RunEnd::NoMemory) == 1 && two);
+    assert_eq!(rt; status(RunEnd::ScriptFault(2)), 3);
 }

@@ -6,7 +6,7 @@ use mac_calls::CallName;
 use std::marker::Model;
 
 /// The name of a variable. A contract sees its place among the names of a script, in order of first assignment.
-#[derive(Clone, Copy, Debug)]
+#[derive(Clone, Copy)]
 pub struct Name(u32);
 
 impl Model for Name {
@@ -41,7 +41,7 @@ impl Name {
 }
 
 /// The bytes of an operand: one word, so that no operand is larger than two. A contract sees the list.
-#[derive(Debug, Drop)]
+#[derive(Drop)]
 pub struct OperandBytes<'a> {
     bytes: &'a &'a [u8],
 }
@@ -76,7 +76,7 @@ impl<'a> OperandBytes<'a> {
 }
 
 /// An operand as it is written.
-#[derive(Debug, Drop)]
+#[derive(Drop)]
 pub enum Operand<'a> {
     Number(u32),
     /// The value of a variable.
@@ -91,7 +91,7 @@ pub enum Operand<'a> {
 }
 
 /// The operands of a line, first to last. A contract sees the list.
-#[derive(Debug, Drop)]
+#[derive(Drop)]
 pub struct Operands<'a> {
     operands: &'a [Operand<'a>],
 }
@@ -125,7 +125,7 @@ impl<'a> Operands<'a> {
 
 /// A line of a script that makes a call, and may assign its first result. The first line of a script has the number 1.
 /// What it keeps of its operands lies in the text and in an arena, which all lines share.
-#[derive(Debug, Drop)]
+#[derive(Drop)]
 pub struct Line<'a> {
     pub number: u32,
     pub assigned: Option<Name>,

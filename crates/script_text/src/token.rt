@@ -8,7 +8,7 @@ use mac_base::error::HostFull;
 use memchr::memchr;
 
 /// A part of a line.
-#[derive(Clone, Copy, Debug)]
+#[derive(Clone, Copy)]
 pub enum Token<'a> {
     Equals,
     Semicolon,
@@ -48,7 +48,7 @@ fn is_at_boundary(rest: &[u8]) -> bool
 }
 
 /// The line has bytes that are no token.
-#[derive(Clone, Copy, Debug)]
+#[derive(Clone, Copy)]
 pub struct NotAToken;
 
 fn first_no_blank(line: &[u8]) -> Option<usize>

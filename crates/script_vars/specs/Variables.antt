@@ -5,9 +5,10 @@ use Rattle.mac_calls.specs.declared.table.CallName.TheVariants as call_name
 use Rattle.script_text.specs.declared.line.Operand.{Operand}
 use Rattle.script_text.specs.declared.line.Operand.TheVariants.{Number, Variable, Bytes}
 use Rattle.script_text.specs.declared.line.Line.{Line}
+use Rattle.mac_calls.specs.declared.loan_call.LoanCall.TheVariants as loan_call
 use Rattle.mac_calls.specs.declared.memory_call.MemoryCall.TheVariants as memory_call
 use Rattle.mac_calls.specs.declared.call.Call.{Call}
-use Rattle.mac_calls.specs.declared.call.Call.TheVariants.{Memory, MemError}
+use Rattle.mac_calls.specs.declared.call.Call.TheVariants.{Memory, Loan, MemError}
 
 -- the values of the variables, in order of the names
 abbrev pub Variables : Type 0
@@ -71,6 +72,10 @@ call_with variables call_name.Deref operands = Memory (memory_call.Deref (number
 call_with variables call_name.Poke operands = Memory (memory_call.Poke (number_at variables operands 0) (number_at variables operands 1) (bytes_at operands 2))
 call_with variables call_name.Peek operands = Memory (memory_call.Peek (number_at variables operands 0) (number_at variables operands 1) (number_at variables operands 2))
 call_with variables call_name.ZoneMap operands = Memory memory_call.ZoneMap
+call_with variables call_name.Lend operands = Loan (loan_call.Lend (number_at variables operands 0))
+call_with variables call_name.LentPeek operands = Loan (loan_call.LentPeek (number_at variables operands 0) (number_at variables operands 1) (number_at variables operands 2))
+call_with variables call_name.LentPoke operands = Loan (loan_call.LentPoke (number_at variables operands 0) (number_at variables operands 1) (bytes_at operands 2))
+call_with variables call_name.Return operands = Loan (loan_call.Return (number_at variables operands 0))
 call_with variables call_name.MemError operands = MemError
 
 -- the call that a line makes, with the values that its operands have

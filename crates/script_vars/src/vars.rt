@@ -6,7 +6,7 @@ ghost use Rattle.mac_calls.specs.Built.{is_built};
 
 use mac_base::error::HostFull;
 use mac_base::handle::{Handle, Ptr};
-use mac_calls::{Call, CallName, MemoryCall, Span};
+use mac_calls::{Call, CallName, LoanCall, MemoryCall, Span};
 use script_text::{Line, Name, Operand};
 use std::alloc::Global;
 use std::marker::Model;
@@ -136,6 +136,24 @@ pub fn resolve<'a>(line: &Line<'a>, vars: &Vars) -> Call<'a>
             count: number_at(operands, vars, 2),
         },
         CallName::ZoneMap => MemoryCall::ZoneMap,
+        CallName::Lend => return Call::Loan(LoanCall::Lend(first)),
+        CallName::LentPeek => {
+            let count = number_at(operands, vars, 2);
+            return Call::Loan(LoanCall::LentPeek {
+                block: first,
+                offset: second,
+                count,
+            });
+        }
+        CallName::LentPoke => {
+            let bytes = Span::new(bytes_at(operands, 2));
+            return Call::Loan(LoanCall::LentPoke {
+                block: first,
+                offset: second,
+                bytes,
+            });
+        }
+        CallName::Return => return Call::Loan(LoanCall::Return(first)),
         CallName::MemError => return Call::MemError,
     };
     Call::Memory(memory_call)

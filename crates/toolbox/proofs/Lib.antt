@@ -1,2 +1,5 @@
+pub mod Holding
+pub mod Lent
+pub mod Places
 pub mod Quiet
 pub mod Walk

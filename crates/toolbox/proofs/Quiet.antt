@@ -1,12 +1,17 @@
 -- The steps of calls that make no request.
-use Rattle.std.proofs.Common.{◌≡◌, ℕ, ◌+◌, ◌-◌, ◌≤◌, List, [], ◌++◌, length, take, drop, refl, sym, ap, subst, ◌∙◌, Some, None, Ok, Err, arith, append_assoc, length-append, length-take, length-drop}
+use Rattle.std.proofs.Common.{◌≡◌, ℕ, ◌+◌, ◌-◌, ◌≤◌, Bool, true, false, cond, ◌||◌, eqb, Option, List, [], ◌++◌, length, take, drop, refl, sym, ap, subst, ◌∙◌, Some, None, Ok, Err, arith, append_assoc, length-append, length-take, length-drop}
 use Rattle.std.proofs.Math.Nat.{add-sub_cancel_left}
 use Rattle.std.proofs.Math.Seq.{take-length, drop-length}
+use Rattle.std.proofs.lemmas.Bool.{ne_eqb}
 use Rattle.std.proofs.lemmas.List.{append-nil, drop-drop}
 use borrow.Rule.Slice.PartMut.{post_of}
 use Rattle.mac_base.specs.declared.error.OsErr.{OsErr}
 use Rattle.mac_calls.specs.Effect.{written}
-use Rattle.mac_base.specs.HandleTable.{bytes_of, with_bytes}
+use Rattle.mac_base.specs.BlockStatus.{status_of}
+use Rattle.mac_base.specs.declared.block.Status.TheVariants.{NotLive, Empty, Lent, Full}
+use Rattle.mac_base.specs.HandleTable.{HandleTable, Live, bytes_of, has_block, is_handle, is_lent, is_pointer, live_at, live_bytes, refilled, with_bytes}
+use Rattle.zone_laws.proofs.Tables.{with_live_agrees}
+use Rattle.linked_zone.specs.Loans.{KeepsLoans}
 use Rattle.mac_calls.specs.declared.memory_call.MemoryCall.{MemoryCall}
 use Rattle.mac_calls.specs.declared.memory_call.MemoryCall.TheVariants.{Poke, Peek}
 use Rattle.mac_calls.specs.Tests.{refusal}
@@ -52,3 +57,25 @@ poke_step zone x at bytes contents copied passed within whole all =
     let same : with_contents zone x (take at contents ++ (copied ++ post_of at (at + length bytes - at) contents)) ≡ with_contents zone x (take at (bytes_of zone.heap.table x) ++ (bytes ++ drop (length bytes) (drop at (bytes_of zone.heap.table x)))) = rw (whole, all, add-sub_cancel_left at (length bytes)) refl in
     let P : ZoneState → Type 0 = λ new. MemorySteps zone (Poke x at bytes) (Ok Nothing) new in
     subst P (sym same) (rw passed (refl, (record { table = ap (λ (bs : List ℕ). with_bytes x bs zone.heap.table) (part_written (bytes_of zone.heap.table x) bytes at within); map = refl }, refl)), refl)
+
+-- what isn't lent, live and no empty handle is full
+full_not_lent : (t : HandleTable) (x : ℕ) → status_of t x ≡ Full → is_lent t x ≡ false
+full_not_lent t x = by_case (is_handle t x || is_pointer t x) (has_block t x) (is_lent t x)
+  where
+    by_case : (live block lent : Bool) → cond live (cond block (cond lent Lent Full) Empty) NotLive ≡ Full → lent ≡ false
+    by_case true true true is = absurd (cc is)
+    by_case true true false is = refl
+    by_case true false lent is = absurd (cc is)
+    by_case false block lent is = absurd (cc is)
+
+-- a number that is lent is another one than a number that isn't
+apart : (t : HandleTable) (x y : ℕ) → is_lent t x ≡ false → is_lent t y ≡ true → eqb y x ≡ false
+apart t x y none lent = ne_eqb y x (λ same. let both : true ≡ false = sym lent ∙ ap (λ (z : ℕ). is_lent t z) same ∙ none in absurd (cc both))
+
+-- the loans stay where bytes are written into a block that isn't lent
+pub KeepsLoans-written : (zone : ZoneState) (x : ℕ) (bytes : List ℕ) → status_of zone.heap.table x ≡ Full → KeepsLoans zone (with_contents zone x bytes)
+KeepsLoans-written zone x bytes full = λ y loan is.
+    let t = zone.heap.table in
+    let other : eqb y x ≡ false = apart t x y (full_not_lent t x full) is.lent in
+    let same : live_at (with_contents zone x bytes).heap.table y ≡ live_at t y = (with_live_agrees x (refilled (overwritten (bytes_of t x) bytes) (live_at t x)) t).others y other in
+    record { lent = is.lent; memory = is.memory; contents = is.contents; long = is.long ∙ ap (λ (o : Option Live). length (live_bytes o)) (sym same) }

@@ -6,6 +6,7 @@ ghost use Rattle.mac_base.specs.BlockReport.{reports_from};
 ghost use Rattle.mac_base.specs.BlockStatus.{status_of};
 ghost use Rattle.mac_base.specs.HandleTable.{bytes_of};
 ghost use Rattle.mac_base.specs.ZoneMap.{address_behind};
+ghost use Rattle.linked_zone.specs.Loans.{KeepsLoans};
 ghost use Rattle.mac_calls.specs.declared.memory_call.MemoryCall.TheVariants as call;
 ghost use Rattle.mac_calls.specs.Built.{is_built_memory};
 ghost use Rattle.mac_calls.specs.Outcomes.{handle_outcome, pointer_outcome, address_outcome, number_outcome, done_outcome};
@@ -28,6 +29,7 @@ pub(crate) fn make(
 ) -> Result<Outcome, HostFull>
     requires { IsTrue (is_built_memory memory_call.now) }
     ensures step { IfOk result (λ outcome. MemorySteps memory.old memory_call.now outcome memory.new) }
+    ensures loans { KeepsLoans memory.old memory.new }
     ensures unchanged { OnErr result (memory.new ≡ memory.old) }
     ensures full { OnErr result (IsTrue (copies memory_call.now)) }
     ensures late { OnErr result (refusal memory.old.shape memory.old.heap memory_call.now ≡ None) }
@@ -69,7 +71,8 @@ pub(crate) fn make(
 
 /// Poke: writes bytes over those of a block.
 fn poke(memory: &mut MemoryManager, block: u32, offset: u32, bytes: &[u8]) -> Outcome
-    ensures { MemorySteps memory.old (call.Poke block offset bytes.now) result memory.new }
+    ensures step { MemorySteps memory.old (call.Poke block offset bytes.now) result memory.new }
+    ensures loans { KeepsLoans memory.old memory.new }
 {
     test_part(memory, block, offset, bytes.len())?;
     let start = offset as usize;

@@ -1,47 +1,64 @@
 //! The toolbox: one call, one reply.
 
-use crate::memory::make;
+use crate::loans::{Held, Loans};
+use crate::{lending, memory};
 use mac_base::error::{HostFull, OsErr};
 use mac_calls::{Call, Outcome, Reply, Results};
 use mem_calls::MemoryManager;
 use std::alloc::Global;
 use std::marker::Model;
 
-/// The toolbox over one zone. Contracts see the zone, and the code of the last Memory Manager call.
-#[derive(Drop)]
+/// The toolbox over one zone, which holds the script's loans. Contracts see where the zone lies, its heap, the loans with
+/// the bytes that their holder has, and the code of the last call.
 pub struct Toolbox {
     alloc: Global,
     memory: MemoryManager,
+    loans: Loans,
     refused: Option<OsErr>,
 }
 
 impl Model for Toolbox {
+    ghost use Rattle.toolbox.specs.Holding.{Holds, loans_of};
     ghost use Rattle.toolbox.specs.ToolState.{ToolState};
 
     ghost Value = { ToolState };
 
-    ghost view = { λ t. record { zone = t.memory; refused = t.refused } };
+    ghost view = { λ t. record { shape = t.memory.shape; heap = t.memory.heap; loans = loans_of t.loans; refused = t.refused } };
+
+    ghost invariant = { λ t. Holds t.memory t.loans };
+}
+
+/// Loans that are left are given back.
+impl Drop for Toolbox {
+    fn drop(self) {
+        drop(self.finish());
+    }
 }
 
 impl Toolbox {
-    ghost use Rattle.std.specs.Prelude.{◌≡◌, None, IfOk, OnErr, IsTrue};
+    ghost use Rattle.std.specs.Prelude.{◌≡◌, [], None, IfOk, OnErr, IsTrue};
     ghost use Rattle.mac_calls.specs.Built.{is_built};
+    ghost use Rattle.mac_calls.specs.Loans.{all_returned};
     ghost use Rattle.toolbox.specs.Steps.{Gives, Steps, refusal_of, takes_memory};
 
-    /// The toolbox over this memory. Replies that show bytes or blocks take host memory of `alloc`.
+    /// The toolbox over this memory, of which nothing is lent. Replies that show bytes or blocks take host memory of
+    /// `alloc`.
     pub fn open(alloc: Global, memory: MemoryManager) -> Toolbox
-        ensures { result ≡ record { zone = memory; refused = None } }
+        requires { memory.heap.table.lent ≡ [] }
+        ensures { result ≡ record { shape = memory.shape; heap = memory.heap; loans = []; refused = None } }
     {
         Toolbox {
             alloc,
             memory,
+            loans: Loans::new(),
             refused: None,
         }
     }
 
-    /// Makes one call, which is one of those that can be made yet. A call that is refused changes nothing in the zone,
-    /// and its reply has the code. MemError gives the code of the last other call. `HostFull` comes only from Peek and
-    /// ZoneMap, whose replies take host memory, and only where the call isn't refused; then nothing has changed.
+    /// Makes one call, which is one of those that can be made yet. A call that is refused changes nothing in the zone nor in
+    /// the loans, and its reply has the code. MemError gives the code of the last other call. `HostFull` comes only from
+    /// Peek, LentPeek and ZoneMap, whose replies take host memory, and only where the call isn't refused; then nothing has
+    /// changed.
     pub fn step(&mut self, call: &Call<'_>) -> Result<Reply, HostFull>
         requires { IsTrue (is_built call.now) }
         ensures step { IfOk result (λ reply. Steps self.old call.now reply.outcome self.new) }
@@ -61,15 +78,35 @@ impl Toolbox {
     /// What a call gives, or the code of its refusal.
     fn outcome(&mut self, call: &Call<'_>) -> Result<Outcome, HostFull>
         requires { IsTrue (is_built call.now) }
-        ensures gives { IfOk result (λ outcome. Gives self.old call.now outcome self.new.zone) }
+        ensures gives { IfOk result (λ outcome. Gives self.old call.now outcome self.new) }
+        ensures shape { self.new.shape ≡ self.old.shape }
         ensures refused { self.new.refused ≡ self.old.refused }
         ensures unchanged { OnErr result (self.new ≡ self.old) }
         ensures full { OnErr result (IsTrue (takes_memory call.now)) }
         ensures late { OnErr result (refusal_of self.old call.now ≡ None) }
     {
         match call {
-            Call::Memory(memory_call) => make(&mut self.memory, self.alloc, memory_call),
+            Call::Memory(call) => memory::make(&mut self.memory, self.alloc, call),
+            Call::Loan(call) => lending::make(&mut self.memory, &mut self.loans, self.alloc, call),
             Call::MemError => Ok(Ok(Results::Code(self.refused))),
         }
+    }
+
+    /// Gives back the loans that are left, first to last, and hands out the memory, of which nothing is lent then.
+    pub fn finish(self) -> MemoryManager
+        ensures heap { result.heap ≡ all_returned self.loans self.heap }
+        ensures shape { result.shape ≡ self.shape }
+        ensures nothing_lent { result.heap.table.lent ≡ [] }
+    {
+        let Toolbox {
+            alloc: _,
+            mut memory,
+            mut loans,
+            refused: _,
+        } = self;
+        while let Some(Held { block, loan }) = loans.take_first() {
+            memory.give_back(block, loan);
+        }
+        memory
     }
 }

@@ -8,17 +8,18 @@ use Rattle.std.specs.FinMap.Entries.{is_sorted, same_entries}
 use Rattle.std.proofs.lemmas.Bool.Decides.{nat_tests}
 use Rattle.mac_base.specs.HeadKind.{Shape}
 use Rattle.mac_base.specs.ZoneMap.{ZoneMap, is_named, joined, released, sizes}
-use Rattle.mac_base.specs.HandleTable.{HandleTable, Live, EmptyHandle, FullHandle, Pointer, live_at, live_full, live_handle, live_pointer, has_block, is_full, is_handle, is_pointer, with_live, without}
+use Rattle.mac_base.specs.HandleTable.{HandleTable, Live, EmptyHandle, FullHandle, Pointer, live_at, live_full, live_handle, live_pointer, has_block, is_full, is_handle, is_lent, is_pointer, with_live, without}
 use Rattle.mac_base.specs.Suits.{Suits}
 use Rattle.mac_base.specs.Heap.{Heap}
 use Rattle.mac_base.specs.Releasing.{heap_released, DisposesHandle, Empties}
 use Rattle.mac_base.specs.Sound.{Sound}
 use Rattle.mac_base.specs.ZoneState.{ZoneState}
 use Rattle.zone_laws.proofs.JoinedBlocks.{joined-apart}
+use Rattle.zone_laws.proofs.Lent.{KeepsLent, keeps-others}
 use Rattle.zone_laws.proofs.ReleasedBlocks.{marked-none}
 use Rattle.zone_laws.proofs.SoundReleased.{sound-disposed}
 use Rattle.zone_laws.proofs.SuitsNamed.{length-sizes_of}
-use Rattle.zone_laws.proofs.Tables.{live_at-with_live, in_order-with_live, eqb-true-is}
+use Rattle.zone_laws.proofs.Tables.{live_at-with_live, in_order-with_live, eqb-true-is, without_agrees}
 use Rattle.linked_zone.specs.Changes.{given_back}
 use Rattle.zone_heap.proofs.Twice.{without-with_live}
 
@@ -79,13 +80,17 @@ emptied-again s heap h sound live none =
     ∙ ap (λ m. record heap { map = m }) (released-none s heap.table heap.map h sound.suits (ap live_full is) (ap live_pointer is)))
 
 -- and then its slot is the next to be given
-pub disposed : (z new : ZoneState) (h : ℕ) → new.heap ≡ heap_released (Empties h) z.heap → new.shape ≡ z.shape → given_back h new ≡ record { shape = z.shape; heap = heap_released (DisposesHandle h) z.heap }
-disposed z new h is same =
-    (λ i. record { shape = same i; heap = (given_back h (record { shape = z.shape; heap = is i })).heap })
-    ∙ ap (λ (t : HandleTable). let new : ZoneState = record { shape = z.shape; heap = record { table = t; map = released h z.heap.map; free_slots = h ∷ z.heap.free_slots } } in new) (without-with_live h EmptyHandle z.heap.table)
+pub disposed : (heap : Heap) (z : ZoneState) (h : ℕ) → z.heap ≡ heap_released (Empties h) heap → (given_back h z).heap ≡ heap_released (DisposesHandle h) heap
+disposed heap z h is =
+    let given : Heap → Heap = λ new. record { table = without h new.table; map = new.map; free_slots = h ∷ new.free_slots } in
+    ap given is ∙ ap (λ (t : HandleTable). let new : Heap = record { table = t; map = released h heap.map; free_slots = h ∷ heap.free_slots } in new) (without-with_live h EmptyHandle heap.table)
 
 -- the slot of an empty handle can be given back
 pub given_back-sound : (z : ZoneState) (h : ℕ) → Sound z.shape z.heap → live_at z.heap.table h ≡ Some EmptyHandle → Sound z.shape (given_back h z).heap
 given_back-sound z h sound is =
     subst (λ m. Sound z.shape (record { table = without h z.heap.table; map = m; free_slots = h ∷ z.heap.free_slots })) (released-none z.shape z.heap.table z.heap.map h sound.suits (ap live_full is) (ap live_pointer is))
     (sound-disposed z.shape z.heap h sound (ap live_handle is))
+
+-- what is lent is kept then
+pub given_back-keeps : (z : ZoneState) (h : ℕ) → is_lent z.heap.table h ≡ false → KeepsLent z.shape z.heap (given_back h z).heap
+given_back-keeps z h here = keeps-others z.shape z.heap (given_back h z).heap h here (without_agrees h z.heap.table) refl (λ y apart. refl)

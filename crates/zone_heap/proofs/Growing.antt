@@ -115,7 +115,7 @@ module _ (z : ZoneState) (x n k at : ℕ) (b : Standing z x n k at) (more : b.na
     -- which makes the blocks those
     grown : enlarged z can-grow ≡ resized_zone z x n k at b grown_blocks
     grown =
-        let state = λ (m : ZoneMap). let new : ZoneState = record { shape = z.shape; heap = granted (Resize x n) x m z.heap } in new in
+        let state = λ (m : ZoneMap). let new : ZoneState = record { memory = z.memory; shape = z.shape; heap = granted (Resize x n) x m z.heap } in new in
         let first = block b.named.here.kind (front_size z.shape k whole) in
         let rest = free_block (whole - front_size z.shape k whole) in
         ap state (append_assoc b.named.before (first ∷ rest) (behind_free b.named.behind))

@@ -6,11 +6,11 @@ pub mod Places
 pub mod Joining
 pub mod Releasing
 pub mod Emptying
-pub mod BlockLength
 pub mod Contents
 pub mod Placing
 pub mod Pointers
 pub mod Writing
+pub mod Loans
 pub mod Sizing
 pub mod Shrinking
 pub mod Growing

@@ -12,16 +12,21 @@ use Rattle.mac_base.specs.Request.{NewBlock}
 use Rattle.mac_base.specs.Heap.{Heap, granted, has_none}
 use Rattle.mac_base.specs.Serve.{take_lowest, taken}
 use Rattle.mac_base.specs.Sound.{Sound}
+use Rattle.mac_base.specs.Loans.{LoansAreFixed}
 use Rattle.mac_base.specs.ZoneState.{ZoneState}
+use Rattle.zone_laws.proofs.Lent.{KeepsLent, fixed-kept}
+use Rattle.zone_laws.proofs.LentChanges.{keeps-new_handle, keeps-new_empty}
 use Rattle.zone_laws.proofs.Taken.{need-is_size}
 use Rattle.zone_laws.proofs.SoundPlaced.{sound-placed}
 use Rattle.zone_laws.proofs.SoundWritten.{sound-new_empty}
 use Rattle.zone_laws.proofs.Tables.{live_at-with_live_same}
 use Rattle.linked_zone.specs.Changes.{with_map, pointed}
 use Rattle.linked_zone.specs.Changes as change
+use Rattle.linked_zone.specs.Loans.{KeepsLoans}
 use Rattle.linked_zone.specs.Places.{LowestAt, RoomFor}
 use Rattle.zone_heap.specs.Joins.{CanTake, with_front}
 use Rattle.zone_heap.specs.Placed.{placed_lowest}
+use Rattle.zone_heap.proofs.Loans.{keeps-loans}
 use Rattle.zone_heap.proofs.Taking.{front_size, front_rest, taken-parts, front-has_length, take_lowest-there, take_lowest-none, all-there}
 use Rattle.zone_heap.proofs.Twice.{with_live-twice}
 
@@ -84,12 +89,12 @@ placed_map z h n k at p = p.low.free.before ++ (taken z.shape k (Rel h) p.low.fr
 
 -- and the zone
 abbrev pub placed_zone : (z : ZoneState) (h n k at : ℕ) → Chosen z h n k at → ZoneState
-placed_zone z h n k at p = record { shape = z.shape; heap = granted (NewBlock n) h (placed_map z h n k at p) z.heap }
+placed_zone z h n k at p = record { memory = z.memory; shape = z.shape; heap = granted (NewBlock n) h (placed_map z h n k at p) z.heap }
 
 -- the zone with the handle
 pointed_zone : (z : ZoneState) (h n k at : ℕ) (p : Chosen z h n k at) → pointed h n (cut_zone z h n k at p) (room z h n k at p).free ≡ placed_zone z h n k at p
 pointed_zone z h n k at p =
-    let state = λ (t : HandleTable) (m : ZoneMap). let new : ZoneState = record { shape = z.shape; heap = record { table = t; map = m; free_slots = drop 1 z.heap.free_slots } } in new in
+    let state = λ (t : HandleTable) (m : ZoneMap). let new : ZoneState = record { memory = z.memory; shape = z.shape; heap = record { table = t; map = m; free_slots = drop 1 z.heap.free_slots } } in new in
     let full = FullHandle no_flags (zeros n) in
     ap (λ t. state t (p.low.free.before ++ block (Rel h) (front_size z.shape k p.low.free.size) ∷ (front_rest z.shape k p.low.free.size ++ p.low.free.behind))) (with_live-twice h full EmptyHandle z.heap.table)
     ∙ ap (λ m. state (with_live h full z.heap.table) (p.low.free.before ++ m)) (sym (taken-parts z.shape k (Rel h) p.low.free.size p.low.free.behind))
@@ -110,6 +115,10 @@ placed-there z h n k at p =
 -- the zone stays sound
 pub placed-sound : (z : ZoneState) (h n k at : ℕ) (p : Chosen z h n k at) → Sound z.shape (placed_zone z h n k at p).heap
 placed-sound z h n k at p = sound-placed z.shape z.heap h (drop 1 z.heap.free_slots) p.sound p.front n (placed_map z h n k at p) (lowest-taken z h n k at p)
+
+-- and what is lent is kept
+pub placed-keeps : (z : ZoneState) (h n k at : ℕ) (p : Chosen z h n k at) → LoansAreFixed z.heap → KeepsLent z.shape z.heap (placed_zone z h n k at p).heap
+placed-keeps z h n k at p fixed = keeps-new_handle z.shape z.heap h (drop 1 z.heap.free_slots) n (placed_map z h n k at p) p.sound fixed p.front (lowest-taken z h n k at p)
 
 -- once the slot is taken, the block can be cut
 pub can-cut : (z new : ZoneState) (h n k at : ℕ) → Chosen z h n k at → new ≡ change.taken h z → CanTake new at k
@@ -137,8 +146,23 @@ placed-done z new cut last h n k at p slot front point =
     ∙ pointed_zone z h n k at p
 
 -- a slot taken as an empty handle, or none, leaves the zone sound
-pub taken-sound : (z new : ZoneState) (o : Option ℕ) → Sound z.shape z.heap → MatchOption o ((z.heap.free_slots ≡ []) × (new ≡ z)) (λ h. (z.heap.free_slots ≡ h ∷ drop 1 z.heap.free_slots) × (new ≡ change.taken h z))
-    → Sound new.shape new.heap × (new.heap.table.lent ≡ z.heap.table.lent)
-taken-sound z new None sound none = (subst (λ (w : ZoneState). Sound w.shape w.heap) (sym none.1) sound, ap (λ (w : ZoneState). w.heap.table.lent) none.1)
-taken-sound z new (Some h) sound some =
-    (subst (λ (w : ZoneState). Sound w.shape w.heap) (sym some.1) (sound-new_empty z.shape z.heap h (drop 1 z.heap.free_slots) sound some.0), ap (λ (w : ZoneState). w.heap.table.lent) some.1)
+pub taken-sound : (z new : ZoneState) (o : Option ℕ) → Sound z.shape z.heap → MatchOption o ((z.heap.free_slots ≡ []) × (new ≡ z)) (λ h. (z.heap.free_slots ≡ h ∷ drop 1 z.heap.free_slots) × (new ≡ change.taken h z)) → Sound new.shape new.heap
+taken-sound z new None sound none = subst (λ (w : ZoneState). Sound w.shape w.heap) (sym none.1) sound
+taken-sound z new (Some h) sound some = subst (λ (w : ZoneState). Sound w.shape w.heap) (sym some.1) (sound-new_empty z.shape z.heap h (drop 1 z.heap.free_slots) sound some.0)
+
+-- and what is lent is kept
+pub taken-keeps : (z : ZoneState) (h : ℕ) → Sound z.shape z.heap → LoansAreFixed z.heap → z.heap.free_slots ≡ h ∷ drop 1 z.heap.free_slots → KeepsLent z.shape z.heap (change.taken h z).heap
+taken-keeps z h sound fixed front = keeps-new_empty z.shape z.heap h (drop 1 z.heap.free_slots) sound fixed front
+
+-- so that it is fixed
+pub taken-fixed : (z new : ZoneState) (o : Option ℕ) → Sound z.shape z.heap → LoansAreFixed z.heap → MatchOption o ((z.heap.free_slots ≡ []) × (new ≡ z)) (λ h. (z.heap.free_slots ≡ h ∷ drop 1 z.heap.free_slots) × (new ≡ change.taken h z))
+    → LoansAreFixed new.heap
+taken-fixed z new None sound fixed none = subst (λ (w : ZoneState). LoansAreFixed w.heap) (sym none.1) fixed
+taken-fixed z new (Some h) sound fixed some =
+    subst (λ (w : ZoneState). LoansAreFixed w.heap) (sym some.1) (fixed-kept z.shape z.heap (change.taken h z).heap (taken-keeps z h sound fixed some.0) fixed)
+
+-- and each loan can come back
+pub taken-loans : (z new : ZoneState) (o : Option ℕ) → Sound z.shape z.heap → LoansAreFixed z.heap → MatchOption o ((z.heap.free_slots ≡ []) × (new ≡ z)) (λ h. (z.heap.free_slots ≡ h ∷ drop 1 z.heap.free_slots) × (new ≡ change.taken h z))
+    → KeepsLoans z new
+taken-loans z new None sound fixed none = subst (KeepsLoans z) (sym none.1) (λ x loan is. is)
+taken-loans z new (Some h) sound fixed some = subst (KeepsLoans z) (sym some.1) (keeps-loans z (change.taken h z) refl refl (taken-keeps z h sound fixed some.0))

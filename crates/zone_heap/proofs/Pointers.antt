@@ -12,7 +12,10 @@ use Rattle.mac_base.specs.Request.{NewPointer}
 use Rattle.mac_base.specs.Heap.{Heap, granted}
 use Rattle.mac_base.specs.Serve.{take_lowest, taken, lowest_before, lowest_contents}
 use Rattle.mac_base.specs.Sound.{Sound}
+use Rattle.mac_base.specs.Loans.{LoansAreFixed}
 use Rattle.mac_base.specs.ZoneState.{ZoneState}
+use Rattle.zone_laws.proofs.Lent.{KeepsLent}
+use Rattle.zone_laws.proofs.LentChanges.{keeps-new_pointer}
 use Rattle.zone_laws.proofs.Maps.{both_true, true_not}
 use Rattle.zone_laws.proofs.Taken.{need-is_size}
 use Rattle.zone_laws.proofs.SoundPointer.{sound-placed_pointer}
@@ -78,7 +81,7 @@ module _ (z : ZoneState) (n k at : ℕ) (c : ChosenBlock z n k at) where
 
   -- and the zone
   abbrev pub pointer_zone : ZoneState
-  pointer_zone = record { shape = z.shape; heap = granted (NewPointer n) pointer_at pointer_map z.heap }
+  pointer_zone = record { memory = z.memory; shape = z.shape; heap = granted (NewPointer n) pointer_at pointer_map z.heap }
 
   -- the number is where the contents of the lowest block begin
   pointer_place : pointer_at ≡ lowest_contents z.shape (need z.shape.heads n) z.heap.map
@@ -102,6 +105,10 @@ module _ (z : ZoneState) (n k at : ℕ) (c : ChosenBlock z n k at) where
   pub pointer-sound : Sound z.shape pointer_zone.heap
   pointer-sound = sound-placed_pointer z.shape z.heap n pointer_at pointer_map c.sound pointer_taken pointer_place
 
+  -- and what is lent is kept
+  pub pointer-keeps : LoansAreFixed z.heap → KeepsLent z.shape z.heap pointer_zone.heap
+  pointer-keeps fixed = keeps-new_pointer z.shape z.heap n pointer_at pointer_map c.sound fixed pointer_taken pointer_place
+
   module _ (cut : ZoneState) (front : (take : CanTake z at k) → cut ≡ with_front z take) where
     -- the cut makes it that zone
     cut-is : cut ≡ cut_block
@@ -119,5 +126,5 @@ module _ (z : ZoneState) (n k at : ℕ) (c : ChosenBlock z n k at) where
     pub fixed-done : (last : ZoneState) → ((r : RoomFor cut at n) → last ≡ fixed n cut r.free) → last ≡ pointer_zone
     fixed-done last fix =
         subst (λ w. (r : RoomFor w at n) → last ≡ fixed n w r.free) cut-is fix block_room
-        ∙ ap (λ m. let new : ZoneState = record { shape = z.shape; heap = record { table = with_live pointer_at (Pointer (zeros n)) z.heap.table; map = c.low.free.before ++ m; free_slots = z.heap.free_slots } } in new)
+        ∙ ap (λ m. let new : ZoneState = record { memory = z.memory; shape = z.shape; heap = record { table = with_live pointer_at (Pointer (zeros n)) z.heap.table; map = c.low.free.before ++ m; free_slots = z.heap.free_slots } } in new)
         (sym (taken-parts z.shape k (Ptr pointer_at) c.low.free.size c.low.free.behind))

@@ -43,7 +43,7 @@ free_apart-front before m h = subst (λ m. IsTrue (free_apart m)) (append-nil be
 
 -- the zone with another table in which the block of x is free
 abbrev pub with_freed : ℕ → HandleTable → ZoneState → ZoneState
-with_freed x t z = record { shape = z.shape; heap = record { table = t; map = freed x z.heap.map; free_slots = z.heap.free_slots } }
+with_freed x t z = record { memory = z.memory; shape = z.shape; heap = record { table = t; map = freed x z.heap.map; free_slots = z.heap.free_slots } }
 
 -- the block may have free neighbours then
 pub newly-free : (z : ZoneState) (x at : ℕ) (t : HandleTable) → Sound z.shape z.heap → has_block z.heap.table x ≡ true → NamedAt z x at → NewlyFree (with_freed x t z) at

@@ -47,7 +47,7 @@ module _ (z : ZoneState) (x n k at : ℕ) (b : Standing z x n k at) (fits : k �
   -- which makes the blocks these
   held : held_there z can-hold ≡ resized_zone z x n k at b cut_blocks
   held =
-      let state = λ (m : ZoneMap). let new : ZoneState = record { shape = z.shape; heap = granted (Resize x n) x m z.heap } in new in
+      let state = λ (m : ZoneMap). let new : ZoneState = record { memory = z.memory; shape = z.shape; heap = granted (Resize x n) x m z.heap } in new in
       let rest = free_block (b.named.here.size - kept) in
       ap state (append_assoc b.named.before (block b.named.here.kind kept ∷ rest) b.named.behind)
       ∙ ap (λ rest. state (b.named.before ++ block b.named.here.kind kept ∷ (rest ++ b.named.behind))) (free-rest z.shape k b.named.here.size)
@@ -69,7 +69,7 @@ module _ (z : ZoneState) (x n k at : ℕ) (b : Standing z x n k at) (fits : k �
 
   -- all joined they are what they are to be
   pub all-joined : all_joined (resized_zone z x n k at b cut_blocks) ≡ resized_zone z x n k at b (cut z.shape k b.named.here b.named.behind)
-  all-joined = ap (λ m. let new : ZoneState = record { shape = z.shape; heap = granted (Resize x n) x m z.heap } in new) joined-cut
+  all-joined = ap (λ m. let new : ZoneState = record { memory = z.memory; shape = z.shape; heap = granted (Resize x n) x m z.heap } in new) joined-cut
 
   -- and so they are without, where nothing is over
   pub all-kept : b.named.here.size ≤ kept → resized_zone z x n k at b cut_blocks ≡ resized_zone z x n k at b (cut z.shape k b.named.here b.named.behind)

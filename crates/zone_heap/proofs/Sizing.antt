@@ -7,7 +7,7 @@ use Rattle.mac_base.specs.declared.block.Entry.{Entry}
 use Rattle.mac_base.specs.declared.block.Kind.TheVariants.{Free}
 use Rattle.mac_base.specs.HeadKind.{Shape, need, smallest_block}
 use Rattle.mac_base.specs.ZoneMap.{ZoneMap, block, free_block, is_named, sizes, total_size}
-use Rattle.mac_base.specs.HandleTable.{has_block}
+use Rattle.mac_base.specs.HandleTable.{has_block, is_lent}
 use Rattle.mac_base.specs.Heap.{Heap, granted}
 use Rattle.mac_base.specs.Request.{Resize, size_of}
 use Rattle.mac_base.specs.Serve.{sized, resized_in_place}
@@ -15,6 +15,8 @@ use Rattle.mac_base.specs.Sound.{Sound}
 use Rattle.mac_base.specs.Suits.{is_block_size, has_length}
 use Rattle.mac_base.specs.ZoneState.{ZoneState}
 use Rattle.zone_laws.proofs.GapAppend.{sizes-append}
+use Rattle.zone_laws.proofs.Lent.{KeepsLent}
+use Rattle.zone_laws.proofs.LentChanges.{keeps-resized}
 use Rattle.zone_laws.proofs.Maps.{total_size-append}
 use Rattle.zone_laws.proofs.NamedPlace.{At, At-from, size_of-At}
 use Rattle.zone_laws.proofs.OpenedGap.{resized_in_place-At}
@@ -81,7 +83,7 @@ module _ (z : ZoneState) (x n k at : ℕ) (b : Standing z x n k at) where
 
   -- the zone in which x has n bytes, and its block and those behind it are these
   abbrev pub resized_zone : ZoneMap → ZoneState
-  resized_zone m = record { shape = z.shape; heap = granted (Resize x n) x (b.named.before ++ m) z.heap }
+  resized_zone m = record { memory = z.memory; shape = z.shape; heap = granted (Resize x n) x (b.named.before ++ m) z.heap }
 
   -- the heap is that, where the block can have the size
   pub resized-there : (m : ZoneMap) (new : ZoneState) → sized z.shape k b.named.here b.named.behind ≡ Some m → new ≡ resized_zone m → resized_there z.shape x n z.heap ≡ Some new.heap
@@ -97,9 +99,11 @@ sound-there s heap new x n sound block is =
     let found = option_map-Some (λ m. granted (Resize x n) x m heap) (resized_in_place s (need s.heads n) x heap.map) new is in
     subst (Sound s) found.2 (sound-resized s heap n x found.0 sound block found.1 x)
 
--- in which the same numbers are lent
-pub lent-there : (s : Shape) (heap new : Heap) (x n : ℕ) → resized_there s x n heap ≡ Some new → new.table.lent ≡ heap.table.lent
-lent-there s heap new x n is = ap (λ (h : Heap). h.table.lent) (sym (option_map-Some (λ m. granted (Resize x n) x m heap) (resized_in_place s (need s.heads n) x heap.map) new is).2)
+-- in which what is lent is kept
+pub keeps-there : (s : Shape) (heap new : Heap) (x n : ℕ) → Sound s heap → is_lent heap.table x ≡ false → resized_there s x n heap ≡ Some new → KeepsLent s heap new
+keeps-there s heap new x n sound here is =
+    let found = option_map-Some (λ m. granted (Resize x n) x m heap) (resized_in_place s (need s.heads n) x heap.map) new is in
+    subst (KeepsLent s heap) found.2 (keeps-resized s heap x n x found.0 sound here found.1)
 
 -- what is taken of a block has a possible size, room for the bytes, and the rest is nothing or a block
 pub can-front : (s : Shape) (n k whole : ℕ) → k ≡ need s.heads n → k ≤ whole → IsTrue (is_block_size s whole) → CanFront s whole (front_size s k whole) n

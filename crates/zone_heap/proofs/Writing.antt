@@ -17,6 +17,16 @@ full-has_block t x is = by_tests (is_handle t x || is_pointer t x) (has_block t 
     by_tests false true is = refl
     by_tests false false is = absurd (cc is)
 
+-- and isn't lent
+pub full-here : (t : HandleTable) (x : ℕ) → status_of t x ≡ Full → is_lent t x ≡ false
+full-here t x is = by_tests (is_handle t x || is_pointer t x) (has_block t x) (is_lent t x) is
+  where
+    by_tests : (live has lent : Bool) → cond live (cond has (cond lent Lent Full) Empty) NotLive ≡ Full → lent ≡ false
+    by_tests true true true is = absurd (cc is)
+    by_tests true true false is = refl
+    by_tests true false lent is = absurd (cc is)
+    by_tests false has lent is = absurd (cc is)
+
 -- there are as many bytes as before
 pub length-overwritten : (old others : List ℕ) → length (overwritten old others) ≡ length old
 length-overwritten old others = length-append (take (length old) others) (drop (length others) old) ∙ omega (arith, length-take (length old) others, length-drop (length others) old)

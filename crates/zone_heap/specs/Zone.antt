@@ -1,5 +1,5 @@
 -- What a zone's field means, and what it keeps true.
-use Rattle.std.specs.Prelude.{◌≡◌, []}
+use Rattle.mac_base.specs.Loans.{LoansAreFixed}
 use Rattle.mac_base.specs.Sound.{Sound}
 use Rattle.mac_base.specs.ZoneState.{ZoneState}
 use Rattle.zone_heap.specs.declared.zone.Zone.TheInside.{Inside}
@@ -8,7 +8,7 @@ use Rattle.zone_heap.specs.declared.zone.Zone.TheInside.{Inside}
 abbrev pub zone_of : Inside → ZoneState
 zone_of z = z.pointers
 
--- it is sound, and nothing is lent so far
+-- it is sound, and what is lent of it are pointers and locked handles
 pub record IsZone (z : Inside) : Type 0 where
   pub sound : Sound z.pointers.shape z.pointers.heap
-  pub unlent : z.pointers.heap.table.lent ≡ []
+  pub fixed : LoansAreFixed z.pointers.heap

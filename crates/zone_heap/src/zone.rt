@@ -6,6 +6,7 @@ use mac_base::error::HostFull;
 use mac_base::handle::{Handle, Ptr};
 use mac_base::size::{MASTER_LENGTH, ZONE_HEADER, need_for};
 use mac_base::zone_spec::{ADDRESS_END, LARGEST_LIMIT, ZoneSpec};
+use raw_region::Lent;
 use std::alloc::Global;
 use std::marker::Model;
 use thiserror::Error;
@@ -17,7 +18,6 @@ pub struct NoRoom;
 
 /// A heap zone in raw bytes. Contracts see its shape and its heap: the handle table, the zone map and the free slots.
 /// All host memory is taken by `create`.
-#[derive(Drop)]
 pub struct Zone {
     pointers: LinkedZone,
 }
@@ -34,12 +34,27 @@ impl Model for Zone {
     ghost invariant = { IsZone };
 }
 
+impl Drop for Zone {
+    ghost use Rattle.std.specs.Prelude.{◌≡◌, []};
+
+    /// A zone ends only when nothing of it is lent.
+    fn drop(self)
+        requires nothing_lent { self.heap.table.lent ≡ [] }
+    {
+        let Zone { pointers } = self;
+        drop(pointers);
+    }
+}
+
 impl Zone {
-    ghost use Rattle.std.specs.Prelude.{length, ◌≡◌, ◌+◌, ◌≤◌, IfOk, IsTrue, MatchResult, Some, None, []};
+    ghost use Rattle.std.specs.Prelude.{length, not, ◌||◌, ◌≡◌, ◌+◌, ◌≤◌, IfOk, IsTrue, IsFalse, MatchResult, Some, None, []};
     ghost use Rattle.mac_base.specs.ZoneMap.{address_behind, contents_of};
     ghost use Rattle.std.specs.Borrow.{sem};
     ghost use Rattle.mac_base.specs.BlockStatus.{status_of};
-    ghost use Rattle.mac_base.specs.HandleTable.{has_block, is_full, is_handle, is_pointer, bytes_of, flags_of, with_flags};
+    ghost use Rattle.mac_base.specs.HandleTable.{has_block, is_full, is_handle, is_lent, is_pointer, bytes_of, flags_of, with_flags};
+    ghost use Rattle.mac_base.specs.Loans.{LoansAreFixed, LoansFit, lent_out, may_be_lent, returned};
+    ghost use Rattle.mac_base.specs.ZoneState.{with_heap};
+    ghost use Rattle.linked_zone.specs.Loans.{IsLoanOf, KeepsLoans, KeepsOtherLoans};
     ghost use Rattle.mac_base.specs.Heap.{new_heap, with_table};
     ghost use Rattle.mac_base.specs.HeadKind.{max_size};
     ghost use Rattle.mac_base.specs.Sound.{Sound};
@@ -53,7 +68,7 @@ impl Zone {
 
     /// A new zone: a master block with 64 free slots, and one free block.
     pub fn create(alloc: Global, spec: ZoneSpec) -> Result<Zone, HostFull>
-        ensures { IfOk result (λ zone. zone ≡ record { shape = shape_of spec; heap = new_heap (shape_of spec) spec.size }) }
+        ensures { IfOk result (λ zone. zone ≡ record { memory = zone.memory; shape = shape_of spec; heap = new_heap (shape_of spec) spec.size }) }
     {
         let mut pointers = LinkedZone::create(alloc, spec)?;
         let first = spec.base() + ZONE_HEADER;
@@ -62,28 +77,65 @@ impl Zone {
         Ok(Zone { pointers })
     }
 
-    /// Whether a handle is live: the address of a slot that isn't free. Nothing is lent so far.
+    /// Whether a handle is live: the address of a slot that isn't free.
     pub fn is_live(&self, handle: Handle) -> bool
-        ensures live { result ≡ is_handle self.now.heap.table handle }
-        ensures unlent { self.now.heap.table.lent ≡ [] }
+        ensures { result ≡ is_handle self.now.heap.table handle }
     {
         self.pointers.is_live(handle)
     }
 
-    /// Whether a pointer is live: a nonrelocatable block's contents begin there. Nothing is lent so far.
+    /// Whether a pointer is live: a nonrelocatable block's contents begin there.
     pub fn is_pointer(&self, pointer: Ptr) -> bool
-        ensures live { result ≡ is_pointer self.now.heap.table pointer }
-        ensures unlent { self.now.heap.table.lent ≡ [] }
+        ensures { result ≡ is_pointer self.now.heap.table pointer }
     {
         self.pointers.is_pointer(pointer)
     }
 
-    /// Whether a number has a block: it is a handle that isn't empty, or a pointer. Nothing is lent so far.
+    /// Whether a number has a block: it is a handle that isn't empty, or a pointer.
     pub fn has_block(&self, block: u32) -> bool
-        ensures block { result ≡ has_block self.now.heap.table block }
-        ensures unlent { self.now.heap.table.lent ≡ [] }
+        ensures { result ≡ has_block self.now.heap.table block }
     {
         self.pointers.has_block(block)
+    }
+
+    /// Whether a handle or a pointer that has a block is lent.
+    pub fn is_lent(&self, block: u32) -> bool
+        requires { IsTrue (has_block self.now.heap.table block) }
+        ensures { result ≡ is_lent self.now.heap.table block }
+    {
+        self.pointers.is_lent(block)
+    }
+
+    /// How many blocks are lent: 8 at most, each of them a pointer's or a locked handle's.
+    pub fn lent_count(&self) -> u32
+        ensures value { result ≡ length self.now.heap.table.lent }
+        ensures loans { LoansFit self.now.heap }
+        ensures fixed { LoansAreFixed self.now.heap }
+    {
+        let _spec = self.pointers.spec();
+        self.pointers.lent_count()
+    }
+
+    /// Lends the bytes of a pointer or a locked handle: who has the loan reads and writes them, until it comes back. Till then
+    /// the block keeps its address, and the zone reads and writes none of its bytes.
+    pub fn lend(&mut self, block: u32) -> Lent
+        requires full { status_of self.old.heap.table block ≡ Status.Full }
+        requires fixed { IsTrue (may_be_lent self.old.heap.table block) }
+        ensures zone { self.new ≡ with_heap (lent_out block self.old.heap) self.old }
+        ensures loan { IsLoanOf self.new block result }
+        ensures bytes { result.bytes ≡ bytes_of self.old.heap.table block }
+        ensures loans { KeepsLoans self.old self.new }
+    {
+        self.pointers.lend(block)
+    }
+
+    /// Takes back the bytes of a handle or a pointer that is lent, as the holder of the loan left them.
+    pub fn give_back(&mut self, block: u32, loan: Lent)
+        requires { IsLoanOf self.old block loan }
+        ensures zone { self.new ≡ with_heap (returned block loan.bytes self.old.heap) self.old }
+        ensures loans { KeepsOtherLoans block self.old self.new }
+    {
+        self.pointers.give_back(block, loan);
     }
 
     /// A new handle with `length` bytes of zero and no flags, in the lowest free block that has room. There is none
@@ -94,6 +146,7 @@ impl Zone {
         ensures placed { MatchResult result
             (λ handle. (placed_lowest self.old.shape length self.old.heap ≡ Some (handle, self.new.heap)) × (self.new.shape ≡ self.old.shape))
             (λ _. (placed_lowest self.old.shape length self.old.heap ≡ None) × (self.new ≡ self.old)) }
+        ensures loans { KeepsLoans self.old self.new }
     {
         let needed = need_for(self.pointers.spec().heads(), length);
         let Some(at) = self.pointers.lowest_free(needed) else {
@@ -113,6 +166,7 @@ impl Zone {
         ensures placed { MatchResult result
             (λ handle. (placed_empty self.old.heap ≡ Some (handle, self.new.heap)) × (self.new.shape ≡ self.old.shape))
             (λ _. (placed_empty self.old.heap ≡ None) × (self.new ≡ self.old)) }
+        ensures loans { KeepsLoans self.old self.new }
     {
         self.pointers.take().ok_or(NoRoom)
     }
@@ -125,6 +179,7 @@ impl Zone {
         ensures placed { MatchResult result
             (λ pointer. (placed_pointer self.old.shape length self.old.heap ≡ Some (pointer, self.new.heap)) × (self.new.shape ≡ self.old.shape))
             (λ _. (placed_pointer self.old.shape length self.old.heap ≡ None) × (self.new ≡ self.old)) }
+        ensures loans { KeepsLoans self.old self.new }
     {
         let size = need_for(self.pointers.spec().heads(), length);
         let Some(at) = self.pointers.lowest_free(size) else {
@@ -138,8 +193,10 @@ impl Zone {
     /// the next to be given.
     pub fn release(&mut self, handle: Handle)
         requires live { IsTrue (is_handle self.old.heap.table handle) }
+        requires here { IsFalse (is_lent self.old.heap.table handle) }
         ensures heap { self.new.heap ≡ heap_released (DisposesHandle handle) self.old.heap }
         ensures shape { self.new.shape ≡ self.old.shape }
+        ensures loans { KeepsLoans self.old self.new }
     {
         self.empty(handle);
         self.pointers.release(handle);
@@ -148,8 +205,10 @@ impl Zone {
     /// Disposes of a live pointer: its block is free and joined to its free neighbours.
     pub fn release_pointer(&mut self, pointer: Ptr)
         requires live { IsTrue (is_pointer self.old.heap.table pointer) }
+        requires here { IsFalse (is_lent self.old.heap.table pointer) }
         ensures heap { self.new.heap ≡ heap_released (DisposesPtr pointer) self.old.heap }
         ensures shape { self.new.shape ≡ self.old.shape }
+        ensures loans { KeepsLoans self.old self.new }
     {
         let at = self.pointers.place_of(pointer.number());
         self.pointers.unfix(pointer);
@@ -160,8 +219,10 @@ impl Zone {
     /// that is empty stays so.
     pub fn empty(&mut self, handle: Handle)
         requires live { IsTrue (is_handle self.old.heap.table handle) }
+        requires here { IsFalse (is_lent self.old.heap.table handle) }
         ensures heap { self.new.heap ≡ heap_released (Empties handle) self.old.heap }
         ensures shape { self.new.shape ≡ self.old.shape }
+        ensures loans { KeepsLoans self.old self.new }
     {
         if self.pointers.has_block(handle.number()) {
             let at = self.pointers.block_of(handle);
@@ -175,11 +236,13 @@ impl Zone {
     /// they go, and those that are added are zero. Where there is no room, nothing has changed.
     pub fn resize_rel(&mut self, handle: Handle, length: u32) -> Result<(), NoRoom>
         requires full { IsTrue (is_full self.old.heap.table handle) }
+        requires here { IsFalse (is_lent self.old.heap.table handle) }
         requires size { length ≤ max_size }
         ensures sound { Sound self.old.shape self.old.heap }
         ensures resized { MatchResult result
             (λ _. (resized_there self.old.shape handle length self.old.heap ≡ Some self.new.heap) × (self.new.shape ≡ self.old.shape))
             (λ _. (resized_there self.old.shape handle length self.old.heap ≡ None) × (self.new ≡ self.old)) }
+        ensures loans { KeepsLoans self.old self.new }
     {
         self.resize(handle.number(), length)
     }
@@ -187,11 +250,13 @@ impl Zone {
     /// Gives a pointer `length` bytes where its block is, as `resize_rel` does for a handle.
     pub fn resize_fix(&mut self, pointer: Ptr, length: u32) -> Result<(), NoRoom>
         requires live { IsTrue (is_pointer self.old.heap.table pointer) }
+        requires here { IsFalse (is_lent self.old.heap.table pointer) }
         requires size { length ≤ max_size }
         ensures sound { Sound self.old.shape self.old.heap }
         ensures resized { MatchResult result
             (λ _. (resized_there self.old.shape pointer length self.old.heap ≡ Some self.new.heap) × (self.new.shape ≡ self.old.shape))
             (λ _. (resized_there self.old.shape pointer length self.old.heap ≡ None) × (self.new ≡ self.old)) }
+        ensures loans { KeepsLoans self.old self.new }
     {
         self.resize(pointer.number(), length)
     }
@@ -204,11 +269,13 @@ impl Zone {
         self.pointers.flags(handle)
     }
 
-    /// Sets the flags of a handle that has a block.
+    /// Sets the flags of a handle that has a block. One that is lent stays locked.
     pub fn set_flags(&mut self, handle: Handle, flags: Flags)
         requires full { IsTrue (is_full self.old.heap.table handle) }
+        requires fixed { IsTrue (flags.lock || not (is_lent self.old.heap.table handle)) }
         ensures heap { self.new.heap ≡ with_table (with_flags handle flags self.old.heap.table) self.old.heap }
         ensures shape { self.new.shape ≡ self.old.shape }
+        ensures loans { KeepsLoans self.old self.new }
     {
         self.pointers.set_flags(handle, flags);
     }
@@ -224,14 +291,12 @@ impl Zone {
         at + spec.heads().head_size()
     }
 
-    /// How many bytes a handle or a pointer has.
+    /// How many bytes a handle or a pointer has. It may be lent.
     pub fn length(&self, block: u32) -> u32
-        requires { status_of self.now.heap.table block ≡ Status.Full }
+        requires { IsTrue (has_block self.now.heap.table block) }
         ensures { result ≡ length (bytes_of self.now.heap.table block) }
     {
-        let spec = self.pointers.spec();
-        prove!(spec.limit() <= LARGEST_LIMIT);
-        self.bytes(block).len() as u32
+        self.pointers.length(block)
     }
 
     /// The bytes of a handle or a pointer that has a block.
@@ -271,6 +336,7 @@ impl Zone {
     /// The bytes of the zone, from its start to the end of its last block: its header, and its blocks with their
     /// headers, master pointers and contents. They are bytes that `check` takes.
     pub fn image(&self) -> &[u8]
+        requires nothing_lent { self.now.heap.table.lent ≡ [] }
         ensures form { IsImage self.now result.now }
         ensures walks { Walks self.now.shape.heads result.now }
     {
@@ -280,11 +346,13 @@ impl Zone {
     /// Gives a handle or a pointer that has a block `length` bytes where the block is.
     fn resize(&mut self, block: u32, length: u32) -> Result<(), NoRoom>
         requires block { IsTrue (has_block self.old.heap.table block) }
+        requires here { IsFalse (is_lent self.old.heap.table block) }
         requires size { length ≤ max_size }
         ensures sound { Sound self.old.shape self.old.heap }
         ensures resized { MatchResult result
             (λ _. (resized_there self.old.shape block length self.old.heap ≡ Some self.new.heap) × (self.new.shape ≡ self.old.shape))
             (λ _. (resized_there self.old.shape block length self.old.heap ≡ None) × (self.new ≡ self.old)) }
+        ensures loans { KeepsLoans self.old self.new }
     {
         let needed = need_for(self.pointers.spec().heads(), length);
         let at = self.pointers.place_of(block);
@@ -305,8 +373,8 @@ impl Zone {
     }
 }
 
-ghost use Rattle.std.specs.Prelude.{◌≡◌, ◌-◌, ◌≤◌, IsTrue, Some, if◌then◌else◌, nat_lt};
-ghost use Rattle.mac_base.specs.HandleTable.{has_block};
+ghost use Rattle.std.specs.Prelude.{◌≡◌, ◌-◌, ◌≤◌, IsTrue, IsFalse, Some, if◌then◌else◌, nat_lt};
+ghost use Rattle.mac_base.specs.HandleTable.{has_block, is_lent};
 ghost use Rattle.mac_base.specs.HeadKind.{need, smallest_block};
 ghost use Rattle.mac_base.specs.Request.{size_of};
 ghost use Rattle.mac_base.specs.Serve.{free_in_front};
@@ -377,10 +445,12 @@ fn front(pointers: &LinkedZone, whole: u32, needed: u32) -> u32
 fn shrink(pointers: &mut LinkedZone, block: u32, needed: u32, length: u32)
     requires sound { Sound pointers.old.shape pointers.old.heap }
     requires block { IsTrue (has_block pointers.old.heap.table block) }
+    requires here { IsFalse (is_lent pointers.old.heap.table block) }
     requires needed { needed ≡ need pointers.old.shape.heads length }
     requires fits { needed ≤ size_of block pointers.old.heap.map }
     ensures heap { resized_there pointers.old.shape block length pointers.old.heap ≡ Some pointers.new.heap }
     ensures shape { pointers.new.shape ≡ pointers.old.shape }
+    ensures memory { pointers.new.memory ≡ pointers.old.memory }
 {
     let spec = pointers.spec();
     prove!(spec.base() + spec.limit() <= ADDRESS_END);

@@ -8,6 +8,8 @@ pub mod GapParts
 pub mod GapRoom
 pub mod Joined
 pub mod JoinedBlocks
+pub mod Lent
+pub mod LentChanges
 pub mod Maps
 pub mod NamedPlace
 pub mod OpenedGap

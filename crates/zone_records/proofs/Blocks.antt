@@ -1,5 +1,5 @@
 -- When a block of bytes that is made of others is sound, and how large it is.
-use Rattle.std.proofs.Common.{◌≡◌, ℕ, ◌+◌, ◌-◌, ◌<◌, ◌≤◌, ◌%◌, Bool, true, false, not, ◌&&◌, ◌||◌, nat_le, List, length, take, drop, refl, ap, sym, ◌∙◌, arith, length-append, length-take-le, length-drop}
+use Rattle.std.proofs.Common.{◌≡◌, ℕ, ◌+◌, ◌-◌, ◌<◌, ◌≤◌, ◌%◌, Bool, true, not, ◌&&◌, ◌||◌, nat_le, List, length, take, drop, refl, ap, sym, ◌∙◌, arith, length-append, length-take-le, length-drop}
 use Rattle.std.specs.Prelude.{◌==◌}
 use Rattle.std.proofs.lemmas.Bool.Decides.{nat_tests}
 use Rattle.mac_base.specs.declared.block.HeadKind.{HeadKind}
@@ -61,13 +61,13 @@ raw-parts heads r n bytes few =
     let rest = length-drop n bytes in
     (front, rest, omega arith)
 
--- a block that nobody has borrowed is sound
-pub sound-made : (heads : HeadKind) (base : ℕ) (b : RawBlock) (size : ℕ) → size_of heads b ≡ size → sized heads size ≡ true → length b.slack ≤ head.most_over heads → can_be_told heads b.role (length b.slack) ≡ true → b.lent ≡ false
+-- a block is sound by its parts
+pub sound-made : (heads : HeadKind) (base : ℕ) (b : RawBlock) (size : ℕ) → size_of heads b ≡ size → sized heads size ≡ true → length b.slack ≤ head.most_over heads → can_be_told heads b.role (length b.slack) ≡ true → (not b.lent || has_owner b.role) ≡ true
     → has_use base b.role (length b.contents) ≡ true → is_sound heads base b ≡ true
-sound-made heads base b size is possible few told unlent use_is =
+sound-made heads base b size is possible few told owned use_is =
     let parts = both_true (size % 4 == 0) (nat_le (smallest_block heads) size) possible in
     true_both _ _ (true_both _ _ (ap (λ k. k % 4 == 0) is ∙ parts.0) (true_both _ _ (ap (λ k. nat_le (smallest_block heads) k) is ∙ parts.1)
-    (true_both _ _ (le (length b.slack) (head.most_over heads) few) (true_both _ _ told (ap (λ t. not t || has_owner b.role) unlent))))) use_is
+    (true_both _ _ (le (length b.slack) (head.most_over heads) few) (true_both _ _ told owned)))) use_is
   where
     le : (m n : ℕ) → m ≤ n → nat_le m n ≡ true
     le m n h = grind (arith, nat_tests)

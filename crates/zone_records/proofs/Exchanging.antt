@@ -1,5 +1,5 @@
 -- Neighbours that have changed places.
-use Rattle.std.proofs.Common.{◌≡◌, ℕ, true, false, [], ◌∷◌, length, refl, ap, sym, ◌∙◌, subst, arith}
+use Rattle.std.proofs.Common.{◌≡◌, ℕ, true, false, [], ◌∷◌, ◌++◌, length, refl, ap, sym, ◌∙◌, subst, arith, append_assoc}
 use Rattle.mac_base.specs.declared.block.HeadKind.{HeadKind}
 use Rattle.zone_laws.proofs.Maps.{true_both}
 use Rattle.block_bytes.specs.declared.header.Role.{Role}
@@ -9,9 +9,9 @@ use Rattle.block_bytes.specs.Layout.{RawBlock, Layout, IsMoved, Exchanged, size_
 use Rattle.zone_records.specs.Records.{BlockRecord, ZoneRecords}
 use Rattle.zone_records.specs.Places.{PairAt}
 use Rattle.zone_records.specs.Changes.{exchanged}
-use Rattle.zone_records.specs.Reading.{content_in, record_in, is_sound}
+use Rattle.zone_records.specs.Reading.{content_in, record_in, is_sound, HasWords}
 use Rattle.zone_records.proofs.Apart.{Two}
-use Rattle.zone_records.proofs.Held.{Held, address-is, two, sound-one, sound-other, changed}
+use Rattle.zone_records.proofs.Held.{Held, address-is, two, sound-one, sound-other, words-two, words-at, changed}
 use Rattle.zone_records.proofs.Holding.{with_contents, sound-same}
 
 -- a block that has moved is the same but for its contents
@@ -24,6 +24,10 @@ moved-sound heads base old new m sound = ap (is_sound heads base) (moved-form ol
 
 moved-size : (heads : HeadKind) (old new : RawBlock) → IsMoved old new → size_of heads new ≡ size_of heads old
 moved-size heads old new m = let contents = m.contents in let slack = ap length m.slack in omega arith
+
+-- with its slots where it has any
+moved-words : (heads : HeadKind) (old new : RawBlock) → IsMoved old new → HasWords heads old → HasWords heads new
+moved-words heads old new m has is = let same : new ≡ old = m.same (ap raw.is_free (sym m.role ∙ is)) in subst (HasWords heads) (sym same) has is
 
 -- and the same in the list
 moved-record : (heads : HeadKind) (base : ℕ) (old new : RawBlock) → IsMoved old new → record_in heads base new ≡ record_in heads base old
@@ -69,9 +73,12 @@ module _ (l : Layout) (z : ZoneRecords) (held : Held l z) (at : ℕ) (pair : Pai
       let other = moved-size l.heads t.block ends.second ends.second_moved in
       let sound = sound-one l t.first t.block (t.other ∷ t.rest) held.sound t.blocks in
       let sound_other = sound-other l t.first t.block t.other t.rest held.sound t.blocks in
+      let words = words-at l t.first t.block (t.other ∷ t.rest) held.sound t.blocks in
+      let words_other = words-at l (t.first ++ t.block ∷ []) t.other t.rest held.sound (t.blocks ∙ sym (append_assoc t.first (t.block ∷ []) (t.other ∷ t.rest))) in
       let first = moved-record l.heads l.base t.other ends.first ends.first_moved ∙ t.same_other in
       let second = moved-record l.heads l.base t.block ends.second ends.second_moved ∙ t.same in
       subst (λ m. Held m (exchanged z pair)) (sym ends.blocks)
       (changed l z held t.first (t.block ∷ t.other ∷ []) (ends.first ∷ ends.second ∷ []) t.rest pair.before (pair.second ∷ pair.first ∷ []) pair.behind t.blocks t.lower t.upper
       (λ i. first i ∷ second i ∷ []) (omega arith)
-      (true_both _ _ (moved-sound l.heads l.base t.other ends.first ends.first_moved sound_other) (true_both _ _ (moved-sound l.heads l.base t.block ends.second ends.second_moved sound) refl)))
+      (true_both _ _ (moved-sound l.heads l.base t.other ends.first ends.first_moved sound_other) (true_both _ _ (moved-sound l.heads l.base t.block ends.second ends.second_moved sound) refl))
+      (words-two l.heads ends.first ends.second (moved-words l.heads t.other ends.first ends.first_moved words_other) (moved-words l.heads t.block ends.second ends.second_moved words)))

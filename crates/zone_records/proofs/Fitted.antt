@@ -1,7 +1,8 @@
 -- How the calls end that give a block another number of bytes where it stands.
 use Rattle.std.proofs.Common.{◌≡◌, ℕ, ◌+◌, ◌-◌, ◌<◌, ◌≤◌, nat_lt, Bool, true, false, cond, eqb, List, [], ◌∷◌, ◌++◌, length, take, drop, refl, ap, sym, ◌∙◌, subst, arith, append_assoc, length-append, length-take, length-take-le, length-drop, inl, inr, ◌⊎◌}
-use Rattle.std.specs.List.{list_all}
+use Rattle.std.specs.List.{All, list_all}
 use Rattle.std.proofs.lemmas.Bool.Decides.{nat_tests}
+use Rattle.std.proofs.lemmas.List.Elements.{All-cons, All-nil}
 use Rattle.std.proofs.lemmas.List.{length-replicate, take_all, take-append-le}
 use Rattle.mac_base.specs.declared.block.HeadKind.{HeadKind}
 use Rattle.mac_base.specs.HeadKind.{head_size}
@@ -17,10 +18,11 @@ use Rattle.zone_records.specs.Records.{Content, Free, Fixed, Master, Relocatable
 use Rattle.zone_records.specs.Places.{RecordAt, HeldAt, CanHold, has_bytes}
 use Rattle.zone_records.specs.Changes.{free_record, held_there}
 use Rattle.zone_records.specs.Fitting.{fitted}
-use Rattle.zone_records.specs.Reading.{content_in, has_use, is_sound}
+use Rattle.zone_records.specs.Reading.{content_in, has_use, is_sound, HasWords}
 use Rattle.zone_records.proofs.Apart.{read, One}
-use Rattle.zone_records.proofs.Held.{Held, heads-is, sound-one, changed}
+use Rattle.zone_records.proofs.Held.{Held, heads-is, sound-one, words-one, words-free, changed}
 use Rattle.zone_records.proofs.Looking.{sound-parts}
+use Rattle.zone_records.proofs.Headers.{words-none}
 use Rattle.zone_records.proofs.Holding.{held_one, held-block, held-size, held-has, held-bytes, held-with, sound-same}
 use Rattle.zone_records.proofs.Blocks.{sized, sized-head, have-parts, size-body, raw-parts, sound-raw, sound-free, sound-possible}
 use Rattle.zone_records.proofs.Fitting.{CanFit, fitted_front, fitted_rest, raw_fitted}
@@ -126,6 +128,7 @@ module _ (l : Layout) (z : ZoneRecords) (held : Held l z) (at size n : ℕ) (can
       → (read l.heads l.base (cond t (free_raw_block (drop size (body b)) ∷ []) []) ≡ free_record (h.size - size))
       × (raw.total_of l.heads (cond t (free_raw_block (drop size (body b)) ∷ []) []) ≡ h.size - size)
       × (list_all (is_sound l.heads l.base) (cond t (free_raw_block (drop size (body b)) ∷ []) []) ≡ true)
+      × All (HasWords l.heads) (cond t (free_raw_block (drop size (body b)) ∷ []) [])
   rest-made true is =
       let smaller : size < size_of l.heads b = grind (arith, nat_tests) in
       let over = fit-over smaller in
@@ -136,13 +139,14 @@ module _ (l : Layout) (z : ZoneRecords) (held : Held l z) (at size n : ℕ) (can
         (λ i. record { size = total i; content = Free; lent = false } ∷ []) ∙ ap (λ t. cond t [] (block_record Free (h.size - size) ∷ [])) (sym some),
         omega arith,
         true_both _ _ (fit-behind smaller) refl,
+        words-one l.heads (free_raw_block (drop size (body b))) (words-free l.heads (free_raw_block (drop size (body b))) refl),
       )
   rest-made false is =
       let whole = held-size l z held at h in
       let within = can.fits.within in
       let larger : size_of l.heads b ≤ size = grind (arith, nat_tests) in
       let none : eqb (h.size - size) 0 ≡ true = grind (arith, nat_tests) in
-      (ap (λ t. cond t [] (block_record Free (h.size - size) ∷ [])) (sym none), omega arith, refl)
+      (ap (λ t. cond t [] (block_record Free (h.size - size) ∷ [])) (sym none), omega arith, refl, All-nil (HasWords l.heads))
 
   -- then the block has its bytes
   pub fit-ends : (m : Layout) (kept : ℕ) → kept ≤ length (bytes_of h.content) → m ≡ raw_fitted l fit-can kept → Held m (fitted kept z can)
@@ -172,7 +176,8 @@ module _ (l : Layout) (z : ZoneRecords) (held : Held l z) (at size n : ℕ) (can
       (subst (λ bs. Held (raw_fitted l fit-can kept) (records.with_blocks bs z)) (sym (append_assoc h.before recs h.behind))
       (changed l z held o.first (b ∷ []) (now ∷ fitted_rest l fit-can) o.rest h.before recs h.behind o.blocks o.lower o.upper
       (λ i. record { size = now_size i; content = content i; lent = false } ∷ rest.0 i) (omega arith)
-      (true_both _ _ (sound-same l.heads l.base front now.contents same fit-front) rest.2)))
+      (true_both _ _ (sound-same l.heads l.base front now.contents same fit-front) rest.2)
+      (All-cons (HasWords l.heads) now (fitted_rest l fit-can) (words-none l.heads l.base now b.contents (held-has l z held at h)) rest.3)))
 
 -- all bytes are kept where as many are as there were
 pub held-all : (z : ZoneRecords) (at size n : ℕ) (can : CanHold z at size n) (kept : ℕ) → kept ≡ length_of can.held.content → fitted kept z can ≡ held_there z can

@@ -1,5 +1,5 @@
 -- Flags that are written in the header of a handle's block.
-use Rattle.std.proofs.Common.{◌≡◌, ℕ, ◌+◌, ◌≤◌, ◌^◌, nat_le, nat_lt, true, false, [], ◌∷◌, ◌++◌, length, refl, ap, sym, ◌∙◌, subst, arith, take_at, drop_at, length-append}
+use Rattle.std.proofs.Common.{◌≡◌, ℕ, ◌+◌, ◌≤◌, ◌^◌, not, ◌||◌, nat_le, nat_lt, true, [], ◌∷◌, ◌++◌, length, refl, ap, sym, ◌∙◌, subst, arith}
 use Rattle.std.specs.Prelude.{IsTrue}
 use Rattle.std.proofs.lemmas.Bool.Decides.{nat_tests}
 use Rattle.mac_base.specs.declared.block.HeadKind.{HeadKind}
@@ -9,15 +9,14 @@ use Rattle.zone_laws.proofs.Maps.{both_true, true_both}
 use Rattle.block_bytes.specs.declared.header.Role.{Role}
 use Rattle.block_bytes.specs.declared.header.Role.TheVariants as role
 use Rattle.block_bytes.specs.Head.{most_over}
-use Rattle.block_bytes.specs.Layout.{RawBlock, Layout, CanBe, body, raw_block, size_of, with_blocks, can_be_told, can_say}
-use Rattle.zone_records.specs.Records.{Relocatable, block_record, ZoneRecords}
-use Rattle.zone_records.specs.Places.{HandleBlockAt, HeldAt, can_flag}
+use Rattle.block_bytes.specs.Layout.{RawBlock, Layout, CanTurn, size_of, with_blocks, in_role, is_free, has_owner, can_be_told, can_say}
+use Rattle.zone_records.specs.Records.{handle_record, ZoneRecords}
+use Rattle.zone_records.specs.Places.{HandleBlockAt, can_flag}
 use Rattle.zone_records.specs.Changes.{flagged}
 use Rattle.zone_records.specs.Reading.{has_use, is_sound}
-use Rattle.zone_records.proofs.Apart.{One}
-use Rattle.zone_records.proofs.Held.{Held, heads-is, sound-one, changed}
-use Rattle.zone_records.proofs.Looking.{sound-parts}
-use Rattle.zone_records.proofs.Holding.{held_one, held-block, held-size, held-content, handle_held, handle-role}
+use Rattle.zone_records.proofs.Held.{Held, heads-is, sound-one, words-one, changed}
+use Rattle.zone_records.proofs.Looking.{OfRecord, of-record, sound-parts, size-of}
+use Rattle.zone_records.proofs.Holding.{handle_there, handle-block, handle-is}
 use Rattle.zone_records.proofs.Blocks.{sound-made, sound-possible}
 use Rattle.zone_records.proofs.Freeing.{sound-sized}
 
@@ -30,59 +29,53 @@ few_is : (m n : ℕ) → nat_le m n ≡ true → m ≤ n
 few_is m n h = grind (arith, nat_tests)
 
 module _ (l : Layout) (z : ZoneRecords) (held : Held l z) (at : ℕ) (b : HandleBlockAt z at) (flags : Flags) (sayable : IsTrue (can_flag z.shape.heads flags)) where
-  abbrev own : HeldAt z at
-  own = handle_held l z held at b
-
-  abbrev o : One l own.before (block_record own.content own.size) own.behind
-  o = held_one l z held at own
+  -- the block of bytes
+  abbrev o : OfRecord l z held at (handle_there l z held at b)
+  o = of-record l z held at (handle_there l z held at b)
 
   abbrev r : RawBlock
-  r = o.block
+  r = o.block.here
 
   pub flag-said : (offset : ℕ) × (r.role ≡ role.Relocatable offset b.flags) × (l.base + offset ≡ b.handle) × (r.contents ≡ b.bytes)
-  flag-said = handle-role l.heads l.base r.role r.contents b.handle b.flags b.bytes (held-content l z held at own)
+  flag-said = handle-is l z held at b
 
   -- the same block with these flags
   abbrev now : RawBlock
-  now = record { role = role.Relocatable flag-said.0 flags; contents = r.contents; slack = r.slack; lent = false }
-
-  flag-form : raw_block (role.Relocatable flag-said.0 flags) (length r.contents) (body r) ≡ now
-  flag-form = λ i. record { role = role.Relocatable flag-said.0 flags; contents = take_at r.contents r.slack (length r.contents) refl i; slack = drop_at r.contents r.slack (length r.contents) refl i; lent = false }
+  now = in_role r (role.Relocatable flag-said.0 flags)
 
   flag-sound : is_sound l.heads l.base now ≡ true
   flag-sound =
-      let old = sound-one l o.first r o.rest held.sound o.blocks in
+      let old = sound-one l o.block.before r o.block.behind held.sound o.block.blocks in
       let s = sound-parts l.heads l.base r old in
       let told : can_be_told l.heads (role.Relocatable flag-said.0 b.flags) (length r.slack) ≡ true = ap (λ k. can_be_told l.heads k (length r.slack)) (sym flag-said.1) ∙ s.told in
       let said : can_say l.heads flags ≡ true = sym (flag-same l.heads flags) ∙ ap (λ k. can_flag k flags) (heads-is l z held) ∙ sayable in
+      let owned : (not r.lent || has_owner (role.Relocatable flag-said.0 b.flags)) ≡ true = ap (λ k. not r.lent || has_owner k) (sym flag-said.1) ∙ s.owned in
       sound-made l.heads l.base now (size_of l.heads r) refl (sound-sized l.heads l.base r old) (few_is (length r.slack) (most_over l.heads) s.few)
-      (true_both _ _ (both_true (nat_lt flag-said.0 (2 ^ 32)) (can_say l.heads b.flags) told).0 said) refl (ap (λ k. has_use l.base k (length r.contents)) (sym flag-said.1) ∙ s.use_is)
+      (true_both _ _ (both_true (nat_lt flag-said.0 (2 ^ 32)) (can_say l.heads b.flags) told).0 said) owned (ap (λ k. has_use l.base k (length r.contents)) (sym flag-said.1) ∙ s.use_is)
 
-  flag_can : CanBe l at (role.Relocatable flag-said.0 flags) (length r.contents)
+  flag_can : CanTurn l at (role.Relocatable flag-said.0 flags)
   flag_can = record {
-    block = (held-block l z held at own).block;
-    within = (let all = length-append r.contents r.slack in omega arith);
-    possible = sound-possible l.heads l.base (raw_block (role.Relocatable flag-said.0 flags) (length r.contents) (body r)) (ap (is_sound l.heads l.base) flag-form ∙ flag-sound);
-    unlent = (held-block l z held at own).unlent;
+    block = handle-block l z held at b;
+    possible = sound-possible l.heads l.base now flag-sound;
+    same = sym (ap is_free flag-said.1);
   }
 
   -- so it can be made that
-  pub flag-can : (k : Role) (n : ℕ) → k ≡ role.Relocatable flag-said.0 flags → n ≡ length b.bytes → CanBe l at k n
-  flag-can k n is long = subst (λ k. CanBe l at k n) (sym is) (subst (λ n. CanBe l at (role.Relocatable flag-said.0 flags) n) (sym (long ∙ ap length (sym flag-said.3))) flag_can)
+  pub flag-can : (k : Role) → k ≡ role.Relocatable flag-said.0 flags → CanTurn l at k
+  flag-can k is = subst (λ k. CanTurn l at k) (sym is) flag_can
 
   -- and then is flagged
-  pub flag-ends : (k : Role) (n : ℕ) (m : Layout) → k ≡ role.Relocatable flag-said.0 flags → n ≡ length b.bytes
-      → ((can : CanBe l at k n) → m ≡ with_blocks (can.block.before ++ raw_block k n (body can.block.here) ∷ can.block.behind) l) → Held m (flagged flags z b)
+  pub flag-ends : (k : Role) (m : Layout) → k ≡ role.Relocatable flag-said.0 flags
+      → ((can : CanTurn l at k) → m ≡ with_blocks (can.block.before ++ in_role can.block.here k ∷ can.block.behind) l) → Held m (flagged flags z b)
   unfolding flag_can
-  flag-ends k n m is long ends =
-      let one : (can : CanBe l at (role.Relocatable flag-said.0 flags) n) → m ≡ with_blocks (can.block.before ++ raw_block (role.Relocatable flag-said.0 flags) n (body can.block.here) ∷ can.block.behind) l =
-      subst (λ k. (can : CanBe l at k n) → m ≡ with_blocks (can.block.before ++ raw_block k n (body can.block.here) ∷ can.block.behind) l) is ends in
-      let both : (can : CanBe l at (role.Relocatable flag-said.0 flags) (length r.contents)) → m ≡ with_blocks (can.block.before ++ raw_block (role.Relocatable flag-said.0 flags) (length r.contents) (body can.block.here) ∷ can.block.behind) l =
-      subst (λ n. (can : CanBe l at (role.Relocatable flag-said.0 flags) n) → m ≡ with_blocks (can.block.before ++ raw_block (role.Relocatable flag-said.0 flags) n (body can.block.here) ∷ can.block.behind) l) (long ∙ ap length (sym flag-said.3)) one in
+  flag-ends k m is ends =
+      let one : (can : CanTurn l at (role.Relocatable flag-said.0 flags)) → m ≡ with_blocks (can.block.before ++ in_role can.block.here (role.Relocatable flag-said.0 flags) ∷ can.block.behind) l =
+      subst (λ k. (can : CanTurn l at k) → m ≡ with_blocks (can.block.before ++ in_role can.block.here k ∷ can.block.behind) l) is ends in
       let handle = flag-said.2 in
       let bytes = flag-said.3 in
-      let size = held-size l z held at own in
-      subst (λ m. Held m (flagged flags z b)) (sym (both flag_can ∙ ap (λ b. with_blocks (o.first ++ b ∷ o.rest) l) flag-form))
-      (changed l z held o.first (r ∷ []) (now ∷ []) o.rest b.before (block_record (Relocatable b.handle flags b.bytes) b.size ∷ []) b.behind o.blocks o.lower o.upper
-      (λ i. record { size = size i; content = Relocatable (handle i) flags (bytes i); lent = false } ∷ []) (omega arith)
-      (true_both _ _ flag-sound refl))
+      let size = size-of l z held at (handle_there l z held at b) in
+      let lent = ap (λ r. r.lent) o.same in
+      subst (λ m. Held m (flagged flags z b)) (sym (one flag_can))
+      (changed l z held o.block.before (r ∷ []) (now ∷ []) o.block.behind b.before (handle_record b.handle flags b.bytes b.size b.lent ∷ []) b.behind o.block.blocks o.lower o.upper
+      (λ i. handle_record (handle i) flags (bytes i) (size i) (lent i) ∷ []) (omega arith)
+      (true_both _ _ flag-sound refl) (words-one l.heads now (λ is. absurd (cc is))))

@@ -17,7 +17,7 @@ use Rattle.zone_records.specs.Places.{FreeAt, HeldAt, CanCut, FreePair}
 use Rattle.zone_records.specs.Changes.{emptied, cut_in_two, joined_pair}
 use Rattle.zone_records.specs.Reading.{content_in, is_sound}
 use Rattle.zone_records.proofs.Apart.{read, Two, total-append}
-use Rattle.zone_records.proofs.Held.{Held, heads-is, address-is, two, sound-one, sound-other, range-one, changed}
+use Rattle.zone_records.proofs.Held.{Held, heads-is, address-is, two, sound-one, sound-other, range-one, words-one, words-two, words-free, changed}
 use Rattle.zone_records.proofs.Looking.{sound-parts}
 use Rattle.zone_records.proofs.Holding.{held_one, held-block, held-size}
 use Rattle.zone_records.proofs.Blocks.{sized, sized-head, sized-sum, size-body, raw-parts, sound-raw, sound-free, sound-possible, free-told}
@@ -76,7 +76,7 @@ module _ (l : Layout) (z : ZoneRecords) (held : Held l z) (at : ℕ) where
       subst (λ m. Held m (emptied z h)) (sym (ends (held-block l z held at h).block))
       (changed l z held o.first (b ∷ []) (now ∷ []) o.rest h.before (block_record Free h.size ∷ []) h.behind o.blocks o.lower o.upper
       (λ i. record { size = (size ∙ held-size l z held at h) i; content = Free; lent = false } ∷ []) (omega arith)
-      (true_both _ _ (sound-free l.heads l.base (body b) (size_of l.heads b) (sym long) (sound-sized l.heads l.base b sound)) refl))
+      (true_both _ _ (sound-free l.heads l.base (body b) (size_of l.heads b) (sym long) (sound-sized l.heads l.base b sound)) refl) (words-one l.heads now (words-free l.heads now refl)))
 
   -- a free block is cut in two
   module _ (size n : ℕ) (can : CanCut z at size) (is : n ≡ size - head_size l.heads) where
@@ -157,7 +157,7 @@ module _ (l : Layout) (z : ZoneRecords) (held : Held l z) (at : ℕ) where
         subst (λ m. Held m (cut_in_two size z can.free)) (sym (ends cut-can))
         (changed l z held o.first (b ∷ []) (front ∷ rest ∷ []) o.rest f.before (block_record Free size ∷ block_record Free (f.size - size) ∷ []) f.behind o.blocks o.lower o.upper
         (λ i. record { size = front_size i; content = ap (λ r. content_in l.heads l.base r front.contents) free i; lent = false } ∷ record { size = rest_size i; content = Free; lent = false } ∷ []) (omega arith)
-        (true_both _ _ front-sound (true_both _ _ rest-sound refl)))
+        (true_both _ _ front-sound (true_both _ _ rest-sound refl)) (words-two l.heads front rest (words-free l.heads front free) (words-free l.heads rest refl)))
 
   -- two free neighbours become one
   module _ (pair : FreePair z at) where
@@ -274,4 +274,4 @@ module _ (l : Layout) (z : ZoneRecords) (held : Held l z) (at : ℕ) where
           subst (λ m. Held m (joined_pair z pair)) (sym (ends merge_can))
           (changed l z held pair_two.first (pair_two.block ∷ pair_two.other ∷ []) (joined ∷ []) pair_two.rest pair.before (block_record Free (pair.first + pair.second) ∷ []) pair.behind pair_two.blocks pair_two.lower pair_two.upper
           (λ i. record { size = size i; content = ap (λ r. content_in l.heads l.base r joined.contents) joined-role i; lent = false } ∷ []) (omega arith)
-          (true_both _ _ joined-sound refl))
+          (true_both _ _ joined-sound refl) (words-one l.heads joined (words-free l.heads joined joined-role)))

@@ -15,9 +15,9 @@ use Rattle.zone_records.specs.Changes.{enlarged, free_record}
 use Rattle.zone_records.specs.Fitting.{fitted, CanKeep}
 use Rattle.zone_records.specs.Reading.{content_in, is_sound}
 use Rattle.zone_records.proofs.Apart.{Two, total-append}
-use Rattle.zone_records.proofs.Held.{Held, heads-is, address-is, two, sound-one, sound-other, range-one, changed}
+use Rattle.zone_records.proofs.Held.{Held, heads-is, address-is, two, sound-one, sound-other, range-one, words-one, changed}
 use Rattle.zone_records.proofs.Looking.{sound-parts}
-use Rattle.zone_records.proofs.Headers.{bytes-same, with-same}
+use Rattle.zone_records.proofs.Headers.{bytes-same, words-none, with-same}
 use Rattle.zone_records.proofs.Blocks.{sized, sized-sum, raw-parts, sound-raw, sound-possible}
 use Rattle.zone_records.proofs.Freeing.{size-joint, sound-sized}
 use Rattle.zone_records.proofs.Fitted.{told-any, use-any, length-held}
@@ -169,7 +169,7 @@ module _ (l : Layout) (z : ZoneRecords) (held : Held l z) (at size n : ℕ) (can
         subst (λ m. Held m merged_zone) (sym (ends can_merge))
         (changed l z held t.first (t.block ∷ t.other ∷ []) (joined ∷ []) t.rest can.before (block_record (with_bytes joint can.content) (can.first + can.second) ∷ []) can.behind t.blocks t.lower t.upper
         (λ i. record { size = size i; content = content i; lent = false } ∷ []) (omega arith)
-        (true_both _ _ joined-sound refl))
+        (true_both _ _ joined-sound refl) (words-one l.heads joined (words-none l.heads l.base joined t.block.contents grow-has)))
 
   -- the one block can be cut
   abbrev pub grown : CanHold merged_zone at size n

@@ -1,5 +1,5 @@
 -- What the header of a block says of it, and where its contents are.
-use Rattle.std.proofs.Common.{◌≡◌, ℕ, ◌+◌, ◌-◌, ◌≤◌, ◌<◌, ◌^◌, nat_lt, true, List, length, refl, ap, sym, ◌∙◌, arith, inl, inr, ◌⊎◌}
+use Rattle.std.proofs.Common.{◌≡◌, ℕ, ◌+◌, ◌-◌, ◌≤◌, ◌<◌, ◌^◌, nat_lt, true, false, List, length, refl, ap, sym, ◌∙◌, arith, inl, inr, ◌⊎◌}
 use Rattle.std.proofs.lemmas.Bool.Decides.{nat_tests}
 use Rattle.mac_base.specs.declared.block.HeadKind.{HeadKind}
 use Rattle.mac_base.specs.declared.block.Flags.{Flags}
@@ -13,7 +13,7 @@ use Rattle.block_bytes.specs.declared.header.Role.TheVariants as role
 use Rattle.block_bytes.specs.Layout.{RawBlock, Layout, BlockAt, size_of, header_of}
 use Rattle.zone_records.specs.Records.{BlockRecord, ZoneRecords, kind_of, length_of, bytes_of, with_bytes}
 use Rattle.zone_records.specs.Places.{RecordAt, has_bytes}
-use Rattle.zone_records.specs.Reading.{content_in, has_use}
+use Rattle.zone_records.specs.Reading.{content_in, has_use, HasWords}
 use Rattle.zone_records.proofs.Held.{Held, heads-is, base-is, range-one, sound-one}
 use Rattle.zone_records.proofs.Looking.{of-record, size-of, sound-parts}
 
@@ -116,6 +116,10 @@ bytes-same heads base role.Free bytes h = absurd (cc h)
 bytes-same heads base role.Fixed bytes h = refl
 bytes-same heads base role.Master bytes h = absurd (cc h)
 bytes-same heads base (role.Relocatable offset flags) bytes h = refl
+
+-- and no slots
+pub words-none : (heads : HeadKind) (base : ℕ) (b : RawBlock) (bytes : List ℕ) → has_bytes (content_in heads base b.role bytes) ≡ true → HasWords heads b
+words-none heads base b bytes h is = let no : false ≡ true = ap (λ r. has_bytes (content_in heads base r bytes)) (sym is) ∙ h in absurd (cc no)
 
 -- the same block with other bytes
 pub with-same : (heads : HeadKind) (base : ℕ) (r : Role) (bytes others : List ℕ) → has_bytes (content_in heads base r bytes) ≡ true → with_bytes others (content_in heads base r bytes) ≡ content_in heads base r others

@@ -1,15 +1,18 @@
 -- What is known of the blocks of bytes of a zone while it is changed, and when they are those of the changed one.
-use Rattle.std.proofs.Common.{◌≡◌, ℕ, ◌+◌, ◌≤◌, true, List, ◌∷◌, ◌++◌, length, ap, sym, ◌∙◌, arith}
-use Rattle.std.specs.List.{list_all}
+use Rattle.std.proofs.Common.{◌≡◌, ℕ, ◌+◌, ◌≤◌, true, List, [], ◌∷◌, ◌++◌, length, ap, sym, ◌∙◌, arith}
+use Rattle.std.specs.List.{All, list_all}
+use Rattle.std.proofs.lemmas.List.Elements.{All-append, All-cons, All-head, All-nil, All-same, All-tail}
 use Rattle.std.proofs.lemmas.List.Folds.{list_all-append}
 use Rattle.mac_base.specs.HeadKind.{zone_header}
 use Rattle.zone_laws.proofs.Maps.{both_true, true_both}
+use Rattle.mac_base.specs.declared.block.HeadKind.{HeadKind}
+use Rattle.block_bytes.specs.declared.header.Role.TheVariants as role
 use Rattle.block_bytes.specs.Layout as raw
 use Rattle.block_bytes.specs.Layout.{RawBlock, Layout, BlockAt, size_of, with_blocks, is_possible}
 use Rattle.zone_records.specs.declared.records.Records.TheInside.{Inside}
 use Rattle.zone_records.specs.Records as records
 use Rattle.zone_records.specs.Records.{BlockRecord, ZoneRecords, total_of, address_behind}
-use Rattle.zone_records.specs.Reading.{records_in, is_sound, AreSound, IsSound}
+use Rattle.zone_records.specs.Reading.{records_in, is_sound, HasWords, AreSound, IsSound}
 use Rattle.zone_records.proofs.Apart.{read, total-read, total-append, read-append, One, Two, one-of, two-of}
 
 -- blocks of bytes are those of a zone, and sound
@@ -32,6 +35,30 @@ sound-two l xs ys sound is = both_true _ _ (sym (list_all-append (is_sound l.hea
 -- so is each block
 pub sound-one : (l : Layout) (xs : List RawBlock) (b : RawBlock) (ys : List RawBlock) → AreSound l → l.blocks ≡ xs ++ b ∷ ys → is_sound l.heads l.base b ≡ true
 sound-one l xs b ys sound is = (both_true _ _ (sound-two l xs (b ∷ ys) sound is).1).0
+
+-- what holds of all blocks holds of the first, and of those behind
+words-first : (heads : HeadKind) (xs ys : List RawBlock) → All (HasWords heads) (xs ++ ys) → All (HasWords heads) xs
+words-first heads [] ys all = All-nil (HasWords heads)
+words-first heads (x ∷ xs) ys all = All-cons (HasWords heads) x xs (All-head (HasWords heads) x (xs ++ ys) all) (words-first heads xs ys (All-tail (HasWords heads) x (xs ++ ys) all))
+
+words-rest : (heads : HeadKind) (xs ys : List RawBlock) → All (HasWords heads) (xs ++ ys) → All (HasWords heads) ys
+words-rest heads [] ys all = all
+words-rest heads (x ∷ xs) ys all = words-rest heads xs ys (All-tail (HasWords heads) x (xs ++ ys) all)
+
+-- one block, and two
+pub words-one : (heads : HeadKind) (b : RawBlock) → HasWords heads b → All (HasWords heads) (b ∷ [])
+words-one heads b has = All-cons (HasWords heads) b [] has (All-nil (HasWords heads))
+
+pub words-two : (heads : HeadKind) (a b : RawBlock) → HasWords heads a → HasWords heads b → All (HasWords heads) (a ∷ b ∷ [])
+words-two heads a b first second = All-cons (HasWords heads) a (b ∷ []) first (words-one heads b second)
+
+-- a free block has no slots
+pub words-free : (heads : HeadKind) (b : RawBlock) → b.role ≡ role.Free → HasWords heads b
+words-free heads b free is = absurd (cc (free, is))
+
+-- each block has its words
+pub words-at : (l : Layout) (xs : List RawBlock) (b : RawBlock) (ys : List RawBlock) → AreSound l → l.blocks ≡ xs ++ b ∷ ys → HasWords l.heads b
+words-at l xs b ys sound is = All-head (HasWords l.heads) b ys (words-rest l.heads xs (b ∷ ys) (All-same (HasWords l.heads) (xs ++ b ∷ ys) l.blocks (sym is) sound.words))
 
 -- and two neighbours
 pub sound-other : (l : Layout) (xs : List RawBlock) (a b : RawBlock) (ys : List RawBlock) → AreSound l → l.blocks ≡ xs ++ a ∷ b ∷ ys → is_sound l.heads l.base b ≡ true
@@ -69,11 +96,12 @@ module _ (l : Layout) (z : ZoneRecords) (held : Held l z) where
 
   -- other blocks of the same size in all in the place of some, read as these
   pub changed : (first olds news rest : List RawBlock) (before recs behind : List BlockRecord) → l.blocks ≡ first ++ (olds ++ rest) → read l.heads l.base first ≡ before → read l.heads l.base rest ≡ behind
-      → read l.heads l.base news ≡ recs → raw.total_of l.heads news ≡ raw.total_of l.heads olds → list_all (is_sound l.heads l.base) news ≡ true
+      → read l.heads l.base news ≡ recs → raw.total_of l.heads news ≡ raw.total_of l.heads olds → list_all (is_sound l.heads l.base) news ≡ true → All (HasWords l.heads) news
       → Held (with_blocks (first ++ (news ++ rest)) l) (records.with_blocks (before ++ (recs ++ behind)) z)
-  changed first olds news rest before recs behind is lower upper same total sound =
+  changed first olds news rest before recs behind is lower upper same total sound words =
       let all = sound-two l first (olds ++ rest) held.sound is in
       let high = both_true _ _ (sym (list_all-append (is_sound l.heads l.base) olds rest) ∙ all.1) in
+      let have = All-same (HasWords l.heads) (first ++ (olds ++ rest)) l.blocks (sym is) held.sound.words in
       let old-total = ap (raw.total_of l.heads) is ∙ total-append l.heads first (olds ++ rest) in
       let old-rest = total-append l.heads olds rest in
       let new-total = total-append l.heads first (news ++ rest) in
@@ -84,12 +112,15 @@ module _ (l : Layout) (z : ZoneRecords) (held : Held l z) where
       let top = held.sound.high in
       record {
         shows = (λ i. record {
+          memory = l.name;
           shape = record { heads = l.heads; base = l.base; limit = zone_header + kept i + length l.spare };
           front = l.front;
           blocks = blocks i;
         }) ∙ ap (records.with_blocks (before ++ (recs ++ behind))) held.shows;
         sound = record {
           blocks = list_all-append (is_sound l.heads l.base) first (news ++ rest) ∙ true_both _ _ all.0 (list_all-append (is_sound l.heads l.base) news rest ∙ true_both _ _ sound high.1);
+          words = All-append (HasWords l.heads) first (news ++ rest) (words-first l.heads first (olds ++ rest) have)
+              (All-append (HasWords l.heads) news rest words (words-rest l.heads olds rest (words-rest l.heads first (olds ++ rest) have)));
           even = held.sound.even;
           high = omega arith;
         };

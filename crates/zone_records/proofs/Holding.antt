@@ -1,7 +1,8 @@
 -- The block of a handle or a pointer, and its bytes.
-use Rattle.std.proofs.Common.{◌≡◌, ℕ, ◌+◌, ◌<◌, ◌%◌, Bool, true, false, cond, not, ◌&&◌, ◌||◌, nat_le, List, [], ◌∷◌, ◌++◌, length, take, drop, refl, ap, sym, ◌∙◌, subst, arith, length-append, length-take, length-drop}
+use Rattle.std.proofs.Common.{◌≡◌, ℕ, ◌+◌, ◌<◌, ◌%◌, Bool, true, false, cond, not, ◌&&◌, ◌||◌, nat_le, List, [], ◌∷◌, ◌++◌, length, take, drop, refl, ap, sym, ◌∙◌, subst, arith, append-nil, length-append, length-take, length-drop}
 use Rattle.std.specs.Prelude.{◌==◌}
 use Rattle.std.proofs.lemmas.Bool.Decides.{nat_tests}
+use Rattle.std.proofs.lemmas.List.{take_all, drop_all}
 use Rattle.mac_base.specs.declared.block.HeadKind.{HeadKind}
 use Rattle.mac_base.specs.declared.block.Flags.{Flags}
 use Rattle.mac_base.specs.HeadKind.{head_size, smallest_block}
@@ -15,14 +16,15 @@ use Rattle.block_bytes.specs.Layout.{RawBlock, Layout, BlockAt, UnlentAt, size_o
 use Rattle.block_bytes.specs.Head.{most_over}
 use Rattle.block_bytes.specs.WritingBack as back
 use Rattle.zone_records.specs.Records as records
-use Rattle.zone_records.specs.Records.{Content, Relocatable, BlockRecord, block_record, ZoneRecords, bytes_of, with_bytes, address_behind, total_of}
-use Rattle.zone_records.specs.Places.{HeldAt, HandleBlockAt, has_bytes}
+use Rattle.zone_records.specs.Records.{Content, Relocatable, BlockRecord, block_record, handle_record, ZoneRecords, bytes_of, with_bytes, address_behind, total_of}
+use Rattle.zone_records.specs.Places.{RecordAt, HeldAt, HandleBlockAt, has_bytes}
 use Rattle.zone_records.specs.WritingBack.{overwritten_at, with_contents_at}
 use Rattle.zone_records.specs.Reading.{content_in, record_in, has_use, is_sound}
 use Rattle.zone_records.proofs.Apart.{read, One}
-use Rattle.zone_records.proofs.Held.{Held, base-is, address-is, one, sound-one, changed}
+use Rattle.zone_records.proofs.Held.{Held, base-is, address-is, one, sound-one, words-one, changed}
 use Rattle.zone_records.proofs.Ranked.{head-some}
-use Rattle.zone_records.proofs.Headers.{bytes-same, with-same}
+use Rattle.zone_records.proofs.Looking.{of-record}
+use Rattle.zone_records.proofs.Headers.{bytes-same, words-none, with-same}
 
 -- a block with other contents
 abbrev pub with_contents : RawBlock → List ℕ → RawBlock
@@ -38,6 +40,11 @@ sound-same heads base b contents long sound =
 length-overwritten : (old others : List ℕ) → length (overwritten old others) ≡ length old
 length-overwritten old others = length-append (take (length old) others) (drop (length others) old) ∙ omega (arith, length-take (length old) others, length-drop (length others) old)
 
+-- and none of the old ones is left where as many are written
+pub overwritten-all : (old others : List ℕ) → length others ≡ length old → overwritten old others ≡ others
+overwritten-all old others long = (λ i. take (sym long i) others ++ drop (long i) old)
+    ∙ (λ i. take_all (length others) others (omega arith) i ++ drop_all (length old) old (omega arith) i) ∙ append-nil others
+
 -- equal numbers test as equal, and numbers that differ by one above 0 don't
 at_once : (x y : ℕ) → x ≡ y → (x == y) ≡ true
 at_once x y same = grind (arith, nat_tests)
@@ -46,7 +53,7 @@ further : (x y k : ℕ) → 0 < k → y ≡ x + k → (x == y) ≡ false
 further x y k some is = grind (arith, nat_tests)
 
 -- of the blocks of bytes, the one at this address is written
-raw-overwritten : (heads : HeadKind) (at x : ℕ) (bytes : List ℕ) (before : List RawBlock) (here : RawBlock) (behind : List RawBlock) → x ≡ at + raw.total_of heads before
+pub raw-overwritten : (heads : HeadKind) (at x : ℕ) (bytes : List ℕ) (before : List RawBlock) (here : RawBlock) (behind : List RawBlock) → x ≡ at + raw.total_of heads before
     → back.overwritten_at heads at x bytes (before ++ here ∷ behind) ≡ before ++ with_contents here (overwritten here.contents bytes) ∷ behind
 raw-overwritten heads at x bytes [] here behind is =
     ap (λ (t : Bool). cond t (with_contents here (overwritten here.contents bytes) ∷ behind) (here ∷ back.overwritten_at heads (at + size_of heads here) x bytes behind)) (at_once at x (omega arith))
@@ -127,7 +134,7 @@ module _ (l : Layout) (z : ZoneRecords) (held : Held l z) (at : ℕ) where
           lent = held-block.unlent i;
         }) in
         let all = changed l z held o.first (b ∷ []) (now ∷ []) o.rest h.before (rewritten (block_record h.content h.size) ws ∷ []) h.behind o.blocks o.lower o.upper (ap (λ r. r ∷ []) rec) (omega arith)
-        (true_both _ _ (sound-same l.heads l.base b (overwritten b.contents ws) long (sound-one l o.first b o.rest held.sound o.blocks)) refl) in
+        (true_both _ _ (sound-same l.heads l.base b (overwritten b.contents ws) long (sound-one l o.first b o.rest held.sound o.blocks)) refl) (words-one l.heads now (words-none l.heads l.base now b.contents held-has)) in
         let base = base-is l z held in
         let low : o.first ++ now ∷ o.rest ≡ back.overwritten_at l.heads (raw.address_behind l []) at ws l.blocks =
         sym (ap (back.overwritten_at l.heads (raw.address_behind l []) at ws) o.blocks ∙ raw-overwritten l.heads (raw.address_behind l []) at ws o.first b o.rest (omega arith)) in
@@ -137,14 +144,20 @@ module _ (l : Layout) (z : ZoneRecords) (held : Held l z) (at : ℕ) where
         ∙ ap (λ rs. rs ++ rewritten (block_record h.content h.size) ws ∷ h.behind) o.lower) in
         subst (λ bs. Held (with_blocks bs l) (with_contents_at z at ws)) low (subst (λ rs. Held (with_blocks (o.first ++ now ∷ o.rest) l) (records.with_blocks rs z)) high all)
 
-  -- that of a handle
-  abbrev pub handle_held : HandleBlockAt z at → HeldAt z at
-  handle_held h = record { before = h.before; size = h.size; content = Relocatable h.handle h.flags h.bytes; behind = h.behind; blocks = h.blocks; place = h.place; held = refl }
+  -- that of a handle, lent or not
+  module _ (h : HandleBlockAt z at) where
+    abbrev pub handle_there : RecordAt z at
+    handle_there = record { before = h.before; here = handle_record h.handle h.flags h.bytes h.size h.lent; behind = h.behind; blocks = h.blocks; place = h.place }
 
-  -- what its header says
-  pub handle-said : (h : HandleBlockAt z at) (header : Header) → ((b : BlockAt l at) → header ≡ header_of l.heads b.here) → (offset : ℕ) × (header.role ≡ role.Relocatable offset h.flags) × (l.base + offset ≡ h.handle)
-  handle-said h header says =
-      let own = handle_held h in
-      let b = (held-block own).block in
-      let said = handle-role l.heads l.base b.here.role b.here.contents h.handle h.flags h.bytes (held-content own) in
-      (said.0, ap (λ (h : Header). h.role) (says b) ∙ said.1, said.2)
+    abbrev pub handle-block : BlockAt l at
+    handle-block = (of-record l z held at handle_there).block
+
+    -- what its role and its contents say
+    pub handle-is : (offset : ℕ) × (handle-block.here.role ≡ role.Relocatable offset h.flags) × (l.base + offset ≡ h.handle) × (handle-block.here.contents ≡ h.bytes)
+    handle-is = handle-role l.heads l.base handle-block.here.role handle-block.here.contents h.handle h.flags h.bytes (ap (λ (r : BlockRecord). r.content) (of-record l z held at handle_there).same)
+
+    -- what its header says
+    pub handle-said : (header : Header) → ((b : BlockAt l at) → header ≡ header_of l.heads b.here) → (offset : ℕ) × (header.role ≡ role.Relocatable offset h.flags) × (l.base + offset ≡ h.handle)
+    handle-said header says =
+        let said = handle-is in
+        (said.0, ap (λ (h : Header). h.role) (says handle-block) ∙ said.1, said.2)

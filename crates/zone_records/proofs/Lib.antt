@@ -1,5 +1,6 @@
 mod ReadWord
 mod ReadSlots
+mod Words
 mod Apart
 mod Held
 mod Ranked
@@ -15,4 +16,5 @@ mod Fitted
 mod Growing
 mod Exchanging
 mod Flagging
+mod Lending
 mod Chaining

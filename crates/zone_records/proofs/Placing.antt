@@ -14,9 +14,9 @@ use Rattle.block_bytes.specs.Layout.{RawBlock, Layout, BlockAt, UnlentAt, CanBe,
 use Rattle.zone_records.specs.Records.{Free, Relocatable, BlockRecord, block_record, ZoneRecords}
 use Rattle.zone_records.specs.Places.{FreeAt, RoomFor}
 use Rattle.zone_records.specs.Changes.{filled}
-use Rattle.zone_records.specs.Reading.{content_in, has_use, is_sound}
+use Rattle.zone_records.specs.Reading.{content_in, has_use, is_sound, HasWords}
 use Rattle.zone_records.proofs.Apart.{One}
-use Rattle.zone_records.proofs.Held.{Held, heads-is, base-is, address-is, one, changed}
+use Rattle.zone_records.proofs.Held.{Held, heads-is, base-is, address-is, one, words-one, changed}
 use Rattle.zone_records.proofs.Holding.{sound-same}
 use Rattle.zone_records.proofs.Blocks.{sized, have-parts, size-body, raw-parts, sound-raw, sound-possible}
 
@@ -77,21 +77,17 @@ module _ (l : Layout) (z : ZoneRecords) (held : Held l z) (at : ℕ) where
     Assigned m = (can : CanBe l at use_for n) → m ≡ with_blocks (can.block.before ++ raw_block use_for n (body can.block.here) ∷ can.block.behind) l
 
     -- other contents of that length in it
-    filled-with : (contents : List ℕ) → length contents ≡ length placed.contents → Held (with_blocks ((free_one r.free).first ++ record placed { contents = contents } ∷ (free_one r.free).rest) l) (filled (content_in l.heads l.base use_for contents) z r.free)
-    filled-with contents long =
+    pub filled-with : (contents : List ℕ) → length contents ≡ length placed.contents → HasWords l.heads (record placed { contents = contents }) → Held (with_blocks ((free_one r.free).first ++ record placed { contents = contents } ∷ (free_one r.free).rest) l) (filled (content_in l.heads l.base use_for contents) z r.free)
+    filled-with contents long words =
         let o = free_one r.free in
         let now : RawBlock = record placed { contents = contents } in
         let size : size_of l.heads now ≡ r.free.size = (let p = (raw-parts l.heads use_for n (body b) place-few).2 in let all = free-long r.free in omega arith) in
         let old = free-size r.free in
         changed l z held o.first (b ∷ []) (now ∷ []) o.rest r.free.before (block_record (content_in l.heads l.base use_for contents) r.free.size ∷ []) r.free.behind o.blocks o.lower o.upper
         (λ i. record { size = size i; content = content_in l.heads l.base use_for contents; lent = false } ∷ []) (omega arith)
-        (true_both _ _ (sound-same l.heads l.base placed contents long place-sound) refl)
+        (true_both _ _ (sound-same l.heads l.base placed contents long place-sound) refl) (words-one l.heads now words)
 
-    -- once it is
-    pub place-done : (m : Layout) → Assigned m → Held m (filled (content_in l.heads l.base use_for placed.contents) z r.free)
-    place-done m ends = subst (λ m. Held m (filled (content_in l.heads l.base use_for placed.contents) z r.free)) (sym (ends place-can)) (filled-with placed.contents refl)
-
-    -- it can be cleared
+    -- once it is, it can be cleared
     abbrev placed_at : UnlentAt (with_blocks ((free_one r.free).first ++ placed ∷ (free_one r.free).rest) l) at
     placed_at = record { block = record { before = (free_one r.free).first; here = placed; behind = (free_one r.free).rest; blocks = refl; place = free-place r.free }; unlent = refl }
 
@@ -99,14 +95,14 @@ module _ (l : Layout) (z : ZoneRecords) (held : Held l z) (at : ℕ) where
     place-unlent m ends = subst (λ m. UnlentAt m at) (sym (ends place-can)) placed_at
 
     -- and then is zero
-    pub place-cleared : (m k : Layout) → Assigned m → ((b : BlockAt m at) → k ≡ with_blocks (b.before ++ cleared b.here ∷ b.behind) m) → Held k (filled (content_in l.heads l.base use_for (zeros n)) z r.free)
-    place-cleared m k ends clears =
+    pub place-cleared : (use_for ≡ role.Master → ⊥) → (m k : Layout) → Assigned m → ((b : BlockAt m at) → k ≡ with_blocks (b.before ++ cleared b.here ∷ b.behind) m) → Held k (filled (content_in l.heads l.base use_for (zeros n)) z r.free)
+    place-cleared other m k ends clears =
         let o = free_one r.free in
         let long = (raw-parts l.heads use_for n (body b) place-few).0 in
         let there : (b : BlockAt (with_blocks (o.first ++ placed ∷ o.rest) l) at) → k ≡ with_blocks (b.before ++ cleared b.here ∷ b.behind) l =
         subst (λ m. (b : BlockAt m at) → k ≡ with_blocks (b.before ++ cleared b.here ∷ b.behind) m) (ends place-can) clears in
         subst (λ k. Held k (filled (content_in l.heads l.base use_for (zeros n)) z r.free)) (sym (there placed_at.block ∙ ap (λ n. with_blocks (o.first ++ record placed { contents = replicate n 0 } ∷ o.rest) l) long))
-        (filled-with (zeros n) (length-replicate {A = ℕ} n 0 ∙ sym long))
+        (filled-with (zeros n) (length-replicate {A = ℕ} n 0 ∙ sym long) (λ is. absurd (other is)))
 
 -- a header can say no flags
 unmarked : (heads : HeadKind) → can_say heads no_flags ≡ true
@@ -135,4 +131,4 @@ module _ (l : Layout) (z : ZoneRecords) (held : Held l z) (at n : ℕ) (r : Room
 
   pub handle-cleared : (m k : Layout) → ((can : CanBe l at (role.Relocatable offset no_flags) n) → m ≡ with_blocks (can.block.before ++ raw_block (role.Relocatable offset no_flags) n (body can.block.here) ∷ can.block.behind) l)
       → ((b : BlockAt m at) → k ≡ with_blocks (b.before ++ cleared b.here ∷ b.behind) m) → Held k (filled (Relocatable h no_flags (zeros n)) z r.free)
-  handle-cleared m k ends clears = subst (λ h. Held k (filled (Relocatable h no_flags (zeros n)) z r.free)) handle_is (place-cleared l z held at n r (role.Relocatable offset no_flags) handle_told handle_use m k ends clears)
+  handle-cleared m k ends clears = subst (λ h. Held k (filled (Relocatable h no_flags (zeros n)) z r.free)) handle_is (place-cleared l z held at n r (role.Relocatable offset no_flags) handle_told handle_use (λ is. absurd (cc is)) m k ends clears)

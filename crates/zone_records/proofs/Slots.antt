@@ -15,11 +15,12 @@ use Rattle.zone_records.specs.declared.slot.Slot.{Slot}
 use Rattle.zone_records.specs.Records.{Master, BlockRecord, block_record, ZoneRecords}
 use Rattle.zone_records.specs.Places.{SlotAt, can_say}
 use Rattle.zone_records.specs.Changes.{with_slot}
-use Rattle.zone_records.specs.Word.{slot_word, slot_in, slots_in}
+use Rattle.zone_records.specs.Word.{slot_word, slot_in, slots_in, words_of}
 use Rattle.zone_records.specs.Reading.{content_in, record_in, has_use, is_sound}
 use Rattle.zone_records.proofs.Apart.{One}
 use Rattle.zone_records.proofs.ReadSlots.{length-slots_in, slot-read, slot-written, slots_at}
-use Rattle.zone_records.proofs.Held.{Held, heads-is, address-is, one, sound-one, range-one, changed}
+use Rattle.zone_records.proofs.Words.{words-written}
+use Rattle.zone_records.proofs.Held.{Held, heads-is, address-is, one, sound-one, range-one, words-one, words-at, changed}
 use Rattle.zone_records.proofs.Ranked.{one-block, within}
 use Rattle.zone_records.proofs.Looking.{of-block, sound-parts, not-lent}
 use Rattle.zone_records.proofs.Holding.{sound-same}
@@ -91,15 +92,19 @@ module _ (l : Layout) (z : ZoneRecords) (held : Held l z) where
         let contents = written b.contents (4 * length s.slots_before) (big_bytes 4 (slot_word l.heads new)) in
         let long = length-written b.contents (4 * length s.slots_before) (big_bytes 4 (slot_word l.heads new)) in
         let whole = slot-long in
+        let slots = slot-written l.heads slot_count b.contents s.slots_before s.here s.slots_behind new (omega arith) sayable slot-role.1 in
+        let words : contents ≡ words_of l.heads (slots_in l.heads slot_count contents) =
+        ap (λ bytes. written bytes (4 * length s.slots_before) (big_bytes 4 (slot_word l.heads new))) (words-at l o.first b o.rest held.sound o.blocks slot-role.0 ∙ ap (words_of l.heads) slot-role.1)
+        ∙ words-written l.heads s.slots_before s.here s.slots_behind new ∙ sym (ap (words_of l.heads) slots) in
         let now : RawBlock = record b { contents = contents } in
         let rec : record_in l.heads l.base now ≡ block_record (Master (s.slots_before ++ new ∷ s.slots_behind)) s.size = (λ i. record {
           size = ((let e : size_of l.heads now ≡ size_of l.heads b = omega arith in e) ∙ ap (λ (r : BlockRecord). r.size) o.same) i;
-          content = (ap (λ r. content_in l.heads l.base r contents) slot-role.0 ∙ ap Master (slot-written l.heads slot_count b.contents s.slots_before s.here s.slots_behind new (omega arith) sayable slot-role.1)) i;
+          content = (ap (λ r. content_in l.heads l.base r contents) slot-role.0 ∙ ap Master slots) i;
           lent = (ap (λ (r : BlockRecord). r.lent) o.same) i;
         }) in
         subst (λ m. Held m (with_slot new z s)) (sym (ends slot-word ∙ ap (λ n. with_blocks (o.first ++ with_word b (4 * length s.slots_before) n ∷ o.rest) l) is))
         (changed l z held o.first (b ∷ []) (now ∷ []) o.rest s.before (block_record (Master (s.slots_before ++ new ∷ s.slots_behind)) s.size ∷ []) s.behind o.blocks o.lower o.upper (ap (λ r. r ∷ []) rec) (omega arith)
-        (true_both _ _ (sound-same l.heads l.base b contents long slot-sound) refl))
+        (true_both _ _ (sound-same l.heads l.base b contents long slot-sound) refl) (words-one l.heads now (λ is. words)))
 
     -- no slot lies outside all blocks
     pub no-slot_outside : LiesOutside l x → ⊥

@@ -1,17 +1,19 @@
 -- What each change makes of a zone's blocks.
 use Rattle.std.specs.Prelude.{ℕ, zero, suc, ◌+◌, ◌-◌, ◌==◌, if◌then◌else◌, List, [], ◌∷◌, ◌++◌}
 use Rattle.mac_base.specs.declared.block.Flags.{Flags}
-use Rattle.mac_base.specs.HeadKind.{zone_header}
+use Rattle.mac_base.specs.HeadKind.{zone_header, head_size}
 use Rattle.mac_base.specs.HandleTable.{resized}
 use Rattle.mac_base.specs.ZoneSizes.{ZoneSizes, shape_of}
+use Rattle.mac_base.specs.ZoneState.{Memory}
+use Rattle.raw_region.specs.State.{Loan}
 use Rattle.zone_records.specs.declared.slot.Slot.{Slot}
 use Rattle.zone_records.specs.declared.slot.Slot.TheVariants as slot
-use Rattle.zone_records.specs.Records.{Content, Free, Master, Relocatable, BlockRecord, block_record, ZoneRecords, with_blocks, with_bytes, bytes_of}
-use Rattle.zone_records.specs.Places.{FreeAt, HeldAt, HandleBlockAt, SlotAt, FreePair, CanHold, CanGrow, PairAt}
+use Rattle.zone_records.specs.Records.{Content, Free, Master, BlockRecord, block_record, lent_record, handle_record, ZoneRecords, with_blocks, with_bytes, bytes_of, total_of}
+use Rattle.zone_records.specs.Places.{FreeAt, HeldAt, HandleBlockAt, SlotAt, FreePair, CanHold, CanGrow, PairAt, IsLoanOf}
 
 -- a new zone: one free block, and no slot
-abbrev pub new_records : ZoneSizes → ZoneRecords
-new_records sizes = record { shape = shape_of sizes; front = 0; blocks = block_record Free (sizes.size - zone_header) ∷ [] }
+abbrev pub new_records : Memory → ZoneSizes → ZoneRecords
+new_records memory sizes = record { memory = memory; shape = shape_of sizes; front = 0; blocks = block_record Free (sizes.size - zone_header) ∷ [] }
 
 -- the zone whose header names this free slot first
 abbrev pub with_front : ℕ → ZoneRecords → ZoneRecords
@@ -37,7 +39,7 @@ emptied z held = with_blocks (held.before ++ block_record Free held.size ∷ hel
 
 -- the handle's block at an address says these flags
 abbrev pub flagged : Flags → {at : ℕ} → (z : ZoneRecords) → HandleBlockAt z at → ZoneRecords
-flagged flags z block = with_blocks (block.before ++ block_record (Relocatable block.handle flags block.bytes) block.size ∷ block.behind) z
+flagged flags z block = with_blocks (block.before ++ handle_record block.handle flags block.bytes block.size block.lent ∷ block.behind) z
 
 -- the slot at an address says this
 abbrev pub with_slot : Slot → {h : ℕ} → (z : ZoneRecords) → SlotAt z h → ZoneRecords
@@ -68,3 +70,15 @@ enlarged {size = size} {n = n} z can =
 -- two neighbours have changed places
 abbrev pub exchanged : {at : ℕ} → (z : ZoneRecords) → PairAt z at → ZoneRecords
 exchanged z pair = with_blocks (pair.before ++ pair.second ∷ pair.first ∷ pair.behind) z
+
+-- the block at an address is lent
+abbrev pub lent_out : {at : ℕ} → (z : ZoneRecords) → HeldAt z at → ZoneRecords
+lent_out z held = with_blocks (held.before ++ lent_record held.content held.size ∷ held.behind) z
+
+-- its loan: its bytes, in their place
+abbrev pub loan_of : {at : ℕ} → (z : ZoneRecords) → HeldAt z at → Loan
+loan_of z held = record { name = z.memory; at = zone_header + total_of held.before + head_size z.shape.heads; bytes = bytes_of held.content }
+
+-- the lent block at an address came back, with the bytes of its loan
+abbrev pub taken_back : {at : ℕ} {loan : Loan} → (z : ZoneRecords) → IsLoanOf z at loan → ZoneRecords
+taken_back {loan = loan} z is = with_blocks (is.before ++ block_record (with_bytes loan.bytes is.content) is.size ∷ is.behind) z

@@ -6,9 +6,10 @@ use Rattle.mac_base.specs.declared.block.HeadKind.TheVariants.{Bits24, Bits32}
 use Rattle.mac_base.specs.declared.block.Flags.{Flags}
 use Rattle.mac_base.specs.HeadKind.{Shape, head_size}
 use Rattle.mac_base.specs.Suits.{is_block_size}
+use Rattle.raw_region.specs.State.{Loan}
 use Rattle.zone_records.specs.declared.slot.Slot.{Slot}
 use Rattle.zone_records.specs.declared.slot.Slot.TheVariants as slot
-use Rattle.zone_records.specs.Records.{Content, Free, Fixed, Master, Relocatable, BlockRecord, block_record, ZoneRecords, address_behind}
+use Rattle.zone_records.specs.Records.{Content, Free, Fixed, Master, Relocatable, BlockRecord, block_record, lent_record, handle_record, ZoneRecords, bytes_of, address_behind}
 
 -- a block's header stands at this address
 pub record RecordAt (z : ZoneRecords) (at : ℕ) : Type 0 where
@@ -43,16 +44,30 @@ pub record HeldAt (z : ZoneRecords) (at : ℕ) : Type 0 where
   pub place : at ≡ address_behind z.shape before
   pub held : IsTrue (has_bytes content)
 
--- that of a handle's block that isn't lent
+-- that of a handle's block, lent or not
 pub record HandleBlockAt (z : ZoneRecords) (at : ℕ) : Type 0 where
   pub before : List BlockRecord
   pub size : ℕ
   pub handle : ℕ
   pub flags : Flags
   pub bytes : List ℕ
+  pub lent : Bool
   pub behind : List BlockRecord
-  pub blocks : z.blocks ≡ before ++ block_record (Relocatable handle flags bytes) size ∷ behind
+  pub blocks : z.blocks ≡ before ++ handle_record handle flags bytes size lent ∷ behind
   pub place : at ≡ address_behind z.shape before
+
+-- the block at an address is lent, and this is its loan, maybe with other bytes
+pub record IsLoanOf (z : ZoneRecords) (at : ℕ) (loan : Loan) : Type 0 where
+  pub before : List BlockRecord
+  pub size : ℕ
+  pub content : Content
+  pub behind : List BlockRecord
+  pub blocks : z.blocks ≡ before ++ lent_record content size ∷ behind
+  pub place : at ≡ address_behind z.shape before
+  pub held : IsTrue (has_bytes content)
+  pub memory : loan.name ≡ z.memory
+  pub contents : z.shape.base + loan.at ≡ at + head_size z.shape.heads
+  pub long : length loan.bytes ≡ length (bytes_of content)
 
 -- a slot stands at this address
 pub record SlotAt (z : ZoneRecords) (h : ℕ) : Type 0 where

@@ -1,6 +1,6 @@
 -- How a zone's blocks and slots are read off its blocks of bytes.
 use Rattle.std.specs.Prelude.{◌≡◌, ℕ, ◌+◌, ◌%◌, ◌≤◌, ◌^◌, ◌==◌, nat_lt, Bool, true, ◌&&◌, IsTrue, List, length, map}
-use Rattle.std.specs.List.{list_all}
+use Rattle.std.specs.List.{All, list_all}
 use Rattle.mac_base.specs.declared.block.HeadKind.{HeadKind}
 use Rattle.mac_base.specs.HeadKind.{zone_header, slot_count, master_length}
 use Rattle.block_bytes.specs.declared.header.Role.{Role}
@@ -8,7 +8,7 @@ use Rattle.block_bytes.specs.declared.header.Role.TheVariants as role
 use Rattle.block_bytes.specs.Layout.{RawBlock, Layout, size_of, total_of, is_possible}
 use Rattle.zone_records.specs.declared.records.Records.TheInside.{Inside}
 use Rattle.zone_records.specs.Records.{Content, Free, Fixed, Master, Relocatable, BlockRecord, ZoneRecords}
-use Rattle.zone_records.specs.Word.{slots_in}
+use Rattle.zone_records.specs.Word.{slots_in, words_of}
 
 -- what a block's header and contents say is in it, in a zone that begins at an address
 abbrev pub content_in : HeadKind → ℕ → Role → List ℕ → Content
@@ -24,6 +24,7 @@ record_in heads base b = record { size = size_of heads b; content = content_in h
 -- the zone that blocks of bytes are
 abbrev pub records_in : Layout → ZoneRecords
 records_in l = record {
+  memory = l.name;
   shape = record { heads = l.heads; base = l.base; limit = zone_header + total_of l.heads l.blocks + length l.spare };
   front = l.front;
   blocks = map (record_in l.heads l.base) l.blocks;
@@ -44,9 +45,14 @@ has_use base (role.Relocatable offset flags) n = nat_lt (base + offset) (2 ^ 32)
 abbrev pub is_sound : HeadKind → ℕ → RawBlock → Bool
 is_sound heads base b = is_possible heads b && has_use base b.role (length b.contents)
 
+-- a master block's contents are the words of its slots
+abbrev pub HasWords : HeadKind → RawBlock → Type 0
+HasWords heads b = b.role ≡ role.Master → b.contents ≡ words_of heads (slots_in heads slot_count b.contents)
+
 -- all blocks are, and addresses are multiples of four with 24 bits
 pub record AreSound (l : Layout) : Type 0 where
   pub blocks : IsTrue (list_all (is_sound l.heads l.base) l.blocks)
+  pub words : All (HasWords l.heads) l.blocks
   pub even : l.base % 4 ≡ 0
   pub high : l.base + (zone_header + total_of l.heads l.blocks + length l.spare) ≤ 0x100_0000
 

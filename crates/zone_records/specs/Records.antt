@@ -1,11 +1,12 @@
 -- A zone as a list of blocks, each with what it is for and what is in it. Free bytes, and those that are over, have no value.
-use Rattle.std.specs.Prelude.{ℕ, ◌+◌, Bool, false, not, List, [], ◌∷◌, length, IsTrue}
+use Rattle.std.specs.Prelude.{ℕ, suc, ◌+◌, if◌then◌else◌, Bool, true, false, not, List, [], ◌∷◌, length, IsTrue}
 use Rattle.std.specs.List.{list_all}
 use Rattle.mac_base.specs.declared.block.Flags.{Flags}
 use Rattle.mac_base.specs.declared.block.Kind.{Kind}
 use Rattle.mac_base.specs.declared.block.Kind.TheVariants as kind
 use Rattle.mac_base.specs.HeadKind.{Shape, zone_header, master_length}
 use Rattle.mac_base.specs.ZoneSizes.{ZoneSizes}
+use Rattle.mac_base.specs.ZoneState.{Memory}
 use Rattle.zone_records.specs.declared.slot.Slot.{Slot}
 
 -- what a block is for, and its contents: bytes, or the slots of a master block. A handle's block also says its flags in a
@@ -26,8 +27,18 @@ pub record BlockRecord : Type 0 where
 abbrev pub block_record : Content → ℕ → BlockRecord
 block_record content n = record { size = n; content = content; lent = false }
 
--- a zone: where it lies and how far it may grow, the free slot that its header names first, and its blocks
+-- one that is lent
+abbrev pub lent_record : Content → ℕ → BlockRecord
+lent_record content n = record { size = n; content = content; lent = true }
+
+-- a handle's block, lent or not
+abbrev pub handle_record : ℕ → Flags → List ℕ → ℕ → Bool → BlockRecord
+handle_record handle flags bytes n lent = record { size = n; content = Relocatable handle flags bytes; lent = lent }
+
+-- a zone: the memory that it stands in, where it lies and how far it may grow, the free slot that its header names first, and
+-- its blocks
 pub record ZoneRecords : Type 0 where
+  pub memory : Memory
   pub shape : Shape
   pub front : ℕ
   pub blocks : List BlockRecord
@@ -76,6 +87,11 @@ with_blocks bs z = record z { blocks = bs }
 -- where a zone lies, how large it is now, and how large it may become
 abbrev pub sizes_of : ZoneRecords → ZoneSizes
 sizes_of z = record { heads = z.shape.heads; base = z.shape.base; size = zone_header + total_of z.blocks; limit = z.shape.limit }
+
+-- how many blocks are lent
+abbrev pub lent_count : List BlockRecord → ℕ
+lent_count [] = 0
+lent_count (b ∷ bs) = if b.lent then suc (lent_count bs) else lent_count bs
 
 -- no block is lent
 abbrev pub NothingLent : ZoneRecords → Type 0

@@ -1,6 +1,6 @@
 -- Master pointers as numbers, in either form.
-use Rattle.std.specs.Prelude.{ℕ, zero, suc, ◌+◌, ◌-◌, ◌*◌, ◌/◌, ◌%◌, ◌==◌, if◌then◌else◌, List, [], ◌∷◌, take, drop}
-use Rattle.byteorder.specs.Endian.{big_number}
+use Rattle.std.specs.Prelude.{ℕ, zero, suc, ◌+◌, ◌-◌, ◌*◌, ◌/◌, ◌%◌, ◌==◌, if◌then◌else◌, List, [], ◌∷◌, ◌++◌, take, drop}
+use Rattle.byteorder.specs.Endian.{big_bytes, big_number}
 use Rattle.mac_base.specs.declared.block.HeadKind.{HeadKind}
 use Rattle.mac_base.specs.declared.block.HeadKind.TheVariants.{Bits24, Bits32}
 use Rattle.mac_base.specs.FlagState.{state_of, flags_from}
@@ -28,3 +28,8 @@ slot_in Bits32 word = if word == 0 then Empty else (if word % 2 == 1 then Free (
 unfoldable pub slots_in : HeadKind → ℕ → List ℕ → List Slot
 slots_in heads zero bytes = []
 slots_in heads (suc n) bytes = slot_in heads (big_number 4 (take 4 bytes)) ∷ slots_in heads n (drop 4 bytes)
+
+-- the words of slots as bytes, one behind the other
+abbrev pub words_of : HeadKind → List Slot → List ℕ
+words_of heads [] = []
+words_of heads (s ∷ ss) = big_bytes 4 (slot_word heads s) ++ words_of heads ss

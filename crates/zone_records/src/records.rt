@@ -1,12 +1,14 @@
 //! The blocks of a zone.
 
+use crate::chain::write_chain;
 use crate::slot::Slot;
 use block_bytes::{Blocks, Role};
 use mac_base::block::{Entry, Flags, Kind};
 use mac_base::error::HostFull;
 use mac_base::handle::{Handle, Ptr};
-use mac_base::size::{MASTER_LENGTH, SLOT_COUNT};
+use mac_base::size::MASTER_LENGTH;
 use mac_base::zone_spec::ZoneSpec;
+use raw_region::Lent;
 use std::alloc::Global;
 use std::marker::Model;
 
@@ -47,9 +49,10 @@ impl Records {
     ghost use Rattle.mac_base.specs.HeadKind.{head_size, master_length, slot_count};
     ghost use Rattle.mac_base.specs.HandleTable.{zeros, no_flags};
     ghost use Rattle.mac_base.specs.ZoneMap.{block};
-    ghost use Rattle.zone_records.specs.Records.{ZoneRecords, Fixed, Master, Relocatable, sizes_of, kind_of, length_of, bytes_of, NothingLent};
-    ghost use Rattle.zone_records.specs.Places.{RecordAt, FreeAt, HeldAt, HandleBlockAt, SlotAt, RoomFor, CanCut, FreePair, CanHold, CanGrow, PairAt, LowestAt, has_free, can_say, can_flag};
-    ghost use Rattle.zone_records.specs.Changes.{new_records, with_front, filled, chained, emptied, flagged, with_slot, cut_in_two, joined_pair, held_there, enlarged, exchanged};
+    ghost use Rattle.zone_records.specs.Records.{ZoneRecords, Fixed, Master, Relocatable, sizes_of, kind_of, length_of, bytes_of, lent_count, NothingLent};
+    ghost use Rattle.mac_base.specs.Loans.{most_loans};
+    ghost use Rattle.zone_records.specs.Places.{RecordAt, FreeAt, HeldAt, HandleBlockAt, SlotAt, RoomFor, CanCut, FreePair, CanHold, CanGrow, PairAt, IsLoanOf, LowestAt, has_free, can_say, can_flag};
+    ghost use Rattle.zone_records.specs.Changes.{new_records, with_front, filled, chained, emptied, flagged, with_slot, cut_in_two, joined_pair, held_there, enlarged, exchanged, lent_out, loan_of, taken_back};
     ghost use Rattle.zone_records.specs.Fitting.{fitted, CanKeep};
     ghost use Rattle.zone_records.specs.Image.{HasBytes};
     ghost use Rattle.zone_records.specs.WritingBack.{WritesBackContents};
@@ -57,7 +60,7 @@ impl Records {
 
     /// A new zone: one free block, and no slot.
     pub fn create(alloc: Global, spec: ZoneSpec) -> Result<Records, HostFull>
-        ensures { IfOk result (λ zone. zone ≡ new_records spec) }
+        ensures { IfOk result (λ zone. zone ≡ new_records zone.memory spec) }
     {
         Ok(Records {
             blocks: Blocks::create(alloc, spec)?,
@@ -90,6 +93,22 @@ impl Records {
         ensures { IsTrue result ↔ RecordAt self.now at }
     {
         self.blocks.is_block(at)
+    }
+
+    /// Whether the block at an address is lent.
+    pub fn is_lent(&self, at: u32) -> bool
+        requires { RecordAt self.now at }
+        ensures { (r : RecordAt self.now at) → result ≡ r.here.lent }
+    {
+        self.blocks.is_lent(at)
+    }
+
+    /// How many blocks are lent.
+    pub fn lent_count(&self) -> u32
+        ensures value { result ≡ lent_count self.now.blocks }
+        ensures few { result ≤ most_loans }
+    {
+        self.blocks.lent_count()
     }
 
     /// The size of the block at an address, and what it is for.
@@ -193,18 +212,17 @@ impl Records {
         }
     }
 
-    /// Makes the header of a handle's block say these flags.
+    /// Makes the header of a handle's block say these flags. The block may be lent.
     pub fn set_header_flags(&mut self, at: u32, flags: Flags)
         requires there { HandleBlockAt self.old at }
         requires sayable { IsTrue (can_flag self.old.shape.heads flags) }
         ensures { (b : HandleBlockAt self.old at) → self.new ≡ flagged flags self.old b }
     {
-        let length = self.length_at(at);
         let role = match self.blocks.entry_at(at).role {
             Role::Relocatable(offset, _) => Role::Relocatable(offset, flags),
             other => other,
         };
-        self.blocks.assign(at, role, length);
+        self.blocks.set_role(at, role);
     }
 
     /// Makes a free block that of a handle, with `length` bytes of zero and no flags.
@@ -235,14 +253,11 @@ impl Records {
         requires sayable { IsTrue (can_say self.old.shape.heads (Slot.Free last)) }
         ensures { (r : RoomFor self.old at master_length) → self.new ≡ filled (Master (chained slot_count (at + head_size self.old.shape.heads) last)) self.old r.free }
     {
+        let heads = self.spec().heads();
         let first = at + self.head_size();
-        self.blocks.assign(at, Role::Master, MASTER_LENGTH);
-        let mut next = last;
-        for index in 0..SLOT_COUNT {
-            let slot = first + 4 * (SLOT_COUNT - 1 - index);
-            self.set_slot(slot, Slot::Free(next));
-            next = slot;
-        }
+        self.blocks.assign(at, Role::Fixed, MASTER_LENGTH);
+        write_chain(self.blocks.contents_mut(at), heads, first, last);
+        self.blocks.set_role(at, Role::Master);
     }
 
     /// Makes the block of a handle or a pointer free.
@@ -320,6 +335,24 @@ impl Records {
         ensures value { (h : HeldAt self.old at) → result.now ≡ bytes_of h.content }
     {
         self.blocks.contents_mut(at)
+    }
+
+    /// Lends the bytes of the block of a handle or a pointer: who has the loan reads and writes them.
+    pub fn lend(&mut self, at: u32) -> Lent
+        requires held { HeldAt self.old at }
+        requires few { lent_count self.old.blocks < most_loans }
+        ensures zone { (h : HeldAt self.old at) → self.new ≡ lent_out self.old h }
+        ensures loan { (h : HeldAt self.old at) → result ≡ loan_of self.old h }
+    {
+        self.blocks.lend(at)
+    }
+
+    /// Takes back the bytes of the lent block at an address, as its holder left them.
+    pub fn give_back(&mut self, at: u32, loan: Lent)
+        requires { IsLoanOf self.old at loan }
+        ensures { (is : IsLoanOf self.old at loan) → self.new ≡ taken_back self.old is }
+    {
+        self.blocks.give_back(at, loan);
     }
 
     /// The bytes of the zone, from its start to the end of its last block.

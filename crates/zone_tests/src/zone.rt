@@ -1,5 +1,7 @@
 //! The bytes of a zone are compared with those that the format says.
 
+ghost use Rattle.std.specs.Prelude.{◌≡◌, []};
+
 use mac_base::block::{Flags, HeadKind};
 use mac_base::zone_spec::ZoneSpec;
 use std::alloc::Global;
@@ -103,6 +105,13 @@ const LOCKED: Flags = Flags {
     resource: false,
 };
 
+/// Nothing of a zone is lent.
+fn assert_nothing_lent(rt: &impl Abort, zone: &Zone)
+    ensures { zone.now.heap.table.lent ≡ [] }
+{
+    assert_eq!(rt; zone.lent_count(), 0);
+}
+
 /// Compares the bytes of a zone of these blocks after NewHandle 100, and after the handle was locked.
 fn compare(
     rt: &impl Abort,
@@ -116,6 +125,7 @@ fn compare(
     let mut zone = Zone::create(alloc, spec).expect(rt, "the host has memory");
     let handle = zone.place_rel(100).expect(rt, "the zone has room");
     assert_eq!(rt; handle.number(), number);
+    assert_nothing_lent(rt, &zone);
     assert_eq!(rt; zone.image(), &image[..]);
     assert!(rt;
         zone.is_live(handle) && zone.has_block(handle.number()),
@@ -123,6 +133,7 @@ fn compare(
     );
     zone.set_flags(handle, LOCKED);
     put(&mut image, locked.0, locked.1);
+    assert_nothing_lent(rt, &zone);
     assert_eq!(rt; zone.image(), &image[..]);
 }
 
@@ -146,9 +157,9 @@ fn a_new_handle_leaves_the_bytes_of_the_format(rt: HostRuntime) {
     );
 }
 
-/// Writes over the first two bytes of a block, if the number has one.
+/// Writes over the first two bytes of a block, if the number has one that isn't lent.
 fn write_front(zone: &mut Zone, block: u32) {
-    if zone.has_block(block) {
+    if zone.has_block(block) && !zone.is_lent(block) {
         if let Some(bytes) = zone.bytes_mut(block).get_mut(..2) {
             bytes.copy_from_slice(b"BB");
         }
@@ -164,6 +175,7 @@ fn a_handle_that_is_disposed_of_leaves_the_lowest_free_block(rt: HostRuntime) {
     zone.place_rel(1000).expect(&rt, "the zone has room");
     write_front(&mut zone, second.number());
     assert!(rt; zone.is_live(first), "it is live");
+    assert_nothing_lent(&rt, &zone);
     zone.release(first);
     let mut image = image_of(&DISPOSED_24, (0x48, 0x138), 0x0110_0004, 0x0100_0000);
     put(&mut image, 0xd0c, 0x0000_02f4);

@@ -6,6 +6,9 @@ ghost use Rattle.raw_region.specs.Span.{IsFree};
 
 use super::Region;
 
+/// The bytes up to which a slide whose ranges overlap moves them all at once.
+const SHORT: usize = 512;
+
 #[tactic(auto, using(crate::proofs::Rules::upkeep))]
 impl Region {
     /// The bytes from `at` up to `mid` and those from `mid` up to `end` change places. They are inside the region, and
@@ -56,17 +59,21 @@ impl Region {
         let _len = self.len();
         if from < to {
             let far = to - from;
-            if far < n {
+            if n <= far {
+                self.copy_between(from, to, n);
+            } else if n <= SHORT {
                 self.bytes_mut(from, far + n).copy_within(0..n, far);
             } else {
-                self.copy_between(from, to, n);
+                self.slide_up(from, to, n);
             }
         } else {
             let far = from - to;
-            if far < n {
+            if n <= far {
+                self.copy_between(from, to, n);
+            } else if n <= SHORT {
                 self.bytes_mut(to, far + n).copy_within(far..far + n, 0);
             } else {
-                self.copy_between(from, to, n);
+                self.slide_down(from, to, n);
             }
         }
     }

@@ -30,18 +30,18 @@ front-taken-requires c = subst (λ (e : Entry). c.args.needed ≤ e.size) (sym (
 taken : (c : After-front-taken) → c.front-taken.result ≡ front_size c.args.pointers.now.shape c.args.needed c.place_of-at.ensures.here.size
 taken c = c.front-taken.ensures ∙ ap (λ (e : Entry). front_size c.args.pointers.now.shape c.args.needed e.size) (c.entry_at-whole.ensures (entry_named c.place_of-at.ensures))
 
-pub hold-requires : goal.hold-requires
-hold-requires c =
-    let w = (goal.at.hold-requires c).After-entry_at-whole in
-    subst (λ size. CanHold c.args.pointers.now c.args.block size c.args.length) (sym (taken (goal.at.hold-requires c).After-front-taken))
+pub hold-requires-clause-room : goal.hold-requires-clause-room
+hold-requires-clause-room c =
+    let w = (goal.at.hold-requires-clause-room c).After-entry_at-whole in
+    subst (λ size. CanHold c.args.pointers.now c.args.block size c.args.length) (sym (taken (goal.at.hold-requires-clause-room c).After-front-taken))
     (can-hold c.args.pointers.now c.args.block c.args.length c.args.needed c.place_of-at.result (standing w) (fits w))
 
 pub overflow_add-at : goal.overflow_add-at
 overflow_add-at c =
     let w = (goal.at.overflow_add-at c).After-entry_at-whole in
     let less = subst (λ (e : Entry). c.front-taken.result < e.size) (read w) c.if-taken-whole.true in
-    let base = c.base.ensures.value ∙ ap (λ (s : ZoneSizes). s.base) c.spec-spec.ensures in
-    let limit = c.limit.ensures.value ∙ ap (λ (s : ZoneSizes). s.limit) c.spec-spec.ensures in
+    let base = c.base.ensures.value ∙ ap (λ (s : ZoneSizes). s.base) c.spec-spec.ensures.sizes in
+    let limit = c.limit.ensures.value ∙ ap (λ (s : ZoneSizes). s.limit) c.spec-spec.ensures.sizes in
     omega (arith, end-there c.args.pointers.now c.args.block c.args.length c.args.needed c.place_of-at.result (standing w), c.if-prove.false)
 
 -- the zone in which the front is held
@@ -83,6 +83,9 @@ returns-then-taken-whole-clause-heap c =
 pub returns-then-taken-whole-clause-shape : goal.returns-then-taken-whole-clause-shape
 returns-then-taken-whole-clause-shape c = ap (λ (z : ZoneState). z.shape) (joined c)
 
+pub returns-then-taken-whole-clause-memory : goal.returns-then-taken-whole-clause-memory
+returns-then-taken-whole-clause-memory c = ap (λ (z : ZoneState). z.memory) (joined c)
+
 -- and the zone where nothing is over
 whole : (c : Else-taken-whole) → c.hold.new.self ≡ cut_zone (goal.at.Else-taken-whole c).After-entry_at-whole
 whole c =
@@ -98,3 +101,6 @@ returns-else-taken-whole-clause-heap c =
 
 pub returns-else-taken-whole-clause-shape : goal.returns-else-taken-whole-clause-shape
 returns-else-taken-whole-clause-shape c = ap (λ (z : ZoneState). z.shape) (whole c)
+
+pub returns-else-taken-whole-clause-memory : goal.returns-else-taken-whole-clause-memory
+returns-else-taken-whole-clause-memory c = ap (λ (z : ZoneState). z.memory) (whole c)

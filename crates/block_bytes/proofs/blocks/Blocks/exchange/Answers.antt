@@ -12,6 +12,7 @@ use Rattle.block_bytes.specs.Head.{most_over, head_bytes}
 use Rattle.block_bytes.specs.Layout.{Layout, BlockAt, PairAt, Exchanged, is_free, size_of, total_of, header_of, with_blocks}
 use Rattle.block_bytes.specs.Starts.{mark_in, first_marked}
 use Rattle.block_bytes.specs.Reading.{layout_of, IsLayout}
+use Rattle.block_bytes.proofs.Heads.{head-free}
 use Rattle.block_bytes.proofs.ReadBlocks.{head_size-positive}
 use Rattle.block_bytes.proofs.Parts.{IsRead}
 use Rattle.block_bytes.proofs.Here.{IsHere, IsHere-from, first-block, next-block, ArePair, ArePair-from}
@@ -88,9 +89,9 @@ set-requires-3 c = let t = two_here c.self.inside c.self.invariant c.args.self.n
 record HasTurned (z : Inside) (at : ℕ) (heads : HeadKind) (base : ℕ) (first second : Header) (m : State) : Type 0 where
   heads_is : heads ≡ z.spec.heads
   base_is : base ≡ z.spec.base
-  down : IsTrue (is_free first.role) → m ≡ with_bytes (with_bytes z.memory (at - base) (part z.memory.bytes (at - base + first.size) second.size)) (at - base + second.size) (head_bytes heads base first)
+  down : IsTrue (is_free first.role) → m ≡ with_bytes (with_bytes z.memory (at - base) (part z.memory.bytes (at - base + first.size) second.size)) (at - base + second.size) (head_bytes heads 0 first)
   up : IsFalse (is_free first.role) → IsTrue (is_free second.role)
-      → m ≡ with_bytes (with_bytes z.memory (at - base + second.size) (part z.memory.bytes (at - base) first.size)) (at - base) (head_bytes heads base second)
+      → m ≡ with_bytes (with_bytes z.memory (at - base + second.size) (part z.memory.bytes (at - base) first.size)) (at - base) (head_bytes heads 0 second)
   turn : IsFalse (is_free first.role) → IsFalse (is_free second.role) → m ≡ with_bytes z.memory (at - base) (part z.memory.bytes (at - base + first.size) second.size ++ part z.memory.bytes (at - base) first.size)
 
 module _ (z : Inside) (whole : IsLayout z) (small : ArePossible z.spec) (at : ℕ) (heads : HeadKind) (base : ℕ) (first second : Header) (m : State) (t : HasTurned z at heads base first second m) where
@@ -99,10 +100,10 @@ module _ (z : Inside) (whole : IsLayout z) (small : ArePossible z.spec) (at : �
       → HasMoved z whole small pair.before pair.here pair.next pair.behind pair.blocks m
   has_moved pair one two = by_case (is_free first.role)
       (λ free. first-down z whole small pair.before pair.here pair.next pair.behind pair.blocks m start there (sym (ap (λ (h : Header). is_free h.role) one) ∙ free)
-      (t.down free ∙ (λ i. with_bytes (with_bytes z.memory start (part z.memory.bytes (start + (one i).size) (two i).size)) (start + (two i).size) (head_bytes (t.heads_is i) (t.base_is i) (one i)))))
+      (t.down free ∙ ap (λ hs. with_bytes (with_bytes z.memory start (part z.memory.bytes (start + first.size) second.size)) (start + second.size) hs) (head-free heads 0 base first free) ∙ (λ i. with_bytes (with_bytes z.memory start (part z.memory.bytes (start + (one i).size) (two i).size)) (start + (two i).size) (head_bytes (t.heads_is i) (t.base_is i) (one i)))))
       (λ used. by_case (is_free second.role)
       (λ free. first-up z whole small pair.before pair.here pair.next pair.behind pair.blocks m start there (sym (ap (λ (h : Header). is_free h.role) two) ∙ free)
-      (t.up used free ∙ (λ i. with_bytes (with_bytes z.memory (start + (two i).size) (part z.memory.bytes start (one i).size)) start (head_bytes (t.heads_is i) (t.base_is i) (two i)))))
+      (t.up used free ∙ ap (λ hs. with_bytes (with_bytes z.memory (start + second.size) (part z.memory.bytes start first.size)) start hs) (head-free heads 0 base second free) ∙ (λ i. with_bytes (with_bytes z.memory (start + (two i).size) (part z.memory.bytes start (one i).size)) start (head_bytes (t.heads_is i) (t.base_is i) (two i)))))
       (λ used'. turned z whole small pair.before pair.here pair.next pair.behind pair.blocks m start there
       (t.turn used used' ∙ (λ i. with_bytes z.memory start (part z.memory.bytes (start + (one i).size) (two i).size ++ part z.memory.bytes start (one i).size)))))
     where

@@ -1,14 +1,13 @@
-use Rattle.std.proofs.Common.{◌≡◌, ap, ◌∙◌, subst}
-use Rattle.mac_base.specs.HeadKind.{Shape}
+use Rattle.std.proofs.Common.{subst}
 use Rattle.zone_records.specs.Image.{HasBytes}
-use Rattle.zone_records.specs.Records.{ZoneRecords, NothingLent}
+use Rattle.zone_records.specs.Records.{ZoneRecords}
 use Rattle.block_bytes.specs.Walk.{Walks}
 use Rattle.linked_zone.proofs.Standing.{stands-now}
 use Rattle.linked_zone.proofs.Unlent.{nothing-lent}
 use Rattle.linked_zone.proofs.zone.LinkedZone.image.Goals as goal
 
 pub image-requires : goal.image-requires
-image-requires c = record { nothing_lent = nothing-lent c.self.inside.records c.args.self.now (stands-now c.self.inside c.args.self.now c.self.invariant c.self.view_is) }
+image-requires c = record { nothing_lent = nothing-lent c.self.inside.records c.args.self.now (stands-now c.self.inside c.args.self.now c.self.invariant c.self.view_is) c.requires.nothing_lent }
 
 pub returns-clause-form : goal.returns-clause-form
 returns-clause-form c =

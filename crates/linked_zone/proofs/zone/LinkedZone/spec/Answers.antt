@@ -4,4 +4,6 @@ use Rattle.linked_zone.proofs.Found.{sizes-read}
 use Rattle.linked_zone.proofs.zone.LinkedZone.spec.Goals as goal
 
 pub returns : goal.returns
-returns c = c.spec.ensures ∙ sizes-read c.self.inside.records c.args.self.now (stands-now c.self.inside c.args.self.now c.self.invariant c.self.view_is)
+returns c =
+    let stands = stands-now c.self.inside c.args.self.now c.self.invariant c.self.view_is in
+    record { sizes = c.spec.ensures ∙ sizes-read c.self.inside.records c.args.self.now stands; loans = stands.fits.loans }

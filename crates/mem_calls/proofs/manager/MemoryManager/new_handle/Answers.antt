@@ -2,9 +2,13 @@ use Rattle.std.proofs.Common.{ap}
 use Rattle.std.specs.Option.{option_or}
 use Rattle.std.specs.Prelude.{None}
 use Rattle.mem_calls.proofs.Attempts.{step-new_handle}
+use Rattle.mem_calls.proofs.KeptLoans.{kept}
 use Rattle.mem_calls.proofs.manager.MemoryManager.new_handle.Goals as goal
 
 pub returns-clause-step : goal.returns-clause-step
 returns-clause-step c =
     step-new_handle c.args.self.now c.self.inside.zone c.place_rel.new.self c.self.view_is c.place_rel.ensures.sound c.args.size c.place_rel.result c.map_err.result
     c.place_rel.ensures.placed (record { mapped = c.map_err.ensures.cases }) (ap (λ o. option_or o None) c.in_ok-test_size.ensures)
+
+pub returns-clause-loans : goal.returns-clause-loans
+returns-clause-loans c = kept c.place_rel.ensures.loans c.self.view_is

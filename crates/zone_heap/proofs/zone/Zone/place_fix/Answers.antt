@@ -6,14 +6,15 @@ use Rattle.mac_base.specs.ZoneSizes.{ZoneSizes}
 use Rattle.mac_base.specs.ZoneState.{ZoneState}
 use Rattle.mac_base.specs.Sound.{Sound}
 use Rattle.zone_heap.specs.Placed.{placed_pointer}
-use Rattle.zone_heap.proofs.Pointers.{ChosenBlock, pointer-full, pointer-there, pointer-sound, pointer_zone, pointer_at, block_front, can-fix, same-heads, fixed-done}
+use Rattle.zone_heap.proofs.Loans.{changed-loans, changed-fixed}
+use Rattle.zone_heap.proofs.Pointers.{ChosenBlock, pointer-full, pointer-there, pointer-sound, pointer-keeps, pointer_zone, pointer_at, block_front, can-fix, same-heads, fixed-done}
 use Rattle.zone_heap.proofs.zone.Zone.place_fix.Goals as goal
 use Rattle.zone_heap.proofs.zone.Zone.place_fix.Goals.{In-Some, After-fix}
 
 pub returns-in_default-clause-placed : goal.returns-in_default-clause-placed
 returns-in_default-clause-placed c =
     let z = c.self.inside.pointers in
-    let size : c.need_for-size.result ≡ need z.shape.heads c.args.length = c.need_for-size.ensures ∙ ap (λ heads. need heads c.args.length) (c.heads.ensures ∙ ap (λ (s : ZoneSizes). s.heads) c.spec.ensures) in
+    let size : c.need_for-size.result ≡ need z.shape.heads c.args.length = c.need_for-size.ensures ∙ ap (λ heads. need heads c.args.length) (c.heads.ensures ∙ ap (λ (s : ZoneSizes). s.heads) c.spec.ensures.sizes) in
     let none = subst (λ k. IsTrue (list_all (λ e. not (has_free k e)) z.heap.map)) size c.in_default.ensures.none in
     (ap (λ (w : ZoneState). placed_pointer w.shape c.args.length w.heap) (sym c.self.view_is) ∙ pointer-full z.shape c.args.length z.heap none, refl)
 
@@ -22,7 +23,7 @@ chosen : (c : In-Some) → ChosenBlock c.self.inside.pointers c.args.length c.ne
 chosen c = record {
   sound = c.self.invariant.sound;
   low = c.in-Some.ensures.lowest;
-  size = c.need_for-size.ensures ∙ ap (λ heads. need heads c.args.length) (c.heads.ensures ∙ ap (λ (s : ZoneSizes). s.heads) c.spec.ensures);
+  size = c.need_for-size.ensures ∙ ap (λ heads. need heads c.args.length) (c.heads.ensures ∙ ap (λ (s : ZoneSizes). s.heads) c.spec.ensures.sizes);
 }
 
 pub cut-requires : goal.cut-requires
@@ -42,7 +43,7 @@ invariant_of-self c =
     let is = after (goal.at.invariant_of-self c).After-fix p in
     record {
       sound = subst (λ (w : ZoneState). Sound w.shape w.heap) (sym is) (pointer-sound z c.args.length c.need_for-size.result c.in-Some.at p);
-      unlent = ap (λ (w : ZoneState). w.heap.table.lent) is ∙ c.self.invariant.unlent;
+      fixed = changed-fixed z (pointer_zone z c.args.length c.need_for-size.result c.in-Some.at p) c.fix.new.self is (pointer-keeps z c.args.length c.need_for-size.result c.in-Some.at p c.self.invariant.fixed) c.self.invariant.fixed;
     }
 
 pub returns-clause-placed : goal.returns-clause-placed
@@ -55,3 +56,10 @@ returns-clause-placed c =
       ap (λ (w : ZoneState). placed_pointer w.shape n w.heap) (sym c.self.view_is) ∙ pointer-there z n k at p ∙ (λ i. Some (sym number i, (sym is i).heap)),
       ap (λ (w : ZoneState). w.shape) is ∙ ap (λ (w : ZoneState). w.shape) c.self.view_is,
     )
+
+pub returns-clause-loans : goal.returns-clause-loans
+returns-clause-loans c =
+    let z = c.self.inside.pointers in
+    let n = c.args.length in let k = c.need_for-size.result in let at = c.in-Some.at in
+    let p = chosen (goal.at.returns-clause-loans c).In-Some in
+    changed-loans c.args.self.now z (pointer_zone z n k at p) c.fix.new.self c.self.view_is (after (goal.at.returns-clause-loans c).After-fix p) refl refl (pointer-keeps z n k at p c.self.invariant.fixed)

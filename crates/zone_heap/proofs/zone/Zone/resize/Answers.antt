@@ -1,15 +1,18 @@
 use Rattle.std.proofs.Common.{◌≡◌, ◌+◌, ◌≤◌, ◌<◌, ◌∙◌, Some, sym, ap, subst, refl, arith, IsTrue}
 use Rattle.mac_base.specs.declared.block.Entry.{Entry}
-use Rattle.mac_base.specs.HandleTable.{has_block}
+use Rattle.mac_base.specs.HandleTable.{has_block, is_lent}
+use Rattle.mac_base.specs.Heap.{Heap}
 use Rattle.mac_base.specs.HeadKind.{need}
 use Rattle.mac_base.specs.Serve.{free_in_front}
 use Rattle.mac_base.specs.Sound.{Sound}
 use Rattle.mac_base.specs.ZoneSizes.{ZoneSizes}
 use Rattle.mac_base.specs.ZoneState.{ZoneState}
 use Rattle.mac_base.specs.ZoneSizes.{ZoneSizes}
+use Rattle.zone_laws.proofs.Lent.{KeepsLent, fixed-kept}
 use Rattle.linked_zone.specs.Places.{CanGrow}
 use Rattle.zone_heap.specs.Placed.{resized_there}
-use Rattle.zone_heap.proofs.Sizing.{Standing, entry_named, size-there, sound-there, lent-there, resized_zone, end-there}
+use Rattle.zone_heap.proofs.Sizing.{Standing, entry_named, size-there, sound-there, keeps-there, resized_zone, end-there}
+use Rattle.zone_heap.proofs.Loans.{changed-loans}
 use Rattle.zone_heap.proofs.Growing.{whole, too-few, grown_blocks, can-grow, grown-done, grown-there, free-within}
 use Rattle.zone_heap.proofs.Taking.{front_size}
 use Rattle.zone_heap.proofs.zone.Zone.resize.Goals as goal
@@ -19,13 +22,19 @@ use Rattle.zone_heap.proofs.zone.Zone.resize.Goals.{After-entry_at-size, After-f
 block : (c : After-entry_at-size) → IsTrue (has_block c.self.inside.pointers.heap.table c.args.block)
 block c = subst (λ (z : ZoneState). IsTrue (has_block z.heap.table c.args.block)) (sym c.self.view_is) c.requires.block
 
--- which stands there
+-- which isn't lent, and what is lent is kept where it gets another size
+kept : (c : After-entry_at-size) (new : Heap) → resized_there c.self.inside.pointers.shape c.args.block c.args.length c.self.inside.pointers.heap ≡ Some new → KeepsLent c.self.inside.pointers.shape c.self.inside.pointers.heap new
+kept c new is =
+    keeps-there c.self.inside.pointers.shape c.self.inside.pointers.heap new c.args.block c.args.length c.self.invariant.sound
+    (ap (λ (z : ZoneState). is_lent z.heap.table c.args.block) c.self.view_is ∙ c.requires.here) is
+
+-- and stands there
 abbrev standing : (c : After-entry_at-size) → Standing c.self.inside.pointers c.args.block c.args.length c.need_for-needed.result c.place_of-at.result
 standing c = record {
   sound = c.self.invariant.sound;
   block = block c;
   named = c.place_of-at.ensures;
-  size = c.need_for-needed.ensures ∙ ap (λ heads. need heads c.args.length) (c.heads.ensures ∙ ap (λ (s : ZoneSizes). s.heads) c.spec.ensures);
+  size = c.need_for-needed.ensures ∙ ap (λ heads. need heads c.args.length) (c.heads.ensures ∙ ap (λ (s : ZoneSizes). s.heads) c.spec.ensures.sizes);
 }
 
 -- and is the one that was read
@@ -42,7 +51,7 @@ invariant_of-self c =
     let w = (goal.at.invariant_of-self c).After-entry_at-size in
     record {
       sound = subst (λ s. Sound s c.shrink.new.pointers.heap) (sym c.shrink.ensures.shape) (sound-there c.self.inside.pointers.shape c.self.inside.pointers.heap c.shrink.new.pointers.heap c.args.block c.args.length c.self.invariant.sound (block w) c.shrink.ensures.heap);
-      unlent = lent-there c.self.inside.pointers.shape c.self.inside.pointers.heap c.shrink.new.pointers.heap c.args.block c.args.length c.shrink.ensures.heap ∙ c.self.invariant.unlent;
+      fixed = fixed-kept c.self.inside.pointers.shape c.self.inside.pointers.heap c.shrink.new.pointers.heap (kept w c.shrink.new.pointers.heap c.shrink.ensures.heap) c.self.invariant.fixed;
     }
 
 -- it is smaller than needed
@@ -61,7 +70,7 @@ pub overflow_add-whole : goal.overflow_add-whole
 overflow_add-whole c =
     let w = (goal.at.overflow_add-whole c).After-entry_at-size in
     let b = (goal.at.overflow_add-whole c).After-free_behind in
-    let limit = c.limit.ensures.value ∙ ap (λ (s : ZoneSizes). s.limit) c.spec-spec.ensures in
+    let limit = c.limit.ensures.value ∙ ap (λ (s : ZoneSizes). s.limit) c.spec-spec.ensures.sizes in
     omega (arith, both b, free-within c.place_of-at.ensures.behind, end-there c.self.inside.pointers c.args.block c.args.length c.need_for-needed.result c.place_of-at.result (standing w), c.place_of-at.ensures.place, c.if-prove.false)
 
 pub returns-then-whole-needed-clause-resized : goal.returns-then-whole-needed-clause-resized
@@ -82,11 +91,11 @@ enough c = subst (λ m. c.need_for-needed.result ≤ m) (both (goal.at.After-fro
 taken : (c : After-front-taken) → c.front-taken.result ≡ front_size c.self.inside.pointers.shape c.need_for-needed.result (c.place_of-at.ensures.here.size + free_in_front c.place_of-at.ensures.behind)
 taken c = c.front-taken.ensures ∙ ap (front_size c.self.inside.pointers.shape c.need_for-needed.result) (both (goal.at.After-front-taken c).After-free_behind)
 
-pub grow-requires : goal.grow-requires
-grow-requires c =
-    let w = (goal.at.grow-requires c).After-entry_at-size in
-    let b = (goal.at.grow-requires c).After-free_behind in
-    let f = (goal.at.grow-requires c).After-front-taken in
+pub grow-requires-clause-room : goal.grow-requires-clause-room
+grow-requires-clause-room c =
+    let w = (goal.at.grow-requires-clause-room c).After-entry_at-size in
+    let b = (goal.at.grow-requires-clause-room c).After-free_behind in
+    let f = (goal.at.grow-requires-clause-room c).After-front-taken in
     subst (λ size. CanGrow c.self.inside.pointers c.args.block size c.args.length) (sym (taken f))
     (can-grow c.self.inside.pointers c.args.block c.args.length c.need_for-needed.result c.place_of-at.result (standing w) (more b) (enough f))
 
@@ -120,7 +129,7 @@ invariant_of-self-2 c =
     let is = there c in
     record {
       sound = subst (λ s. Sound s c.grow.new.self.heap) (sym (ap (λ (z : ZoneState). z.shape) (grown c))) (sound-there c.self.inside.pointers.shape c.self.inside.pointers.heap c.grow.new.self.heap c.args.block c.args.length c.self.invariant.sound (block w) is);
-      unlent = lent-there c.self.inside.pointers.shape c.self.inside.pointers.heap c.grow.new.self.heap c.args.block c.args.length is ∙ c.self.invariant.unlent;
+      fixed = fixed-kept c.self.inside.pointers.shape c.self.inside.pointers.heap c.grow.new.self.heap (kept w c.grow.new.self.heap is) c.self.invariant.fixed;
     }
 
 pub returns-clause-resized : goal.returns-clause-resized
@@ -128,3 +137,16 @@ returns-clause-resized c = (
   ap (λ (z : ZoneState). resized_there z.shape c.args.block c.args.length z.heap) (sym c.self.view_is) ∙ there c,
   ap (λ (z : ZoneState). z.shape) (grown c) ∙ ap (λ (z : ZoneState). z.shape) c.self.view_is,
 )
+
+pub returns-then-needed-size-clause-loans : goal.returns-then-needed-size-clause-loans
+returns-then-needed-size-clause-loans c =
+    let z = c.self.inside.pointers in
+    let w = (goal.at.returns-then-needed-size-clause-loans c).After-entry_at-size in
+    changed-loans c.args.self.now z c.shrink.new.pointers c.shrink.new.pointers c.self.view_is refl c.shrink.ensures.memory c.shrink.ensures.shape (kept w c.shrink.new.pointers.heap c.shrink.ensures.heap)
+
+pub returns-clause-loans : goal.returns-clause-loans
+returns-clause-loans c =
+    let z = c.self.inside.pointers in
+    let w = (goal.at.returns-clause-loans c).After-entry_at-size in
+    let g = (goal.at.returns-clause-loans c).After-grow in
+    changed-loans c.args.self.now z c.grow.new.self c.grow.new.self c.self.view_is refl (ap (λ (z : ZoneState). z.memory) (grown g)) (ap (λ (z : ZoneState). z.shape) (grown g)) (kept w c.grow.new.self.heap (there g))

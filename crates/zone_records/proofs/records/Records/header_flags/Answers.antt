@@ -1,11 +1,11 @@
 use Rattle.std.proofs.Common.{inl, inr}
 use Rattle.zone_records.proofs.Held.{held-now}
-use Rattle.zone_records.proofs.Holding.{held-block, handle_held, handle-said}
+use Rattle.zone_records.proofs.Holding.{handle-block, handle-said}
 use Rattle.zone_records.proofs.records.Records.header_flags.Goals as goal
 
 pub entry_at-requires : goal.entry_at-requires
 entry_at-requires c = let held = held-now c.self.inside c.args.self.now c.self.invariant c.self.view_is in
-    (held-block c.self.inside.blocks c.args.self.now held c.args.at (handle_held c.self.inside.blocks c.args.self.now held c.args.at c.requires)).block
+    handle-block c.self.inside.blocks c.args.self.now held c.args.at c.requires
 
 pub returns-in-Relocatable : goal.returns-in-Relocatable
 returns-in-Relocatable c b =

@@ -1,6 +1,13 @@
-use Rattle.std.proofs.Common.{◌+◌, ◌-◌, ◌*◌, ap, arith}
-use Rattle.zone_records.proofs.Held.{held-now, fields}
-use Rattle.zone_records.proofs.Chaining.{master-range, master-can, master-done, master-starts, master-slot, master-sayable, master-more, master-ends}
+use Rattle.std.proofs.Common.{◌≡◌, ◌+◌, ap, ◌∙◌, arith}
+use Rattle.mac_base.specs.HeadKind.{master_length, slot_count, head_size}
+use Rattle.mac_base.specs.ZoneSizes.{ZoneSizes}
+use Rattle.zone_records.specs.Records.{Master}
+use Rattle.zone_records.specs.Places.{RoomFor}
+use Rattle.zone_records.specs.Changes.{chained, filled}
+use Rattle.zone_records.specs.Word.{words_of}
+use Rattle.zone_records.proofs.Words.{length-chain}
+use Rattle.zone_records.proofs.Held.{Held, held-now, fields}
+use Rattle.zone_records.proofs.Chaining.{master-range, master-even, fixed-can, fixed-unlent, fixed-long, fixed-written, turn-can, master-ends}
 use Rattle.zone_records.proofs.records.Records.place_master.Goals as goal
 
 pub overflow_add-first : goal.overflow_add-first
@@ -13,24 +20,18 @@ overflow_add-first c =
     omega arith
 
 pub assign-requires : goal.assign-requires
-assign-requires c = master-can c.self.inside.blocks c.args.self.now (held-now c.self.inside c.args.self.now c.self.invariant c.self.view_is) c.args.at c.requires.room
+assign-requires c = fixed-can c.self.inside.blocks c.args.self.now (held-now c.self.inside c.args.self.now c.self.invariant c.self.view_is) c.args.at c.requires.room
 
-pub invariant_of-self : goal.invariant_of-self
-invariant_of-self c =
-    let l = c.self.inside.blocks in
-    let z = c.args.self.now in
-    let held = held-now c.self.inside z c.self.invariant c.self.view_is in
-    fields _ _ (master-done l z held c.args.at c.requires.room c.assign.new.self c.assign.ensures)
+pub contents_mut-requires : goal.contents_mut-requires
+contents_mut-requires c =
+    record { block = fixed-unlent c.self.inside.blocks c.args.self.now (held-now c.self.inside c.args.self.now c.self.invariant c.self.view_is) c.args.at c.requires.room c.assign.new.self c.assign.ensures }
 
-pub loop-index-init : goal.loop-index-init
-loop-index-init c r =
-    let l = c.self.inside.blocks in
-    let z = c.args.self.now in
-    let held = held-now c.self.inside z c.self.invariant c.self.view_is in
-    master-starts l z held c.args.at r c.args.last c.assign.new.self c.requires.sayable c.assign.ensures
+pub write_chain-requires-clause-long : goal.write_chain-requires-clause-long
+write_chain-requires-clause-long c =
+    fixed-long c.self.inside.blocks c.args.self.now (held-now c.self.inside c.args.self.now c.self.invariant c.self.view_is) c.args.at c.requires.room c.assign.new.self c.assign.ensures c.contents_mut.result.now c.contents_mut.ensures.value
 
-pub overflow_add-slot : goal.overflow_add-slot
-overflow_add-slot c =
+pub write_chain-requires-clause-low : goal.write_chain-requires-clause-low
+write_chain-requires-clause-low c =
     let l = c.self.inside.blocks in
     let z = c.args.self.now in
     let held = held-now c.self.inside z c.self.invariant c.self.view_is in
@@ -38,32 +39,39 @@ overflow_add-slot c =
     let head = c.head_size.ensures in
     omega arith
 
-pub set_slot-requires-clause-there : goal.set_slot-requires-clause-there
-set_slot-requires-clause-there c =
+pub write_chain-requires-clause-even : goal.write_chain-requires-clause-even
+write_chain-requires-clause-even c =
     let l = c.self.inside.blocks in
     let z = c.args.self.now in
     let held = held-now c.self.inside z c.self.invariant c.self.view_is in
-    master-slot l z held c.args.at c.requires.room c.args.last c.loop-index.index c.loop-index.next c.loop-index.self (c.loop-index.invariant c.requires.room) c.loop-index-test.true _
-    (ap (λ n. c.args.at + n + 4 * (63 - c.loop-index.index)) c.head_size.ensures)
+    let even = master-even l z held c.args.at c.requires.room in
+    let head = c.head_size.ensures in
+    omega arith
 
-pub set_slot-requires-clause-sayable : goal.set_slot-requires-clause-sayable
-set_slot-requires-clause-sayable c =
+pub set_role-requires : goal.set_role-requires
+set_role-requires c =
     let l = c.self.inside.blocks in
     let z = c.args.self.now in
     let held = held-now c.self.inside z c.self.invariant c.self.view_is in
-    master-sayable l z held c.args.at c.requires.room c.args.last c.loop-index.index c.loop-index.next c.loop-index.self (c.loop-index.invariant c.requires.room) c.loop-index-test.true
+    let words : c.write_chain.new.words ≡ words_of z.shape.heads (chained slot_count (c.args.at + head_size z.shape.heads) c.args.last) =
+    c.write_chain.ensures ∙ (λ i. words_of ((c.heads-heads.ensures ∙ ap (λ (s : ZoneSizes). s.heads) c.spec.ensures) i) (chained slot_count (c.args.at + c.head_size.ensures i) c.args.last)) in
+    let long = length-chain z.shape.heads c.write_chain.new.words (c.args.at + head_size z.shape.heads) c.args.last words in
+    turn-can l z held c.args.at c.requires.room c.write_chain.new.words long _ (fixed-written l z held c.args.at c.requires.room c.write_chain.new.words long c.assign.new.self c.assign.ensures)
 
-pub loop-index-preserved : goal.loop-index-preserved
-loop-index-preserved c r =
+-- how it ends
+ends : (c : goal.After-set_role) (r : RoomFor c.args.self.now c.args.at master_length) → Held c.set_role.new.self (filled (Master (chained slot_count (c.args.at + head_size c.args.self.now.shape.heads) c.args.last)) c.args.self.now r.free)
+ends c r =
     let l = c.self.inside.blocks in
     let z = c.args.self.now in
     let held = held-now c.self.inside z c.self.invariant c.self.view_is in
-    master-more l z held c.args.at r c.args.last c.loop-index.index c.loop-index.next c.loop-index.self (c.loop-index.invariant r) c.loop-index-test.true _ c.set_slot.new.self
-    (ap (λ n. c.args.at + n + 4 * (63 - c.loop-index.index)) c.head_size.ensures) c.set_slot.ensures
+    let words : c.write_chain.new.words ≡ words_of z.shape.heads (chained slot_count (c.args.at + head_size z.shape.heads) c.args.last) =
+    c.write_chain.ensures ∙ (λ i. words_of ((c.heads-heads.ensures ∙ ap (λ (s : ZoneSizes). s.heads) c.spec.ensures) i) (chained slot_count (c.args.at + c.head_size.ensures i) c.args.last)) in
+    let long = length-chain z.shape.heads c.write_chain.new.words (c.args.at + head_size z.shape.heads) c.args.last words in
+    master-ends l z held c.args.at r c.write_chain.new.words long _ c.set_role.new.self c.args.last c.requires.sayable words
+    (fixed-written l z held c.args.at r c.write_chain.new.words long c.assign.new.self c.assign.ensures) c.set_role.ensures
+
+pub invariant_of-self : goal.invariant_of-self
+invariant_of-self c = fields _ _ (ends c c.requires.room)
 
 pub returns : goal.returns
-returns c r =
-    let l = c.self.inside.blocks in
-    let z = c.args.self.now in
-    let held = held-now c.self.inside z c.self.invariant c.self.view_is in
-    master-ends l z held c.args.at r c.args.last c.loop-index.index c.loop-index.next c.loop-index.self (c.loop-index.invariant r) (omega arith)
+returns c r = (ends c r).shows

@@ -16,11 +16,11 @@ invariant_of-self c =
     let l = c.self.inside.blocks in
     let z = c.args.self.now in
     let held = held-now c.self.inside z c.self.invariant c.self.view_is in
-    fields _ _ (place-cleared l z held c.args.at c.args.length c.requires Fixed (λ k. refl) refl c.assign.new.self c.clear.new.self c.assign.ensures c.clear.ensures)
+    fields _ _ (place-cleared l z held c.args.at c.args.length c.requires Fixed (λ k. refl) refl (λ is. absurd (cc is)) c.assign.new.self c.clear.new.self c.assign.ensures c.clear.ensures)
 
 pub returns : goal.returns
 returns c r =
     let l = c.self.inside.blocks in
     let z = c.args.self.now in
     let held = held-now c.self.inside z c.self.invariant c.self.view_is in
-    (place-cleared l z held c.args.at c.args.length r Fixed (λ k. refl) refl c.assign.new.self c.clear.new.self c.assign.ensures c.clear.ensures).shows
+    (place-cleared l z held c.args.at c.args.length r Fixed (λ k. refl) refl (λ is. absurd (cc is)) c.assign.new.self c.clear.new.self c.assign.ensures c.clear.ensures).shows

@@ -3,43 +3,40 @@ use Rattle.block_bytes.specs.declared.header.Header.{Header}
 use Rattle.zone_records.specs.Places.{HandleBlockAt}
 use Rattle.zone_records.specs.Changes.{flagged}
 use Rattle.zone_records.proofs.Held.{Held, held-now, fields}
-use Rattle.zone_records.proofs.Holding.{held-block, handle_held}
-use Rattle.zone_records.proofs.Fitted.{held_record}
+use Rattle.zone_records.proofs.Holding.{handle-block}
 use Rattle.zone_records.proofs.Flagging.{flag-said, flag-can, flag-ends}
 use Rattle.zone_records.proofs.records.Records.set_header_flags.Goals as goal
 use Rattle.zone_records.proofs.records.Records.set_header_flags.Goals.{in-Relocatable, in_default}
 
 pub entry_at-requires : goal.entry_at-requires
 entry_at-requires c = let held = held-now c.self.inside c.args.self.now c.self.invariant c.self.view_is in
-    (held-block c.self.inside.blocks c.args.self.now held c.args.at (handle_held c.self.inside.blocks c.args.self.now held c.args.at c.requires.there)).block
+    handle-block c.self.inside.blocks c.args.self.now held c.args.at c.requires.there
 
-pub assign-requires : goal.assign-requires
-assign-requires c =
+pub set_role-requires : goal.set_role-requires
+set_role-requires c =
     let l = c.self.inside.blocks in
     let z = c.args.self.now in
     let held = held-now c.self.inside z c.self.invariant c.self.view_is in
     let b = c.requires.there in
     let mine = (flag-said l z held c.args.at b c.args.flags c.requires.sayable).1 in
-    let header = ap (λ (h : Header). h.role) (c.entry_at.ensures (held-block l z held c.args.at (handle_held l z held c.args.at b)).block) ∙ mine in
-    let long = c.length_at-length.ensures (held_record z c.args.at (handle_held l z held c.args.at b)) in
-    flag-can l z held c.args.at b c.args.flags c.requires.sayable c.match-entry_at.role c.length_at-length.result (elim c.match-entry_at.branch [
+    let header = ap (λ (h : Header). h.role) (c.entry_at.ensures (handle-block l z held c.args.at b)) ∙ mine in
+    flag-can l z held c.args.at b c.args.flags c.requires.sayable c.match-entry_at.role (elim c.match-entry_at.branch [
       | in-Relocatable w ↦ cc (w.role-is, w.in-Relocatable.is, header)
       | in_default w ↦ absurd (w.in_default.not-Relocatable _ _ header)
-    ]) long
+    ])
 
 -- how it ends
-ends : (c : goal.After-assign) → (b : HandleBlockAt c.args.self.now c.args.at) → Held c.assign.new.self (flagged c.args.flags c.args.self.now b)
+ends : (c : goal.After-set_role) → (b : HandleBlockAt c.args.self.now c.args.at) → Held c.set_role.new.self (flagged c.args.flags c.args.self.now b)
 ends c b =
     let l = c.self.inside.blocks in
     let z = c.args.self.now in
     let held = held-now c.self.inside z c.self.invariant c.self.view_is in
     let mine = (flag-said l z held c.args.at b c.args.flags c.requires.sayable).1 in
-    let header = ap (λ (h : Header). h.role) (c.entry_at.ensures (held-block l z held c.args.at (handle_held l z held c.args.at b)).block) ∙ mine in
-    let long = c.length_at-length.ensures (held_record z c.args.at (handle_held l z held c.args.at b)) in
-    flag-ends l z held c.args.at b c.args.flags c.requires.sayable c.match-entry_at.role c.length_at-length.result c.assign.new.self (elim c.match-entry_at.branch [
+    let header = ap (λ (h : Header). h.role) (c.entry_at.ensures (handle-block l z held c.args.at b)) ∙ mine in
+    flag-ends l z held c.args.at b c.args.flags c.requires.sayable c.match-entry_at.role c.set_role.new.self (elim c.match-entry_at.branch [
       | in-Relocatable w ↦ cc (w.role-is, w.in-Relocatable.is, header)
       | in_default w ↦ absurd (w.in_default.not-Relocatable _ _ header)
-    ]) long c.assign.ensures
+    ]) c.set_role.ensures
 
 pub invariant_of-self : goal.invariant_of-self
 invariant_of-self c = fields _ _ (ends c c.requires.there)

@@ -1,0 +1,5 @@
+use Rattle.mem_calls.proofs.KeptLoans.{kept}
+use Rattle.mem_calls.proofs.manager.MemoryManager.hunlock.Goals as goal
+
+pub returns-clause-loans : goal.returns-clause-loans
+returns-clause-loans c = kept c.set_flags.ensures.loans c.self.view_is

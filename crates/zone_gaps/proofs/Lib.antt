@@ -1,0 +1,17 @@
+pub mod Sizes
+pub mod Entries
+pub mod Walking
+pub mod Settling
+pub mod Pressing
+pub mod Lasts
+pub mod Stepping
+pub mod Lifting
+pub mod Backing
+pub mod Carrying
+pub mod Owning
+pub mod Opening
+pub mod Raising
+pub mod Searching
+pub mod Sweeping
+pub mod Laws
+pub mod LoansKept

@@ -1,0 +1,41 @@
+-- Gaps by their addresses.
+use Rattle.std.specs.Prelude.{◌≡◌, ℕ, ◌+◌, Contains, Some}
+use Rattle.std.specs.Option.{option_map_or}
+use Rattle.mac_base.specs.Arrangement.{open_at}
+use Rattle.mac_base.specs.Gap.{Gap, gaps, filled, lowest_gap, own_gap, room}
+use Rattle.mac_base.specs.HandleTable.{HandleTable}
+use Rattle.mac_base.specs.Loans.{LoansAreFixed}
+use Rattle.mac_base.specs.Suits.{Coherent}
+use Rattle.mac_base.specs.ZoneMap.{ZoneMap, address_behind, total_size}
+use Rattle.mac_base.specs.ZoneState.{ZoneState}
+use Rattle.linked_zone.specs.Changes.{with_map}
+use Rattle.linked_zone.specs.Fit.{HasSizes}
+use Rattle.zone_gaps.specs.declared.gap.FoundGap.{FoundGap}
+
+-- blocks may be moved: they and their owners find each other, sizes are possible, and what is lent is fixed
+pub record Settled (z : ZoneState) : Type 0 where
+  pub coherent : Coherent z.shape z.heap.table z.heap.map
+  pub sizes : HasSizes z
+  pub loans : LoansAreFixed z.heap
+
+-- a gap begins at an address
+pub record GapAt (z : ZoneState) (start : ℕ) : Type 0 where
+  pub gap : Gap
+  pub among : Contains (gaps z.heap.table z.heap.map) gap
+  pub place : start ≡ address_behind z.shape gap.before
+
+-- the lowest gap with room for k bytes is found
+pub record IsFoundGap (z : ZoneState) (k : ℕ) (found : FoundGap) : Type 0 where
+  pub gap : Gap
+  pub lowest : lowest_gap k (gaps z.heap.table z.heap.map) ≡ Some gap
+  pub start : found.start ≡ address_behind z.shape gap.before
+  pub end : found.end ≡ found.start + total_size gap.blocks
+  pub room : found.room ≡ room gap
+
+-- the zone with these blocks in a gap
+abbrev pub with_gap : ZoneState → Gap → ZoneMap → ZoneState
+with_gap z g blocks = with_map (filled g blocks) z
+
+-- the map with the gap of the handle h open at it
+abbrev pub opened_after : HandleTable → ℕ → ZoneMap → ZoneMap
+opened_after t h m = option_map_or (λ (g : Gap). filled g (open_at h g.blocks)) (own_gap h (gaps t m)) m

@@ -1,0 +1,95 @@
+//! Arrangements of gaps.
+
+ghost use Rattle.std.specs.Prelude.{◌≡◌, IsTrue, IsFalse};
+ghost use Rattle.mac_base.specs.Arrangement.{down, up};
+ghost use Rattle.mac_base.specs.Compaction.{all_down, moved_high};
+ghost use Rattle.mac_base.specs.HandleTable.{is_full, is_locked};
+ghost use Rattle.linked_zone.specs.Changes.{with_map};
+ghost use Rattle.linked_zone.specs.Loans.{KeepsLoans};
+ghost use Rattle.zone_gaps.specs.Gaps.{Settled, GapAt, with_gap, opened_after};
+
+use crate::gap::{gap_end, gap_start, zone_end};
+use crate::run::{carry_up, press_down, press_up};
+use linked_zone::LinkedZone;
+use mac_base::handle::Handle;
+use mac_base::size::ZONE_HEADER;
+
+/// Arranges the gap that begins at an address down: its blocks are moved down, and its free bytes are above them in one
+/// block. The bytes of each block are moved once.
+pub fn squeeze_down(zone: &mut LinkedZone, start: u32)
+    requires gap { GapAt zone.old start }
+    requires settled { Settled zone.old }
+    ensures zone { (at : GapAt zone.old start) → zone.new ≡ with_gap zone.old at.gap (down at.gap.blocks) }
+    ensures loans { KeepsLoans zone.old zone.new }
+    ensures settled { Settled zone.new }
+{
+    let end = gap_end(zone, start);
+    press_down(zone, start, end);
+}
+
+/// Arranges the gap that begins at an address up: its blocks are moved up, and its free bytes are below them in one
+/// block. The bytes of each block are moved once.
+pub fn squeeze_up(zone: &mut LinkedZone, start: u32)
+    requires gap { GapAt zone.old start }
+    requires settled { Settled zone.old }
+    ensures zone { (at : GapAt zone.old start) → zone.new ≡ with_gap zone.old at.gap (up at.gap.blocks) }
+    ensures loans { KeepsLoans zone.old zone.new }
+    ensures settled { Settled zone.new }
+{
+    let end = gap_end(zone, start);
+    press_up(zone, start, end);
+}
+
+/// Arranges the gap of an unlocked handle open at it: its block and those below are moved down, those above it up, and
+/// the gap's free bytes stand right behind it in one block.
+pub fn open_after(zone: &mut LinkedZone, handle: Handle)
+    requires full { IsTrue (is_full zone.old.heap.table handle) }
+    requires unlocked { IsFalse (is_locked zone.old.heap.table handle) }
+    requires settled { Settled zone.old }
+    ensures zone { zone.new ≡ with_map (opened_after zone.old.heap.table handle zone.old.heap.map) zone.old }
+    ensures loans { KeepsLoans zone.old zone.new }
+    ensures settled { Settled zone.new }
+{
+    let at = zone.block_of(handle);
+    let start = gap_start(zone, at);
+    let end = gap_end(zone, at);
+    let middle = at + zone.entry_at(at).size;
+    let free = press_down(zone, start, middle);
+    press_up(zone, free, end);
+}
+
+/// Moves the block of an unlocked handle to the high end of its gap: the others are moved down, and the gap's free bytes
+/// stand below it in one block.
+pub fn raise(zone: &mut LinkedZone, handle: Handle)
+    requires full { IsTrue (is_full zone.old.heap.table handle) }
+    requires unlocked { IsFalse (is_locked zone.old.heap.table handle) }
+    requires settled { Settled zone.old }
+    ensures zone { zone.new ≡ with_map (moved_high zone.old.heap.table handle zone.old.heap.map) zone.old }
+    ensures loans { KeepsLoans zone.old zone.new }
+    ensures settled { Settled zone.new }
+{
+    let at = zone.block_of(handle);
+    let start = gap_start(zone, at);
+    let end = gap_end(zone, at);
+    let high = carry_up(zone, at, end);
+    press_down(zone, start, high);
+}
+
+/// Arranges all gaps down.
+pub fn squeeze_all_down(zone: &mut LinkedZone)
+    requires { Settled zone.old }
+    ensures zone { zone.new ≡ with_map (all_down zone.old.heap.table zone.old.heap.map) zone.old }
+    ensures loans { KeepsLoans zone.old zone.new }
+    ensures settled { Settled zone.new }
+{
+    let top = zone_end(zone);
+    let mut at = zone.spec().base() + ZONE_HEADER;
+    while at < top {
+        let end = gap_end(zone, at);
+        press_down(zone, at, end);
+        at = end;
+        if end < top {
+            at += zone.entry_at(end).size;
+        }
+    }
+}

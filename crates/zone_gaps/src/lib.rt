@@ -1,0 +1,10 @@
+//! Arrangements of gaps. A gap is a run of blocks that may move, between blocks that may not; its free bytes are brought
+//! to one place, and its other blocks stay in order.
+#![tactic(auto)]
+
+mod arrange;
+mod gap;
+mod run;
+
+pub use arrange::{open_after, raise, squeeze_all_down, squeeze_down, squeeze_up};
+pub use gap::{FoundGap, lowest_gap};

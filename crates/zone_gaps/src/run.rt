@@ -1,0 +1,95 @@
+//! Arrangements of runs: neighbouring blocks that may move.
+
+ghost use Rattle.std.specs.Prelude.{◌≡◌, ◌+◌};
+ghost use Rattle.mac_base.specs.Arrangement.{down, up, used_blocks};
+ghost use Rattle.mac_base.specs.ZoneMap.{total_size};
+ghost use Rattle.linked_zone.specs.Fit.{HasSizes};
+ghost use Rattle.zone_gaps.specs.Runs.{RunAt, arranged, ParcelAt, LastAt, carried_up};
+
+use linked_zone::LinkedZone;
+
+/// Moves the blocks of a run down, so that its free bytes are above them in one block. The bytes of each block are
+/// moved once. Gives the address at which the free bytes begin.
+pub(crate) fn press_down(zone: &mut LinkedZone, start: u32, end: u32) -> u32
+    requires run { RunAt zone.old start end }
+    requires sizes { HasSizes zone.old }
+    ensures zone { (run : RunAt zone.old start end) → zone.new ≡ arranged zone.old run (down run.blocks) }
+    ensures free { (run : RunAt zone.old start end) → result ≡ start + total_size (used_blocks run.blocks) }
+{
+    let mut free = start;
+    let mut next = start;
+    while next < end {
+        let here = zone.entry_at(next);
+        if here.kind.is_free() {
+            if free < next {
+                zone.merge(free);
+            }
+        } else {
+            if free < next {
+                zone.exchange(free);
+            }
+            free += here.size;
+        }
+        next += here.size;
+    }
+    free
+}
+
+/// Moves the blocks of a run up, so that its free bytes are below them in one block. The bytes of each block are moved
+/// once.
+pub(crate) fn press_up(zone: &mut LinkedZone, start: u32, end: u32)
+    requires run { RunAt zone.old start end }
+    requires sizes { HasSizes zone.old }
+    ensures { (run : RunAt zone.old start end) → zone.new ≡ arranged zone.old run (up run.blocks) }
+{
+    let mut last = last_block(zone, start, end);
+    let mut low = end;
+    let mut free = 0;
+    while start < low {
+        let here = zone.entry_at(last);
+        if here.kind.is_free() {
+            if free > 0 {
+                zone.merge(last);
+            }
+            free += here.size;
+        } else if free > 0 {
+            zone.exchange(last);
+        }
+        low = last;
+        if let Some(below) = zone.before(last) {
+            last = below;
+        }
+    }
+}
+
+/// The address of a run's last block, and that of an empty run's end.
+fn last_block(zone: &LinkedZone, start: u32, end: u32) -> u32
+    requires run { RunAt zone.now start end }
+    requires sizes { HasSizes zone.now }
+    ensures { (run : RunAt zone.now start end) → LastAt run.blocks start result }
+{
+    let mut last = start;
+    let mut next = start;
+    while next < end {
+        last = next;
+        next += zone.entry_at(next).size;
+    }
+    last
+}
+
+/// Moves a block up past the blocks between it and an address. Gives the address at which it stands then.
+pub(crate) fn carry_up(zone: &mut LinkedZone, start: u32, end: u32) -> u32
+    requires parcel { ParcelAt zone.old start end }
+    requires sizes { HasSizes zone.old }
+    ensures zone { (parcel : ParcelAt zone.old start end) → zone.new ≡ carried_up zone.old parcel }
+    ensures address { (parcel : ParcelAt zone.old start end) → result + parcel.here.size ≡ end }
+{
+    let size = zone.entry_at(start).size;
+    let mut at = start;
+    while at + size < end {
+        let passed = zone.entry_at(at + size).size;
+        zone.exchange(at);
+        at += passed;
+    }
+    at
+}

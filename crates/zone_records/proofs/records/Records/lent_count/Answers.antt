@@ -1,0 +1,7 @@
+use Rattle.std.proofs.Common.{◌∙◌}
+use Rattle.zone_records.proofs.Held.{held-now}
+use Rattle.zone_records.proofs.Lending.{count-is}
+use Rattle.zone_records.proofs.records.Records.lent_count.Goals as goal
+
+pub returns-clause-value : goal.returns-clause-value
+returns-clause-value c = c.lent_count.ensures.value ∙ count-is c.self.inside.blocks c.args.self.now (held-now c.self.inside c.args.self.now c.self.invariant c.self.view_is)
