@@ -53,7 +53,13 @@ fn image_of(head: Head, blocks: &[Laid]) -> [u8; 1024] {
 }
 
 /// The bytes of a zone are those of these blocks, and bytes of a zone.
-pub(crate) fn compare(rt: &impl Abort, blocks: &Blocks, heads: HeadKind, head: Head, wanted: &[Laid]) {
+pub(crate) fn compare(
+    rt: &impl Abort,
+    blocks: &Blocks,
+    heads: HeadKind,
+    head: Head,
+    wanted: &[Laid],
+) {
     assert_eq!(rt; blocks.lent_count(), 0);
     assert_eq!(rt; blocks.image(), image_of(head, wanted).as_slice());
     assert!(rt; check(heads, blocks.image()), "they are a zone's");

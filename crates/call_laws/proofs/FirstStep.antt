@@ -14,7 +14,7 @@ use Rattle.mac_base.specs.declared.error.OsErr.TheVariants.{MemFullErr}
 use Rattle.mac_calls.specs.declared.memory_call.MemoryCall.TheVariants.{NewHandle, Peek, Poke}
 use Rattle.mac_calls.specs.declared.reply.Results.TheVariants.{Handle, Bytes}
 use Rattle.mac_calls.specs.Outcomes.{Outcome}
-use Rattle.mac_base.specs.Request.{NewBlock}
+use Rattle.mac_base.specs.declared.request.Request.TheVariants.{NewBlock}
 use Rattle.mac_base.specs.Sound.{Sound}
 use Rattle.mac_calls.specs.ExactStep.{heap_after}
 use Rattle.mac_calls.specs.FirstRuns.{UnmovedRun}

@@ -13,7 +13,7 @@ use Rattle.mac_base.specs.Heap.{Heap, new_heap}
 use Rattle.mac_calls.specs.declared.memory_call.MemoryCall.{MemoryCall}
 use Rattle.mac_calls.specs.declared.memory_call.MemoryCall.TheVariants.{NewHandle, NewPtr, ReserveMem, CompactMem, PurgeMem, NewEmptyHandle, MoreMasters, MaxMem, PurgeSpace, MaxBlock, FreeMem, MaxApplZone, DisposeHandle, EmptyHandle, GetHandleSize, HandToHand, HLock, HPurge, HGetState, HSetState, MoveHHi, HLockHi, Deref, DisposePtr, GetPtrSize, RecoverHandle, SetHandleSize, SetPtrSize, ReallocateHandle, PtrToHand, HandAndHand, PtrToXHand, PtrAndHand, Peek, Poke, BlockMove, ZoneMap as WalkZone}
 use Rattle.mac_calls.specs.GrowZone.{Answer}
-use Rattle.mac_base.specs.Releasing.{DisposesHandle, Empties}
+use Rattle.mac_base.specs.declared.releasing.ReleasingCall.TheVariants.{DisposesHandle, Empties}
 use Rattle.mac_calls.specs.declared.reply.Results.TheVariants.{Nothing, Handle, Pointer, Address, Number, TwoNumbers, Bytes, Blocks}
 use Rattle.mac_calls.specs.Outcomes.{Outcome}
 use Rattle.mac_calls.specs.ExactStep.{exact_step, heap_after, outcomes_to}

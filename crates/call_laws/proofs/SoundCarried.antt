@@ -7,7 +7,9 @@ use Rattle.mac_base.specs.Heap.{Heap}
 use Rattle.mac_base.specs.Sound.{Sound}
 use Rattle.mac_base.specs.Request.{is_among}
 use Rattle.mac_calls.specs.Tests.{IsHandle, IsPointer, NotLent, NotLocked, refusal}
-use Rattle.mac_base.specs.Releasing.{ReleasingCall, DisposesHandle, DisposesPtr, Empties, operand_of, heap_released}
+use Rattle.mac_base.specs.declared.releasing.ReleasingCall.{ReleasingCall}
+use Rattle.mac_base.specs.declared.releasing.ReleasingCall.TheVariants.{DisposesHandle, DisposesPtr, Empties}
+use Rattle.mac_base.specs.Releasing.{operand_of, heap_released}
 use Rattle.mac_calls.specs.GrowZone.{Carried, memory_call, heap_unless, carried_once, carried_from, carried_out}
 use Rattle.zone_laws.proofs.SoundReleased.{sound-disposed, sound-disposed_pointer, sound-emptied}
 use Rattle.call_laws.proofs.Refusals.{first_passed, passed-IsHandle, passed-IsPointer, passed-DisposeHandle}

@@ -13,7 +13,8 @@ use Rattle.mac_base.specs.HandleTable.{HandleTable}
 use Rattle.mac_base.specs.Suits.{Suits}
 use Rattle.mac_base.specs.Gap.{Gap, gaps, filled, room, is_fixed, has_named, some_gap_has, own_gap, gap_behind}
 use Rattle.mac_base.specs.Arrangement.{used_blocks, up, open_at}
-use Rattle.mac_base.specs.Request.{Resize, size_needed, stays, gap_to_grow, room_of, can_grow, fits}
+use Rattle.mac_base.specs.declared.request.Request.TheVariants.{Resize}
+use Rattle.mac_base.specs.Request.{size_needed, stays, gap_to_grow, room_of, can_grow, fits}
 use Rattle.mac_base.specs.Serve.{free_in_front, resized_in_place, opened_for, resized_in_gap, resized_elsewhere, resized_block, placed_relocatable, renamed, gives, serve}
 use Rattle.zone_laws.proofs.GapAppend.{free_bytes-append}
 use Rattle.zone_laws.proofs.GapParts.{IsGap, own_gap-is, gap_behind-is}

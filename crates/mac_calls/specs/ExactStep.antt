@@ -6,7 +6,9 @@ use Rattle.mac_base.specs.HeadKind.{Shape}
 use Rattle.mac_base.specs.ZoneMap.{largest_free}
 use Rattle.mac_base.specs.HandleTable.{HandleTable}
 use Rattle.mac_base.specs.Compaction.{all_down, compacted, moved_high}
-use Rattle.mac_base.specs.Request.{Request, NewMaster, candidates_in, purged_until, makes_handle}
+use Rattle.mac_base.specs.declared.request.Request.{Request}
+use Rattle.mac_base.specs.declared.request.Request.TheVariants.{NewMaster}
+use Rattle.mac_base.specs.Request.{candidates_in, purged_until, makes_handle}
 use Rattle.mac_base.specs.Heap.{Heap, with_table, with_map, all_purged, with_all_emptied, has_none}
 use Rattle.mac_calls.specs.declared.memory_call.MemoryCall.{MemoryCall}
 use Rattle.mac_calls.specs.declared.memory_call.MemoryCall.TheVariants as memory_call

@@ -1,7 +1,8 @@
 -- How a request may run: trials that may choose what moves and what is purged, with the grow-zone procedure between them.
 use Rattle.std.specs.Prelude.{◌≡◌, ℕ, ◌-◌, ◌<◌, ◌==◌, List, [], ◌∷◌, Option, Some, None, MatchOption, MatchBool}
 use Rattle.mac_base.specs.HeadKind.{Shape}
-use Rattle.mac_base.specs.Request.{Request, size_needed}
+use Rattle.mac_base.specs.declared.request.Request.{Request}
+use Rattle.mac_base.specs.Request.{size_needed}
 use Rattle.mac_base.specs.Heap.{Heap}
 use Rattle.mac_base.specs.Trial.{SameHeap, Serves, Fails}
 use Rattle.mac_calls.specs.GrowZone.{Ask, carried_out}

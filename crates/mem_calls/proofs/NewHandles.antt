@@ -6,7 +6,7 @@ use Rattle.mac_base.specs.declared.block.Kind.TheVariants.{Rel}
 use Rattle.mac_base.specs.HeadKind.{Shape, need}
 use Rattle.mac_base.specs.ZoneMap.{ZoneMap}
 use Rattle.mac_base.specs.Heap.{Heap, front_slot, granted, has_none}
-use Rattle.mac_base.specs.Request.{NewBlock, NewEmpty}
+use Rattle.mac_base.specs.declared.request.Request.TheVariants.{NewBlock, NewEmpty}
 use Rattle.mac_base.specs.Serve.{take_lowest}
 use Rattle.mac_base.specs.Sound.{Sound}
 use Rattle.mac_calls.specs.declared.memory_call.MemoryCall.TheVariants.{NewHandle, NewEmptyHandle}

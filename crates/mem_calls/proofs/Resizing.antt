@@ -8,7 +8,7 @@ use Rattle.mac_base.specs.Heap.{Heap, granted}
 use Rattle.mac_calls.specs.declared.memory_call.MemoryCall.TheVariants.{NewPtr, SetHandleSize, SetPtrSize}
 use Rattle.mac_calls.specs.Tests.{refusal}
 use Rattle.mac_calls.specs.declared.reply.Results.TheVariants.{Nothing, Pointer}
-use Rattle.mac_base.specs.Request.{NewPointer, Resize}
+use Rattle.mac_base.specs.declared.request.Request.TheVariants.{NewPointer, Resize}
 use Rattle.mac_base.specs.Serve.{lowest_contents, take_lowest, resized_in_place}
 use Rattle.mac_calls.specs.MemoryStep.{StepBy}
 use Rattle.mac_calls.specs.FirstRuns.{UnmovedRun}

@@ -12,7 +12,9 @@ use Rattle.toolbox.proofs.Holding.{Holds-kept}
 use Rattle.mac_base.specs.HandleTable.{HandleTable}
 use Rattle.mac_base.specs.HeadKind.{Shape}
 use Rattle.mac_base.specs.Heap.{Heap, every_slot_live, table_granted}
-use Rattle.mac_base.specs.Request.{Request, NewEmpty, NewMaster, makes_handle}
+use Rattle.mac_base.specs.declared.request.Request.{Request}
+use Rattle.mac_base.specs.declared.request.Request.TheVariants.{NewEmpty, NewMaster}
+use Rattle.mac_base.specs.Request.{makes_handle}
 use Rattle.mac_calls.specs.declared.memory_call.MemoryCall.{MemoryCall}
 use Rattle.mac_calls.specs.declared.memory_call.MemoryCall.TheVariants.{CompactMem, DisposeHandle, HandToHand, MaxMem, PurgeMem, MoveHHi, HLockHi}
 use Rattle.mac_calls.specs.Built.{is_built_memory}

@@ -8,7 +8,7 @@ use Rattle.mac_base.specs.HeadKind.{Shape, need, head_size}
 use Rattle.mac_base.specs.ZoneMap.{ZoneMap, block, has_free, address_behind}
 use Rattle.mac_base.specs.HandleTable.{Pointer, with_live, zeros}
 use Rattle.mac_base.specs.Suits.{is_block_size, has_length}
-use Rattle.mac_base.specs.Request.{NewPointer}
+use Rattle.mac_base.specs.declared.request.Request.TheVariants.{NewPointer}
 use Rattle.mac_base.specs.Heap.{Heap, granted}
 use Rattle.mac_base.specs.Serve.{take_lowest, taken, lowest_before, lowest_contents}
 use Rattle.mac_base.specs.Sound.{Sound}

@@ -9,7 +9,8 @@ use Rattle.mac_base.specs.HeadKind.{Shape, need, smallest_block}
 use Rattle.mac_base.specs.ZoneMap.{ZoneMap, block, free_block, is_named, sizes, total_size}
 use Rattle.mac_base.specs.HandleTable.{has_block, is_lent}
 use Rattle.mac_base.specs.Heap.{Heap, granted}
-use Rattle.mac_base.specs.Request.{Resize, size_of}
+use Rattle.mac_base.specs.declared.request.Request.TheVariants.{Resize}
+use Rattle.mac_base.specs.Request.{size_of}
 use Rattle.mac_base.specs.Serve.{sized, resized_in_place}
 use Rattle.mac_base.specs.Sound.{Sound}
 use Rattle.mac_base.specs.Suits.{is_block_size, has_length}

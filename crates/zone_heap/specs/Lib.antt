@@ -1,4 +1,5 @@
 pub mod Joins
 pub mod WritingBack
 pub mod Placed
+pub mod Attempts
 pub mod Zone

@@ -1,7 +1,9 @@
 //! A heap zone: one attempt to place, size, flag, release or show a block.
 #![tactic(auto)]
 
+mod shortage;
 mod zone;
 
 pub use block_bytes::check;
+pub use shortage::Shortage;
 pub use zone::{NoRoom, Zone};

@@ -19,7 +19,7 @@ pub struct NoRoom;
 /// A heap zone in raw bytes. Contracts see its shape and its heap: the handle table, the zone map and the free slots.
 /// All host memory is taken by `create`.
 pub struct Zone {
-    pointers: LinkedZone,
+    pub(crate) pointers: LinkedZone,
 }
 
 impl Model for Zone {
@@ -58,7 +58,8 @@ impl Zone {
     ghost use Rattle.mac_base.specs.Heap.{new_heap, with_table};
     ghost use Rattle.mac_base.specs.HeadKind.{max_size};
     ghost use Rattle.mac_base.specs.Sound.{Sound};
-    ghost use Rattle.mac_base.specs.Releasing.{heap_released, DisposesHandle, DisposesPtr, Empties};
+    ghost use Rattle.mac_base.specs.declared.releasing.ReleasingCall.TheVariants.{DisposesHandle, DisposesPtr, Empties};
+    ghost use Rattle.mac_base.specs.Releasing.{heap_released};
     ghost use Rattle.mac_base.specs.ZoneSizes.{shape_of};
     ghost use Rattle.zone_heap.specs.Placed.{placed_lowest, placed_empty, placed_pointer, resized_there};
     ghost use Rattle.mac_base.specs.BlockReport.{report_at};
@@ -384,7 +385,7 @@ ghost use Rattle.zone_heap.specs.Placed.{resized_there};
 ghost use Rattle.zone_heap.specs.Joins.{CanTake, NewlyFree, with_front, all_joined};
 
 /// Cuts a free block to its first `size` bytes, unless fewer bytes than a block has would be left.
-fn cut(pointers: &mut LinkedZone, at: u32, size: u32)
+pub(crate) fn cut(pointers: &mut LinkedZone, at: u32, size: u32)
     requires { CanTake pointers.old at size }
     ensures { (take : CanTake pointers.old at size) → pointers.new ≡ with_front pointers.old take }
 {
@@ -396,7 +397,7 @@ fn cut(pointers: &mut LinkedZone, at: u32, size: u32)
 }
 
 /// Joins a free block to its free neighbours, where no two other free blocks are neighbours.
-fn join(pointers: &mut LinkedZone, at: u32)
+pub(crate) fn join(pointers: &mut LinkedZone, at: u32)
     requires { NewlyFree pointers.old at }
     ensures { pointers.new ≡ all_joined pointers.old }
 {
@@ -413,7 +414,7 @@ fn join(pointers: &mut LinkedZone, at: u32)
 }
 
 /// The size of the free block right behind the one at an address, and 0 where none stands there.
-fn free_behind(pointers: &LinkedZone, at: u32) -> u32
+pub(crate) fn free_behind(pointers: &LinkedZone, at: u32) -> u32
     requires sound { Sound pointers.now.shape pointers.now.heap }
     requires there { EntryAt pointers.now at }
     ensures { (e : EntryAt pointers.now at) → result ≡ free_in_front e.behind }
@@ -429,7 +430,7 @@ fn free_behind(pointers: &LinkedZone, at: u32) -> u32
 
 /// How many of `whole` bytes a block takes that needs `needed` of them: so many, unless fewer bytes than a block has
 /// would be left.
-fn front(pointers: &LinkedZone, whole: u32, needed: u32) -> u32
+pub(crate) fn front(pointers: &LinkedZone, whole: u32, needed: u32) -> u32
     requires { needed ≤ whole }
     ensures { result ≡ (if nat_lt (whole - needed) (smallest_block pointers.now.shape.heads) then whole else needed) }
 {
@@ -442,7 +443,7 @@ fn front(pointers: &LinkedZone, whole: u32, needed: u32) -> u32
 
 /// Gives the owner of a block `length` bytes, which need `needed` bytes of the block. What is over is free where it makes
 /// a block, and joined to the free block behind it.
-fn shrink(pointers: &mut LinkedZone, block: u32, needed: u32, length: u32)
+pub(crate) fn shrink(pointers: &mut LinkedZone, block: u32, needed: u32, length: u32)
     requires sound { Sound pointers.old.shape pointers.old.heap }
     requires block { IsTrue (has_block pointers.old.heap.table block) }
     requires here { IsFalse (is_lent pointers.old.heap.table block) }

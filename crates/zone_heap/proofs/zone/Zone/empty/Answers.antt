@@ -3,7 +3,7 @@ use Rattle.mac_base.specs.HandleTable.{emptied, has_block, is_handle, is_lent}
 use Rattle.mac_base.specs.Heap.{with_emptied}
 use Rattle.mac_base.specs.Sound.{Sound}
 use Rattle.mac_base.specs.ZoneState.{ZoneState, with_heap}
-use Rattle.mac_base.specs.Releasing.{Empties}
+use Rattle.mac_base.specs.declared.releasing.ReleasingCall.TheVariants.{Empties}
 use Rattle.zone_laws.proofs.Lent.{KeepsLent}
 use Rattle.zone_laws.proofs.LentChanges.{keeps-released}
 use Rattle.zone_laws.proofs.SoundReleased.{sound-emptied}
