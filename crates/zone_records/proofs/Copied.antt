@@ -1,5 +1,5 @@
 -- How the call ends that copies bytes of one block over those of another.
-use Rattle.std.proofs.Common.{◌≡◌, ℕ, List, [], ◌∷◌, ◌++◌, length, take, refl, ap, sym, ◌∙◌, subst, arith}
+use Rattle.std.proofs.Common.{◌≡◌, ℕ, [], ◌∷◌, ◌++◌, length, take, refl, ap, sym, ◌∙◌, subst, arith}
 use Rattle.mac_base.specs.ZoneState.{overwritten}
 use Rattle.zone_laws.proofs.Maps.{true_both}
 use Rattle.block_bytes.specs.Copying as raw
@@ -21,10 +21,10 @@ module _ (l : Layout) (z : ZoneRecords) (held : Held l z) (from to n : ℕ) (can
   target = (held_one l z held to can.target).block
 
   -- their bytes are the contents
-  source-bytes : source.contents ≡ bytes_of can.source.content
+  pub source-bytes : source.contents ≡ bytes_of can.source.content
   source-bytes = held-bytes l z held from can.source
 
-  target-bytes : target.contents ≡ bytes_of can.target.content
+  pub target-bytes : target.contents ≡ bytes_of can.target.content
   target-bytes = held-bytes l z held to can.target
 
   -- so they can be copied
