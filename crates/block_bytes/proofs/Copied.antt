@@ -1,7 +1,7 @@
 -- Bytes of one block over those of another.
 use Rattle.std.proofs.Common.{◌≡◌, false, ℕ, ◌+◌, ◌-◌, ◌≤◌, List, [], ◌∷◌, ◌++◌, length, take, sym, ap, ◌∙◌, arith, length-take-le}
 use Rattle.std.proofs.lemmas.List.{take_all}
-use Rattle.mac_base.specs.HeadKind.{head_size, zone_header}
+use Rattle.mac_base.specs.HeadKind.{head_size}
 use Rattle.mac_base.specs.ZoneSizes.{ArePossible}
 use Rattle.mac_base.specs.ZoneState.{overwritten}
 use Rattle.raw_region.specs.Bytes.{part, written}
@@ -19,20 +19,16 @@ use Rattle.block_bytes.proofs.WrittenBack.{written-overwritten}
 
 -- Where the first n bytes of contents of a block lie whose header stands at an address.
 pub record LiesAt (z : Inside) (at n : ℕ) : Type 0 where
-  pub above : z.spec.base + zone_header ≤ at
   pub inside : (p : ℕ) → p ≡ at - z.spec.base + head_size z.spec.heads → p + n ≤ length z.memory.bytes
   pub free : (p : ℕ) → p ≡ at - z.spec.base + head_size z.spec.heads → IsFree z.memory.lent p n
-  pub low : at + head_size z.spec.heads ≤ z.spec.base + z.spec.limit
 
 -- those of a block of the list that isn't lent do
 lies_at : (z : Inside) → IsLayout z → (at n : ℕ) (b : BlockAt (layout_of z) at) → b.here.lent ≡ false → n ≤ length b.here.contents → LiesAt z at n
 lies_at z whole at n b unlent within =
     let i = IsIn-from z whole b.before b.here b.behind b.blocks in let place = b.place in
     record {
-      above = omega arith;
       inside = λ p is. omega arith;
       free = λ p is. unlent-free z whole b.before (b.here ∷ []) b.behind b.blocks (unlent, tt) p n (omega arith) (omega arith);
-      low = omega arith;
     }
 
 -- so do those of the block that is copied, and of the one that is written

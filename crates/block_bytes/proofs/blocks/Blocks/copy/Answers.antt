@@ -8,7 +8,6 @@ use Rattle.block_bytes.proofs.Parts.{IsRead}
 use Rattle.block_bytes.proofs.Copied.{source-lies, target-lies, copied-read}
 use Rattle.block_bytes.proofs.blocks.Blocks.copy.Goals as goal
 
-
 pub slide-requires-clause-from_inside : goal.slide-requires-clause-from_inside
 slide-requires-clause-from_inside c = let lies = source-lies c.self.inside c.self.invariant c.args.from c.args.to c.args.count (subst (λ (l : Layout). CanCopy l c.args.from c.args.to c.args.count) (sym c.self.view_is) c.requires) in
     let e = ap head_size c.heads.ensures in lies.inside _ (omega arith)
