@@ -14,3 +14,5 @@ pub mod Loans
 pub mod Sizing
 pub mod Shrinking
 pub mod Growing
+pub mod Finding
+pub mod Clearing
