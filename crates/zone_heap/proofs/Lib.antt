@@ -16,3 +16,5 @@ pub mod Shrinking
 pub mod Growing
 pub mod Finding
 pub mod Clearing
+pub mod Masters
+pub mod Attempting

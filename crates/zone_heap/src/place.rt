@@ -5,6 +5,7 @@ use crate::zone::{Zone, cut};
 use linked_zone::LinkedZone;
 use mac_base::handle::{Handle, Ptr};
 use mac_base::size::{MASTER_LENGTH, need_for};
+use mac_base::zone_spec::ADDRESS_END;
 use zone_gaps::{lowest_gap, squeeze_down, squeeze_up};
 
 impl Zone {
@@ -132,7 +133,9 @@ pub(crate) fn new_master(zone: &mut LinkedZone) -> Result<u32, Shortage>
     ensures loans { KeepsLoans zone.old zone.new }
     ensures sound { SoundZone zone.new }
 {
-    let heads = zone.spec().heads();
+    let spec = zone.spec();
+    prove!(spec.base() + spec.limit() <= ADDRESS_END);
+    let heads = spec.heads();
     let needed = need_for(heads, MASTER_LENGTH);
     let Some(at) = clear_lowest(zone, needed) else {
         return Err(Shortage::NoRoom);
