@@ -14,3 +14,7 @@ pub mod Loans
 pub mod Sizing
 pub mod Shrinking
 pub mod Growing
+pub mod Finding
+pub mod Clearing
+pub mod Masters
+pub mod Attempting

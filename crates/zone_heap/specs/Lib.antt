@@ -2,4 +2,5 @@ pub mod Joins
 pub mod WritingBack
 pub mod Placed
 pub mod Attempts
+pub mod Room
 pub mod Zone
