@@ -21,3 +21,4 @@ pub mod WrittenBack
 pub mod Loans
 pub mod NewZone
 pub mod Exchanging
+pub mod Extending
