@@ -18,3 +18,4 @@ mod Exchanging
 mod Flagging
 mod Lending
 mod Chaining
+pub mod Extending
