@@ -1,6 +1,7 @@
 -- A zone grown to its limit: its new free block joined to the last one.
-use Rattle.std.proofs.Common.{◌≡◌, ℕ, ◌+◌, ◌-◌, ◌<◌, ◌≤◌, Bool, true, false, cond, eqb, [], ◌∷◌, ◌++◌, refl, ap, sym, ◌∙◌, subst, arith, append-nil, IsTrue}
+use Rattle.std.proofs.Common.{◌≡◌, ℕ, ◌+◌, ◌-◌, ◌<◌, ◌≤◌, Bool, true, false, ◌||◌, eqb, [], ◌∷◌, ◌++◌, refl, ap, sym, ◌∙◌, subst, arith, append-nil, IsTrue}
 use Rattle.std.specs.List.{list_all}
+use Rattle.std.proofs.lemmas.Bool.Decides.{nat_tests}
 use Rattle.mac_base.specs.declared.block.Entry.{Entry}
 use Rattle.mac_base.specs.declared.block.Kind.TheVariants.{Free}
 use Rattle.mac_base.specs.HeadKind.{Shape, zone_header}
@@ -26,6 +27,14 @@ keeps-grown s heap = record {
   fixed = λ x _ fixed. fixed;
 }
 
+-- one of two tests passes, and the first doesn't
+or_rest : (a b : Bool) → (a || b) ≡ true → a ≡ false → b ≡ true
+or_rest true b h is = absurd (cc is)
+or_rest false b h is = h
+
+not_zero : (n : ℕ) → 0 < n → eqb n 0 ≡ false
+not_zero n some = grind (arith, nat_tests)
+
 module _ (z : ZoneState) (sound : Sound z.shape z.heap) where
   abbrev left : ℕ
   left = z.shape.limit - (zone_header + total_size z.heap.map)
@@ -36,11 +45,8 @@ module _ (z : ZoneState) (sound : Sound z.shape z.heap) where
     free = record { before = z.heap.map; size = left; behind = []; map = ap (λ m. z.heap.map ++ m) (free_block-some left (omega arith)); place = omega arith };
     before = sound.suits.apart;
     behind = refl;
-    sizes = passes-behind (λ (e : Entry). is_block_size z.shape e.size) z.heap.map left sound.suits.sizes (λ some. some_size left some sound.growth);
+    sizes = passes-behind (λ (e : Entry). is_block_size z.shape e.size) z.heap.map left sound.suits.sizes (λ some. or_rest (eqb left 0) (is_block_size z.shape left) sound.growth (not_zero left some));
   }
-    where
-      some_size : (n : ℕ) → 0 < n → is_growth z.shape n ≡ true → is_block_size z.shape n ≡ true
-      some_size n some growth = elim (eqb n 0) as (λ b. eqb n 0 ≡ b → is_block_size z.shape n ≡ true) [ | true ↦ λ is. ? | false ↦ λ is. ? ] refl
 
   -- joined to the last, it is the grown zone's
   pub extended-joined : all_joined (extended z) ≡ with_heap (grown z.shape z.heap) z
