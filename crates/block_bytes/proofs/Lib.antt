@@ -22,3 +22,4 @@ pub mod Copied
 pub mod Loans
 pub mod NewZone
 pub mod Exchanging
+pub mod Extending

@@ -286,3 +286,12 @@ pub record IsLoanOf (l : Layout) (at : ℕ) (loan : Loan) : Type 0 where
 -- a block that was lent, with the bytes that came back
 abbrev pub given_back : RawBlock → List ℕ → RawBlock
 given_back b bytes = record b { contents = bytes; lent = false }
+
+-- a free block of these bytes, the first of which its header takes the place of; none where there are no bytes
+abbrev pub free_block_of : HeadKind → List ℕ → List RawBlock
+free_block_of heads [] = []
+free_block_of heads (x ∷ xs) = free_raw_block (drop (head_size heads) (x ∷ xs)) ∷ []
+
+-- the zone grown to its limit: the bytes up to there are a free block behind the others
+abbrev pub extended : Layout → Layout
+extended l = record l { blocks = l.blocks ++ free_block_of l.heads l.spare; spare = [] }

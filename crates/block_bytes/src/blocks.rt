@@ -100,7 +100,7 @@ impl Blocks {
     ghost use Rattle.mac_base.specs.ZoneSizes.{shape_of};
     ghost use Rattle.raw_region.specs.Bytes.{part, written};
     ghost use Rattle.block_bytes.specs.declared.header.Role.TheVariants.{Free};
-    ghost use Rattle.block_bytes.specs.Layout.{RawBlock, Layout, BlockAt, UnlentAt, WordAt, CanBe, CanTurn, CanResize, CanSplit, PairAt, CanMerge, Exchanged, CanLend, IsLoanOf, NothingLent, in_role, front_of, rest_of, with_word, cleared, cleared_from, CanClear, body, raw_block, free_raw_block, size_of, header_of, is_possible, joint_body, zone_bytes, with_blocks, with_front, address_behind, free_total, lent_count, most_lent, loan_of, lent_block, given_back};
+    ghost use Rattle.block_bytes.specs.Layout.{RawBlock, Layout, BlockAt, UnlentAt, WordAt, CanBe, CanTurn, CanResize, CanSplit, PairAt, CanMerge, Exchanged, CanLend, IsLoanOf, NothingLent, in_role, front_of, rest_of, with_word, cleared, cleared_from, CanClear, body, raw_block, free_raw_block, size_of, header_of, is_possible, joint_body, zone_bytes, with_blocks, with_front, extended, address_behind, free_total, lent_count, most_lent, loan_of, lent_block, given_back};
     ghost use Rattle.block_bytes.specs.Finding.{HoldsByte, LiesOutside, LowestFree, NoneFree};
     ghost use Rattle.block_bytes.specs.Copying.{CanCopy, copied_over};
     ghost use Rattle.block_bytes.specs.WritingBack.{WritesBackContents};
@@ -391,6 +391,30 @@ impl Blocks {
         self.index
             .set(start / 4 + second.size as usize / 4, first.mark());
         count_free(&mut self.memory, &self.index, base, 0, 0);
+    }
+
+    /// Grows the zone to its limit: the bytes up to there become one free block behind the last. Its header is written, and
+    /// the other bytes stay. Where the zone is as large as its limit nothing changes.
+    pub fn extend(&mut self)
+        ensures { self.new ≡ extended self.old }
+    {
+        let heads = self.spec.heads();
+        let base = self.spec.base();
+        let size = self.spec.size();
+        let limit = self.spec.limit();
+        if size == limit {
+            return;
+        }
+        let free = Header {
+            size: limit - size,
+            role: Role::Free,
+            correction: 0,
+        };
+        self.memory.set_header(heads, size as usize, base, free);
+        self.index.set(size as usize / 4, free.size);
+        count_free(&mut self.memory, &self.index, base, free.size, 0);
+        self.memory.set_end(base + limit);
+        self.spec = self.spec.at_limit();
     }
 
     /// Lends the contents of the block at an address: who has the loan reads and writes them.

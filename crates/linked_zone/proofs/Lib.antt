@@ -3,6 +3,7 @@ mod ChangeBlock
 mod ChangeCut
 mod ChangeEmptied
 mod ChangeExchanged
+pub mod ChangeExtended
 mod ChangeFixed
 mod ChangeFlagged
 mod ChangeGivenBack
@@ -17,6 +18,7 @@ mod ChangeWritten
 mod Ends
 mod EndsCut
 mod EndsExchange
+mod EndsExtended
 mod EndsFlags
 mod EndsFollow
 mod EndsGiven

@@ -4,7 +4,7 @@ use Rattle.mac_base.specs.declared.block.Entry.{Entry}
 use Rattle.mac_base.specs.declared.block.Flags.{Flags}
 use Rattle.mac_base.specs.declared.block.Kind.TheVariants.{Free, Master, Ptr, Rel}
 use Rattle.mac_base.specs.HeadKind.{zone_header, head_size, slot_count}
-use Rattle.mac_base.specs.ZoneMap.{ZoneMap, block, free_block, is_named}
+use Rattle.mac_base.specs.ZoneMap.{ZoneMap, block, free_block, is_named, total_size}
 use Rattle.mac_base.specs.ZoneSizes.{ZoneSizes, shape_of}
 use Rattle.mac_base.specs.HandleTable.{HandleTable, EmptyHandle, FullHandle, Pointer, new_table, no_flags, zeros, bytes_of, resized, with_live, with_bytes, with_flags, without, emptied}
 use Rattle.mac_base.specs.Suits.{slots_from}
@@ -14,6 +14,10 @@ use Rattle.linked_zone.specs.Places.{FreeAt, FreePair, CanHold, CanGrow, Movable
 -- the zone with another map
 abbrev pub with_map : ZoneMap → ZoneState → ZoneState
 with_map m z = record z { heap = record { table = z.heap.table; map = m; free_slots = z.heap.free_slots } }
+
+-- the zone grown to its limit: the bytes up to there are a free block behind the others
+abbrev pub extended : ZoneState → ZoneState
+extended z = with_map (z.heap.map ++ free_block (z.shape.limit - (zone_header + total_size z.heap.map))) z
 
 -- a new zone without a slot: one free block
 abbrev pub bare_zone : Memory → ZoneSizes → ZoneState

@@ -9,7 +9,7 @@ impl LinkedZone {
     ghost use Rattle.std.specs.Prelude.{◌≡◌, ◌+◌, IsTrue, IsFalse, MatchOption, Some, ◌∷◌, [], drop};
     ghost use Rattle.mac_base.specs.HandleTable.{EmptyHandle, is_full, is_lent, is_pointer, live_at};
     ghost use Rattle.mac_base.specs.HeadKind.{master_length, head_size};
-    ghost use Rattle.linked_zone.specs.Changes.{taken, given_back, pointed, without_block, fixed, unfixed, cut_in_two, joined_pair, with_master, exchanged};
+    ghost use Rattle.linked_zone.specs.Changes.{extended, taken, given_back, pointed, without_block, fixed, unfixed, cut_in_two, joined_pair, with_master, exchanged};
     ghost use Rattle.linked_zone.specs.Places.{RoomFor, CanCut, FreePair, MovablePair};
 
     /// Makes the next slot to be given an empty handle. There is none exactly where no slot is free, and then nothing
@@ -39,6 +39,15 @@ impl LinkedZone {
         let next = self.records.front();
         self.records.set_slot(slot, Slot::Free(next));
         self.records.set_front(slot);
+    }
+
+    /// Grows the zone to its limit: the bytes up to there are a free block behind the last. Where the zone is as large as its
+    /// limit nothing changes.
+    pub fn extend(&mut self)
+        ensures { self.new ≡ extended self.old }
+    {
+        let _size = self.records.spec().size();
+        self.records.extend();
     }
 
     /// Cuts a free block in two, the first of `size` bytes.

@@ -18,3 +18,4 @@ pub mod Finding
 pub mod Clearing
 pub mod Masters
 pub mod Attempting
+pub mod Extending

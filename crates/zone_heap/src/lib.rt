@@ -2,6 +2,7 @@
 #![tactic(auto)]
 
 mod place;
+mod growth;
 mod shortage;
 mod zone;
 

@@ -19,3 +19,4 @@ mod Flagging
 mod Lending
 mod Copied
 mod Chaining
+pub mod Extending

@@ -23,6 +23,10 @@ with_front h z = record z { front = h }
 abbrev pub free_record : ℕ → List BlockRecord
 free_record n = if n == 0 then [] else block_record Free n ∷ []
 
+-- the zone grown to its limit: the bytes up to there are a free block behind the others
+abbrev pub extended : ZoneRecords → ZoneRecords
+extended z = with_blocks (z.blocks ++ free_record (z.shape.limit - (zone_header + total_of z.blocks))) z
+
 -- the free block at an address has this in it
 abbrev pub filled : Content → {at : ℕ} → (z : ZoneRecords) → FreeAt z at → ZoneRecords
 filled content z free = with_blocks (free.before ++ block_record content free.size ∷ free.behind) z

@@ -52,7 +52,7 @@ impl Records {
     ghost use Rattle.zone_records.specs.Records.{ZoneRecords, Fixed, Master, Relocatable, sizes_of, kind_of, length_of, bytes_of, lent_count, NothingLent};
     ghost use Rattle.mac_base.specs.Loans.{most_loans};
     ghost use Rattle.zone_records.specs.Places.{RecordAt, FreeAt, HeldAt, HandleBlockAt, SlotAt, RoomFor, CanCut, FreePair, CanHold, CanGrow, PairAt, IsLoanOf, LowestAt, has_free, can_say, can_flag};
-    ghost use Rattle.zone_records.specs.Changes.{new_records, with_front, filled, chained, emptied, flagged, with_slot, cut_in_two, joined_pair, held_there, enlarged, exchanged, lent_out, loan_of, taken_back};
+    ghost use Rattle.zone_records.specs.Changes.{new_records, with_front, extended, filled, chained, emptied, flagged, with_slot, cut_in_two, joined_pair, held_there, enlarged, exchanged, lent_out, loan_of, taken_back};
     ghost use Rattle.zone_records.specs.Fitting.{fitted, CanKeep};
     ghost use Rattle.zone_records.specs.Copying.{CanCopy, copied};
     ghost use Rattle.zone_records.specs.Image.{HasBytes};
@@ -287,6 +287,15 @@ impl Records {
         let second = self.blocks.entry_at(at + first).size;
         let length = first + second - self.head_size();
         self.blocks.merge(at, length);
+    }
+
+    /// Grows the zone to its limit: the bytes up to there are a free block behind the last. Where the zone is as large as its
+    /// limit nothing changes.
+    pub fn extend(&mut self)
+        ensures { self.new ≡ extended self.old }
+    {
+        let _size = self.blocks.spec().size();
+        self.blocks.extend();
     }
 
     /// Gives the block of a handle or a pointer `length` bytes in its first `size` bytes; the others are free. Bytes that
