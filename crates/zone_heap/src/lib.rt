@@ -2,6 +2,7 @@
 #![tactic(auto)]
 
 mod shortage;
+mod size;
 mod zone;
 
 pub use block_bytes::check;
