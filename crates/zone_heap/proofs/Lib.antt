@@ -14,3 +14,4 @@ pub mod Loans
 pub mod Sizing
 pub mod Shrinking
 pub mod Growing
+pub mod Resizing
