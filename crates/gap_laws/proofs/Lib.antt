@@ -9,5 +9,10 @@ pub mod ServedRequests
 pub mod ServedResize
 pub mod SlotBounds
 pub mod SoundGrown
+pub mod SoundMoved
+pub mod SoundMaster
 pub mod SoundPurged
+pub mod SoundServed
+pub mod SoundTaken
 pub mod SuitsNil
+pub mod SuitsRestored
