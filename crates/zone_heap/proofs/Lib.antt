@@ -15,3 +15,5 @@ pub mod Sizing
 pub mod Shrinking
 pub mod Growing
 pub mod Resizing
+pub mod NewPlaces
+pub mod Moving

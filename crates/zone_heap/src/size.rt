@@ -1,24 +1,24 @@
 //! Another size for a block: where it is, or where others make way for it.
 
-ghost use Rattle.std.specs.Prelude.{◌≡◌, ◌≤◌, IsTrue, IsFalse, MatchOption, MatchResult, Some, None, if◌then◌else◌, is_some};
-ghost use Rattle.mac_base.specs.Gap.{gaps};
-ghost use Rattle.mac_base.specs.HandleTable.{has_block, is_full, is_lent};
+ghost use Rattle.std.specs.Prelude.{◌≡◌, ◌<◌, ◌≤◌, IsTrue, IsFalse, MatchOption, MatchResult, Some, None, if◌then◌else◌, is_some};
+ghost use Rattle.mac_base.specs.declared.block.Kind.{Kind};
+ghost use Rattle.mac_base.specs.HandleTable.{has_block, is_lent};
 ghost use Rattle.mac_base.specs.HeadKind.{max_size, need};
 ghost use Rattle.mac_base.specs.Request.{gap_to_grow, stays};
-ghost use Rattle.mac_base.specs.Serve.{resized_in_gap, resized_in_place};
+ghost use Rattle.mac_base.specs.Serve.{placed_relocatable, resized_in_gap, resized_in_place};
 ghost use Rattle.linked_zone.specs.Changes.{with_map};
 ghost use Rattle.linked_zone.specs.Loans.{KeepsLoans};
 ghost use Rattle.zone_gaps.specs.Gaps.{IsGapOf};
 ghost use Rattle.zone_heap.specs.Attempts.{SoundZone};
 ghost use Rattle.zone_heap.specs.Placed.{resized_there};
-ghost use Rattle.zone_heap.specs.Resized.{way_made};
+ghost use Rattle.zone_heap.specs.Resized.{IsPlace, way_made};
 
 use crate::zone::{free_behind, front, shrink};
 use linked_zone::LinkedZone;
 use mac_base::handle::{Handle, Ptr};
 use mac_base::size::need_for;
 use mac_base::zone_spec::{ADDRESS_END, LARGEST_LIMIT};
-use zone_gaps::{FoundGap, gap_behind, open_after, own_gap, squeeze_up};
+use zone_gaps::{FoundGap, gap_behind, lowest_gap, open_after, own_gap, squeeze_down, squeeze_up};
 
 /// Whether a block stays where it is: that of a pointer or of a locked handle.
 fn stays(zone: &LinkedZone, block: u32) -> bool
@@ -105,4 +105,21 @@ fn make_way(zone: &mut LinkedZone, block: u32, length: u32) -> bool
         open_after(zone, Handle::new(block));
     }
     true
+}
+
+/// Finds a free block of at least `needed` bytes for a relocatable block: the lowest one, or else the room of the lowest
+/// gap with room, which is arranged down for it. Where there is none, nothing has changed.
+fn new_place(zone: &mut LinkedZone, needed: u32) -> Option<u32>
+    requires sound { SoundZone zone.old }
+    requires some { 0 < needed }
+    ensures place { MatchOption result (((kind : Kind) → placed_relocatable zone.old.shape zone.old.heap.table needed kind zone.old.heap.map ≡ None) × (zone.new ≡ zone.old)) (λ at. IsPlace zone.old needed at zone.new) }
+    ensures loans { KeepsLoans zone.old zone.new }
+    ensures sound { SoundZone zone.new }
+{
+    if let Some(at) = zone.lowest_free(needed) {
+        return Some(at);
+    }
+    let gap = lowest_gap(zone, needed)?;
+    squeeze_down(zone, gap.start);
+    Some(gap.end - gap.room)
 }
