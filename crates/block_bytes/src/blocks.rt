@@ -102,6 +102,7 @@ impl Blocks {
     ghost use Rattle.block_bytes.specs.declared.header.Role.TheVariants.{Free};
     ghost use Rattle.block_bytes.specs.Layout.{RawBlock, Layout, BlockAt, UnlentAt, WordAt, CanBe, CanTurn, CanResize, CanSplit, PairAt, CanMerge, Exchanged, CanLend, IsLoanOf, NothingLent, in_role, front_of, rest_of, with_word, cleared, cleared_from, CanClear, body, raw_block, free_raw_block, size_of, header_of, is_possible, joint_body, zone_bytes, with_blocks, with_front, address_behind, free_total, lent_count, most_lent, loan_of, lent_block, given_back};
     ghost use Rattle.block_bytes.specs.Finding.{HoldsByte, LiesOutside, LowestFree, NoneFree};
+    ghost use Rattle.block_bytes.specs.Copying.{CanCopy, copied_over};
     ghost use Rattle.block_bytes.specs.WritingBack.{WritesBackContents};
     ghost use Rattle.block_bytes.specs.NewLayout.{new_layout};
     ghost use Rattle.block_bytes.specs.Walk.{Walks};
@@ -484,6 +485,21 @@ impl Blocks {
         let start = at - self.spec.base() + head_size + from;
         let length = header.size - head_size - header.correction - from;
         self.memory.clear(start as usize, length as usize);
+    }
+
+    /// Copies the first `count` bytes of the contents of the block at `from` over the first of the contents of the block
+    /// at `to`, which stands below it or above.
+    pub fn copy(&mut self, from: u32, to: u32, count: u32)
+        requires { CanCopy self.old from to count }
+        ensures { (can : CanCopy self.old from to count)
+            → self.new ≡ with_blocks (can.target.before ++ copied_over can.target.here (take count can.source.here.contents) ∷ can.target.behind) self.old }
+    {
+        let base = self.spec.base();
+        let head_size = self.spec.heads().head_size();
+        let source = from - base + head_size;
+        let target = to - base + head_size;
+        self.memory
+            .slide(source as usize, target as usize, count as usize);
     }
 
     /// The bytes of the zone, from its start to the end of its last block. Its blocks are possible ones.

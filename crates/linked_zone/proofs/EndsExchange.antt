@@ -47,7 +47,7 @@ here-unlent z (kind.Ptr p) here = true_not _ here
 here-unlent z (kind.Rel h) here = true_not _ here
 
 -- a handle's slot can say where its block's contents are to begin
-moved-said : (heads : HeadKind) (l : Option Live) (old new next : ℕ) → live_full l ≡ true → ((flags : Flags) → can_say heads (slot.Full (slot_flags heads flags) new) ≡ true) → can_say heads (moved_to new (slot_of_live heads l old next)) ≡ true
+pub moved-said : (heads : HeadKind) (l : Option Live) (old new next : ℕ) → live_full l ≡ true → ((flags : Flags) → can_say heads (slot.Full (slot_flags heads flags) new) ≡ true) → can_say heads (moved_to new (slot_of_live heads l old next)) ≡ true
 moved-said heads None old new next full said = absurd (cc full)
 moved-said heads (Some EmptyHandle) old new next full said = absurd (cc full)
 moved-said heads (Some (FullHandle flags bytes)) old new next full said = said flags

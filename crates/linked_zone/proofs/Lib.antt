@@ -9,6 +9,7 @@ mod ChangeGivenBack
 mod ChangeMaster
 mod ChangeParts
 mod ChangePointed
+mod ChangeRelocated
 mod ChangeSized
 mod ChangeTaken
 mod ChangeUnfixed
@@ -21,6 +22,7 @@ mod EndsFollow
 mod EndsGiven
 mod EndsLoans
 mod EndsMaster
+mod EndsRelocated
 mod EndsSaid
 mod EndsSized
 mod EndsSlots
@@ -35,5 +37,8 @@ mod ReadBlocks
 mod ReadFree
 mod ReadNumbers
 mod Reported
+pub mod RelocatedLoans
+mod RelocatedPlaces
 mod Standing
+mod TwoPlaces
 mod Unlent

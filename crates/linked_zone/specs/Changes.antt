@@ -98,3 +98,11 @@ enlarged {x = x} {size = size} {n = n} z can = with_heap (record {
 -- two neighbours have changed places; every handle and pointer has the same bytes
 abbrev pub exchanged : {at : ℕ} → (z : ZoneState) → MovablePair z at → ZoneState
 exchanged z pair = with_map (pair.before ++ pair.second ∷ pair.first ∷ pair.behind) z
+
+-- the block of the handle h is the free one, with n bytes, and its old block is free
+abbrev pub relocated : ℕ → ℕ → {at : ℕ} → (z : ZoneState) → FreeAt z at → ZoneState
+relocated h n z free = with_heap (record {
+  table = sized h n z.heap.table;
+  map = freed h free.before ++ block (Rel h) free.size ∷ freed h free.behind;
+  free_slots = z.heap.free_slots;
+}) z

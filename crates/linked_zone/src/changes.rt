@@ -130,7 +130,7 @@ ghost use Rattle.std.specs.Prelude.{◌≡◌};
 ghost use Rattle.linked_zone.specs.Following.{CanFollow, followed};
 
 /// Makes the slot of a handle, if the block is one's, say where the block's contents begin now.
-fn follow(records: &mut Records, kind: Kind, contents: u32)
+pub(crate) fn follow(records: &mut Records, kind: Kind, contents: u32)
     requires { CanFollow records.old kind contents }
     ensures { (can : CanFollow records.old kind contents) → records.new ≡ followed records.old kind contents can }
 {

@@ -17,4 +17,5 @@ mod Growing
 mod Exchanging
 mod Flagging
 mod Lending
+mod Copied
 mod Chaining

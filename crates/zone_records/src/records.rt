@@ -54,6 +54,7 @@ impl Records {
     ghost use Rattle.zone_records.specs.Places.{RecordAt, FreeAt, HeldAt, HandleBlockAt, SlotAt, RoomFor, CanCut, FreePair, CanHold, CanGrow, PairAt, IsLoanOf, LowestAt, has_free, can_say, can_flag};
     ghost use Rattle.zone_records.specs.Changes.{new_records, with_front, filled, chained, emptied, flagged, with_slot, cut_in_two, joined_pair, held_there, enlarged, exchanged, lent_out, loan_of, taken_back};
     ghost use Rattle.zone_records.specs.Fitting.{fitted, CanKeep};
+    ghost use Rattle.zone_records.specs.Copying.{CanCopy, copied};
     ghost use Rattle.zone_records.specs.Image.{HasBytes};
     ghost use Rattle.zone_records.specs.WritingBack.{WritesBackContents};
     ghost use Rattle.block_bytes.specs.Walk.{Walks};
@@ -318,6 +319,15 @@ impl Records {
         ensures { (pair : PairAt self.old at) → self.new ≡ exchanged self.old pair }
     {
         self.blocks.exchange(at);
+    }
+
+    /// Copies the first `count` bytes of the block of a handle or a pointer over the first of another such block, which
+    /// stands below it or above.
+    pub fn copy(&mut self, from: u32, to: u32, count: u32)
+        requires { CanCopy self.old from to count }
+        ensures { (can : CanCopy self.old from to count) → self.new ≡ copied self.old can }
+    {
+        self.blocks.copy(from, to, count);
     }
 
     /// The bytes of the block of a handle or a pointer.
