@@ -15,3 +15,4 @@ pub mod Searching
 pub mod Sweeping
 pub mod Laws
 pub mod LoansKept
+pub mod Rooms

@@ -19,3 +19,6 @@ pub mod Clearing
 pub mod Masters
 pub mod Attempting
 pub mod Extending
+pub mod Resizing
+pub mod NewPlaces
+pub mod Moving

@@ -49,7 +49,7 @@ pub record Standing (z : ZoneState) (x n k at : ℕ) : Type 0 where
 
 module _ (z : ZoneState) (x n k at : ℕ) (b : Standing z x n k at) where
   -- x has no other
-  once : sizes (is_named x) z.heap.map ≡ b.named.here.size ∷ []
+  pub once : sizes (is_named x) z.heap.map ≡ b.named.here.size ∷ []
   once =
       let before = sizes (is_named x) b.named.before in
       let behind = sizes (is_named x) b.named.behind in
@@ -58,7 +58,7 @@ module _ (z : ZoneState) (x n k at : ℕ) (b : Standing z x n k at) where
       parts ∙ only before b.named.here.size behind (ap length (sym parts) ∙ named_once z.shape z.heap.table z.heap.map x b.sound.suits b.block)
 
   -- so it is the one that x names
-  there : At x z.heap.map b.named.here.size b.named.before b.named.here.kind b.named.behind
+  pub there : At x z.heap.map b.named.here.size b.named.before b.named.here.kind b.named.behind
   there = At-from x z.heap.map b.named.here.size b.named.before b.named.here b.named.behind once b.named.map b.named.named
 
   -- its size is possible

@@ -4,3 +4,4 @@ pub mod Placed
 pub mod Attempts
 pub mod Room
 pub mod Zone
+pub mod Resized

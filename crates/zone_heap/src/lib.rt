@@ -4,6 +4,7 @@
 mod place;
 mod growth;
 mod shortage;
+mod size;
 mod zone;
 
 pub use block_bytes::check;

@@ -1,0 +1,1 @@
+-- A block in a new place.

@@ -1,0 +1,125 @@
+//! Another size for a block: where it is, or where others make way for it.
+
+ghost use Rattle.std.specs.Prelude.{◌≡◌, ◌<◌, ◌≤◌, IsTrue, IsFalse, MatchOption, MatchResult, Some, None, if◌then◌else◌, is_some};
+ghost use Rattle.mac_base.specs.declared.block.Kind.{Kind};
+ghost use Rattle.mac_base.specs.HandleTable.{has_block, is_lent};
+ghost use Rattle.mac_base.specs.HeadKind.{max_size, need};
+ghost use Rattle.mac_base.specs.Request.{gap_to_grow, stays};
+ghost use Rattle.mac_base.specs.Serve.{placed_relocatable, resized_in_gap, resized_in_place};
+ghost use Rattle.linked_zone.specs.Changes.{with_map};
+ghost use Rattle.linked_zone.specs.Loans.{KeepsLoans};
+ghost use Rattle.zone_gaps.specs.Gaps.{IsGapOf};
+ghost use Rattle.zone_heap.specs.Attempts.{SoundZone};
+ghost use Rattle.zone_heap.specs.Placed.{resized_there};
+ghost use Rattle.zone_heap.specs.Resized.{IsPlace, way_made};
+
+use crate::zone::{free_behind, front, shrink};
+use linked_zone::LinkedZone;
+use mac_base::handle::{Handle, Ptr};
+use mac_base::size::need_for;
+use mac_base::zone_spec::{ADDRESS_END, LARGEST_LIMIT};
+use zone_gaps::{FoundGap, gap_behind, lowest_gap, open_after, own_gap, squeeze_down, squeeze_up};
+
+/// Whether a block stays where it is: that of a pointer or of a locked handle.
+fn stays(zone: &LinkedZone, block: u32) -> bool
+    requires { IsTrue (has_block zone.now.heap.table block) }
+    ensures { result ≡ stays zone.now.heap.table block }
+{
+    zone.is_pointer(Ptr::new(block)) || zone.flags(Handle::new(block)).lock
+}
+
+/// Whether a block can have `length` bytes where it is, with those of the free block right behind it.
+fn fits_there(zone: &LinkedZone, block: u32, length: u32) -> bool
+    requires sound { SoundZone zone.now }
+    requires block { IsTrue (has_block zone.now.heap.table block) }
+    requires size { length ≤ max_size }
+    ensures { result ≡ is_some (resized_in_place zone.now.shape (need zone.now.shape.heads length) block zone.now.heap.map) }
+{
+    let spec = zone.spec();
+    prove!(spec.base() + spec.limit() <= ADDRESS_END);
+    let at = zone.place_of(block);
+    need_for(spec.heads(), length) <= zone.entry_at(at).size + free_behind(zone, at)
+}
+
+/// Gives a block `length` bytes where it is: its own, or with them those of the free block right behind it. What is over
+/// is free where it makes a block. Bytes that were in it stay, as far as they go, and those that are added are zero.
+fn resize_there(zone: &mut LinkedZone, block: u32, length: u32)
+    requires sound { SoundZone zone.old }
+    requires block { IsTrue (has_block zone.old.heap.table block) }
+    requires here { IsFalse (is_lent zone.old.heap.table block) }
+    requires size { length ≤ max_size }
+    requires fits { IsTrue (is_some (resized_in_place zone.old.shape (need zone.old.shape.heads length) block zone.old.heap.map)) }
+    ensures heap { resized_there zone.old.shape block length zone.old.heap ≡ Some zone.new.heap }
+    ensures shape { zone.new.shape ≡ zone.old.shape }
+    ensures loans { KeepsLoans zone.old zone.new }
+    ensures sound { SoundZone zone.new }
+{
+    let needed = need_for(zone.spec().heads(), length);
+    let at = zone.place_of(block);
+    let size = zone.entry_at(at).size;
+    if needed <= size {
+        shrink(zone, block, needed, length);
+    } else {
+        let spec = zone.spec();
+        prove!(spec.limit() <= LARGEST_LIMIT);
+        let whole = size + free_behind(zone, at);
+        let taken = front(zone, whole, needed);
+        zone.grow(block, taken, length);
+    }
+}
+
+/// The gap in which a block can grow without a new place.
+fn gap_to_grow(zone: &LinkedZone, block: u32) -> FoundGap
+    requires sound { SoundZone zone.now }
+    requires block { IsTrue (has_block zone.now.heap.table block) }
+    ensures { IsGapOf zone.now (gap_to_grow zone.now.heap.table block zone.now.heap.map) result }
+{
+    if stays(zone, block) {
+        gap_behind(zone, block)
+    } else {
+        own_gap(zone, Handle::new(block))
+    }
+}
+
+/// Lets the other blocks of its gap make way for a block, so that the free bytes of the gap stand right behind it, where
+/// it can then have `length` bytes. Else nothing has changed.
+fn make_way(zone: &mut LinkedZone, block: u32, length: u32) -> bool
+    requires sound { SoundZone zone.old }
+    requires block { IsTrue (has_block zone.old.heap.table block) }
+    requires size { length ≤ max_size }
+    ensures fits { result ≡ is_some (resized_in_gap zone.old.shape zone.old.heap.table (need zone.old.shape.heads length) block zone.old.heap.map) }
+    ensures zone { zone.new ≡ (if result then with_map (way_made zone.old.heap.table block zone.old.heap.map) zone.old else zone.old) }
+    ensures loans { KeepsLoans zone.old zone.new }
+    ensures sound { SoundZone zone.new }
+{
+    let spec = zone.spec();
+    prove!(spec.base() + spec.limit() <= ADDRESS_END);
+    let gap = gap_to_grow(zone, block);
+    let size = zone.entry_at(zone.place_of(block)).size;
+    if size + gap.room < need_for(spec.heads(), length) {
+        return false;
+    }
+    if stays(zone, block) {
+        squeeze_up(zone, gap.start);
+    } else {
+        open_after(zone, Handle::new(block));
+    }
+    true
+}
+
+/// Finds a free block of at least `needed` bytes for a relocatable block: the lowest one, or else the room of the lowest
+/// gap with room, which is arranged down for it. Where there is none, nothing has changed.
+fn new_place(zone: &mut LinkedZone, needed: u32) -> Option<u32>
+    requires sound { SoundZone zone.old }
+    requires some { 0 < needed }
+    ensures place { MatchOption result (((kind : Kind) → placed_relocatable zone.old.shape zone.old.heap.table needed kind zone.old.heap.map ≡ None) × (zone.new ≡ zone.old)) (λ at. IsPlace zone.old needed at zone.new) }
+    ensures loans { KeepsLoans zone.old zone.new }
+    ensures sound { SoundZone zone.new }
+{
+    if let Some(at) = zone.lowest_free(needed) {
+        return Some(at);
+    }
+    let gap = lowest_gap(zone, needed)?;
+    squeeze_down(zone, gap.start);
+    Some(gap.end - gap.room)
+}
