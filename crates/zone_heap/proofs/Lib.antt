@@ -15,3 +15,6 @@ pub mod Sizing
 pub mod Shrinking
 pub mod Growing
 pub mod Extending
+pub mod Largest
+pub mod Compacting
+pub mod Recovering
