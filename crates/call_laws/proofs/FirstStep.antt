@@ -91,7 +91,7 @@ first_step = (
   one_handle,
   (
     record { grows = false; purges = [] },
-    record { grows_at_need = λ h. absurd (cc h); purges_at_need = inl refl; purges_candidates = λ h in_none. absurd (omega (arith, in_none.1)) },
+    record { grows_at_need = λ h. absurd (cc h); purges_at_need = inl refl; purges_at_limit = inl refl; purges_candidates = λ h in_none. absurd (omega (arith, in_none.1)) },
     record { fitted = refl; number = refl; table = refl; map = record { same_blocks = same_blocks; same_places = same_places; same_total = refl }; suits = one_handle_suits },
   ),
   (refl, refl, refl),

@@ -1,8 +1,15 @@
 mod Rows
 mod FirstStep
 pub mod MoreSteps
+pub mod Prepared
 pub mod Refusals
+pub mod RunAnswers
+pub mod RunPermitted
 pub mod SoundCalls
 pub mod SoundCarried
+pub mod StepAnswers
+pub mod StepPermitted
+pub mod StepQuiet
+pub mod StepRequests
 pub mod Steps
 pub mod Unmoved

@@ -1,5 +1,8 @@
+pub mod Emptied
 pub mod FittingResize
+pub mod FixesSame
 pub mod FreshNumbers
+pub mod PurgeBlocks
 pub mod RearrangedSuits
 pub mod RearrangingAll
 pub mod ServedBase

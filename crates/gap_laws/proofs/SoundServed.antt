@@ -88,7 +88,7 @@ placed_there s k kind heap x new some sound h =
     }
 
 -- what is served is sound
-sound-serve : (s : Shape) (r : Request) (heap : Heap) (x : ℕ) (m : ZoneMap) → Sound s heap → MayServe heap r → serve s heap.table (front_slot heap) heap.map r ≡ Some (x, m) → Sound s (granted r x m heap)
+pub sound-serve : (s : Shape) (r : Request) (heap : Heap) (x : ℕ) (m : ZoneMap) → Sound s heap → MayServe heap r → serve s heap.table (front_slot heap) heap.map r ≡ Some (x, m) → Sound s (granted r x m heap)
 sound-serve s (NewBlock n) heap x m sound some h =
     let found = option_map-Some (gives (front_slot heap)) (placed_relocatable s heap.table (need s.heads n) (Rel (front_slot heap)) heap.map) (x, m) h in
     let f = front heap some in
@@ -158,7 +158,8 @@ refilled-fixed bytes (Some EmptyHandle) h = absurd (cc h)
 refilled-fixed bytes (Some (FullHandle flags old)) h = h
 refilled-fixed bytes (Some (Pointer old)) h = h
 
-loans_fixed-granted : (s : Shape) (r : Request) (heap : Heap) (x : ℕ) (m : ZoneMap) → Sound s heap → MayServe heap r → LeavesLent heap r → LoansAreFixed heap → serve s heap.table (front_slot heap) heap.map r ≡ Some (x, m) → LoansAreFixed (granted r x m heap)
+-- what is lent is fixed in the heap in which it is served
+pub loans_fixed-granted : (s : Shape) (r : Request) (heap : Heap) (x : ℕ) (m : ZoneMap) → Sound s heap → MayServe heap r → LeavesLent heap r → LoansAreFixed heap → serve s heap.table (front_slot heap) heap.map r ≡ Some (x, m) → LoansAreFixed (granted r x m heap)
 loans_fixed-granted s (NewBlock n) heap x m sound some leaves fixed h =
     let found = option_map-Some (gives (front_slot heap)) (placed_relocatable s heap.table (need s.heads n) (Rel (front_slot heap)) heap.map) (x, m) h in
     let slot : front_slot heap ≡ x = ap (λ g. g.0) found.2 in

@@ -35,7 +35,7 @@ after_ask ask e = record e { asks = ask ∷ e.asks }
 
 -- what is asked for a request, and how the answer's calls went
 abbrev pub asked : Shape → Request → Option Answer → Carried → Ask
-asked s r answer c = record { needed = size_needed s r; answer = answer; codes = c.codes }
+asked s r answer c = record { needed = size_needed s r; answer = answer; carried = c.calls }
 
 -- The run of a request, where the procedure may still answer so many times and these are its answers, in order.
 abbrev pub request_run : Shape → List ℕ → Request → ℕ → List Answer → Heap → Ending

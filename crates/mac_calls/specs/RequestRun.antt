@@ -17,6 +17,6 @@ RequestRun s protected r allowed old [] (Some x) new = Serves s protected r x ol
 RequestRun s protected r allowed old [] None new = (allowed ≡ 0) × Fails s protected r old new
 RequestRun s protected r allowed old (ask ∷ asks) given new =
     (0 < allowed) × (ask.needed ≡ size_needed s r) × (mid : Heap) × Fails s protected r old mid
-    × MatchOption ask.answer ((ask.codes ≡ []) × EndsUnserved mid asks given new) (λ a.
+    × MatchOption ask.answer ((ask.carried ≡ []) × EndsUnserved mid asks given new) (λ a.
     let c = carried_out s protected a.calls mid in
-    (ask.codes ≡ c.codes) × MatchBool (a.value == 0) (EndsUnserved c.heap asks given new) (RequestRun s protected r (allowed - 1) c.heap asks given new))
+    (ask.carried ≡ c.calls) × MatchBool (a.value == 0) (EndsUnserved c.heap asks given new) (RequestRun s protected r (allowed - 1) c.heap asks given new))

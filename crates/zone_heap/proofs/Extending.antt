@@ -1,14 +1,12 @@
 -- A zone grown to its limit: its new free block joined to the last one.
-use Rattle.std.proofs.Common.{◌≡◌, ℕ, ◌+◌, ◌-◌, ◌<◌, ◌≤◌, Bool, true, false, ◌||◌, eqb, [], ◌∷◌, ◌++◌, refl, ap, sym, ◌∙◌, subst, arith, append-nil, IsTrue}
-use Rattle.std.specs.List.{list_all}
+use Rattle.std.proofs.Common.{◌≡◌, ℕ, ◌+◌, ◌-◌, ◌<◌, Bool, true, false, ◌||◌, eqb, [], ◌++◌, refl, ap, sym, ◌∙◌, arith, append-nil}
 use Rattle.std.proofs.lemmas.Bool.Decides.{nat_tests}
 use Rattle.mac_base.specs.declared.block.Entry.{Entry}
-use Rattle.mac_base.specs.declared.block.Kind.TheVariants.{Free}
 use Rattle.mac_base.specs.HeadKind.{Shape, zone_header}
 use Rattle.mac_base.specs.Heap.{Heap, grown}
-use Rattle.mac_base.specs.Sound.{Sound, is_growth}
+use Rattle.mac_base.specs.Sound.{Sound}
 use Rattle.mac_base.specs.Suits.{is_block_size, free_apart}
-use Rattle.mac_base.specs.ZoneMap.{ZoneMap, block, free_block, is_named, total_size, address_behind}
+use Rattle.mac_base.specs.ZoneMap.{free_block, is_named, total_size}
 use Rattle.mac_base.specs.ZoneState.{ZoneState, with_heap}
 use Rattle.zone_laws.proofs.Fitting.{free_block-some}
 use Rattle.zone_laws.proofs.Joined.{joined-apart}

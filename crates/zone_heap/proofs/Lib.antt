@@ -22,3 +22,6 @@ pub mod Extending
 pub mod Resizing
 pub mod NewPlaces
 pub mod Moving
+pub mod Largest
+pub mod Compacting
+pub mod Recovering

@@ -5,3 +5,4 @@ pub mod Attempts
 pub mod Room
 pub mod Zone
 pub mod Resized
+pub mod Squeezed

@@ -2,6 +2,7 @@
 #![tactic(auto)]
 
 mod place;
+mod compact;
 mod growth;
 mod shortage;
 mod size;

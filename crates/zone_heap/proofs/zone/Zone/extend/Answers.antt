@@ -1,12 +1,9 @@
-use Rattle.std.proofs.Common.{◌≡◌, ◌+◌, ◌<◌, ◌∙◌, sym, ap, subst, refl, arith}
+use Rattle.std.proofs.Common.{◌≡◌, ◌+◌, ◌∙◌, sym, ap, subst, refl, arith}
 use Rattle.mac_base.specs.Heap.{grown}
-use Rattle.mac_base.specs.HeadKind.{zone_header}
 use Rattle.mac_base.specs.Sound.{Sound}
-use Rattle.mac_base.specs.ZoneMap.{total_size}
 use Rattle.mac_base.specs.ZoneSizes.{ZoneSizes}
 use Rattle.mac_base.specs.ZoneState.{ZoneState, with_heap}
 use Rattle.gap_laws.proofs.SoundGrown.{sound-grown}
-use Rattle.zone_heap.specs.Attempts.{SoundZone}
 use Rattle.zone_heap.specs.Joins.{NewlyFree, all_joined}
 use Rattle.zone_heap.proofs.Loans.{changed-loans, changed-fixed}
 use Rattle.zone_heap.proofs.Extending.{keeps-grown, extended-newly, extended-full}
