@@ -17,3 +17,4 @@ pub mod Growing
 pub mod Resizing
 pub mod NewPlaces
 pub mod Moving
+pub mod Resizes
