@@ -2,14 +2,13 @@
 use Rattle.std.proofs.Common.{◌≡◌, ℕ, ◌+◌, ◌≤◌, ◌-◌, Bool, true, false, cond, eqb, [], ◌∷◌, ◌++◌, length, refl, ap, sym, ◌∙◌, arith, subst, Some, None, Option, IsTrue}
 use Rattle.std.specs.Prelude.{◌&&◌, ◌==◌, ◌||◌, nat_lt, option_map}
 use Rattle.std.specs.List.{list_all}
-use Rattle.std.proofs.lemmas.Bool.{or_right}
 use Rattle.std.proofs.lemmas.List.{map-append}
 use Rattle.std.proofs.lemmas.List.Folds.{list_all-append}
 use Rattle.mac_base.specs.declared.block.Entry.{Entry}
 use Rattle.mac_base.specs.declared.block.Kind.{Kind}
 use Rattle.mac_base.specs.declared.block.Kind.TheVariants.{Free, Master, Ptr, Rel}
 use Rattle.mac_base.specs.declared.request.Request.TheVariants.{Resize}
-use Rattle.mac_base.specs.HandleTable.{HandleTable, live_at, refilled, resized, bytes_of, has_block, is_full, is_lent, is_locked, is_pointer}
+use Rattle.mac_base.specs.HandleTable.{live_at, refilled, resized, bytes_of, has_block, is_full, is_lent, is_locked, is_pointer}
 use Rattle.mac_base.specs.HeadKind.{Shape, need, smallest_block, zone_header}
 use Rattle.mac_base.specs.Heap.{Heap, granted}
 use Rattle.mac_base.specs.Loans.{LoansAreFixed}
@@ -17,10 +16,9 @@ use Rattle.mac_base.specs.Request.{stays}
 use Rattle.mac_base.specs.Serve.{placed_relocatable, renamed, resized_elsewhere, taken}
 use Rattle.mac_base.specs.Sound.{Sound}
 use Rattle.mac_base.specs.Suits.{free_apart, has_length, is_block_size}
-use Rattle.mac_base.specs.ZoneMap.{ZoneMap, address_behind, addresses, addresses_from, block, is_free, is_named, joined, joined_to, released, sizes, total_size}
+use Rattle.mac_base.specs.ZoneMap.{ZoneMap, address_behind, addresses_from, block, is_free, is_named, joined, joined_to, released, sizes, total_size}
 use Rattle.mac_base.specs.ZoneState.{ZoneState}
 use Rattle.zone_laws.proofs.GapAppend.{length-addresses_from, sizes-append}
-use Rattle.zone_laws.proofs.GapApart.{sizes_possible}
 use Rattle.zone_laws.proofs.Lent.{KeepsLent, contents_of-same, fixed-kept, keeps-others, lent-apart, lent-block, other_named}
 use Rattle.zone_laws.proofs.Maps.{both_true, list_all-middle, true_both}
 use Rattle.zone_laws.proofs.NamedPlace.{At, At-from, nil-append}

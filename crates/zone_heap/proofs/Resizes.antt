@@ -1,17 +1,16 @@
 -- A request for another size, as it is attempted: in place, in the gap, and in a new place.
-use Rattle.std.proofs.Common.{◌≡◌, ℕ, Bool, true, false, cond, refl, ap, sym, ◌∙◌, subst, Option, Some, None, MatchResult}
+use Rattle.std.proofs.Common.{◌≡◌, ℕ, true, false, cond, refl, ap, sym, ◌∙◌, subst, Option, Some, None, MatchResult}
 use Rattle.std.specs.Prelude.{is_some, option_map, Result, Ok, Err}
 use Rattle.std.specs.Option.{option_or}
 use Rattle.std.proofs.lemmas.Bool.{and_parts, not-true}
 use Rattle.mac_base.specs.declared.block.Kind.TheVariants.{Rel}
 use Rattle.mac_base.specs.declared.request.Request.TheVariants.{Resize}
 use Rattle.mac_base.specs.Attempt.{attempted}
-use Rattle.mac_base.specs.HandleTable.{HandleTable, has_block, is_lent}
+use Rattle.mac_base.specs.HandleTable.{has_block, is_lent}
 use Rattle.mac_base.specs.HeadKind.{Shape, need}
 use Rattle.mac_base.specs.Heap.{Heap, front_slot, granted}
 use Rattle.mac_base.specs.Request.{fits, stays}
 use Rattle.mac_base.specs.Serve.{gives, placed_relocatable, renamed, resized_block, resized_elsewhere, resized_in_gap, resized_in_place}
-use Rattle.mac_base.specs.Sound.{Sound}
 use Rattle.mac_base.specs.ZoneMap.{ZoneMap, released}
 use Rattle.mac_base.specs.ZoneState.{ZoneState}
 use Rattle.zone_laws.proofs.PlacedParts.{option_map-Some}

@@ -1,8 +1,5 @@
-use Rattle.std.proofs.Common.{◌≡◌, ◌∙◌, false, ap, sym, subst}
-use Rattle.std.specs.Prelude.{is_some}
-use Rattle.mac_base.specs.HeadKind.{need}
+use Rattle.std.proofs.Common.{◌∙◌, ap, sym, subst}
 use Rattle.mac_base.specs.Request.{stays}
-use Rattle.mac_base.specs.Serve.{resized_in_place}
 use Rattle.mac_base.specs.ZoneState.{ZoneState}
 use Rattle.linked_zone.specs.Loans.{KeepsLoans}
 use Rattle.zone_heap.specs.Placed.{resized_there}

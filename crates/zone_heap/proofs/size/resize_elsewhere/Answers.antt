@@ -5,8 +5,7 @@ use Rattle.mac_base.specs.ZoneSizes.{ZoneSizes}
 use Rattle.mac_base.specs.ZoneState.{ZoneState}
 use Rattle.linked_zone.specs.Changes.{relocated}
 use Rattle.linked_zone.specs.Places.{BlockOf, RoomFor}
-use Rattle.zone_heap.specs.Resized.{IsPlace}
-use Rattle.zone_heap.proofs.Moving.{moved, can-take, cut_zone, cut-done, room, newly, moved-done, size-found, table-found, moved-away, not-away, moved-sound, moved-loans}
+use Rattle.zone_heap.proofs.Moving.{moved, can-take, cut_zone, cut-done, room, newly, moved-done, size-found, table-found, moved-away, moved-sound, moved-loans}
 use Rattle.zone_heap.proofs.size.resize_elsewhere.Goals as goal
 use Rattle.zone_heap.proofs.size.resize_elsewhere.Goals.{After-need_for-needed, In-Some, After-cut, After-relocate, After-join}
 
