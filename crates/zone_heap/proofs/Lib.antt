@@ -25,3 +25,4 @@ pub mod Moving
 pub mod Largest
 pub mod Compacting
 pub mod Recovering
+pub mod Resizes

@@ -1,5 +1,5 @@
 -- A new place for a relocatable block.
-use Rattle.std.proofs.Common.{◌≡◌, ℕ, ◌+◌, ◌<◌, ◌≤◌, Bool, true, false, not, cond, [], ◌∷◌, ◌++◌, refl, ap, sym, ◌∙◌, append_assoc, append-nil, arith, subst, Option, Some, None, IsTrue}
+use Rattle.std.proofs.Common.{◌≡◌, ℕ, ◌+◌, ◌<◌, ◌≤◌, true, false, not, cond, [], ◌∷◌, ◌++◌, refl, ap, ◌∙◌, append_assoc, append-nil, arith, Some, None, IsTrue}
 use Rattle.std.specs.Prelude.{◌&&◌, nat_le, option_and_then, option_map}
 use Rattle.std.specs.Option.{option_or}
 use Rattle.std.specs.List.{list_all}
@@ -10,7 +10,7 @@ use Rattle.mac_base.specs.declared.block.Kind.TheVariants.{Free}
 use Rattle.mac_base.specs.Arrangement.{down, used_blocks}
 use Rattle.mac_base.specs.Gap.{Gap, filled, gaps, lowest_gap, room}
 use Rattle.mac_base.specs.Serve.{placed_relocatable, take_lowest, taken}
-use Rattle.mac_base.specs.ZoneMap.{ZoneMap, block, free_bytes, has_free, is_free, total_size}
+use Rattle.mac_base.specs.ZoneMap.{ZoneMap, block, has_free, is_free}
 use Rattle.mac_base.specs.ZoneState.{ZoneState}
 use Rattle.zone_laws.proofs.Arranging.{down-IsArrangement, total_size-used}
 use Rattle.zone_laws.proofs.GapAppend.{total_size-append}

@@ -1,14 +1,12 @@
 -- What a block that gets another size leaves, and what makes way for it.
-use Rattle.std.proofs.Common.{◌≡◌, ℕ, ◌+◌, ◌≤◌, ◌∷◌, ◌++◌, arith, Bool, true, false, cond, refl, ap, sym, ◌∙◌, subst, Option, Some, None, IsTrue}
-use Rattle.std.specs.Prelude.{nat_le, is_some, option_and_then, option_map}
+use Rattle.std.proofs.Common.{◌≡◌, ℕ, ◌+◌, ◌≤◌, ◌∷◌, ◌++◌, arith, true, false, cond, refl, ap, sym, ◌∙◌, subst, Option, Some, None}
+use Rattle.std.specs.Prelude.{nat_le, is_some, option_and_then}
 use Rattle.std.specs.Option.{option_map_or}
-use Rattle.mac_base.specs.declared.request.Request.TheVariants.{Resize}
 use Rattle.mac_base.specs.Arrangement.{open_at, up}
-use Rattle.mac_base.specs.Gap.{Gap, gaps, filled, gap_behind, ends_with, has_named, own_gap, room}
+use Rattle.mac_base.specs.Gap.{Gap, gaps, filled, gap_behind, ends_with, own_gap}
 use Rattle.mac_base.specs.HandleTable.{HandleTable, has_block, is_lent}
 use Rattle.mac_base.specs.HeadKind.{Shape, need}
-use Rattle.mac_base.specs.Heap.{Heap, granted}
-use Rattle.mac_base.specs.Loans.{LoansAreFixed}
+use Rattle.mac_base.specs.Heap.{Heap}
 use Rattle.mac_base.specs.Request.{gap_to_grow, room_of, size_of, stays}
 use Rattle.mac_base.specs.Serve.{free_in_front, opened_for, resized_in_gap, resized_in_place}
 use Rattle.mac_base.specs.Sound.{Sound}
