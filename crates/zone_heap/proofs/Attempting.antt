@@ -1,19 +1,17 @@
 -- Attempts to place a block, by the zone in which room was made for it.
-use Rattle.std.proofs.Common.{◌≡◌, ℕ, ◌+◌, ◌<◌, ◌≤◌, Bool, true, false, List, [], ◌∷◌, ◌++◌, drop, Some, None, Option, refl, ap, sym, ◌∙◌, subst, append_assoc, IsTrue, IsFalse}
-use Rattle.std.specs.Prelude.{is_some, not, slice_index, option_map, option_and_then, Ok}
+use Rattle.std.proofs.Common.{◌≡◌, ℕ, ◌+◌, ◌<◌, ◌≤◌, Bool, true, false, [], ◌∷◌, ◌++◌, Some, None, Option, refl, ap, sym, ◌∙◌, subst, append_assoc, IsFalse}
+use Rattle.std.specs.Prelude.{is_some, not, slice_index, option_map, option_and_then}
 use Rattle.mac_base.specs.declared.block.Entry.{Entry}
 use Rattle.mac_base.specs.declared.block.Kind.{Kind}
 use Rattle.mac_base.specs.declared.block.Kind.TheVariants.{Free, Master, Ptr, Rel}
 use Rattle.mac_base.specs.declared.request.Request.{Request}
-use Rattle.mac_base.specs.declared.request.Request.TheVariants.{NewBlock, NewEmpty, NewPointer, NewMaster, Reserve}
-use Rattle.mac_base.specs.Attempt.{attempted}
+use Rattle.mac_base.specs.declared.request.Request.TheVariants.{NewBlock, NewPointer, NewMaster, Reserve}
 use Rattle.mac_base.specs.Gap.{Gap, gaps, filled, lowest_gap, some_gap_has}
-use Rattle.mac_base.specs.HandleTable.{HandleTable}
-use Rattle.mac_base.specs.HeadKind.{Shape, need, head_size, master_length}
+use Rattle.mac_base.specs.HeadKind.{need, head_size, master_length}
 use Rattle.mac_base.specs.Heap.{Heap, front_slot, granted, has_none}
-use Rattle.mac_base.specs.Request.{fits, size_needed}
+use Rattle.mac_base.specs.Request.{fits}
 use Rattle.mac_base.specs.Serve.{begins_free, cleared, contents_at_gap, gives, placed_fixed, placed_relocatable, serve, take_lowest, taken}
-use Rattle.mac_base.specs.ZoneMap.{ZoneMap, block, address_behind}
+use Rattle.mac_base.specs.ZoneMap.{ZoneMap, block}
 use Rattle.mac_base.specs.ZoneState.{ZoneState}
 use Rattle.zone_laws.proofs.Fitting.{begins_free-cleared, is_some-lowest_gap, size_needed-positive, serve-NewBlock, serve-NewPointer, serve-NewMaster, serve-Reserve}
 use Rattle.zone_laws.proofs.GapParts.{lowest_gap-is}
@@ -71,9 +69,8 @@ block_served old z last h n k at o p slot is =
     let front : front_slot old.heap ≡ h = ap (λ (w : ZoneState). front_slot w.heap) (sym o.zone) ∙ ap (λ xs. slice_index xs 0) p.front in
     let size : need s.heads n ≡ k = ap (λ (w : ZoneState). need w.shape.heads n) (sym o.zone) ∙ sym p.size in
     let found : placed_relocatable s t (need s.heads n) (Rel h) old.heap.map ≡ Some m =
-        ap (λ k. placed_relocatable s t k (Rel h) old.heap.map) size ∙ o.taken (Rel h) ∙ ap (λ (w : ZoneState). take_lowest w.shape k (Rel h) w.heap.map) (sym o.zone)
-        ∙ ap (λ k. take_lowest z.shape k (Rel h) z.heap.map) p.size ∙ lowest-taken z h n k at p in
-    (
+    ap (λ k. placed_relocatable s t k (Rel h) old.heap.map) size ∙ o.taken (Rel h) ∙ ap (λ (w : ZoneState). take_lowest w.shape k (Rel h) w.heap.map) (sym o.zone)
+    ∙ ap (λ k. take_lowest z.shape k (Rel h) z.heap.map) p.size ∙ lowest-taken z h n k at p in (
       slot,
       ap (λ x. give x (placed_relocatable s t (need s.heads n) (Rel x) old.heap.map)) front ∙ ap (give h) found ∙ ap (λ (w : ZoneState). Some (h, granted (NewBlock n) h m w.heap)) (sym o.zone) ∙ ap (λ (w : ZoneState). Some (h, w.heap)) (sym is),
       ap (λ (w : ZoneState). w.shape) is ∙ ap (λ (w : ZoneState). w.shape) o.zone,
@@ -146,8 +143,7 @@ module _ (old new : ZoneState) (k at n : ℕ) (size : k ≡ need old.shape.heads
   pointer_served last p is =
       let x = pointer_at new n k at p in
       let m = pointer_map new n k at p in
-      let give : Option (ℕ × ZoneMap) → Option (ℕ × Heap) = option_map (λ (f : ℕ × ZoneMap). (f.0, granted (NewPointer n) f.0 f.1 old.heap)) in
-      (
+      let give : Option (ℕ × ZoneMap) → Option (ℕ × Heap) = option_map (λ (f : ℕ × ZoneMap). (f.0, granted (NewPointer n) f.0 f.1 old.heap)) in (
         refl,
         ap (λ k. give (placed_fixed old.shape old.heap.table k (λ q. Ptr q) old.heap.map)) (sym size) ∙ ap give (cleared_taken (λ q. Ptr q))
             ∙ ap (λ o. give (option_map (λ m. (x, m)) o)) (ap (λ k. take_lowest new.shape k (Ptr x) new.heap.map) p.size ∙ pointer_taken new n k at p)
@@ -158,8 +154,7 @@ module _ (old new : ZoneState) (k at n : ℕ) (size : k ≡ need old.shape.heads
   -- what is reserved stays free
   pub reserve_served : IsServed (Reserve n) old 0 new
   reserve_served =
-      let give : Option (ℕ × ZoneMap) → Option (ℕ × Heap) = option_map (λ (f : ℕ × ZoneMap). (f.0, granted (Reserve n) f.0 f.1 old.heap)) in
-      (
+      let give : Option (ℕ × ZoneMap) → Option (ℕ × Heap) = option_map (λ (f : ℕ × ZoneMap). (f.0, granted (Reserve n) f.0 f.1 old.heap)) in (
         refl,
         ap (λ k. give (option_map (gives 0) (option_map (λ (g : Gap). filled g (cleared k g.blocks)) (lowest_gap k (gaps old.heap.table old.heap.map))))) (sym size)
             ∙ ap (λ o. give (option_map (gives 0) (option_map (λ (g : Gap). filled g (cleared k g.blocks)) o))) c.lowest ∙ ap (λ (w : ZoneState). Some (0, w.heap)) (sym c.zone),
@@ -171,8 +166,7 @@ pub master_served : (old new : ZoneState) (k at : ℕ) (size : k ≡ need old.sh
 master_served old new k at size c last p is =
     let x = first_slot new k at p in
     let m = master_map new k at p in
-    let give : Option (ℕ × ZoneMap) → Option (ℕ × Heap) = option_map (λ (f : ℕ × ZoneMap). (f.0, granted NewMaster f.0 f.1 old.heap)) in
-    (
+    let give : Option (ℕ × ZoneMap) → Option (ℕ × Heap) = option_map (λ (f : ℕ × ZoneMap). (f.0, granted NewMaster f.0 f.1 old.heap)) in (
       refl,
       ap (λ k. give (placed_fixed old.shape old.heap.table k (λ q. Master) old.heap.map)) (sym size) ∙ ap give (cleared_taken old new k at master_length size c (λ q. Master))
           ∙ ap (λ o. give (option_map (λ m. (x, m)) o)) (master_taken new k at p)

@@ -1,8 +1,7 @@
 -- The lowest gap with room is cleared, or arranged down: what the zone is then, and where its lowest free block with room stands.
-use Rattle.std.proofs.Common.{◌≡◌, ℕ, ◌+◌, ◌-◌, ◌<◌, ◌≤◌, Bool, true, false, not, cond, [], ◌∷◌, ◌++◌, Some, None, refl, ap, sym, ◌∙◌, subst, inl, inr, append-nil, append_assoc, arith, IsTrue}
+use Rattle.std.proofs.Common.{◌≡◌, ℕ, ◌-◌, ◌<◌, ◌≤◌, Bool, true, false, not, cond, [], ◌∷◌, ◌++◌, Some, refl, ap, sym, ◌∙◌, subst, inl, inr, append-nil, append_assoc, arith}
 use Rattle.std.specs.Prelude.{◌&&◌, ◌⊎◌, nat_le, option_map, option_and_then}
 use Rattle.std.specs.Option.{option_or}
-use Rattle.std.specs.List.{list_all}
 use Rattle.std.proofs.lemmas.Bool.Decides.{nat_tests}
 use Rattle.std.proofs.lemmas.List.Folds.{list_all-append}
 use Rattle.mac_base.specs.declared.block.Entry.{Entry}
@@ -10,15 +9,13 @@ use Rattle.mac_base.specs.declared.block.Kind.{Kind}
 use Rattle.mac_base.specs.declared.block.Kind.TheVariants.{Free}
 use Rattle.mac_base.specs.Arrangement.{down, up, used_blocks}
 use Rattle.mac_base.specs.Gap.{Gap, gaps, filled, lowest_gap, room}
-use Rattle.mac_base.specs.HeadKind.{Shape}
-use Rattle.mac_base.specs.Serve.{begins_free, cleared, taken, take_lowest, placed_relocatable}
-use Rattle.mac_base.specs.ZoneMap.{ZoneMap, block, free_block, free_bytes, has_free, is_free, address_behind, total_size}
+use Rattle.mac_base.specs.Serve.{begins_free, taken, take_lowest, placed_relocatable}
+use Rattle.mac_base.specs.ZoneMap.{ZoneMap, block, free_bytes, has_free, is_free}
 use Rattle.mac_base.specs.ZoneState.{ZoneState}
 use Rattle.zone_laws.proofs.Arranging.{IsArrangement, down-IsArrangement, up-IsArrangement, total_size-used}
-use Rattle.zone_laws.proofs.Fitting.{begins_free-cleared, free_block-some}
+use Rattle.zone_laws.proofs.Fitting.{free_block-some}
 use Rattle.zone_laws.proofs.GapParts.{IsGap, lowest_gap-is}
-use Rattle.zone_laws.proofs.Maps.{both_true, true_both, total_size-append}
-use Rattle.zone_laws.proofs.Placing.{has_free-is}
+use Rattle.zone_laws.proofs.Maps.{true_both, total_size-append}
 use Rattle.gap_laws.proofs.RearrangedSuits.{Sound-arranged}
 use Rattle.linked_zone.specs.Changes.{with_map}
 use Rattle.linked_zone.specs.Places.{LowestAt}

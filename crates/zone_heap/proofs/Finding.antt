@@ -1,5 +1,5 @@
 -- What the lowest gap with room is, and what lies before it.
-use Rattle.std.proofs.Common.{◌≡◌, ℕ, ◌+◌, ◌<◌, ◌≤◌, Bool, true, false, not, cond, List, [], ◌∷◌, ◌++◌, Some, None, refl, ap, sym, ◌∙◌, subst, append_assoc, arith, IsTrue}
+use Rattle.std.proofs.Common.{◌≡◌, ℕ, ◌+◌, ◌<◌, Bool, true, false, not, cond, List, [], ◌∷◌, ◌++◌, Some, None, refl, ap, sym, ◌∙◌, subst, append_assoc, arith, IsTrue}
 use Rattle.std.specs.Prelude.{◌&&◌, nat_le, find, map, option_map}
 use Rattle.std.specs.List.{list_all}
 use Rattle.std.proofs.lemmas.Bool.Decides.{nat_tests}
@@ -11,7 +11,7 @@ use Rattle.mac_base.specs.Gap.{Gap, gaps, gaps_with, filled, further, is_fixed, 
 use Rattle.mac_base.specs.HandleTable.{HandleTable}
 use Rattle.mac_base.specs.ZoneMap.{ZoneMap, free_bytes, has_free, is_free}
 use Rattle.mac_base.specs.ZoneState.{ZoneState}
-use Rattle.zone_laws.proofs.GapParts.{IsGap, first_gap, first_gap-before, later_gaps, gaps-first, lowest_gap-is}
+use Rattle.zone_laws.proofs.GapParts.{first_gap, first_gap-before, later_gaps, gaps-first, lowest_gap-is}
 use Rattle.zone_laws.proofs.Maps.{true_both}
 use Rattle.zone_laws.proofs.PlacedParts.{option_map-Some}
 use Rattle.linked_zone.specs.Places.{EntryAt}

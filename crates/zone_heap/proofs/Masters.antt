@@ -5,7 +5,7 @@ use Rattle.mac_base.specs.declared.block.HeadKind.TheVariants.{Bits24, Bits32}
 use Rattle.mac_base.specs.declared.block.Kind.TheVariants.{Free, Master}
 use Rattle.mac_base.specs.declared.request.Request.TheVariants.{NewMaster}
 use Rattle.mac_base.specs.Heap.{granted}
-use Rattle.mac_base.specs.HeadKind.{Shape, head_size, master_length, slot_count}
+use Rattle.mac_base.specs.HeadKind.{head_size, master_length, slot_count}
 use Rattle.mac_base.specs.Serve.{take_lowest, taken}
 use Rattle.mac_base.specs.Sound.{Sound}
 use Rattle.mac_base.specs.Suits.{slots_from}
@@ -19,7 +19,7 @@ use Rattle.gap_laws.proofs.SoundMaster.{sound-master_taken}
 use Rattle.linked_zone.specs.Changes.{with_master}
 use Rattle.linked_zone.specs.Places.{FreeAt, RoomFor}
 use Rattle.zone_heap.specs.Joins.{CanTake, with_front}
-use Rattle.zone_heap.proofs.Pointers.{ChosenBlock, cut_block, block_room, cut-is}
+use Rattle.zone_heap.proofs.Pointers.{ChosenBlock, block_room, cut-is}
 use Rattle.zone_heap.proofs.Taking.{taken-parts, take_lowest-there}
 
 -- a header is short

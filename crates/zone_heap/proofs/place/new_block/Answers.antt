@@ -1,4 +1,4 @@
-use Rattle.std.proofs.Common.{◌≡◌, ◌∙◌, sym, ap, subst, refl, not}
+use Rattle.std.proofs.Common.{◌≡◌, ◌∙◌, sym, ap, subst, refl}
 use Rattle.mac_base.specs.HeadKind.{need}
 use Rattle.mac_base.specs.Sound.{Sound}
 use Rattle.mac_base.specs.ZoneSizes.{ZoneSizes}

@@ -1,6 +1,6 @@
 use Rattle.std.proofs.Common.{◌≡◌, ◌∙◌, ◌+◌, sym, ap, subst, refl, arith}
 use Rattle.mac_base.specs.declared.request.Request.TheVariants.{NewMaster}
-use Rattle.mac_base.specs.HeadKind.{Shape, need, head_size, master_length}
+use Rattle.mac_base.specs.HeadKind.{need, head_size, master_length}
 use Rattle.mac_base.specs.Sound.{Sound}
 use Rattle.mac_base.specs.ZoneSizes.{ZoneSizes}
 use Rattle.mac_base.specs.ZoneState.{ZoneState}
@@ -40,7 +40,7 @@ overflow_add-result c =
     let base : c.base.result ≡ z.shape.base = c.base.ensures.value ∙ ap (λ (s : ZoneSizes). s.base) c.spec-spec.ensures.sizes ∙ ap (λ (w : ZoneState). w.shape.base) (sym c.in-Some.ensures.room.zone) in
     let limit : c.limit.result ≡ z.shape.limit = c.limit.ensures.value ∙ ap (λ (s : ZoneSizes). s.limit) c.spec-spec.ensures.sizes ∙ ap (λ (w : ZoneState). w.shape.limit) (sym c.in-Some.ensures.room.zone) in
     let head : c.head_size.result ≡ head_size z.shape.heads =
-        c.head_size.ensures ∙ ap head_size (c.heads-heads.ensures ∙ ap (λ (s : ZoneSizes). s.heads) c.spec-spec.ensures.sizes) ∙ ap (λ (w : ZoneState). head_size w.shape.heads) (sym c.in-Some.ensures.room.zone) in
+    c.head_size.ensures ∙ ap head_size (c.heads-heads.ensures ∙ ap (λ (s : ZoneSizes). s.heads) c.spec-spec.ensures.sizes) ∙ ap (λ (w : ZoneState). head_size w.shape.heads) (sym c.in-Some.ensures.room.zone) in
     let near = contents_near z c.in-Some.at c.in-Some.ensures.sound.sound (chosen (goal.at.overflow_add-result c).In-Some).low.free in
     omega (arith, c.if-prove.false)
 
@@ -50,7 +50,7 @@ returns-clause-attempt c =
     let k = c.need_for-needed.result in let at = c.in-Some.at in
     let p = chosen (goal.at.returns-clause-attempt c).In-Some in
     let number : at + c.head_size.result ≡ first_slot z k at p =
-        ap (λ n. at + n) (c.head_size.ensures ∙ ap head_size (c.heads-heads.ensures ∙ ap (λ (s : ZoneSizes). s.heads) c.spec-spec.ensures.sizes) ∙ ap (λ (w : ZoneState). head_size w.shape.heads) (sym c.in-Some.ensures.room.zone)) in
+    ap (λ n. at + n) (c.head_size.ensures ∙ ap head_size (c.heads-heads.ensures ∙ ap (λ (s : ZoneSizes). s.heads) c.spec-spec.ensures.sizes) ∙ ap (λ (w : ZoneState). head_size w.shape.heads) (sym c.in-Some.ensures.room.zone)) in
     subst (λ x. IsServed NewMaster c.args.zone.now x c.build_master.new.self) (sym number)
     (master_served c.args.zone.now z k at (size (goal.at.returns-clause-attempt c).In-Some) c.in-Some.ensures.room c.build_master.new.self p (after (goal.at.returns-clause-attempt c).After-build_master p))
 

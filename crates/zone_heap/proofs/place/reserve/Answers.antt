@@ -1,7 +1,7 @@
 use Rattle.std.proofs.Common.{◌≡◌, ap, ◌∙◌}
 use Rattle.mac_base.specs.HeadKind.{need}
 use Rattle.mac_base.specs.ZoneSizes.{ZoneSizes}
-use Rattle.zone_heap.proofs.Attempting.{reserve_refused, reserve_served}
+use Rattle.zone_heap.proofs.Attempting.{reserve_refused}
 use Rattle.zone_heap.proofs.place.reserve.Goals as goal
 use Rattle.zone_heap.proofs.place.reserve.Goals.{After-need_for-needed}
 
