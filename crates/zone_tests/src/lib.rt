@@ -2,6 +2,8 @@
 #![tactic(auto)]
 
 #[cfg(test)]
+mod gaps;
+#[cfg(test)]
 mod place;
 #[cfg(test)]
 mod region;
