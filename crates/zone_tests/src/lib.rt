@@ -4,4 +4,6 @@
 #[cfg(test)]
 mod region;
 #[cfg(test)]
+mod size;
+#[cfg(test)]
 mod zone;
