@@ -8,4 +8,6 @@ mod place;
 #[cfg(test)]
 mod region;
 #[cfg(test)]
+mod size;
+#[cfg(test)]
 mod zone;
