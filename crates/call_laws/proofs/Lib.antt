@@ -4,10 +4,12 @@ pub mod MoreSteps
 pub mod Prepared
 pub mod Refusals
 pub mod RunAnswers
+pub mod RunLent
 pub mod RunPermitted
 pub mod SoundCalls
 pub mod SoundCarried
 pub mod StepAnswers
+pub mod StepLent
 pub mod StepPermitted
 pub mod StepQuiet
 pub mod StepRequests

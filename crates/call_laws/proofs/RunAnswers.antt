@@ -47,6 +47,11 @@ module _ (s : Shape) (r : Request) (mid : Heap) (c : Carried) where
   last-served true None h = absurd (cc h)
   last-served false None h = absurd (cc h)
 
+  last-unanswered : (b : Bool) (o : Option (ℕ × ZoneMap)) → (last b o).left ≡ []
+  last-unanswered b (Some found) = refl
+  last-unanswered true None = refl
+  last-unanswered false None = refl
+
   last-more : (b : Bool) (o : Option (ℕ × ZoneMap)) (more : List Answer) (other : Ending) → all_answered (last b o).asks ≡ true → served_or r mid more (cond b (unserved mid [] more) other) o ≡ with_left more (last b o)
   last-more b (Some found) more other h = refl
   last-more true None more other h = refl
@@ -68,6 +73,12 @@ module _ (s : Shape) (r : Request) (mid : Heap) (c : Carried) (a : Answer) where
   once-served true w None later rest known h = absurd (cc h)
   once-served false true None later rest known h = absurd (cc h)
   once-served false false None later rest known h = known h
+
+  once-unanswered : (b w : Bool) (o : Option (ℕ × ZoneMap)) (later : List Answer) (rest : Ending) → (all_answered rest.asks ≡ false → rest.left ≡ []) → all_answered (once b w o later rest).asks ≡ false → (once b w o later rest).left ≡ []
+  once-unanswered b w (Some found) later rest known h = absurd (cc h)
+  once-unanswered true w None later rest known h = absurd (cc h)
+  once-unanswered false true None later rest known h = absurd (cc h)
+  once-unanswered false false None later rest known h = known h
 
   once-more : (b w : Bool) (o : Option (ℕ × ZoneMap)) (later more : List Answer) (rest rest_more : Ending) → (all_answered rest.asks ≡ true → rest_more ≡ with_left (rest.left ++ more) rest) → all_answered (once b w o later rest).asks ≡ true
       → once b w o (later ++ more) rest_more ≡ with_left ((once b w o later rest).left ++ more) (once b w o later rest)
@@ -103,6 +114,14 @@ run-answered s protected r allowed (a ∷ later) heap =
     let mid = prepared s protected r heap in
     let c = carried_out s protected a.calls mid in
     once-served s r mid c a (allowed == 0) (a.value == 0) (trial s r mid) later (request_run s protected r (allowed - 1) later c.heap) (run-answered s protected r (allowed - 1) later c.heap)
+
+-- where an ask had none, no answer is left
+pub run-unanswered : (s : Shape) (protected : List ℕ) (r : Request) (allowed : ℕ) (answers : List Answer) (heap : Heap) → (let e = request_run s protected r allowed answers heap in all_answered e.asks ≡ false → e.left ≡ [])
+run-unanswered s protected r allowed [] heap = let mid = prepared s protected r heap in λ _. last-unanswered s r mid (carried_out s protected [] mid) (allowed == 0) (trial s r mid)
+run-unanswered s protected r allowed (a ∷ later) heap =
+    let mid = prepared s protected r heap in
+    let c = carried_out s protected a.calls mid in
+    once-unanswered s r mid c a (allowed == 0) (a.value == 0) (trial s r mid) later (request_run s protected r (allowed - 1) later c.heap) (run-unanswered s protected r (allowed - 1) later c.heap)
 
 -- where each ask had an answer, more answers behind them change nothing
 pub run-framed : (s : Shape) (protected : List ℕ) (r : Request) (allowed : ℕ) (answers more : List Answer) (heap : Heap)

@@ -52,7 +52,7 @@ running-then : (protected : List ℕ) (a b c : Heap) → KeepsRunning protected 
 running-then protected a b c one two = record { free = λ h. two.free (one.free h); protects = λ y h. two.protects y h ∙ one.protects y h }
 
 -- so the request may be served as before
-may-kept : (protected : List ℕ) (r : Request) (old new : Heap) → Guards protected r → KeepsRunning protected old new → MayServe old r → MayServe new r
+pub may-kept : (protected : List ℕ) (r : Request) (old new : Heap) → Guards protected r → KeepsRunning protected old new → MayServe old r → MayServe new r
 may-kept protected (NewBlock n) old new guards keeps may = keeps.free may
 may-kept protected NewEmpty old new guards keeps may = keeps.free may
 may-kept protected (NewPointer n) old new guards keeps may = tt
@@ -102,7 +102,8 @@ running-from s protected (call ∷ calls) c =
 pub running-carried_out : (s : Shape) (protected : List ℕ) (calls : List ReleasingCall) (heap : Heap) → KeepsRunning protected heap (carried_out s protected calls heap).heap
 running-carried_out s protected calls heap = running-from s protected calls (record { heap = heap; calls = [] })
 
-running-prepared : (s : Shape) (protected : List ℕ) (r : Request) (heap mid : Heap) → IsPrepared s protected r heap mid → KeepsRunning protected heap mid
+-- nor does a trial use up any
+pub running-prepared : (s : Shape) (protected : List ℕ) (r : Request) (heap mid : Heap) → IsPrepared s protected r heap mid → KeepsRunning protected heap mid
 running-prepared s protected r heap mid p = record { free = λ h. subst (λ xs. 0 < length xs) (sym p.free_slots) h; protects = p.protects }
 
 -- ---- what a request leaves
@@ -137,7 +138,7 @@ gives-granted (Resize y n) x m heap may =
 gives-granted (Replace h n) x m heap may = tt
 
 -- a call that knows that the request may be served knows what it asks
-may-ask : (s : Shape) (r : Request) (heap : Heap) → Sound s heap → MayServe heap r → MayAsk heap.table (front_slot heap) r
+pub may-ask : (s : Shape) (r : Request) (heap : Heap) → Sound s heap → MayServe heap r → MayAsk heap.table (front_slot heap) r
 may-ask s (NewBlock n) heap sound may = front_slot-not_live s heap sound may
 may-ask s NewEmpty heap sound may = front_slot-not_live s heap sound may
 may-ask s (NewPointer n) heap sound may = tt

@@ -1,7 +1,7 @@
 -- A call takes answers from the front of a queue: those of its asks. More answers behind them change nothing.
 use Rattle.std.proofs.Common.{◌≡◌, ℕ, ◌-◌, Bool, true, false, List, [], ◌++◌, length, Some, None, Option, refl, ap, sym, ◌∙◌, subst, append-nil, append_assoc}
 use Rattle.std.specs.Prelude.{◌&&◌, is_some}
-use Rattle.std.proofs.lemmas.Bool.{and_parts}
+use Rattle.std.proofs.lemmas.Bool.{and_parts, true≢false}
 use Rattle.std.proofs.lemmas.List.Elements.{filter_map-append}
 use Rattle.std.proofs.lemmas.List.Folds.{list_all-append}
 use Rattle.mac_base.specs.declared.error.OsErr.{OsErr}
@@ -17,7 +17,7 @@ use Rattle.mac_calls.specs.GrowZone.{Answer, Ask, most_answers}
 use Rattle.mac_calls.specs.ExactRequest.{Ending, request_run}
 use Rattle.mac_calls.specs.Effect.{request_of}
 use Rattle.mac_calls.specs.ExactStep.{StepEnd, request_end, behind_master, request_step, step_asking, step_unless, exact_step}
-use Rattle.call_laws.proofs.RunAnswers.{answers_of, all_answered, with_left, run-takes, run-answered, run-framed, run-alone}
+use Rattle.call_laws.proofs.RunAnswers.{answers_of, all_answered, with_left, run-takes, run-answered, run-unanswered, run-framed, run-alone}
 
 -- the end of a call with other answers left
 abbrev pub step_left : List Answer → StepEnd → StepEnd
@@ -49,6 +49,7 @@ record TakesAnswers (step : List Answer → StepEnd) (answers : List Answer) : T
   pub takes : answers ≡ answers_of (step answers).asks ++ (step answers).left
   pub framed : (more : List Answer) → all_answered (step answers).asks ≡ true → step (answers ++ more) ≡ step_left ((step answers).left ++ more) (step answers)
   pub alone : step (answers_of (step answers).asks) ≡ step_left [] (step answers)
+  pub unanswered : all_answered (step answers).asks ≡ false → (step answers).left ≡ []
 
 module _ (s : Shape) (heap : Heap) (call : MemoryCall) (r : Request) where
   -- the call's own request
@@ -64,6 +65,7 @@ module _ (s : Shape) (heap : Heap) (call : MemoryCall) (r : Request) where
         framed = λ more answered. ap end (run-framed s (protected_by call) r most_answers answers more heap (ap all_answered (sym asks) ∙ answered)) ∙ end-with_left call heap.table [] (e.left ++ more) e e.given
             ∙ ap (λ xs. step_left (xs ++ more) (end e)) (sym left);
         alone = ap (λ asks. end (run (answers_of asks))) asks ∙ ap end (run-alone s (protected_by call) r most_answers answers heap) ∙ end-with_left call heap.table [] [] e e.given;
+        unanswered = λ lacks. left ∙ run-unanswered s (protected_by call) r most_answers answers heap (sym (ap all_answered asks) ∙ lacks);
       }
 
   -- the request behind one for a master block, which ended so
@@ -96,6 +98,19 @@ module _ (s : Shape) (heap : Heap) (call : MemoryCall) (r : Request) where
       let master = request_run s (protected_by call) NewMaster most_answers answers heap in
       ap (λ xs. request_run s (protected_by call) NewMaster most_answers xs heap) (append-nil (answers_of master.asks)) ∙ run-alone s (protected_by call) NewMaster most_answers answers heap
 
+  -- where an ask of either had no answer, none is left
+  second-unanswered : (answers : List Answer) (given : Option ℕ)
+      → (let master = request_run s (protected_by call) NewMaster most_answers answers heap in master.given ≡ given → all_answered (master.asks ++ (second master given).asks) ≡ false → (second master given).left ≡ [])
+  second-unanswered answers (Some x) is lacks =
+      let master = request_run s (protected_by call) NewMaster most_answers answers heap in
+      let e = second master (Some x) in
+      let answered = run-answered s (protected_by call) NewMaster most_answers answers heap (ap is_some is) in
+      run-unanswered s (protected_by call) r (most_answers - length master.asks) master.left master.heap
+      (ap (λ b. b && all_answered e.asks) (sym answered) ∙ sym (list_all-append (λ (ask : Ask). is_some ask.answer) master.asks e.asks) ∙ lacks)
+  second-unanswered answers None is lacks =
+      let master = request_run s (protected_by call) NewMaster most_answers answers heap in
+      run-unanswered s (protected_by call) NewMaster most_answers answers heap (ap all_answered (sym (append-nil master.asks)) ∙ lacks)
+
   -- both requests
   both-takes : (answers : List Answer) → TakesAnswers (λ xs. request_step s xs heap call true r) answers
   both-takes answers =
@@ -115,6 +130,7 @@ module _ (s : Shape) (heap : Heap) (call : MemoryCall) (r : Request) where
             ∙ end-with_left call heap.table master.asks (e.left ++ more) e e.given ∙ ap (λ xs. step_left (xs ++ more) (end master)) (sym left));
         alone = ap (λ asks. end (run (answers_of asks))) asks ∙ ap (λ xs. end (run xs)) (answers-append master.asks e.asks) ∙ ap end (master-alone answers master.given refl)
             ∙ ap finish (second-alone master master.given) ∙ end-with_left call heap.table master.asks [] e e.given;
+        unanswered = λ lacks. left ∙ second-unanswered answers master.given refl (sym (ap all_answered asks) ∙ lacks);
       }
 
   request-takes : (b : Bool) (answers : List Answer) → TakesAnswers (λ xs. request_step s xs heap call b r) answers
@@ -130,6 +146,7 @@ none-taken step answers same none =
       takes = sym (ap (λ asks. answers_of asks ++ (step answers).left) asks ∙ left);
       framed = λ more answered. same (answers ++ more) ∙ sym (ap (λ xs. step_left (xs ++ more) (step answers)) left ∙ ap (step_left (answers ++ more)) (same answers));
       alone = ap (λ asks. step (answers_of asks)) asks ∙ same [] ∙ sym (ap (step_left []) (same answers));
+      unanswered = λ lacks. absurd (true≢false (sym (ap all_answered asks) ∙ lacks));
     }
 
 step-takes : (s : Shape) (heap : Heap) (call : MemoryCall) (refused : Option OsErr) (asks : Option Request) (answers : List Answer) → request_of heap.table call ≡ asks → TakesAnswers (λ xs. step_unless s xs heap call refused) answers
@@ -163,3 +180,7 @@ exact-front s answers more heap call answered =
     let e = exact_step s answers heap call in
     let alone = exact-alone s answers heap call in
     exact-framed s (answers_of e.asks) more heap call (ap (λ (e : StepEnd). all_answered e.asks) alone ∙ answered) ∙ ap (λ (e : StepEnd). step_left (e.left ++ more) e) alone
+
+-- where an ask had no answer, none is left
+pub exact-unanswered : (s : Shape) (answers : List Answer) (heap : Heap) (call : MemoryCall) → (let e = exact_step s answers heap call in all_answered e.asks ≡ false → e.left ≡ [])
+exact-unanswered s answers heap call = let t = exact-steps s answers heap call in t.unanswered

@@ -31,7 +31,7 @@ every_slot_live-is s heap sound = by_slots heap.free_slots refl
     by_slots (x ∷ xs) is = every_slot_live-some s heap x xs sound is
 
 -- a call that makes a handle, or has its operand, may be served where a slot is free
-may_serve-from : (heap : Heap) (r : Request) → HasOperand heap r → (makes_handle r ≡ true → 0 < length heap.free_slots) → MayServe heap r
+pub may_serve-from : (heap : Heap) (r : Request) → HasOperand heap r → (makes_handle r ≡ true → 0 < length heap.free_slots) → MayServe heap r
 may_serve-from heap (NewBlock n) operand slot = slot refl
 may_serve-from heap NewEmpty operand slot = slot refl
 may_serve-from heap (NewPointer n) operand slot = tt
@@ -41,7 +41,7 @@ may_serve-from heap (Resize y n) operand slot = operand
 may_serve-from heap (Replace h n) operand slot = operand
 
 -- a new handle needs no operand
-operand-handle : (heap : Heap) (r : Request) → makes_handle r ≡ true → HasOperand heap r
+pub operand-handle : (heap : Heap) (r : Request) → makes_handle r ≡ true → HasOperand heap r
 operand-handle heap (NewBlock n) makes = tt
 operand-handle heap NewEmpty makes = tt
 operand-handle heap (NewPointer n) makes = absurd (cc makes)
@@ -50,12 +50,14 @@ operand-handle heap (Reserve n) makes = absurd (cc makes)
 operand-handle heap (Resize y n) makes = absurd (cc makes)
 operand-handle heap (Replace h n) makes = absurd (cc makes)
 
-slot-free : (makes : Bool) (xs : List ℕ) → (makes && has_none xs) ≡ false → makes ≡ true → 0 < length xs
+-- a slot is free where no master block is needed for a new handle
+pub slot-free : (makes : Bool) (xs : List ℕ) → (makes && has_none xs) ≡ false → makes ≡ true → 0 < length xs
 slot-free true [] h makes = absurd (cc h)
 slot-free true (x ∷ xs) h makes = omega arith
 slot-free false xs h makes = absurd (cc makes)
 
-makes-first : (a b : Bool) → (a && b) ≡ true → a ≡ true
+-- a master block is needed only where a handle is made
+pub makes-first : (a b : Bool) → (a && b) ≡ true → a ≡ true
 makes-first true b h = refl
 makes-first false b h = absurd (cc h)
 

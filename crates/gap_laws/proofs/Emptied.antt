@@ -117,7 +117,8 @@ one_left s heap h sound may r y c =
     let found = without-handle h y (purge_blocks t r (used_blocks m)) (subst (λ ys. Contains ys y) is c) in
     (subst (λ ys. Contains ys y) (sym (purge_handles-used t r m)) found.0, found.1)
 
-may-still : (t : HandleTable) (h y : ℕ) → MayEmpty t h → MayEmpty t y → MayEmpty (emptied h t) y
+-- another still may be emptied
+pub may-still : (t : HandleTable) (h y : ℕ) → MayEmpty t h → MayEmpty t y → MayEmpty (emptied h t) y
 may-still t h y may_h may =
     let fixes = emptied-FixesSame t h may_h in
     record {

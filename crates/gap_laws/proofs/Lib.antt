@@ -2,6 +2,8 @@ pub mod Emptied
 pub mod FittingResize
 pub mod FixesSame
 pub mod FreshNumbers
+pub mod KeepsLoans
+pub mod KeepsServed
 pub mod PurgeBlocks
 pub mod RearrangedSuits
 pub mod RearrangingAll

@@ -60,7 +60,7 @@ module _ (s : Shape) (heap : Heap) (x n : ℕ) (found : ZoneMap) (sound : Sound 
       is_nil x h = grind (arith, nat_tests)
 
   -- without the new block the map is that of before
-  released-new : released x new ≡ released x heap.map
+  pub released-new : released x new ≡ released x heap.map
   released-new = released-renamed 0 x found
       ∙ ap (released x) (released-parts s (need s.heads n) at.size 0 (Rel 0) at.before at.behind heap.map found refl at.fits at.was at.is (named_none-nil s heap.table heap.map sound.suits) sound.suits.apart)
 

@@ -23,7 +23,7 @@ use Rattle.zone_laws.proofs.Lent.{fixed-block}
 use Rattle.zone_laws.proofs.SoundResized.{sound-resized}
 use Rattle.zone_laws.proofs.SoundWritten.{sound-new_empty}
 use Rattle.zone_laws.proofs.Tables.{by_number, live_at-with_live_same, with_live_agrees}
-use Rattle.gap_laws.proofs.ServedBase.{placed_relocatable-TakenFrom, resized_block-from, Suits-cleared, Sound-reserved}
+use Rattle.gap_laws.proofs.ServedBase.{Base, placed_relocatable-TakenFrom, resized_block-from, Suits-cleared, Sound-reserved}
 use Rattle.gap_laws.proofs.ServedMaster.{placed_first}
 use Rattle.zone_laws.proofs.PlacedParts.{cleared-Rearranged}
 use Rattle.mac_base.specs.Gap.{filled}
@@ -61,7 +61,7 @@ front heap some = by_slots heap.free_slots refl some
     by_slots (x ∷ xs) is h = record { rest = xs; is = is ∙ ap (λ y. y ∷ xs) (sym (ap (λ ys. slice_index ys 0) is)) }
 
 -- a handle with a block, or a pointer, that may move is a handle
-moves-full : (t : HandleTable) (x : ℕ) → (is_full t x || is_pointer t x) ≡ true → stays t x ≡ false → (is_full t x ≡ true) × (is_pointer t x ≡ false)
+pub moves-full : (t : HandleTable) (x : ℕ) → (is_full t x || is_pointer t x) ≡ true → stays t x ≡ false → (is_full t x ≡ true) × (is_pointer t x ≡ false)
 moves-full t x = by_tests (is_full t x) (is_pointer t x) (is_locked t x)
   where
     by_tests : (full pointer locked : Bool) → (full || pointer) ≡ true → (pointer || locked) ≡ false → (full ≡ true) × (pointer ≡ false)
@@ -70,19 +70,23 @@ moves-full t x = by_tests (is_full t x) (is_pointer t x) (is_locked t x)
     by_tests false false locked h moves = absurd (cc h)
 
 -- a block of a kind placed at the start of a cleared gap
-record PlacedThere (s : Shape) (k : ℕ) (kind : ℕ → Kind) (heap : Heap) (x : ℕ) (new : ZoneMap) : Type 0 where
+pub record PlacedThere (s : Shape) (k : ℕ) (kind : ℕ → Kind) (heap : Heap) (x : ℕ) (new : ZoneMap) : Type 0 where
   pub base : ZoneMap
+  pub is_base : Base s heap.table heap.table heap.map base
   pub sound : Sound s (with_map base heap)
   pub at : TakenAt s k (kind x) base new
   pub number : x ≡ address_behind s at.before + head_size s.heads
 
-placed_there : (s : Shape) (k : ℕ) (kind : ℕ → Kind) (heap : Heap) (x : ℕ) (new : ZoneMap) → 0 < k → Sound s heap → placed_fixed s heap.table k kind heap.map ≡ Some (x, new) → PlacedThere s k kind heap x new
+-- a block that stays is placed so
+pub placed_there : (s : Shape) (k : ℕ) (kind : ℕ → Kind) (heap : Heap) (x : ℕ) (new : ZoneMap) → 0 < k → Sound s heap → placed_fixed s heap.table k kind heap.map ≡ Some (x, new) → PlacedThere s k kind heap x new
 placed_there s k kind heap x new some sound h =
     let p = placed_first s heap.table k kind heap.map x new some h in
     let g : Gap = p.gap in
+    let is_base : Base s heap.table heap.table heap.map (filled g (cleared k g.blocks)) = record { rearranged = cleared-Rearranged s heap.table k heap.map g p.is_gap; suits = Suits-cleared s heap.table heap.table k heap.map g sound.suits p.is_gap } in
     record {
       base = filled g (cleared k g.blocks);
-      sound = sound-base s heap (filled g (cleared k g.blocks)) sound (record { rearranged = cleared-Rearranged s heap.table k heap.map g p.is_gap; suits = Suits-cleared s heap.table heap.table k heap.map g sound.suits p.is_gap });
+      is_base = is_base;
+      sound = sound-base s heap (filled g (cleared k g.blocks)) sound is_base;
       at = record { before = g.before; size = p.size; behind = p.back; was = p.was; is = p.is; fits = p.fits };
       number = sym p.number;
     }
