@@ -74,7 +74,7 @@ pub record Owned (z : ZoneState) (h at : ℕ) : Type 0 where
   pub place : InGap h gap size
   pub at_is : at ≡ address_behind z.shape (gap.before ++ place.front)
 
-pub itself : (h : ℕ) → (h == h) ≡ true
+itself : (h : ℕ) → (h == h) ≡ true
 itself h = grind (arith, nat_tests)
 
 -- an unlocked handle's block has one
