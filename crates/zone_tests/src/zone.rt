@@ -106,7 +106,7 @@ const LOCKED: Flags = Flags {
 };
 
 /// Nothing of a zone is lent.
-fn assert_nothing_lent(rt: &impl Abort, zone: &Zone)
+pub(crate) fn assert_nothing_lent(rt: &impl Abort, zone: &Zone)
     ensures { zone.now.heap.table.lent ≡ [] }
 {
     assert_eq!(rt; zone.lent_count(), 0);
