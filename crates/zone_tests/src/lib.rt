@@ -6,6 +6,8 @@ mod gaps;
 #[cfg(test)]
 mod place;
 #[cfg(test)]
+mod growth;
+#[cfg(test)]
 mod region;
 #[cfg(test)]
 mod size;

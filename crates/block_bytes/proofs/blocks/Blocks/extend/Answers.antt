@@ -1,4 +1,4 @@
-use Rattle.std.proofs.Common.{◌+◌, ◌-◌, ap, subst, ◌∙◌, arith}
+use Rattle.std.proofs.Common.{◌≡◌, ◌+◌, ◌-◌, ap, subst, ◌∙◌, arith}
 use Rattle.byteorder.specs.Endian.{big_bytes}
 use Rattle.mac_base.specs.HeadKind.{head_size}
 use Rattle.raw_region.specs.State.{State, with_bytes}
@@ -8,8 +8,15 @@ use Rattle.block_bytes.specs.ZoneHead.{end_field}
 use Rattle.block_bytes.proofs.Parts.{IsRead}
 use Rattle.block_bytes.proofs.Counting.{CanCount}
 use Rattle.block_bytes.proofs.Settled.{counted}
-use Rattle.block_bytes.proofs.Extending.{AreRead, below, headed-read, marked-read, can-extend, spare-free, end-free, room-marked, extends}
+use Rattle.block_bytes.proofs.Extending.{AreRead, below, headed-read, marked-read, can-extend, extended-same, spare-free, end-free, room-marked, extends}
 use Rattle.block_bytes.proofs.blocks.Blocks.extend.Goals as goal
+
+pub returns-then-size-limit : goal.returns-then-size-limit
+returns-then-size-limit c =
+    let size = c.size-size.ensures.value in
+    let limit = c.limit-limit.ensures.value in
+    let same = c.if-size-limit.true in
+    subst (λ (l : Layout). l ≡ extended l) c.self.view_is (extended-same c.self.inside c.self.invariant (omega arith))
 
 pub set_header-requires-clause-free : goal.set_header-requires-clause-free
 set_header-requires-clause-free c = spare-free c.self.inside c.self.invariant c.size-size.result (head_size c.heads-heads.result) c.size-size.ensures.value
