@@ -16,6 +16,8 @@ pub mod OperandLaws
 pub mod StatementLaws
 pub mod ScriptLaws
 pub mod OneOperand
+pub mod OneAnswer
+pub mod AnswerLaws
 pub mod CallLines
 pub mod OneScript
 pub mod OneFault
