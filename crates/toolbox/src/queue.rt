@@ -69,8 +69,6 @@ impl Default for MadeAsk {
 }
 
 impl MadeAsk {
-    ghost use Rattle.mac_calls.specs.GrowZone.{Ask};
-
     /// An ask and its answer, of which no call has been carried out.
     fn new(needed: u32, answer: &Option<Answer>) -> MadeAsk
         ensures { result ≡ new_ask needed answer.now }
