@@ -1,13 +1,13 @@
 //! A heap zone: one attempt to place, size, flag, release or show a block.
 #![tactic(auto)]
 
-mod place;
 mod compact;
 mod growth;
+mod place;
 mod shortage;
 mod size;
 mod zone;
 
 pub use block_bytes::check;
 pub use shortage::Shortage;
-pub use zone::{NoRoom, Zone};
+pub use zone::Zone;

@@ -1,20 +1,14 @@
 //! The zone.
 
 use linked_zone::LinkedZone;
-use mac_base::block::{Block, Flags, Status};
+use mac_base::block::{Block, Flags, HeadKind, Status};
 use mac_base::error::HostFull;
 use mac_base::handle::{Handle, Ptr};
 use mac_base::size::{MASTER_LENGTH, ZONE_HEADER, need_for};
-use mac_base::zone_spec::{ADDRESS_END, LARGEST_LIMIT, ZoneSpec};
+use mac_base::zone_spec::{ADDRESS_END, ZoneSpec};
 use raw_region::Lent;
 use std::alloc::Global;
 use std::marker::Model;
-use thiserror::Error;
-
-/// The zone has no room for the attempt: no free block has it, or no slot is free. Nothing has changed.
-#[derive(Clone, Copy, Debug, PartialEq, Eq, Error)]
-#[error("the zone has no room")]
-pub struct NoRoom;
 
 /// A heap zone in raw bytes. Contracts see its shape and its heap: the handle table, the zone map and the free slots.
 /// All host memory is taken by `create`.
@@ -139,57 +133,6 @@ impl Zone {
         self.pointers.give_back(block, loan);
     }
 
-    /// A new handle with `length` bytes of zero and no flags, in the lowest free block that has room. There is none
-    /// exactly where no free block has room or no slot is free, and then nothing has changed.
-    pub fn place_rel(&mut self, length: u32) -> Result<Handle, NoRoom>
-        requires { length ≤ max_size }
-        ensures sound { Sound self.old.shape self.old.heap }
-        ensures placed { MatchResult result
-            (λ handle. (placed_lowest self.old.shape length self.old.heap ≡ Some (handle, self.new.heap)) × (self.new.shape ≡ self.old.shape))
-            (λ _. (placed_lowest self.old.shape length self.old.heap ≡ None) × (self.new ≡ self.old)) }
-        ensures loans { KeepsLoans self.old self.new }
-    {
-        let needed = need_for(self.pointers.spec().heads(), length);
-        let Some(at) = self.pointers.lowest_free(needed) else {
-            return Err(NoRoom);
-        };
-        let Some(handle) = self.pointers.take() else {
-            return Err(NoRoom);
-        };
-        cut(&mut self.pointers, at, needed);
-        self.pointers.point(handle, at, length);
-        Ok(handle)
-    }
-
-    /// A new empty handle. There is none exactly where no slot is free, and then nothing has changed.
-    pub fn place_empty(&mut self) -> Result<Handle, NoRoom>
-        ensures sound { Sound self.old.shape self.old.heap }
-        ensures placed { MatchResult result
-            (λ handle. (placed_empty self.old.heap ≡ Some (handle, self.new.heap)) × (self.new.shape ≡ self.old.shape))
-            (λ _. (placed_empty self.old.heap ≡ None) × (self.new ≡ self.old)) }
-        ensures loans { KeepsLoans self.old self.new }
-    {
-        self.pointers.take().ok_or(NoRoom)
-    }
-
-    /// A new pointer to `length` bytes of zero, in the lowest free block that has room. There is none exactly where no
-    /// free block has room, and then nothing has changed.
-    pub fn place_fix(&mut self, length: u32) -> Result<Ptr, NoRoom>
-        requires { length ≤ max_size }
-        ensures sound { Sound self.old.shape self.old.heap }
-        ensures placed { MatchResult result
-            (λ pointer. (placed_pointer self.old.shape length self.old.heap ≡ Some (pointer, self.new.heap)) × (self.new.shape ≡ self.old.shape))
-            (λ _. (placed_pointer self.old.shape length self.old.heap ≡ None) × (self.new ≡ self.old)) }
-        ensures loans { KeepsLoans self.old self.new }
-    {
-        let size = need_for(self.pointers.spec().heads(), length);
-        let Some(at) = self.pointers.lowest_free(size) else {
-            return Err(NoRoom);
-        };
-        cut(&mut self.pointers, at, size);
-        Ok(self.pointers.fix(at, length))
-    }
-
     /// Disposes of a live handle: its block, if it has one, is free and joined to its free neighbours, and its slot is
     /// the next to be given.
     pub fn release(&mut self, handle: Handle)
@@ -230,36 +173,6 @@ impl Zone {
             self.pointers.empty(handle);
             join(&mut self.pointers, at);
         }
-    }
-
-    /// Gives a handle that has a block `length` bytes where the block is: its own bytes, or with them those of the free
-    /// block right behind it. What is over is free where it makes a block. Bytes that the handle had stay, as far as
-    /// they go, and those that are added are zero. Where there is no room, nothing has changed.
-    pub fn resize_rel(&mut self, handle: Handle, length: u32) -> Result<(), NoRoom>
-        requires full { IsTrue (is_full self.old.heap.table handle) }
-        requires here { IsFalse (is_lent self.old.heap.table handle) }
-        requires size { length ≤ max_size }
-        ensures sound { Sound self.old.shape self.old.heap }
-        ensures resized { MatchResult result
-            (λ _. (resized_there self.old.shape handle length self.old.heap ≡ Some self.new.heap) × (self.new.shape ≡ self.old.shape))
-            (λ _. (resized_there self.old.shape handle length self.old.heap ≡ None) × (self.new ≡ self.old)) }
-        ensures loans { KeepsLoans self.old self.new }
-    {
-        self.resize(handle.number(), length)
-    }
-
-    /// Gives a pointer `length` bytes where its block is, as `resize_rel` does for a handle.
-    pub fn resize_fix(&mut self, pointer: Ptr, length: u32) -> Result<(), NoRoom>
-        requires live { IsTrue (is_pointer self.old.heap.table pointer) }
-        requires here { IsFalse (is_lent self.old.heap.table pointer) }
-        requires size { length ≤ max_size }
-        ensures sound { Sound self.old.shape self.old.heap }
-        ensures resized { MatchResult result
-            (λ _. (resized_there self.old.shape pointer length self.old.heap ≡ Some self.new.heap) × (self.new.shape ≡ self.old.shape))
-            (λ _. (resized_there self.old.shape pointer length self.old.heap ≡ None) × (self.new ≡ self.old)) }
-        ensures loans { KeepsLoans self.old self.new }
-    {
-        self.resize(pointer.number(), length)
     }
 
     /// The flags of a live handle; an empty one has none.
@@ -327,6 +240,13 @@ impl Zone {
         self.pointers.spec().base() + ZONE_HEADER
     }
 
+    /// How the zone's blocks are headed.
+    pub fn heads(&self) -> HeadKind
+        ensures { result ≡ self.now.shape.heads }
+    {
+        self.pointers.spec().heads()
+    }
+
     /// The block whose header stands at this address, if one does.
     pub fn entry(&self, at: u32) -> Option<Block>
         ensures { result ≡ report_at self.now.shape self.now.heap at }
@@ -342,35 +262,6 @@ impl Zone {
         ensures walks { Walks self.now.shape.heads result.now }
     {
         self.pointers.image()
-    }
-
-    /// Gives a handle or a pointer that has a block `length` bytes where the block is.
-    fn resize(&mut self, block: u32, length: u32) -> Result<(), NoRoom>
-        requires block { IsTrue (has_block self.old.heap.table block) }
-        requires here { IsFalse (is_lent self.old.heap.table block) }
-        requires size { length ≤ max_size }
-        ensures sound { Sound self.old.shape self.old.heap }
-        ensures resized { MatchResult result
-            (λ _. (resized_there self.old.shape block length self.old.heap ≡ Some self.new.heap) × (self.new.shape ≡ self.old.shape))
-            (λ _. (resized_there self.old.shape block length self.old.heap ≡ None) × (self.new ≡ self.old)) }
-        ensures loans { KeepsLoans self.old self.new }
-    {
-        let needed = need_for(self.pointers.spec().heads(), length);
-        let at = self.pointers.place_of(block);
-        let size = self.pointers.entry_at(at).size;
-        if needed <= size {
-            shrink(&mut self.pointers, block, needed, length);
-            return Ok(());
-        }
-        let spec = self.pointers.spec();
-        prove!(spec.limit() <= LARGEST_LIMIT);
-        let whole = size + free_behind(&self.pointers, at);
-        if whole < needed {
-            return Err(NoRoom);
-        }
-        let taken = front(&self.pointers, whole, needed);
-        self.pointers.grow(block, taken, length);
-        Ok(())
     }
 }
 

@@ -46,7 +46,7 @@ fn a_zone_grows_to_its_limit_once(rt: HostRuntime) {
 #[test]
 fn a_zone_without_free_bytes_grows_by_a_block(rt: HostRuntime) {
     let mut zone = zone_with_growth(&rt, rt.alloc(), HeadKind::Bits24);
-    let all = zone.place_rel(3772).expect(&rt, "the zone has room");
+    let all = zone.new_block(3772).expect(&rt, "the zone has room");
     assert_eq!(rt; zone.largest_free(), 0);
     zone.extend();
     assert_eq!(rt; zone.largest_free(), 4096);
@@ -68,8 +68,8 @@ fn dispose(zone: &mut Zone, handle: Handle) {
 #[test]
 fn blocks_are_moved_down_where_none_is_large_enough(rt: HostRuntime) {
     let mut zone = zone_with_growth(&rt, rt.alloc(), HeadKind::Bits24);
-    let first = zone.place_rel(1000).expect(&rt, "the zone has room");
-    let second = zone.place_rel(1000).expect(&rt, "the zone has room");
+    let first = zone.new_block(1000).expect(&rt, "the zone has room");
+    let second = zone.new_block(1000).expect(&rt, "the zone has room");
     dispose(&mut zone, first);
     assert_eq!(rt; zone.compact(1764), 1764);
     assert_eq!(rt; zone.recover(0x10_0534), Some(second));
@@ -84,8 +84,8 @@ fn blocks_are_moved_down_where_none_is_large_enough(rt: HostRuntime) {
 #[test]
 fn a_block_is_moved_high_and_down_again(rt: HostRuntime) {
     let mut zone = zone_with_growth(&rt, rt.alloc(), HeadKind::Bits24);
-    let first = zone.place_rel(1000).expect(&rt, "the zone has room");
-    let second = zone.place_rel(1000).expect(&rt, "the zone has room");
+    let first = zone.new_block(1000).expect(&rt, "the zone has room");
+    let second = zone.new_block(1000).expect(&rt, "the zone has room");
     assert!(rt;
         zone.is_live(first) && zone.has_block(first.number()),
         "it has a block"

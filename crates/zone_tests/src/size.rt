@@ -55,9 +55,9 @@ fn assert_nothing_lent(rt: &impl Abort, zone: &Zone)
 fn three(rt: &impl Abort, zone: &mut Zone, length: u32) -> [Handle; 3]
     requires { length ≤ max_size }
 {
-    let low = zone.place_rel(length).expect(rt, "the zone has room");
-    let middle = zone.place_rel(length).expect(rt, "the zone has room");
-    let high = zone.place_rel(length).expect(rt, "the zone has room");
+    let low = zone.new_block(length).expect(rt, "the zone has room");
+    let middle = zone.new_block(length).expect(rt, "the zone has room");
+    let high = zone.new_block(length).expect(rt, "the zone has room");
     [low, middle, high]
 }
 

@@ -123,7 +123,7 @@ fn compare(
 ) {
     let spec = ZoneSpec::with_kind(0x10_0000, 4096, 4096, heads).expect(rt, "there is such a zone");
     let mut zone = Zone::create(alloc, spec).expect(rt, "the host has memory");
-    let handle = zone.place_rel(100).expect(rt, "the zone has room");
+    let handle = zone.new_block(100).expect(rt, "the zone has room");
     assert_eq!(rt; handle.number(), number);
     assert_nothing_lent(rt, &zone);
     assert_eq!(rt; zone.image(), &image[..]);
@@ -170,9 +170,9 @@ fn write_front(zone: &mut Zone, block: u32) {
 fn a_handle_that_is_disposed_of_leaves_the_lowest_free_block(rt: HostRuntime) {
     let spec = ZoneSpec::new(0x10_0000, 4096, 4096).expect(&rt, "there is such a zone");
     let mut zone = Zone::create(rt.alloc(), spec).expect(&rt, "the host has memory");
-    let first = zone.place_rel(1000).expect(&rt, "the zone has room");
-    let second = zone.place_rel(1000).expect(&rt, "the zone has room");
-    zone.place_rel(1000).expect(&rt, "the zone has room");
+    let first = zone.new_block(1000).expect(&rt, "the zone has room");
+    let second = zone.new_block(1000).expect(&rt, "the zone has room");
+    zone.new_block(1000).expect(&rt, "the zone has room");
     write_front(&mut zone, second.number());
     assert!(rt; zone.is_live(first), "it is live");
     assert_nothing_lent(&rt, &zone);
