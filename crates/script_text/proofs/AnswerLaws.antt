@@ -10,7 +10,8 @@ use Rattle.script_text.specs.declared.line.ReleasingName.TheVariants.{DisposeHan
 use Rattle.script_text.specs.declared.line.WrittenAnswer.{WrittenAnswer}
 use Rattle.script_text.specs.declared.line.WrittenCall.{WrittenCall}
 use Rattle.script_text.specs.Tokens.{Token, Word}
-use Rattle.script_text.specs.Answers.{releasing_text, IsWrittenCall, AreCalls, most_calls, IsAnswer, MayFollow}
+use Rattle.script_text.specs.Answers.{releasing_text, IsWrittenCall, AreCalls, IsAnswer, MayFollow}
+use Rattle.script_text.specs.Calls.{most_calls}
 use Rattle.script_text.specs.Operands.{IsNumberOperand}
 use Rattle.script_text.specs.Script.{HasNoFirstWord}
 use Rattle.script_text.proofs.OneAnswer.{one_written, one_calls}

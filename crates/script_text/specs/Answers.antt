@@ -4,6 +4,7 @@ use Rattle.script_text.specs.declared.line.ReleasingName.{ReleasingName}
 use Rattle.script_text.specs.declared.line.ReleasingName.TheVariants.{DisposeHandle, DisposePtr, EmptyHandle}
 use Rattle.script_text.specs.declared.line.WrittenAnswer.{WrittenAnswer}
 use Rattle.script_text.specs.declared.line.WrittenCall.{WrittenCall}
+use Rattle.script_text.specs.Calls.{most_calls}
 use Rattle.script_text.specs.Tokens.{Token, Semicolon, Word}
 use Rattle.script_text.specs.Operands.{IsNumberOperand}
 
@@ -27,10 +28,6 @@ AreCalls names [] [] = Unit {0}
 AreCalls names (name ∷ operand ∷ []) (written ∷ []) = IsWrittenCall names name operand written
 AreCalls names (name ∷ operand ∷ mark ∷ token ∷ tokens) (written ∷ others) = IsWrittenCall names name operand written × (mark ≡ Semicolon) × AreCalls names (token ∷ tokens) others
 AreCalls names tokens calls = ⊥
-
--- an answer has at most this many calls
-abbrev pub most_calls : ℕ
-most_calls = 8
 
 -- gz value [call operand [; call operand] ..]; the value is a number or a variable that was assigned before
 abbrev pub IsAnswer : List (List ℕ) → List Token → WrittenAnswer → Type 0

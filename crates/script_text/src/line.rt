@@ -187,29 +187,35 @@ pub struct WrittenAnswer<'a> {
     pub calls: WrittenCalls<'a>,
 }
 
-/// A line that queues an answer: one word, so that it is no larger than a line that makes a call. A contract sees the
-/// answer as it is written.
+/// A line that queues an answer, which has at most eight calls: one word, so that it is no larger than a line that makes
+/// a call. A contract sees the answer as it is written.
 #[derive(Drop)]
 pub struct AnswerLine<'a> {
     written: &'a WrittenAnswer<'a>,
 }
 
 impl<'a> Model for AnswerLine<'a> {
+    ghost use Rattle.std.specs.Prelude.{◌≤◌, length};
     ghost use Rattle.script_text.specs.declared.line.WrittenAnswer.{WrittenAnswer};
+    ghost use Rattle.script_text.specs.Calls.{most_calls};
 
     ghost Value = { WrittenAnswer };
 
     ghost view = { λ a. a.written.now };
+
+    ghost invariant = { λ a. length a.written.now.calls ≤ most_calls };
 }
 
 impl<'a> AnswerLine<'a> {
-    ghost use Rattle.std.specs.Prelude.{◌≡◌, IfOk};
+    ghost use Rattle.std.specs.Prelude.{◌≡◌, ◌≤◌, length, IfOk};
+    ghost use Rattle.script_text.specs.Calls.{most_calls};
 
     /// This answer, which is kept in the arena.
     pub(crate) fn new(
         arena: &'a Bump,
         written: WrittenAnswer<'a>,
     ) -> Result<AnswerLine<'a>, HostFull>
+        requires { length written.calls ≤ most_calls }
         ensures { IfOk result (λ kept. kept ≡ written.entry) }
     {
         match arena.try_alloc(written) {
@@ -227,7 +233,8 @@ impl<'a> AnswerLine<'a> {
 
     /// Its calls, first to last.
     pub fn calls(&self) -> &'a [WrittenCall<'a>]
-        ensures { result.now ≡ self.now.calls }
+        ensures calls { result.now ≡ self.now.calls }
+        ensures few { length result.now ≤ most_calls }
     {
         self.written.calls.as_slice()
     }
