@@ -14,3 +14,6 @@ pub mod Loans
 pub mod Sizing
 pub mod Shrinking
 pub mod Growing
+pub mod FreedBlocks
+pub mod Purging
+pub mod EmptyingBlocks

@@ -3,3 +3,4 @@ pub mod WritingBack
 pub mod Placed
 pub mod Attempts
 pub mod Zone
+pub mod Purge

@@ -1,0 +1,90 @@
+//! Purging: handles that may be purged become empty, in order of address, until it is enough.
+
+ghost use Rattle.std.specs.Prelude.{◌≡◌, ◌≤◌, nat_le, IsTrue, IsFalse, [], Some, None};
+ghost use Rattle.mac_base.specs.Gap.{gaps, some_gap_has};
+ghost use Rattle.mac_base.specs.HandleTable.{is_handle, is_locked};
+ghost use Rattle.mac_base.specs.Heap.{all_purged, with_all_emptied};
+ghost use Rattle.mac_base.specs.Purging.{purged, purged_for};
+ghost use Rattle.mac_base.specs.Request.{candidates_in, fits, length_asked, stays};
+ghost use Rattle.mac_base.specs.ZoneMap.{largest_free, released};
+ghost use Rattle.mac_base.specs.ZoneState.{with_heap};
+ghost use Rattle.linked_zone.specs.Loans.{KeepsLoans};
+ghost use Rattle.linked_zone.specs.Places.{HasOwner};
+ghost use Rattle.zone_heap.specs.Attempts.{CanAsk, SoundZone};
+ghost use Rattle.zone_heap.specs.Joins.{all_joined};
+ghost use Rattle.zone_heap.specs.Purge.{BlocksAt, IsLimit, PurgesFor, PurgesTo, bounds_gap, bounds_free, bytes_before, counts, handle_to_purge, is_kept, is_protected, may_purge, purged_between, run_has};
+
+use linked_zone::LinkedZone;
+use mac_base::block::Kind;
+use mac_base::handle::Handle;
+use mac_base::request::Request;
+use mac_base::size::{MASTER_LENGTH, ZONE_HEADER, need_for};
+use zone_gaps::{is_fixed, zone_end};
+
+/// Which blocks are purged: those between two addresses that may be.
+#[derive(Clone, Copy, Debug, PartialEq, Eq)]
+pub(crate) struct Limit {
+    pub(crate) start: u32,
+    pub(crate) end: u32,
+    /// Whether it is enough to purge them.
+    pub(crate) enough: bool,
+}
+
+/// The handle of a block that may be purged: it is purgeable, not locked and not protected.
+fn handle_to_purge(zone: &LinkedZone, kind: Kind, protected: &[u32]) -> Option<Handle>
+    requires { HasOwner zone.now kind }
+    ensures { result ≡ handle_to_purge zone.now.heap.table protected.now kind }
+{
+    let Kind::Rel(handle) = kind else {
+        return None;
+    };
+    let flags = zone.flags(handle);
+    if flags.purge && !flags.lock && !protected.contains(&handle.number()) {
+        Some(handle)
+    } else {
+        None
+    }
+}
+
+/// Whether a block counts as free: it is, or it is that of the handle of this number.
+fn counts(counted: Option<u32>, kind: Kind) -> bool
+    ensures { result ≡ counts counted kind }
+{
+    match counted {
+        Some(number) => kind.is_free() || kind.is_named(number),
+        None => kind.is_free(),
+    }
+}
+
+/// Empties the handles that may be purged and have their blocks between two addresses. The blocks are free, and not joined.
+fn empty_between(zone: &mut LinkedZone, start: u32, end: u32, protected: &[u32])
+    requires blocks { BlocksAt zone.old start end }
+    requires sound { SoundZone zone.old }
+    ensures { (blocks : BlocksAt zone.old start end) → zone.new ≡ purged_between zone.old blocks protected.now }
+{
+    let mut at = start;
+    while at < end {
+        let here = zone.entry_at(at);
+        if let Some(handle) = handle_to_purge(zone, here.kind, protected) {
+            zone.empty(handle);
+        }
+        at += here.size;
+    }
+}
+
+/// Joins all free neighbours.
+fn join_all(zone: &mut LinkedZone)
+    ensures { zone.new ≡ all_joined zone.old }
+{
+    let end = zone_end(zone);
+    let mut at = zone.spec().base() + ZONE_HEADER;
+    while at < end {
+        let here = zone.entry_at(at);
+        let next = at + here.size;
+        if next < end && here.kind.is_free() && zone.entry_at(next).kind.is_free() {
+            zone.merge(at);
+        } else {
+            at = next;
+        }
+    }
+}
