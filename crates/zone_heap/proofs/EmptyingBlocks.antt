@@ -9,23 +9,28 @@ use Rattle.mac_base.specs.declared.block.Kind.{Kind}
 use Rattle.mac_base.specs.declared.block.Kind.TheVariants.{Free, Master, Ptr, Rel}
 use Rattle.mac_base.specs.HandleTable.{HandleTable, EmptyHandle, emptied, is_handle, is_lent, is_purgeable, live_at, live_flags, live_full, live_handle, with_live}
 use Rattle.mac_base.specs.HeadKind.{Shape}
+use Rattle.mac_base.specs.Heap.{with_all_emptied}
+use Rattle.mac_base.specs.Suits.{is_block_size}
 use Rattle.mac_base.specs.Request.{candidates_in, is_among}
 use Rattle.mac_base.specs.ZoneMap.{ZoneMap, block, handle_of, is_named, address_behind, sizes, total_size}
 use Rattle.mac_base.specs.ZoneState.{ZoneState, with_heap}
 use Rattle.zone_laws.proofs.GapAppend.{total_size-append}
 use Rattle.zone_laws.proofs.GapApart.{sizes_possible}
+use Rattle.zone_laws.proofs.Maps.{both_true, true_both}
 use Rattle.zone_laws.proofs.NamedPlace.{At, nil-append}
 use Rattle.zone_laws.proofs.GapAppend.{sizes-append}
 use Rattle.zone_laws.proofs.Owners.{nothing_passes}
 use Rattle.zone_laws.proofs.Tables.{by_number, eqb_same, eqb_swap, live_at-with_live_same, with_live_agrees}
 use Rattle.linked_zone.specs.Changes.{freed, without_block}
+use Rattle.linked_zone.specs.Fit.{HasSizes}
 use Rattle.linked_zone.specs.Places.{EntryAt, HasOwner}
 use Rattle.zone_gaps.specs.Runs.{has_owner}
 use Rattle.zone_gaps.proofs.Settling.{owners-settled, settled-sound}
-use Rattle.zone_gaps.proofs.Sizes.{all_parts, first_bytes, no_bytes, total_size-push}
+use Rattle.zone_gaps.proofs.Sizes.{all_both, all_parts, first_bytes, no_bytes, total_size-push}
 use Rattle.zone_heap.specs.Attempts.{SoundZone}
+use Rattle.zone_heap.specs.Joins.{all_joined}
 use Rattle.zone_heap.specs.Purge.{BlocksAt, all_emptied, freed_where, handle_to_purge, may_purge, purged_between}
-use Rattle.zone_heap.proofs.FreedBlocks.{Once, once-suits, once-At, once-free, candidate_here, candidates-append, candidates-cons, total_size-freed}
+use Rattle.zone_heap.proofs.FreedBlocks.{Once, once-suits, once-At, once-free, candidate_here, candidates-append, candidates-cons, released-candidates, emptied-parts, total_size-freed}
 use Rattle.zone_heap.proofs.Purging.{may_purge-parts, purged-here}
 use Rattle.zone_heap.proofs.Releasing.{freed-At}
 
@@ -316,3 +321,46 @@ purged-none t protected (Rel g) is = elim (is_purgeable t g && not (is_among pro
   | true ↦ λ is. absurd (cc is)
   | false ↦ λ is. refl
 ] is
+
+-- blocks that become free keep their sizes
+sizes-freed : (s : Shape) (test : Kind → Bool) (m : ZoneMap) → sizes_possible s m ≡ true → sizes_possible s (freed_where test m) ≡ true
+sizes-freed s test [] h = refl
+sizes-freed s test (e ∷ es) h =
+    let parts = both_true (is_block_size s e.size) (sizes_possible s es) h in
+    elim (test e.kind) as (λ c. sizes_possible s (cond c (block Free e.size) e ∷ freed_where test es) ≡ true) [
+      | true ↦ true_both (is_block_size s e.size) (sizes_possible s (freed_where test es)) parts.0 (sizes-freed s test es parts.1)
+      | false ↦ true_both (is_block_size s e.size) (sizes_possible s (freed_where test es)) parts.0 (sizes-freed s test es parts.1)
+    ]
+
+module _ {start end : ℕ} (z : ZoneState) (at : BlocksAt z start end) (protected : List ℕ) (sound : SoundZone z) where
+  -- sizes stay possible
+  pub sizes-purged : HasSizes (purged_between z at protected)
+  sizes-purged =
+      let possible : Entry → Bool = λ e. is_block_size z.shape e.size in
+      let outer = all_parts possible at.before (at.blocks ++ at.behind) (subst (λ m. sizes_possible z.shape m ≡ true) at.map sound.sound.suits.sizes) in
+      let inner = all_parts possible at.blocks at.behind outer.1 in
+      all_both possible at.before (freed_where (may_purge z.heap.table protected) at.blocks ++ at.behind) outer.0
+      (all_both possible (freed_where (may_purge z.heap.table protected) at.blocks) at.behind (sizes-freed z.shape (may_purge z.heap.table protected) at.blocks inner.0) inner.1)
+
+  -- the zone joined is that in which the handles have become empty one after the other
+  pub joined-purged : all_joined (purged_between z at protected) ≡ with_heap (with_all_emptied (candidates_in z.heap.table protected at.blocks) z.heap) z
+  joined-purged =
+      let hs = candidates_in z.heap.table protected at.blocks in
+      ap (λ m. with_heap (record { table = all_emptied hs z.heap.table; map = m; free_slots = z.heap.free_slots }) z)
+      (sym (released-candidates z.heap.table protected z.heap.map at.before at.blocks at.behind at.map (once-suits z.shape z.heap.table z.heap.map sound.sound.suits) sound.sound.suits.apart))
+      ∙ ap (λ heap. with_heap heap z) (sym (emptied-parts hs z.heap))
+
+-- the end of a zone
+pub whole-long : (z : ZoneState) (start : ℕ) → start ≡ address_behind z.shape [] → address_behind z.shape z.heap.map ≡ start + total_size z.heap.map
+whole-long z start first = omega arith
+
+-- all blocks of a zone stand between its start and its end
+abbrev pub whole-zone : (z : ZoneState) (start end : ℕ) → start ≡ address_behind z.shape [] → end ≡ address_behind z.shape z.heap.map → BlocksAt z start end
+whole-zone z start end first last = record {
+  before = [];
+  blocks = z.heap.map;
+  behind = [];
+  map = sym (append-nil z.heap.map);
+  place = first;
+  long = last ∙ whole-long z start first;
+}

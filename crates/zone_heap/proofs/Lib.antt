@@ -17,3 +17,4 @@ pub mod Growing
 pub mod FreedBlocks
 pub mod Purging
 pub mod EmptyingBlocks
+pub mod JoiningAll

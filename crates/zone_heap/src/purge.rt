@@ -1,15 +1,17 @@
 //! Purging: handles that may be purged become empty, in order of address, until it is enough.
 
-ghost use Rattle.std.specs.Prelude.{◌≡◌, ◌≤◌, nat_le, IsTrue, IsFalse, [], Some, None};
+ghost use Rattle.std.specs.Prelude.{◌≡◌, ◌&&◌, ◌≤◌, nat_le, IsTrue, IsFalse, [], Some, None};
 ghost use Rattle.mac_base.specs.Gap.{gaps, some_gap_has};
 ghost use Rattle.mac_base.specs.HandleTable.{is_handle, is_locked};
 ghost use Rattle.mac_base.specs.Heap.{all_purged, with_all_emptied};
 ghost use Rattle.mac_base.specs.Purging.{purged, purged_for};
 ghost use Rattle.mac_base.specs.Request.{candidates_in, fits, length_asked, stays};
-ghost use Rattle.mac_base.specs.ZoneMap.{largest_free, released};
+ghost use Rattle.mac_base.specs.Suits.{starts_free};
+ghost use Rattle.mac_base.specs.ZoneMap.{is_free, largest_free, released};
 ghost use Rattle.mac_base.specs.ZoneState.{with_heap};
 ghost use Rattle.linked_zone.specs.Loans.{KeepsLoans};
-ghost use Rattle.linked_zone.specs.Places.{HasOwner};
+ghost use Rattle.linked_zone.specs.Fit.{HasSizes};
+ghost use Rattle.linked_zone.specs.Places.{EntryAt, HasOwner};
 ghost use Rattle.zone_heap.specs.Attempts.{CanAsk, SoundZone};
 ghost use Rattle.zone_heap.specs.Joins.{all_joined};
 ghost use Rattle.zone_heap.specs.Purge.{BlocksAt, IsLimit, PurgesFor, PurgesTo, bounds_gap, bounds_free, bytes_before, counts, handle_to_purge, is_kept, is_protected, may_purge, purged_between, run_has};
@@ -74,17 +76,52 @@ fn empty_between(zone: &mut LinkedZone, start: u32, end: u32, protected: &[u32])
 
 /// Joins all free neighbours.
 fn join_all(zone: &mut LinkedZone)
+    requires { HasSizes zone.old }
     ensures { zone.new ≡ all_joined zone.old }
 {
     let end = zone_end(zone);
     let mut at = zone.spec().base() + ZONE_HEADER;
     while at < end {
-        let here = zone.entry_at(at);
-        let next = at + here.size;
-        if next < end && here.kind.is_free() && zone.entry_at(next).kind.is_free() {
+        if is_free_pair(zone, at) {
             zone.merge(at);
         } else {
-            at = next;
+            at += zone.entry_at(at).size;
         }
     }
+}
+
+/// Whether the block at an address is free, and the one right behind it.
+fn is_free_pair(zone: &LinkedZone, at: u32) -> bool
+    requires there { EntryAt zone.now at }
+    requires sizes { HasSizes zone.now }
+    ensures { (e : EntryAt zone.now at) → result ≡ (is_free e.here.kind && starts_free e.behind) }
+{
+    match zone.behind(at) {
+        Some(next) => zone.entry_at(at).kind.is_free() && zone.entry_at(next).kind.is_free(),
+        None => false,
+    }
+}
+
+/// Purges the blocks between two addresses that may be purged: their handles become empty, and free neighbours are joined.
+fn purge_between(zone: &mut LinkedZone, start: u32, end: u32, protected: &[u32])
+    requires blocks { BlocksAt zone.old start end }
+    requires sound { SoundZone zone.old }
+    ensures zone { (blocks : BlocksAt zone.old start end) → zone.new ≡ with_heap (with_all_emptied (candidates_in zone.old.heap.table protected.now blocks.blocks) zone.old.heap) zone.old }
+    ensures loans { KeepsLoans zone.old zone.new }
+    ensures sound { SoundZone zone.new }
+{
+    empty_between(zone, start, end, protected);
+    join_all(zone);
+}
+
+/// Purges all blocks that may be purged.
+pub(crate) fn purge_all(zone: &mut LinkedZone)
+    requires sound { SoundZone zone.old }
+    ensures zone { zone.new ≡ with_heap (all_purged zone.old.heap) zone.old }
+    ensures loans { KeepsLoans zone.old zone.new }
+    ensures sound { SoundZone zone.new }
+{
+    let start = zone.spec().base() + ZONE_HEADER;
+    let end = zone_end(zone);
+    purge_between(zone, start, end, &[]);
 }

@@ -1,21 +1,11 @@
-use Rattle.std.proofs.Common.{◌-◌, ◌≡◌, ◌≤◌, nat_le, IsTrue, IsFalse, [], Some, None, ℕ, ◌+◌, ◌*◌, ◌<◌, length}
-use Rattle.mac_base.specs.Gap.{gaps, some_gap_has}
-use Rattle.mac_base.specs.HandleTable.{is_handle, is_locked}
-use Rattle.mac_base.specs.Heap.{all_purged, with_all_emptied}
-use Rattle.mac_base.specs.Purging.{purged, purged_for}
-use Rattle.mac_base.specs.Request.{candidates_in, fits, length_asked, stays}
-use Rattle.mac_base.specs.ZoneMap.{largest_free, released}
-use Rattle.mac_base.specs.ZoneState.{with_heap}
-use Rattle.linked_zone.specs.Loans.{KeepsLoans}
-use Rattle.linked_zone.specs.Places.{HasOwner}
-use Rattle.zone_heap.specs.Attempts.{CanAsk, SoundZone}
-use Rattle.zone_heap.specs.Joins.{all_joined}
-use Rattle.zone_heap.specs.Purge.{BlocksAt, IsLimit, PurgesFor, PurgesTo, bounds_gap, bounds_free, bytes_before, counts, handle_to_purge, is_kept, is_protected, may_purge, purged_between, run_has}
+use Rattle.std.proofs.Common.{◌+◌, ◌-◌, length}
+use Rattle.zone_heap.proofs.JoiningAll.{JoinedBelow}
 use Rattle.zone_heap.proofs.purge.join_all.Given as goal
 
+-- the zone is joined so far
 abbrev pub invariant-loop-at : goal.invariant-loop-at
-invariant-loop-at l = ?
+invariant-loop-at l = JoinedBelow l.fn.zone l.zone l.at
 
--- proposed from the loop's first test
+-- the blocks, and the bytes that are left
 abbrev pub decreases-loop-at : goal.decreases-loop-at
-decreases-loop-at l = l.end - l.at
+decreases-loop-at l = length l.zone.heap.map + (l.end - l.at)
