@@ -63,8 +63,8 @@ same-handle [] t h live = live
 same-handle (g ∷ hs) t h live =
     same-handle hs (emptied g t) h
     (by_number (λ y. is_handle t y ≡ true → is_handle (emptied g t) y ≡ true) g
-        (λ _. ap live_handle (live_at-with_live_same g EmptyHandle t))
-        (λ y apart was. ap live_handle ((with_live_agrees g EmptyHandle t).others y apart) ∙ was) h live)
+    (λ _. ap live_handle (live_at-with_live_same g EmptyHandle t))
+    (λ y apart was. ap live_handle ((with_live_agrees g EmptyHandle t).others y apart) ∙ was) h live)
 
 -- and what is lent stays lent
 same-lent : (hs : List ℕ) (t : HandleTable) → (all_emptied hs t).lent ≡ t.lent
@@ -81,7 +81,7 @@ once-freed : (test : Kind → Bool) (before done rest : ZoneMap) → Once (befor
 once-freed test before [] rest once = once
 once-freed test before (e ∷ es) rest once =
     let on : (f : Entry) → Once (before ++ f ∷ (es ++ rest)) → Once (before ++ f ∷ (freed_where test es ++ rest)) = λ f once.
-        subst Once (append_assoc before (f ∷ []) (freed_where test es ++ rest)) (once-freed test (before ++ f ∷ []) es rest (subst Once (sym (append_assoc before (f ∷ []) (es ++ rest))) once)) in
+    subst Once (append_assoc before (f ∷ []) (freed_where test es ++ rest)) (once-freed test (before ++ f ∷ []) es rest (subst Once (sym (append_assoc before (f ∷ []) (es ++ rest))) once)) in
     elim (test e.kind) as (λ c. Once (before ++ cond c (block Free e.size) e ∷ (freed_where test es ++ rest))) [
       | true ↦ on (block Free e.size) (once-free before e (es ++ rest) once)
       | false ↦ on e once

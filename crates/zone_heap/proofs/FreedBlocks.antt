@@ -100,9 +100,9 @@ freed-candidates t protected before [] behind once = refl
 freed-candidates t protected before (e ∷ es) behind once =
     ap (λ hs. all_freed hs (before ++ e ∷ (es ++ behind))) (candidates-cons t protected e es)
     ∙ by_kind e.kind refl (λ f once.
-        let push = append_assoc before (f ∷ []) (es ++ behind) in
-        ap (all_freed (candidates_in t protected es)) (sym push) ∙ freed-candidates t protected (before ++ f ∷ []) es behind (subst Once (sym push) once)
-        ∙ append_assoc before (f ∷ []) (freed_where (may_purge t protected) es ++ behind))
+    let push = append_assoc before (f ∷ []) (es ++ behind) in
+    ap (all_freed (candidates_in t protected es)) (sym push) ∙ freed-candidates t protected (before ++ f ∷ []) es behind (subst Once (sym push) once)
+    ∙ append_assoc before (f ∷ []) (freed_where (may_purge t protected) es ++ behind))
   where
     by_kind : (kind : Kind) → e.kind ≡ kind
         → ((f : Entry) → Once (before ++ f ∷ (es ++ behind)) → all_freed (candidates_in t protected es) (before ++ f ∷ (es ++ behind)) ≡ before ++ f ∷ (freed_where (may_purge t protected) es ++ behind))
@@ -123,10 +123,10 @@ pub joined-freed : (x : ℕ) (m : ZoneMap) → joined (freed x (joined m)) ≡ j
 joined-freed x [] = refl
 joined-freed x (e ∷ es) = join_cases (λ j. joined (freed x j) ≡ joined (freed x (e ∷ es))) e (joined es)
     (λ f fs was free also.
-        sym (joined-two e.size f.size (freed x fs))
-        ∙ ap (λ d. joined (d ∷ block Free f.size ∷ freed x fs)) (sym (free_stays e free))
-        ∙ ap (λ d. joined_to (cond (is_named x e.kind) (block Free e.size) e) (joined (d ∷ freed x fs))) (sym (free_stays f also))
-        ∙ ap (joined_to (cond (is_named x e.kind) (block Free e.size) e)) (ap (λ j. joined (freed x j)) (sym was) ∙ joined-freed x es))
+    sym (joined-two e.size f.size (freed x fs))
+    ∙ ap (λ d. joined (d ∷ block Free f.size ∷ freed x fs)) (sym (free_stays e free))
+    ∙ ap (λ d. joined_to (cond (is_named x e.kind) (block Free e.size) e) (joined (d ∷ freed x fs))) (sym (free_stays f also))
+    ∙ ap (joined_to (cond (is_named x e.kind) (block Free e.size) e)) (ap (λ j. joined (freed x j)) (sym was) ∙ joined-freed x es))
     (ap (joined_to (cond (is_named x e.kind) (block Free e.size) e)) (joined-freed x es))
   where
     free_stays : (e : Entry) → e.kind ≡ Free → cond (is_named x e.kind) (block Free e.size) e ≡ block Free e.size

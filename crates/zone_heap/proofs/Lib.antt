@@ -18,3 +18,6 @@ pub mod FreedBlocks
 pub mod Purging
 pub mod EmptyingBlocks
 pub mod JoiningAll
+pub mod Walks
+pub mod Runs
+pub mod GapWalks

@@ -52,10 +52,10 @@ fn handle_to_purge(zone: &LinkedZone, kind: Kind, protected: &[u32]) -> Option<H
 fn counts(counted: Option<u32>, kind: Kind) -> bool
     ensures { result ≡ counts counted kind }
 {
-    match counted {
-        Some(number) => kind.is_free() || kind.is_named(number),
-        None => kind.is_free(),
+    if kind.is_free() {
+        return true;
     }
+    counted.is_some_and(|number| kind.is_named(number))
 }
 
 /// Empties the handles that may be purged and have their blocks between two addresses. The blocks are free, and not joined.
@@ -112,6 +112,67 @@ fn purge_between(zone: &mut LinkedZone, start: u32, end: u32, protected: &[u32])
 {
     empty_between(zone, start, end, protected);
     join_all(zone);
+}
+
+/// The bytes that count between an address and the first block that stays where it is, or the end.
+fn gap_room(zone: &LinkedZone, start: u32, end: u32, counted: Option<u32>) -> u32
+    requires blocks { BlocksAt zone.now start end }
+    requires sound { SoundZone zone.now }
+    ensures { (blocks : BlocksAt zone.now start end) → result ≡ bytes_before (bounds_gap zone.now.heap.table counted) (counts counted) blocks.blocks }
+{
+    let mut at = start;
+    let mut room = 0;
+    while at < end {
+        let here = zone.entry_at(at);
+        if counts(counted, here.kind) {
+            room += here.size;
+        } else if is_fixed(zone, here.kind) {
+            return room;
+        }
+        at += here.size;
+    }
+    room
+}
+
+/// How far to purge between two addresses so that a gap has room for `needed` bytes: as few blocks as serve, and all where
+/// none do. Each gap is read twice at most.
+fn gap_limit(
+    zone: &LinkedZone,
+    start: u32,
+    end: u32,
+    needed: u32,
+    counted: Option<u32>,
+    protected: &[u32],
+) -> Limit
+    requires blocks { BlocksAt zone.now start end }
+    requires sound { SoundZone zone.now }
+    requires kept { IsTrue (is_kept protected.now counted) }
+    requires no_room { (blocks : BlocksAt zone.now start end) → IsFalse (run_has (bounds_gap zone.now.heap.table counted) (counts counted) needed 0 blocks.blocks) }
+    ensures { (blocks : BlocksAt zone.now start end) → IsLimit (bounds_gap zone.now.heap.table counted) (counts counted) (may_purge zone.now.heap.table protected.now) needed blocks.blocks start result }
+{
+    let mut at = start;
+    let mut room = gap_room(zone, start, end, counted);
+    while at < end {
+        let here = zone.entry_at(at);
+        at += here.size;
+        if handle_to_purge(zone, here.kind, protected).is_some() {
+            room += here.size;
+            if needed <= room {
+                return Limit {
+                    start,
+                    end: at,
+                    enough: true,
+                };
+            }
+        } else if !counts(counted, here.kind) && is_fixed(zone, here.kind) {
+            room = gap_room(zone, at, end, counted);
+        }
+    }
+    Limit {
+        start,
+        end: at,
+        enough: false,
+    }
 }
 
 /// Purges all blocks that may be purged.
