@@ -1,6 +1,7 @@
 -- Walks by which the room of gaps is counted.
 use Rattle.std.proofs.Common.{◌≡◌, ℕ, ◌+◌, ◌<◌, ◌≤◌, Bool, true, false, not, cond, eqb, List, [], ◌∷◌, ◌++◌, refl, ap, sym, ◌∙◌, arith, subst, IsTrue, Some, None, Option}
-use Rattle.std.specs.Prelude.{◌&&◌, ◌||◌, nat_le}
+use Rattle.std.specs.Prelude.{◌&&◌, ◌||◌, is_some, nat_le}
+use Rattle.std.proofs.lemmas.Bool.Decides.{nat_tests}
 use Rattle.mac_base.specs.declared.block.Entry.{Entry}
 use Rattle.mac_base.specs.declared.block.Kind.{Kind}
 use Rattle.mac_base.specs.declared.block.Kind.TheVariants.{Free, Master, Ptr, Rel}
@@ -12,7 +13,7 @@ use Rattle.mac_base.specs.ZoneState.{ZoneState}
 use Rattle.zone_laws.proofs.Tables.{eqb-true-is}
 use Rattle.zone_gaps.proofs.Sizes.{total_size-push}
 use Rattle.zone_heap.specs.Attempts.{SoundZone}
-use Rattle.zone_heap.specs.Purge.{BlocksAt, IsLimit, bounds_gap, bytes_before, counts, is_kept, may_purge, run_has, size_if}
+use Rattle.zone_heap.specs.Purge.{BlocksAt, IsLimit, bounds_gap, bytes_before, counts, handle_to_purge, is_kept, may_purge, run_has, size_if}
 use Rattle.zone_heap.specs.declared.purge.Limit.{Limit}
 use Rattle.zone_heap.proofs.Purging.{may_purge-parts}
 use Rattle.zone_heap.proofs.Runs.{Swept, bytes-within, bound_swept, limit_here, limit_last, more-run, none_behind, none_swept, pass_swept, purge_swept}
@@ -31,6 +32,21 @@ bounds-free t (Some h) = refl
 -- a block that counts bounds none either
 pub bounds-counts : (t : HandleTable) (counted : Option ℕ) (kind : Kind) → counts counted kind ≡ true → bounds_gap t counted kind ≡ false
 bounds-counts t counted kind h = ap (λ c. not c && is_fixed t kind) h
+
+-- and one that doesn't bounds them where it is fixed
+pub bounds-other : (t : HandleTable) (counted : Option ℕ) (kind : Kind) → counts counted kind ≡ false → bounds_gap t counted kind ≡ is_fixed t kind
+bounds-other t counted kind h = ap (λ c. not c && is_fixed t kind) h
+
+-- a handle is to be purged where its block may be
+pub some-purged : (t : HandleTable) (protected : List ℕ) (kind : Kind) → is_some (handle_to_purge t protected kind) ≡ may_purge t protected kind
+some-purged t protected Free = refl
+some-purged t protected Master = refl
+some-purged t protected (Ptr p) = refl
+some-purged t protected (Rel g) = elim (is_purgeable t g && not (is_among protected g)) as (λ c. is_some (cond c (Some g) None) ≡ c) [ true ↦ refl | false ↦ refl ]
+
+-- more bytes than there are
+pub too-many : (k n : ℕ) → n < k → nat_le k n ≡ false
+too-many k n h = grind (arith, nat_tests)
 
 -- one that may be purged doesn't count where the handle that counts is protected
 pub purged-apart : (t : HandleTable) (protected : List ℕ) (counted : Option ℕ) (kind : Kind) → is_kept protected counted ≡ true → may_purge t protected kind ≡ true → counts counted kind ≡ false
