@@ -212,3 +212,63 @@ module _ {start end : ℕ} (z : ZoneState) (b : BlocksAt z start end) (k : ℕ) 
           let last = end_walked z b at s.walked in
           let all = ap total_size f.is in
           omega arith
+
+-- Gaps are looked through up to an address: none below has room, and the one that goes on has some.
+pub record Through {start end : ℕ} (z : ZoneState) (b : BlocksAt z start end) (k : ℕ) (counted : Option ℕ) (at room : ℕ) : Type 0 where
+  pub walked : Walked z b at
+  pub so_far : run_has (bounds_gap z.heap.table counted) (counts counted) k 0 b.blocks ≡ run_has (bounds_gap z.heap.table counted) (counts counted) k room walked.rest
+  pub few : room ≤ total_size walked.done
+
+module _ {start end : ℕ} (z : ZoneState) (b : BlocksAt z start end) (k : ℕ) (counted : Option ℕ) where
+  -- at first none is
+  pub none_through : Through z b k counted start 0
+  none_through = record { walked = none_walked z b; so_far = refl; few = omega arith }
+
+  -- at the end all are
+  pub through_all : (at room : ℕ) → SoundZone z → Through z b k counted at room → end ≤ at → nat_le k room ≡ run_has (bounds_gap z.heap.table counted) (counts counted) k 0 b.blocks
+  through_all at room sound s above = sym (s.so_far ∙ ap (run_has (bounds_gap z.heap.table counted) (counts counted) k room) (walked_end z b at s.walked sound above))
+
+  module _ (at room : ℕ) (s : Through z b k counted at room) (f : Facing z b at s.walked) where
+    through_step : run_has (bounds_gap z.heap.table counted) (counts counted) k 0 b.blocks
+        ≡ cond (bounds_gap z.heap.table counted (f.here).kind) (nat_le k room || run_has (bounds_gap z.heap.table counted) (counts counted) k 0 f.after) (run_has (bounds_gap z.heap.table counted) (counts counted) k (room + size_if (counts counted) f.here) f.after)
+    through_step = s.so_far ∙ ap (run_has (bounds_gap z.heap.table counted) (counts counted) k room) f.is
+
+    -- a block that counts
+    pub through_more : counts counted (f.here).kind ≡ true → Through z b k counted (at + (f.here).size) (room + (f.here).size)
+    through_more here = record {
+      walked = walked_on z b at s.walked f;
+      so_far = through_step
+          ∙ ap (λ c. cond c (nat_le k room || run_has (bounds_gap z.heap.table counted) (counts counted) k 0 f.after) (run_has (bounds_gap z.heap.table counted) (counts counted) k (room + size_if (counts counted) f.here) f.after)) (bounds-counts z.heap.table counted (f.here).kind here)
+          ∙ ap (λ c. run_has (bounds_gap z.heap.table counted) (counts counted) k (room + cond c (f.here).size 0) f.after) here;
+      few = (let was = s.few in let all = total_size-push (s.walked).done f.here in omega arith);
+    }
+
+    -- one that bounds a gap
+    pub through_bound : bounds_gap z.heap.table counted (f.here).kind ≡ true → run_has (bounds_gap z.heap.table counted) (counts counted) k 0 b.blocks ≡ (nat_le k room || run_has (bounds_gap z.heap.table counted) (counts counted) k 0 f.after)
+    through_bound bounding = through_step
+        ∙ ap (λ c. cond c (nat_le k room || run_has (bounds_gap z.heap.table counted) (counts counted) k 0 f.after) (run_has (bounds_gap z.heap.table counted) (counts counted) k (room + size_if (counts counted) f.here) f.after)) bounding
+
+    pub through_found : bounds_gap z.heap.table counted (f.here).kind ≡ true → nat_le k room ≡ true → run_has (bounds_gap z.heap.table counted) (counts counted) k 0 b.blocks ≡ true
+    through_found bounding enough = through_bound bounding ∙ ap (λ c. c || run_has (bounds_gap z.heap.table counted) (counts counted) k 0 f.after) enough
+
+    pub through_next : bounds_gap z.heap.table counted (f.here).kind ≡ true → nat_le k room ≡ false → Through z b k counted (at + (f.here).size) 0
+    through_next bounding less = record {
+      walked = walked_on z b at s.walked f;
+      so_far = through_bound bounding ∙ ap (λ c. c || run_has (bounds_gap z.heap.table counted) (counts counted) k 0 f.after) less;
+      few = omega arith;
+    }
+
+    -- one that does neither
+    pub through_on : counts counted (f.here).kind ≡ false → bounds_gap z.heap.table counted (f.here).kind ≡ false → Through z b k counted (at + (f.here).size) room
+    through_on other moves = record {
+      walked = walked_on z b at s.walked f;
+      so_far = through_step
+          ∙ ap (λ c. cond c (nat_le k room || run_has (bounds_gap z.heap.table counted) (counts counted) k 0 f.after) (run_has (bounds_gap z.heap.table counted) (counts counted) k (room + size_if (counts counted) f.here) f.after)) moves
+          ∙ ap (λ c. run_has (bounds_gap z.heap.table counted) (counts counted) k (room + cond c (f.here).size 0) f.after) other
+          ∙ ap (λ n. run_has (bounds_gap z.heap.table counted) (counts counted) k n f.after) (let e : room + 0 ≡ room = omega arith in e);
+      few = (let was = s.few in let all = total_size-push (s.walked).done f.here in omega arith);
+    }
+
+    -- the room fits
+    pub within_through : room + (f.here).size ≤ end
+    within_through = let few = s.few in let here = (s.walked).at_is in let within = within_facing z b at s.walked f in omega arith

@@ -21,3 +21,4 @@ pub mod JoiningAll
 pub mod Walks
 pub mod Runs
 pub mod GapWalks
+pub mod Until

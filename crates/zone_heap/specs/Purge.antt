@@ -1,12 +1,12 @@
 -- Purging by walks over the blocks of a zone.
-use Rattle.std.specs.Prelude.{◌≡◌, ◌⊎◌, ℕ, ◌+◌, Bool, true, false, not, ◌&&◌, ◌||◌, nat_le, if◌then◌else◌, List, [], ◌∷◌, ◌++◌, map, fold, Option, Some, None, IsTrue, IsFalse}
+use Rattle.std.specs.Prelude.{◌≡◌, ◌⊎◌, ℕ, ◌+◌, Bool, true, false, not, ◌&&◌, ◌||◌, nat_le, if◌then◌else◌, List, [], ◌∷◌, ◌++◌, map, fold, Option, Some, None, IsTrue, IsFalse, ⊤}
 use Rattle.mac_base.specs.declared.block.Entry.{Entry}
 use Rattle.mac_base.specs.declared.block.Kind.{Kind}
 use Rattle.mac_base.specs.declared.block.Kind.TheVariants.{Free, Master, Ptr, Rel}
 use Rattle.mac_base.specs.declared.request.Request.{Request}
 use Rattle.mac_base.specs.declared.request.Request.TheVariants.{Resize, Replace}
 use Rattle.mac_base.specs.Gap.{is_fixed}
-use Rattle.mac_base.specs.HandleTable.{HandleTable, emptied, is_purgeable}
+use Rattle.mac_base.specs.HandleTable.{HandleTable, emptied, is_handle, is_locked, is_purgeable}
 use Rattle.mac_base.specs.Request.{candidates, candidates_in, fits, is_among, purged_until}
 use Rattle.mac_base.specs.ZoneMap.{ZoneMap, block, handle_of, is_free, is_named, address_behind, largest_free, released, total_size}
 use Rattle.mac_base.specs.ZoneState.{ZoneState, with_heap}
@@ -38,6 +38,16 @@ handle_to_purge t protected kind = if may_purge t protected kind then handle_of 
 abbrev pub counts : Option ℕ → Kind → Bool
 counts None kind = is_free kind
 counts (Some h) kind = is_free kind || is_named h kind
+
+-- the map with the block of this handle free, if there is one
+abbrev pub released_if : Option ℕ → ZoneMap → ZoneMap
+released_if None m = m
+released_if (Some h) m = released h m
+
+-- the block of this handle may count as free: it is live and isn't locked
+abbrev pub CanCount : ZoneState → Option ℕ → Type 0
+CanCount z None = ⊤
+CanCount z (Some h) = IsTrue (is_handle z.heap.table h) × IsFalse (is_locked z.heap.table h)
 
 -- whether a block bounds the gaps in which some block counts as free
 abbrev pub bounds_gap : HandleTable → Option ℕ → Kind → Bool

@@ -14,7 +14,7 @@ ghost use Rattle.linked_zone.specs.Fit.{HasSizes};
 ghost use Rattle.linked_zone.specs.Places.{EntryAt, HasOwner};
 ghost use Rattle.zone_heap.specs.Attempts.{CanAsk, SoundZone};
 ghost use Rattle.zone_heap.specs.Joins.{all_joined};
-ghost use Rattle.zone_heap.specs.Purge.{BlocksAt, IsLimit, PurgesFor, PurgesTo, bounds_gap, bounds_free, bytes_before, counts, handle_to_purge, is_kept, is_protected, may_purge, purged_between, run_has};
+ghost use Rattle.zone_heap.specs.Purge.{BlocksAt, IsLimit, PurgesFor, PurgesTo, bounds_gap, bounds_free, bytes_before, counts, handle_to_purge, is_kept, is_protected, may_purge, purged_between, released_if, run_has, CanCount};
 
 use linked_zone::LinkedZone;
 use mac_base::block::Kind;
@@ -173,6 +173,31 @@ fn gap_limit(
         end: at,
         enough: false,
     }
+}
+
+/// Whether some gap has room for `needed` bytes, where the block of an unlocked handle counts as free.
+pub(crate) fn has_room(zone: &LinkedZone, needed: u32, counted: Option<Handle>) -> bool
+    requires sound { SoundZone zone.now }
+    requires handle { CanCount zone.now counted }
+    ensures { result ≡ some_gap_has needed (gaps zone.now.heap.table (released_if counted zone.now.heap.map)) }
+{
+    let number = counted.map(Handle::number);
+    let end = zone_end(zone);
+    let mut at = zone.spec().base() + ZONE_HEADER;
+    let mut room = 0;
+    while at < end {
+        let here = zone.entry_at(at);
+        if counts(number, here.kind) {
+            room += here.size;
+        } else if is_fixed(zone, here.kind) {
+            if needed <= room {
+                return true;
+            }
+            room = 0;
+        }
+        at += here.size;
+    }
+    needed <= room
 }
 
 /// Purges all blocks that may be purged.

@@ -1,0 +1,14 @@
+use Rattle.std.proofs.Common.{◌-◌, ◌≡◌}
+use Rattle.mac_base.specs.ZoneMap.{address_behind}
+use Rattle.zone_heap.specs.Purge.{BlocksAt}
+use Rattle.zone_heap.proofs.EmptyingBlocks.{whole-zone}
+use Rattle.zone_heap.proofs.GapWalks.{Through}
+use Rattle.zone_heap.proofs.purge.has_room.Given as goal
+
+-- the gaps below are looked through
+abbrev pub invariant-loop-at : goal.invariant-loop-at
+invariant-loop-at l = (blocks : BlocksAt l.zone l.initial.at l.end) → Through l.zone blocks l.needed l.number l.at l.room
+
+-- the bytes that are left
+abbrev pub decreases-loop-at : goal.decreases-loop-at
+decreases-loop-at l = l.end - l.at
