@@ -7,9 +7,10 @@ use Rattle.mac_base.specs.declared.block.Entry.{Entry}
 use Rattle.mac_base.specs.declared.block.Kind.{Kind}
 use Rattle.mac_base.specs.declared.block.Kind.TheVariants.{Free, Master, Ptr, Rel}
 use Rattle.mac_base.specs.Gap.{Gap, further, gaps, is_fixed, room, some_gap_has}
+use Rattle.mac_base.specs.HeadKind.{Shape}
 use Rattle.mac_base.specs.HandleTable.{HandleTable, is_locked, is_purgeable}
 use Rattle.mac_base.specs.Request.{candidates_in, is_among, purged_until}
-use Rattle.mac_base.specs.Suits.{free_apart}
+use Rattle.mac_base.specs.Suits.{Suits, free_apart}
 use Rattle.mac_base.specs.ZoneMap.{ZoneMap, block, free_size, is_free, is_named, joined, joined_to, released}
 use Rattle.zone_laws.proofs.GapParts.{first_gap, later_gaps}
 use Rattle.zone_laws.proofs.GapRoom.{list_any-gaps}
@@ -17,7 +18,7 @@ use Rattle.zone_laws.proofs.JoinedBlocks.{join_cases}
 use Rattle.linked_zone.specs.Changes.{freed}
 use Rattle.zone_heap.specs.Purge.{IsLimit, all_released, bounds_gap, counts, freed_where, may_purge, released_if, run_has, size_if}
 use Rattle.zone_heap.specs.declared.purge.Limit.{Limit}
-use Rattle.zone_heap.proofs.FreedBlocks.{Once, candidate_here, candidates-append, candidates-cons, joined-freed, released-candidates}
+use Rattle.zone_heap.proofs.FreedBlocks.{Once, once-suits, candidate_here, candidates-append, candidates-cons, joined-freed, released-candidates}
 
 -- where it is enough, no more is purged
 until-enough : (test : ZoneMap → Bool) (hs : List ℕ) (m : ZoneMap) → test m ≡ true → purged_until test hs m ≡ []
@@ -184,3 +185,7 @@ pub gap-means : (t : HandleTable) (k : ℕ) (counted : Option ℕ) (protected : 
     → some_gap_has k (gaps t (released_if counted (all_released (candidates_in t protected a) m))) ≡ run_has (bounds_gap t counted) (counts counted) k 0 (freed_where (may_purge t protected) a ++ b)
 gap-means t k counted protected m once apart a b was =
     ap (λ m. some_gap_has k (gaps t (released_if counted m))) (released-candidates t protected m [] a b was once apart) ∙ gap-run t k counted (freed_where (may_purge t protected) a ++ b)
+
+-- and where none is released
+pub gap-now : (s : Shape) (t : HandleTable) (k : ℕ) (counted : Option ℕ) (m : ZoneMap) → Suits s t m → some_gap_has k (gaps t (released_if counted m)) ≡ run_has (bounds_gap t counted) (counts counted) k 0 m
+gap-now s t k counted m suits = gap-means t k counted [] m (once-suits s t m suits) suits.apart [] m refl

@@ -7,7 +7,7 @@ ghost use Rattle.mac_base.specs.Heap.{all_purged, with_all_emptied};
 ghost use Rattle.mac_base.specs.Purging.{purged, purged_for};
 ghost use Rattle.mac_base.specs.Request.{candidates_in, fits, length_asked, stays};
 ghost use Rattle.mac_base.specs.Suits.{starts_free};
-ghost use Rattle.mac_base.specs.ZoneMap.{is_free, largest_free, released};
+ghost use Rattle.mac_base.specs.ZoneMap.{address_behind, is_free, largest_free, released};
 ghost use Rattle.mac_base.specs.ZoneState.{with_heap};
 ghost use Rattle.linked_zone.specs.Loans.{KeepsLoans};
 ghost use Rattle.linked_zone.specs.Fit.{HasSizes};
@@ -181,13 +181,31 @@ pub(crate) fn has_room(zone: &LinkedZone, needed: u32, counted: Option<Handle>) 
     requires handle { CanCount zone.now counted }
     ensures { result ≡ some_gap_has needed (gaps zone.now.heap.table (released_if counted zone.now.heap.map)) }
 {
-    let number = counted.map(Handle::number);
+    match counted {
+        Some(handle) => some_gap_has(zone, needed, Some(handle.number())),
+        None => some_gap_has(zone, needed, None),
+    }
+}
+
+/// The address of a zone's first block.
+fn zone_start(zone: &LinkedZone) -> u32
+    ensures { result ≡ address_behind zone.now.shape [] }
+{
+    zone.spec().base() + ZONE_HEADER
+}
+
+/// Whether some gap has room for `needed` bytes, where the block that this number names counts as free.
+fn some_gap_has(zone: &LinkedZone, needed: u32, counted: Option<u32>) -> bool
+    requires { SoundZone zone.now }
+    ensures { result ≡ some_gap_has needed (gaps zone.now.heap.table (released_if counted zone.now.heap.map)) }
+{
+    let start = zone_start(zone);
     let end = zone_end(zone);
-    let mut at = zone.spec().base() + ZONE_HEADER;
+    let mut at = start;
     let mut room = 0;
     while at < end {
         let here = zone.entry_at(at);
-        if counts(number, here.kind) {
+        if counts(counted, here.kind) {
             room += here.size;
         } else if is_fixed(zone, here.kind) {
             if needed <= room {
