@@ -77,7 +77,7 @@ emptied-append [] h t = refl
 emptied-append (g ∷ hs) h t = emptied-append hs h (emptied g t)
 
 -- no number names two blocks where some are free
-once-freed : (test : Kind → Bool) (before done rest : ZoneMap) → Once (before ++ (done ++ rest)) → Once (before ++ (freed_where test done ++ rest))
+pub once-freed : (test : Kind → Bool) (before done rest : ZoneMap) → Once (before ++ (done ++ rest)) → Once (before ++ (freed_where test done ++ rest))
 once-freed test before [] rest once = once
 once-freed test before (e ∷ es) rest once =
     let on : (f : Entry) → Once (before ++ f ∷ (es ++ rest)) → Once (before ++ f ∷ (freed_where test es ++ rest)) = λ f once.

@@ -22,3 +22,4 @@ pub mod Walks
 pub mod Runs
 pub mod GapWalks
 pub mod Until
+pub mod Grows

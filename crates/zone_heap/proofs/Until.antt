@@ -139,7 +139,8 @@ run-gaps t k r (e ∷ es) =
 pub some-gap_run : (t : HandleTable) (k : ℕ) (m : ZoneMap) → some_gap_has k (gaps t m) ≡ run_has (is_fixed t) is_free k 0 m
 some-gap_run t k m = list_any-gaps (λ g. nat_le k (room g)) t m ∙ ap (λ n. nat_le k n || list_any (λ g. nat_le k (room g)) (later_gaps t m)) (let e : room (first_gap t m) ≡ 0 + room (first_gap t m) = omega arith in e) ∙ sym (run-gaps t k 0 m)
 
-run-none : (t : HandleTable) (k r : ℕ) (m : ZoneMap) → run_has (is_fixed t) is_free k r m ≡ run_has (bounds_gap t None) (counts None) k r m
+-- where no handle counts, the runs are those between fixed blocks
+pub run-none : (t : HandleTable) (k r : ℕ) (m : ZoneMap) → run_has (is_fixed t) is_free k r m ≡ run_has (bounds_gap t None) (counts None) k r m
 run-none t k r [] = refl
 run-none t k r (e ∷ es) = by_kind e.kind (λ n. run-none t k n es)
   where

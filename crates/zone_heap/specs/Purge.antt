@@ -39,6 +39,12 @@ abbrev pub counts : Option ℕ → Kind → Bool
 counts None kind = is_free kind
 counts (Some h) kind = is_free kind || is_named h kind
 
+-- the number whose block counts as free while a request looks for room
+abbrev pub operand : Request → Option ℕ
+operand (Resize x n) = Some x
+operand (Replace h n) = Some h
+operand _ = None
+
 -- the map with the block of this handle free, if there is one
 abbrev pub released_if : Option ℕ → ZoneMap → ZoneMap
 released_if None m = m

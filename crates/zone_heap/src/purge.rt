@@ -2,7 +2,7 @@
 
 ghost use Rattle.std.specs.Prelude.{◌≡◌, ◌&&◌, ◌≤◌, nat_le, IsTrue, IsFalse, [], Some, None};
 ghost use Rattle.mac_base.specs.Gap.{gaps, some_gap_has};
-ghost use Rattle.mac_base.specs.HandleTable.{is_handle, is_locked};
+ghost use Rattle.mac_base.specs.HandleTable.{has_block, is_handle, is_locked};
 ghost use Rattle.mac_base.specs.Heap.{all_purged, with_all_emptied};
 ghost use Rattle.mac_base.specs.Purging.{purged, purged_for};
 ghost use Rattle.mac_base.specs.Request.{candidates_in, fits, length_asked, stays};
@@ -14,11 +14,11 @@ ghost use Rattle.linked_zone.specs.Fit.{HasSizes};
 ghost use Rattle.linked_zone.specs.Places.{EntryAt, HasOwner};
 ghost use Rattle.zone_heap.specs.Attempts.{CanAsk, SoundZone};
 ghost use Rattle.zone_heap.specs.Joins.{all_joined};
-ghost use Rattle.zone_heap.specs.Purge.{BlocksAt, IsLimit, PurgesFor, PurgesTo, bounds_gap, bounds_free, bytes_before, counts, handle_to_purge, is_kept, is_protected, may_purge, purged_between, released_if, run_has, CanCount};
+ghost use Rattle.zone_heap.specs.Purge.{BlocksAt, IsLimit, PurgesFor, PurgesTo, bounds_gap, bounds_free, bytes_before, counts, handle_to_purge, is_kept, is_protected, operand, may_purge, purged_between, released_if, run_has, CanCount};
 
 use linked_zone::LinkedZone;
 use mac_base::block::Kind;
-use mac_base::handle::Handle;
+use mac_base::handle::{Handle, Ptr};
 use mac_base::request::Request;
 use mac_base::size::{MASTER_LENGTH, ZONE_HEADER, need_for};
 use zone_gaps::{is_fixed, zone_end};
@@ -228,4 +228,36 @@ pub(crate) fn purge_all(zone: &mut LinkedZone)
     let start = zone.spec().base() + ZONE_HEADER;
     let end = zone_end(zone);
     purge_between(zone, start, end, &[]);
+}
+
+/// The bytes of contents that a request asks for.
+fn length_asked(request: Request) -> u32
+    ensures { result ≡ length_asked request }
+{
+    match request {
+        Request::NewBlock(length) | Request::NewPointer(length) | Request::Reserve(length) => length,
+        Request::Resize(_, length) | Request::Replace(_, length) => length,
+        Request::NewEmpty => 0,
+        Request::NewMaster => MASTER_LENGTH,
+    }
+}
+
+/// The number whose block counts as free while a request looks for room: that which gets another size, or is replaced.
+fn operand(request: Request) -> Option<u32>
+    ensures { result ≡ operand request }
+{
+    match request {
+        Request::Resize(block, _) => Some(block),
+        Request::Replace(handle, _) => Some(handle.number()),
+        Request::NewBlock(_) | Request::NewEmpty | Request::NewPointer(_) => None,
+        Request::NewMaster | Request::Reserve(_) => None,
+    }
+}
+
+/// Whether the block of a number stays where it is: that of a pointer, or of a locked handle.
+fn stays(zone: &LinkedZone, block: u32) -> bool
+    requires { IsTrue (has_block zone.now.heap.table block) }
+    ensures { result ≡ stays zone.now.heap.table block }
+{
+    zone.is_pointer(Ptr::new(block)) || zone.flags(Handle::new(block)).lock
 }
