@@ -4,6 +4,7 @@
 mod place;
 mod compact;
 mod growth;
+mod purge;
 mod shortage;
 mod size;
 mod zone;
