@@ -35,3 +35,4 @@ pub mod Runs
 pub mod GapWalks
 pub mod Until
 pub mod Grows
+pub mod Replacing

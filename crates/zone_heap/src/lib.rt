@@ -1,10 +1,12 @@
 //! A heap zone: one attempt to place, size, flag, release or show a block.
 #![tactic(auto)]
 
+mod attempt;
 mod place;
 mod compact;
 mod growth;
 mod purge;
+mod replace;
 mod shortage;
 mod size;
 mod zone;
