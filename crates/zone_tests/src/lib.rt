@@ -2,11 +2,15 @@
 #![tactic(auto)]
 
 #[cfg(test)]
+mod attempt;
+#[cfg(test)]
 mod gaps;
 #[cfg(test)]
 mod place;
 #[cfg(test)]
 mod region;
+#[cfg(test)]
+mod replace;
 #[cfg(test)]
 mod size;
 #[cfg(test)]
