@@ -26,3 +26,13 @@ pub mod Largest
 pub mod Compacting
 pub mod Recovering
 pub mod Resizes
+pub mod FreedBlocks
+pub mod Purging
+pub mod EmptyingBlocks
+pub mod JoiningAll
+pub mod Walks
+pub mod Runs
+pub mod GapWalks
+pub mod Until
+pub mod Grows
+pub mod Replacing

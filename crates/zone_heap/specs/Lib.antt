@@ -6,3 +6,4 @@ pub mod Room
 pub mod Zone
 pub mod Resized
 pub mod Squeezed
+pub mod Purge

@@ -4,6 +4,9 @@
 mod compact;
 mod growth;
 mod place;
+mod attempt;
+mod purge;
+mod replace;
 mod shortage;
 mod size;
 mod zone;

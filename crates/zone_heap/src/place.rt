@@ -162,7 +162,7 @@ pub(crate) fn reserve(zone: &mut LinkedZone, length: u32) -> Result<(), Shortage
 
 /// The address of a free block of at least `needed` bytes for a relocatable block: the lowest, or where there is none that
 /// of the lowest gap with room, arranged down.
-fn open_lowest(zone: &mut LinkedZone, needed: u32) -> Option<u32>
+pub(crate) fn open_lowest(zone: &mut LinkedZone, needed: u32) -> Option<u32>
     requires some { 0 < needed }
     requires sound { SoundZone zone.old }
     ensures room { MatchOption result (LacksRoom needed zone.old zone.new) (λ at. IsOpened zone.old needed at zone.new) }

@@ -168,11 +168,7 @@ impl Zone {
         ensures shape { self.new.shape ≡ self.old.shape }
         ensures loans { KeepsLoans self.old self.new }
     {
-        if self.pointers.has_block(handle.number()) {
-            let at = self.pointers.block_of(handle);
-            self.pointers.empty(handle);
-            join(&mut self.pointers, at);
-        }
+        empty(&mut self.pointers, handle);
     }
 
     /// The flags of a live handle; an empty one has none.
@@ -266,12 +262,16 @@ impl Zone {
 }
 
 ghost use Rattle.std.specs.Prelude.{◌≡◌, ◌-◌, ◌≤◌, IsTrue, IsFalse, Some, if◌then◌else◌, nat_lt};
-ghost use Rattle.mac_base.specs.HandleTable.{has_block, is_lent};
+ghost use Rattle.mac_base.specs.HandleTable.{has_block, is_handle, is_lent};
 ghost use Rattle.mac_base.specs.HeadKind.{need, smallest_block};
+ghost use Rattle.mac_base.specs.Heap.{with_emptied};
 ghost use Rattle.mac_base.specs.Request.{size_of};
 ghost use Rattle.mac_base.specs.Serve.{free_in_front};
 ghost use Rattle.mac_base.specs.Sound.{Sound};
+ghost use Rattle.mac_base.specs.ZoneState.{with_heap};
+ghost use Rattle.linked_zone.specs.Loans.{KeepsLoans};
 ghost use Rattle.linked_zone.specs.Places.{EntryAt};
+ghost use Rattle.zone_heap.specs.Attempts.{SoundZone};
 ghost use Rattle.zone_heap.specs.Placed.{resized_there};
 ghost use Rattle.zone_heap.specs.Joins.{CanTake, NewlyFree, with_front, all_joined};
 
@@ -301,6 +301,22 @@ pub(crate) fn join(pointers: &mut LinkedZone, at: u32)
         if pointers.entry_at(last).kind.is_free() {
             pointers.merge(last);
         }
+    }
+}
+
+/// Empties a live handle: its block, if it has one, is free and joined to its free neighbours, and its slot stays its own.
+pub(crate) fn empty(pointers: &mut LinkedZone, handle: Handle)
+    requires sound { SoundZone pointers.old }
+    requires live { IsTrue (is_handle pointers.old.heap.table handle) }
+    requires here { IsFalse (is_lent pointers.old.heap.table handle) }
+    ensures zone { pointers.new ≡ with_heap (with_emptied pointers.old.heap handle) pointers.old }
+    ensures loans { KeepsLoans pointers.old pointers.new }
+    ensures sound { SoundZone pointers.new }
+{
+    if pointers.has_block(handle.number()) {
+        let at = pointers.block_of(handle);
+        pointers.empty(handle);
+        join(pointers, at);
     }
 }
 

@@ -2,6 +2,8 @@
 #![tactic(auto)]
 
 #[cfg(test)]
+mod attempt;
+#[cfg(test)]
 mod gaps;
 #[cfg(test)]
 mod place;
@@ -9,6 +11,8 @@ mod place;
 mod growth;
 #[cfg(test)]
 mod region;
+#[cfg(test)]
+mod replace;
 #[cfg(test)]
 mod size;
 #[cfg(test)]

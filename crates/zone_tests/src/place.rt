@@ -8,13 +8,13 @@ use std::process::Abort;
 use zone_heap::{Shortage, Zone};
 
 /// A zone of 4096 bytes at $00100000. Behind its master block it is free, from $0010013C on.
-fn small_zone(rt: &impl Abort, alloc: Global) -> Zone {
+pub(crate) fn small_zone(rt: &impl Abort, alloc: Global) -> Zone {
     let spec = ZoneSpec::new(0x10_0000, 4096, 4096).expect(rt, "there is such a zone");
     Zone::create(alloc, spec).expect(rt, "the host has memory")
 }
 
 /// What the block at an address is for.
-fn kind_at(zone: &Zone, at: u32) -> Option<Kind> {
+pub(crate) fn kind_at(zone: &Zone, at: u32) -> Option<Kind> {
     let Block { entry, .. } = zone.entry(at)?;
     let Entry { kind, .. } = entry;
     Some(kind)

@@ -1,0 +1,263 @@
+//! Purging: handles that may be purged become empty, in order of address, until it is enough.
+
+ghost use Rattle.std.specs.Prelude.{◌≡◌, ◌&&◌, ◌≤◌, nat_le, IsTrue, IsFalse, [], Some, None};
+ghost use Rattle.mac_base.specs.Gap.{gaps, some_gap_has};
+ghost use Rattle.mac_base.specs.HandleTable.{has_block, is_handle, is_locked};
+ghost use Rattle.mac_base.specs.Heap.{all_purged, with_all_emptied};
+ghost use Rattle.mac_base.specs.Purging.{purged, purged_for};
+ghost use Rattle.mac_base.specs.Request.{candidates_in, fits, length_asked, stays};
+ghost use Rattle.mac_base.specs.Suits.{starts_free};
+ghost use Rattle.mac_base.specs.ZoneMap.{address_behind, is_free, largest_free, released};
+ghost use Rattle.mac_base.specs.ZoneState.{with_heap};
+ghost use Rattle.linked_zone.specs.Loans.{KeepsLoans};
+ghost use Rattle.linked_zone.specs.Fit.{HasSizes};
+ghost use Rattle.linked_zone.specs.Places.{EntryAt, HasOwner};
+ghost use Rattle.zone_heap.specs.Attempts.{CanAsk, SoundZone};
+ghost use Rattle.zone_heap.specs.Joins.{all_joined};
+ghost use Rattle.zone_heap.specs.Purge.{BlocksAt, IsLimit, PurgesFor, PurgesTo, bounds_gap, bounds_free, bytes_before, counts, handle_to_purge, is_kept, is_protected, operand, may_purge, purged_between, released_if, run_has, CanCount};
+
+use linked_zone::LinkedZone;
+use mac_base::block::Kind;
+use mac_base::handle::{Handle, Ptr};
+use mac_base::request::Request;
+use mac_base::size::{MASTER_LENGTH, ZONE_HEADER, need_for};
+use zone_gaps::{is_fixed, zone_end};
+
+/// Which blocks are purged: those between two addresses that may be.
+#[derive(Clone, Copy, Debug, PartialEq, Eq)]
+pub(crate) struct Limit {
+    pub(crate) start: u32,
+    pub(crate) end: u32,
+    /// Whether it is enough to purge them.
+    pub(crate) enough: bool,
+}
+
+/// The handle of a block that may be purged: it is purgeable, not locked and not protected.
+fn handle_to_purge(zone: &LinkedZone, kind: Kind, protected: &[u32]) -> Option<Handle>
+    requires { HasOwner zone.now kind }
+    ensures { result ≡ handle_to_purge zone.now.heap.table protected.now kind }
+{
+    let Kind::Rel(handle) = kind else {
+        return None;
+    };
+    let flags = zone.flags(handle);
+    if flags.purge && !flags.lock && !protected.contains(&handle.number()) {
+        Some(handle)
+    } else {
+        None
+    }
+}
+
+/// Whether a block counts as free: it is, or it is that of the handle of this number.
+fn counts(counted: Option<u32>, kind: Kind) -> bool
+    ensures { result ≡ counts counted kind }
+{
+    if kind.is_free() {
+        return true;
+    }
+    counted.is_some_and(|number| kind.is_named(number))
+}
+
+/// Empties the handles that may be purged and have their blocks between two addresses. The blocks are free, and not joined.
+fn empty_between(zone: &mut LinkedZone, start: u32, end: u32, protected: &[u32])
+    requires blocks { BlocksAt zone.old start end }
+    requires sound { SoundZone zone.old }
+    ensures { (blocks : BlocksAt zone.old start end) → zone.new ≡ purged_between zone.old blocks protected.now }
+{
+    let mut at = start;
+    while at < end {
+        let here = zone.entry_at(at);
+        if let Some(handle) = handle_to_purge(zone, here.kind, protected) {
+            zone.empty(handle);
+        }
+        at += here.size;
+    }
+}
+
+/// Joins all free neighbours.
+fn join_all(zone: &mut LinkedZone)
+    requires { HasSizes zone.old }
+    ensures { zone.new ≡ all_joined zone.old }
+{
+    let end = zone_end(zone);
+    let mut at = zone.spec().base() + ZONE_HEADER;
+    while at < end {
+        if is_free_pair(zone, at) {
+            zone.merge(at);
+        } else {
+            at += zone.entry_at(at).size;
+        }
+    }
+}
+
+/// Whether the block at an address is free, and the one right behind it.
+fn is_free_pair(zone: &LinkedZone, at: u32) -> bool
+    requires there { EntryAt zone.now at }
+    requires sizes { HasSizes zone.now }
+    ensures { (e : EntryAt zone.now at) → result ≡ (is_free e.here.kind && starts_free e.behind) }
+{
+    match zone.behind(at) {
+        Some(next) => zone.entry_at(at).kind.is_free() && zone.entry_at(next).kind.is_free(),
+        None => false,
+    }
+}
+
+/// Purges the blocks between two addresses that may be purged: their handles become empty, and free neighbours are joined.
+fn purge_between(zone: &mut LinkedZone, start: u32, end: u32, protected: &[u32])
+    requires blocks { BlocksAt zone.old start end }
+    requires sound { SoundZone zone.old }
+    ensures zone { (blocks : BlocksAt zone.old start end) → zone.new ≡ with_heap (with_all_emptied (candidates_in zone.old.heap.table protected.now blocks.blocks) zone.old.heap) zone.old }
+    ensures loans { KeepsLoans zone.old zone.new }
+    ensures sound { SoundZone zone.new }
+{
+    empty_between(zone, start, end, protected);
+    join_all(zone);
+}
+
+/// The bytes that count between an address and the first block that stays where it is, or the end.
+fn gap_room(zone: &LinkedZone, start: u32, end: u32, counted: Option<u32>) -> u32
+    requires blocks { BlocksAt zone.now start end }
+    requires sound { SoundZone zone.now }
+    ensures { (blocks : BlocksAt zone.now start end) → result ≡ bytes_before (bounds_gap zone.now.heap.table counted) (counts counted) blocks.blocks }
+{
+    let mut at = start;
+    let mut room = 0;
+    while at < end {
+        let here = zone.entry_at(at);
+        if counts(counted, here.kind) {
+            room += here.size;
+        } else if is_fixed(zone, here.kind) {
+            return room;
+        }
+        at += here.size;
+    }
+    room
+}
+
+/// How far to purge between two addresses so that a gap has room for `needed` bytes: as few blocks as serve, and all where
+/// none do. Each gap is read twice at most.
+fn gap_limit(
+    zone: &LinkedZone,
+    start: u32,
+    end: u32,
+    needed: u32,
+    counted: Option<u32>,
+    protected: &[u32],
+) -> Limit
+    requires blocks { BlocksAt zone.now start end }
+    requires sound { SoundZone zone.now }
+    requires kept { IsTrue (is_kept protected.now counted) }
+    requires no_room { (blocks : BlocksAt zone.now start end) → IsFalse (run_has (bounds_gap zone.now.heap.table counted) (counts counted) needed 0 blocks.blocks) }
+    ensures { (blocks : BlocksAt zone.now start end) → IsLimit (bounds_gap zone.now.heap.table counted) (counts counted) (may_purge zone.now.heap.table protected.now) needed blocks.blocks start result }
+{
+    let mut at = start;
+    let mut room = gap_room(zone, start, end, counted);
+    while at < end {
+        let here = zone.entry_at(at);
+        at += here.size;
+        if handle_to_purge(zone, here.kind, protected).is_some() {
+            room += here.size;
+            if needed <= room {
+                return Limit {
+                    start,
+                    end: at,
+                    enough: true,
+                };
+            }
+        } else if !counts(counted, here.kind) && is_fixed(zone, here.kind) {
+            room = gap_room(zone, at, end, counted);
+        }
+    }
+    Limit {
+        start,
+        end: at,
+        enough: false,
+    }
+}
+
+/// Whether some gap has room for `needed` bytes, where the block of an unlocked handle counts as free.
+pub(crate) fn has_room(zone: &LinkedZone, needed: u32, counted: Option<Handle>) -> bool
+    requires sound { SoundZone zone.now }
+    requires handle { CanCount zone.now counted }
+    ensures { result ≡ some_gap_has needed (gaps zone.now.heap.table (released_if counted zone.now.heap.map)) }
+{
+    match counted {
+        Some(handle) => some_gap_has(zone, needed, Some(handle.number())),
+        None => some_gap_has(zone, needed, None),
+    }
+}
+
+/// The address of a zone's first block.
+fn zone_start(zone: &LinkedZone) -> u32
+    ensures { result ≡ address_behind zone.now.shape [] }
+{
+    zone.spec().base() + ZONE_HEADER
+}
+
+/// Whether some gap has room for `needed` bytes, where the block that this number names counts as free.
+fn some_gap_has(zone: &LinkedZone, needed: u32, counted: Option<u32>) -> bool
+    requires { SoundZone zone.now }
+    ensures { result ≡ some_gap_has needed (gaps zone.now.heap.table (released_if counted zone.now.heap.map)) }
+{
+    let start = zone_start(zone);
+    let end = zone_end(zone);
+    let mut at = start;
+    let mut room = 0;
+    while at < end {
+        let here = zone.entry_at(at);
+        if counts(counted, here.kind) {
+            room += here.size;
+        } else if is_fixed(zone, here.kind) {
+            if needed <= room {
+                return true;
+            }
+            room = 0;
+        }
+        at += here.size;
+    }
+    needed <= room
+}
+
+/// Purges all blocks that may be purged.
+pub(crate) fn purge_all(zone: &mut LinkedZone)
+    requires sound { SoundZone zone.old }
+    ensures zone { zone.new ≡ with_heap (all_purged zone.old.heap) zone.old }
+    ensures loans { KeepsLoans zone.old zone.new }
+    ensures sound { SoundZone zone.new }
+{
+    let start = zone.spec().base() + ZONE_HEADER;
+    let end = zone_end(zone);
+    purge_between(zone, start, end, &[]);
+}
+
+/// The bytes of contents that a request asks for.
+fn length_asked(request: Request) -> u32
+    ensures { result ≡ length_asked request }
+{
+    match request {
+        Request::NewBlock(length) | Request::NewPointer(length) | Request::Reserve(length) => length,
+        Request::Resize(_, length) | Request::Replace(_, length) => length,
+        Request::NewEmpty => 0,
+        Request::NewMaster => MASTER_LENGTH,
+    }
+}
+
+/// The number whose block counts as free while a request looks for room: that which gets another size, or is replaced.
+fn operand(request: Request) -> Option<u32>
+    ensures { result ≡ operand request }
+{
+    match request {
+        Request::Resize(block, _) => Some(block),
+        Request::Replace(handle, _) => Some(handle.number()),
+        Request::NewBlock(_) | Request::NewEmpty | Request::NewPointer(_) => None,
+        Request::NewMaster | Request::Reserve(_) => None,
+    }
+}
+
+/// Whether the block of a number stays where it is: that of a pointer, or of a locked handle.
+fn stays(zone: &LinkedZone, block: u32) -> bool
+    requires { IsTrue (has_block zone.now.heap.table block) }
+    ensures { result ≡ stays zone.now.heap.table block }
+{
+    zone.is_pointer(Ptr::new(block)) || zone.flags(Handle::new(block)).lock
+}
