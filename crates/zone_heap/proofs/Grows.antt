@@ -11,7 +11,7 @@ use Rattle.mac_base.specs.declared.block.Kind.TheVariants.{Free, Master, Ptr, Re
 use Rattle.mac_base.specs.Gap.{Gap, ends_with, further, gaps, gap_behind, has_named, is_fixed, own_gap, room, some_gap_has}
 use Rattle.mac_base.specs.HandleTable.{HandleTable, is_locked}
 use Rattle.mac_base.specs.Request.{can_grow, candidates_in, room_of, size_of, stays}
-use Rattle.mac_base.specs.ZoneMap.{ZoneMap, block, free_size, is_free, is_named, joined, joined_to, released, sizes}
+use Rattle.mac_base.specs.ZoneMap.{ZoneMap, block, free_bytes, free_size, is_free, is_named, joined, joined_to, released, sizes}
 use Rattle.mac_base.specs.Suits.{free_apart, starts_free}
 use Rattle.zone_laws.proofs.GapAppend.{sizes-append}
 use Rattle.zone_laws.proofs.GapParts.{all_move, first_gap, first_gap-before, gaps-first, later_gaps, starts_fixed}
@@ -145,42 +145,55 @@ module _ (t : HandleTable) (x k n h : ℕ) (b : ZoneMap) (moves : is_locked t h 
       ≡ (nat_le k (n + room_of (own_gap x (gaps t (a ++ block (Rel h) n ∷ b)))) || run_has (is_fixed t) is_free k 0 (a ++ block (Rel h) n ∷ b))
   grows-moving a none = own_run 0 a none ∙ ap (λ r. nat_le k (n + r) || run_has (is_fixed t) is_free k 0 (a ++ block (Rel h) n ∷ b)) (sym (own-room a none))
 
+-- the blocks of a gap, if there is one
+abbrev pub blocks_of : Option Gap → ZoneMap
+blocks_of g = option_map_or (λ (g : Gap). g.blocks) g []
+
+-- its room is that of its blocks
+room_blocks : (o : Option Gap) → room_of o ≡ free_bytes (blocks_of o)
+room_blocks None = refl
+room_blocks (Some g) = refl
+
 -- the gap right behind a fixed block that x names, and no other before it
 module _ (t : HandleTable) (x : ℕ) (e : Entry) (d : ZoneMap) (fixed : is_fixed t e.kind ≡ true) (named : is_named x e.kind ≡ true) where
-  ends_twice : (f g : Entry) (gs : List Gap) → room_of (find (λ (g : Gap). ends_with x g.before) (map (further f) (map (further g) gs))) ≡ room_of (find (λ (g : Gap). ends_with x g.before) (map (further g) gs))
+  ends_twice : (f g : Entry) (gs : List Gap) → blocks_of (find (λ (g : Gap). ends_with x g.before) (map (further f) (map (further g) gs))) ≡ blocks_of (find (λ (g : Gap). ends_with x g.before) (map (further g) gs))
   ends_twice f g [] = refl
   ends_twice f g (h ∷ gs) =
       let rest = ends_twice f g gs in
-      elim (ends_with x (g ∷ h.before)) as (λ c. room_of (cond c (Some (further f (further g h))) (find (λ (g : Gap). ends_with x g.before) (map (further f) (map (further g) gs)))) ≡ room_of (cond c (Some (further g h)) (find (λ (g : Gap). ends_with x g.before) (map (further g) gs)))) [
+      elim (ends_with x (g ∷ h.before)) as (λ c. blocks_of (cond c (Some (further f (further g h))) (find (λ (g : Gap). ends_with x g.before) (map (further f) (map (further g) gs)))) ≡ blocks_of (cond c (Some (further g h)) (find (λ (g : Gap). ends_with x g.before) (map (further g) gs)))) [
         | true ↦ refl
         | false ↦ rest
       ]
 
-  ends_behind : (f : Entry) (m : ZoneMap) → room_of (find (λ (g : Gap). ends_with x g.before) (map (further f) (later_gaps t m))) ≡ room_of (find (λ (g : Gap). ends_with x g.before) (later_gaps t m))
+  ends_behind : (f : Entry) (m : ZoneMap) → blocks_of (find (λ (g : Gap). ends_with x g.before) (map (further f) (later_gaps t m))) ≡ blocks_of (find (λ (g : Gap). ends_with x g.before) (later_gaps t m))
   ends_behind f [] = refl
   ends_behind f (g ∷ m) = ends_twice f g (cond (is_fixed t g.kind) (first_gap t m ∷ later_gaps t m) (later_gaps t m))
 
-  behind_later : (a : ZoneMap) → sizes (is_named x) a ≡ [] → room_of (find (λ (g : Gap). ends_with x g.before) (later_gaps t (a ++ e ∷ d))) ≡ room (first_gap t d)
+  behind_later : (a : ZoneMap) → sizes (is_named x) a ≡ [] → blocks_of (find (λ (g : Gap). ends_with x g.before) (later_gaps t (a ++ e ∷ d))) ≡ (first_gap t d).blocks
   behind_later [] none =
-      ap (λ c. room_of (find (λ (g : Gap). ends_with x g.before) (map (further e) (cond c (first_gap t d ∷ later_gaps t d) (later_gaps t d))))) fixed
-      ∙ ap (λ before. room_of (cond (ends_with x (e ∷ before)) (Some (further e (first_gap t d))) (find (λ (g : Gap). ends_with x g.before) (map (further e) (later_gaps t d))))) (first_gap-before t d)
-      ∙ ap (λ c. room_of (cond c (Some (further e (first_gap t d))) (find (λ (g : Gap). ends_with x g.before) (map (further e) (later_gaps t d))))) named
+      ap (λ c. blocks_of (find (λ (g : Gap). ends_with x g.before) (map (further e) (cond c (first_gap t d ∷ later_gaps t d) (later_gaps t d))))) fixed
+      ∙ ap (λ before. blocks_of (cond (ends_with x (e ∷ before)) (Some (further e (first_gap t d))) (find (λ (g : Gap). ends_with x g.before) (map (further e) (later_gaps t d))))) (first_gap-before t d)
+      ∙ ap (λ c. blocks_of (cond c (Some (further e (first_gap t d))) (find (λ (g : Gap). ends_with x g.before) (map (further e) (later_gaps t d))))) named
   behind_later (f ∷ a) none =
       let parts = nothing_passes (is_named x f.kind) f.size (sizes (is_named x) a) none in
       let m : ZoneMap = a ++ e ∷ d in
       let rest = behind_later a parts.1 in
-      elim (is_fixed t f.kind) as (λ c. room_of (find (λ (g : Gap). ends_with x g.before) (map (further f) (cond c (first_gap t m ∷ later_gaps t m) (later_gaps t m)))) ≡ room (first_gap t d)) [
-        | true ↦ ap (λ before. room_of (cond (ends_with x (f ∷ before)) (Some (further f (first_gap t m))) (find (λ (g : Gap). ends_with x g.before) (map (further f) (later_gaps t m))))) (first_gap-before t m)
-            ∙ ap (λ c. room_of (cond c (Some (further f (first_gap t m))) (find (λ (g : Gap). ends_with x g.before) (map (further f) (later_gaps t m))))) parts.0 ∙ ends_behind f m ∙ rest
+      elim (is_fixed t f.kind) as (λ c. blocks_of (find (λ (g : Gap). ends_with x g.before) (map (further f) (cond c (first_gap t m ∷ later_gaps t m) (later_gaps t m)))) ≡ (first_gap t d).blocks) [
+        | true ↦ ap (λ before. blocks_of (cond (ends_with x (f ∷ before)) (Some (further f (first_gap t m))) (find (λ (g : Gap). ends_with x g.before) (map (further f) (later_gaps t m))))) (first_gap-before t m)
+            ∙ ap (λ c. blocks_of (cond c (Some (further f (first_gap t m))) (find (λ (g : Gap). ends_with x g.before) (map (further f) (later_gaps t m))))) parts.0 ∙ ends_behind f m ∙ rest
         | false ↦ ends_behind f m ∙ rest
       ]
 
-  -- has the room of the lowest gap behind it
-  pub room-behind : (a : ZoneMap) → sizes (is_named x) a ≡ [] → room_of (gap_behind x (gaps t (a ++ e ∷ d))) ≡ room (first_gap t d)
-  room-behind a none =
+  -- has the blocks of the lowest gap behind it
+  pub blocks-behind : (a : ZoneMap) → sizes (is_named x) a ≡ [] → blocks_of (gap_behind x (gaps t (a ++ e ∷ d))) ≡ (first_gap t d).blocks
+  blocks-behind a none =
       let m : ZoneMap = a ++ e ∷ d in
-      ap (λ gs. room_of (gap_behind x gs)) (gaps-first t m)
-      ∙ ap (λ before. room_of (cond (ends_with x before) (Some (first_gap t m)) (find (λ (g : Gap). ends_with x g.before) (later_gaps t m)))) (first_gap-before t m) ∙ behind_later a none
+      ap (λ gs. blocks_of (gap_behind x gs)) (gaps-first t m)
+      ∙ ap (λ before. blocks_of (cond (ends_with x before) (Some (first_gap t m)) (find (λ (g : Gap). ends_with x g.before) (later_gaps t m)))) (first_gap-before t m) ∙ behind_later a none
+
+  -- and its room
+  pub room-behind : (a : ZoneMap) → sizes (is_named x) a ≡ [] → room_of (gap_behind x (gaps t (a ++ e ∷ d))) ≡ room (first_gap t d)
+  room-behind a none = room_blocks (gap_behind x (gaps t (a ++ e ∷ d))) ∙ ap free_bytes (blocks-behind a none)
 
 -- of two tests one passes, and not the second
 pub other_full : (a b : Bool) → (a || b) ≡ true → b ≡ false → a ≡ true

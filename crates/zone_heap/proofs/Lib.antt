@@ -23,3 +23,4 @@ pub mod Runs
 pub mod GapWalks
 pub mod Until
 pub mod Grows
+pub mod Limits

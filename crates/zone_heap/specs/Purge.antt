@@ -5,9 +5,10 @@ use Rattle.mac_base.specs.declared.block.Kind.{Kind}
 use Rattle.mac_base.specs.declared.block.Kind.TheVariants.{Free, Master, Ptr, Rel}
 use Rattle.mac_base.specs.declared.request.Request.{Request}
 use Rattle.mac_base.specs.declared.request.Request.TheVariants.{Resize, Replace}
-use Rattle.mac_base.specs.Gap.{is_fixed}
+use Rattle.mac_base.specs.Gap.{Gap, gap_behind, gaps, is_fixed}
+use Rattle.std.specs.Option.{option_map_or}
 use Rattle.mac_base.specs.HandleTable.{HandleTable, emptied, is_handle, is_locked, is_purgeable}
-use Rattle.mac_base.specs.Request.{candidates, candidates_in, fits, is_among, purged_until}
+use Rattle.mac_base.specs.Request.{candidates, candidates_in, fits, is_among, purged_until, stays}
 use Rattle.mac_base.specs.ZoneMap.{ZoneMap, block, handle_of, is_free, is_named, address_behind, largest_free, released, total_size}
 use Rattle.mac_base.specs.ZoneState.{ZoneState, with_heap}
 use Rattle.zone_heap.specs.declared.purge.Limit.{Limit}
@@ -44,6 +45,15 @@ abbrev pub operand : Request → Option ℕ
 operand (Resize x n) = Some x
 operand (Replace h n) = Some h
 operand _ = None
+
+-- the block that a request gives another size where it is, if it stays
+abbrev pub staying : HandleTable → Request → Option ℕ
+staying t (Resize x n) = if stays t x then Some x else None
+staying t _ = None
+
+-- the blocks of the gap right behind the block of x
+abbrev pub blocks_behind : HandleTable → ℕ → ZoneMap → ZoneMap
+blocks_behind t x m = option_map_or (λ (g : Gap). g.blocks) (gap_behind x (gaps t m)) []
 
 -- the map with the block of this handle free, if there is one
 abbrev pub released_if : Option ℕ → ZoneMap → ZoneMap

@@ -5,23 +5,23 @@ ghost use Rattle.mac_base.specs.Gap.{gaps, some_gap_has};
 ghost use Rattle.mac_base.specs.HandleTable.{has_block, is_handle, is_locked};
 ghost use Rattle.mac_base.specs.Heap.{all_purged, with_all_emptied};
 ghost use Rattle.mac_base.specs.Purging.{purged, purged_for};
-ghost use Rattle.mac_base.specs.Request.{candidates_in, fits, length_asked, stays};
+ghost use Rattle.mac_base.specs.Request.{can_grow, candidates_in, fits, length_asked, stays};
 ghost use Rattle.mac_base.specs.Suits.{starts_free};
 ghost use Rattle.mac_base.specs.ZoneMap.{address_behind, is_free, largest_free, released};
 ghost use Rattle.mac_base.specs.ZoneState.{with_heap};
 ghost use Rattle.linked_zone.specs.Loans.{KeepsLoans};
 ghost use Rattle.linked_zone.specs.Fit.{HasSizes};
 ghost use Rattle.linked_zone.specs.Places.{EntryAt, HasOwner};
-ghost use Rattle.zone_heap.specs.Attempts.{CanAsk, SoundZone};
+ghost use Rattle.zone_heap.specs.Attempts.{CanAsk, SoundZone, is_ready};
 ghost use Rattle.zone_heap.specs.Joins.{all_joined};
-ghost use Rattle.zone_heap.specs.Purge.{BlocksAt, IsLimit, PurgesFor, PurgesTo, bounds_gap, bounds_free, bytes_before, counts, handle_to_purge, is_kept, is_protected, operand, may_purge, purged_between, released_if, run_has, CanCount};
+ghost use Rattle.zone_heap.specs.Purge.{BlocksAt, IsLimit, Purges, PurgesFor, PurgesTo, blocks_behind, bounds_gap, bounds_free, bytes_before, counts, handle_to_purge, is_kept, is_protected, operand, may_purge, purged_between, released_if, run_has, staying, CanCount};
 
 use linked_zone::LinkedZone;
 use mac_base::block::Kind;
 use mac_base::handle::{Handle, Ptr};
 use mac_base::request::Request;
 use mac_base::size::{MASTER_LENGTH, ZONE_HEADER, need_for};
-use zone_gaps::{is_fixed, zone_end};
+use zone_gaps::{gap_end, is_fixed, zone_end};
 
 /// Which blocks are purged: those between two addresses that may be.
 #[derive(Clone, Copy, Debug, PartialEq, Eq)]
@@ -260,4 +260,70 @@ fn stays(zone: &LinkedZone, block: u32) -> bool
     ensures { result ≡ stays zone.now.heap.table block }
 {
     zone.is_pointer(Ptr::new(block)) || zone.flags(Handle::new(block)).lock
+}
+
+/// The block that a request gives another size where it is, if it stays.
+fn staying(zone: &LinkedZone, request: Request) -> Option<u32>
+    requires { IsTrue (is_ready zone.now.heap.table request) }
+    ensures { result ≡ staying zone.now.heap.table request }
+{
+    match request {
+        Request::Resize(block, _) => {
+            if stays(zone, block) {
+                return Some(block);
+            }
+            None
+        }
+        _ => None,
+    }
+}
+
+/// How far to purge for a request: as few blocks as serve, and all where none do. A block that stays can use only the gap
+/// right behind it.
+fn limit_for(zone: &LinkedZone, request: Request, protected: &[u32]) -> Limit
+    requires sound { SoundZone zone.now }
+    requires ready { CanAsk zone.now request }
+    requires protects { IsTrue (is_protected protected.now request) }
+    requires no_room { IsFalse (fits zone.now.shape zone.now.heap.table request zone.now.heap.map) }
+    ensures { PurgesFor zone.now protected.now request result }
+{
+    let needed = need_for(zone.spec().heads(), length_asked(request));
+    if let Some(block) = staying(zone, request) {
+        return limit_behind(zone, block, needed, protected);
+    }
+    let start = zone_start(zone);
+    let end = zone_end(zone);
+    gap_limit(zone, start, end, needed, operand(request), protected)
+}
+
+/// How far to purge in the gap right behind a block that stays, so that the block can be made `needed` bytes long.
+fn limit_behind(zone: &LinkedZone, block: u32, needed: u32, protected: &[u32]) -> Limit
+    requires sound { SoundZone zone.now }
+    requires block { IsTrue (has_block zone.now.heap.table block) }
+    requires stays { IsTrue (stays zone.now.heap.table block) }
+    requires no_room { IsFalse (can_grow zone.now.heap.table block needed zone.now.heap.map) }
+    ensures { Purges zone.now protected.now (can_grow zone.now.heap.table block needed) (candidates_in zone.now.heap.table protected.now (blocks_behind zone.now.heap.table block zone.now.heap.map)) result }
+{
+    let at = zone.place_of(block);
+    let size = zone.entry_at(at).size;
+    let start = at + size;
+    let end = gap_end(zone, start);
+    gap_limit(zone, start, end, needed - size, None, protected)
+}
+
+/// Empties as few handles that may be purged as serve a request, in order of address, and all where none do. Gives whether
+/// the request fits then.
+pub(crate) fn purge_for(zone: &mut LinkedZone, request: Request, protected: &[u32]) -> bool
+    requires sound { SoundZone zone.old }
+    requires ready { CanAsk zone.old request }
+    requires protects { IsTrue (is_protected protected.now request) }
+    requires no_room { IsFalse (fits zone.old.shape zone.old.heap.table request zone.old.heap.map) }
+    ensures zone { zone.new ≡ with_heap (purged zone.old.shape protected.now request zone.old.heap) zone.old }
+    ensures fits { result ≡ fits zone.new.shape zone.new.heap.table request zone.new.heap.map }
+    ensures loans { KeepsLoans zone.old zone.new }
+    ensures sound { SoundZone zone.new }
+{
+    let limit = limit_for(zone, request, protected);
+    purge_between(zone, limit.start, limit.end, protected);
+    limit.enough
 }
