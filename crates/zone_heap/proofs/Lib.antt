@@ -24,3 +24,4 @@ pub mod GapWalks
 pub mod Until
 pub mod Grows
 pub mod Limits
+pub mod Behind

@@ -28,7 +28,7 @@ use Rattle.zone_laws.proofs.SlotPlaces.{Contains-here, Contains-later}
 use Rattle.zone_laws.proofs.SuitsNamed.{full-no_pointer, named_once, stays-fixed}
 use Rattle.zone_laws.proofs.Tables.{by_number, eqb-true-is, live_at-with_live_same, with_live_agrees}
 use Rattle.zone_heap.specs.Attempts.{SoundZone, is_ready}
-use Rattle.zone_heap.specs.Purge.{BlocksAt, IsLimit, Purges, PurgesFor, all_emptied, all_released, bounds_gap, counts, freed_where, is_kept, is_protected, may_purge, operand, released_if, run_has, staying}
+use Rattle.zone_heap.specs.Purge.{BlocksAt, IsLimit, Purges, PurgesFor, all_emptied, HasBlockIf, all_released, blocks_behind, bounds_gap, counts, freed_where, is_kept, is_protected, may_purge, operand, released_if, resized, run_has, staying}
 use Rattle.zone_heap.specs.declared.purge.Limit.{Limit}
 use Rattle.zone_heap.proofs.FreedBlocks.{Once, candidate_here, candidates-cons, emptied-parts, once-suits}
 use Rattle.zone_heap.proofs.EmptyingBlocks.{same-live}
@@ -168,20 +168,6 @@ module _ (z : ZoneState) (protected : List ℕ) (sound : SoundZone z) where
   request-kept (Resize x n) kept = kept
   request-kept (Replace h n) kept = kept
 
-  -- blocks between the zone's start and its end are all
-  pub all-blocks : (start end : ℕ) → start ≡ address_behind z.shape [] → end ≡ address_behind z.shape z.heap.map → (b : BlocksAt z start end) → b.blocks ≡ z.heap.map
-  all-blocks start end first last b =
-      let possible : Entry → Bool = λ e. is_block_size z.shape e.size in
-      let outer = all_parts possible b.before (b.blocks ++ b.behind) (subst (λ m. sizes_possible z.shape m ≡ true) b.map sound.sound.suits.sizes) in
-      let inner = all_parts possible b.blocks b.behind outer.1 in
-      let place = b.place in
-      let long = b.long in
-      let total = ap total_size b.map ∙ total_size-append b.before (b.blocks ++ b.behind) in
-      let both = total_size-append b.blocks b.behind in
-      let none_before : b.before ≡ [] = no_bytes z.shape b.before outer.0 (omega arith) in
-      let none_behind : b.behind ≡ [] = no_bytes z.shape b.behind inner.1 (omega arith) in
-      sym (b.map ∙ ap (λ m. m ++ (b.blocks ++ b.behind)) none_before ∙ ap (λ m. b.blocks ++ m) none_behind ∙ append-nil b.blocks)
-
   module _ (r : Request) (ready : is_ready z.heap.table r ≡ true) (kept : is_protected protected r ≡ true) (stay : staying z.heap.table r ≡ None) (less : fits z.shape z.heap.table r z.heap.map ≡ false) where
     -- no gap has room at first
     pub request-less : run_has (bounds_gap z.heap.table (operand r)) (counts (operand r)) (size_needed z.shape r) 0 z.heap.map ≡ false
@@ -200,3 +186,38 @@ module _ (z : ZoneState) (protected : List ℕ) (sound : SoundZone z) where
           enough = until-enough_then (bounds_gap z.heap.table (operand r)) (counts (operand r)) (size_needed z.shape r) z.heap.table protected z.heap.map start limit l test z.heap.map (request_means r ready kept stay less)
               ∙ ap (λ hs. test (all_released hs z.heap.map)) (sym these);
         }
+
+-- what gets another size has a block
+pub ready-resized : (t : HandleTable) (r : Request) → is_ready t r ≡ true → HasBlockIf t (resized r)
+ready-resized t (NewBlock n) ready = tt
+ready-resized t NewEmpty ready = tt
+ready-resized t (NewPointer n) ready = tt
+ready-resized t NewMaster ready = tt
+ready-resized t (Reserve n) ready = tt
+ready-resized t (Resize x n) ready = (both_true (has_block t x) (not (is_lent t x)) ready).0
+ready-resized t (Replace h n) ready = tt
+
+-- a request whose block stays is one for another size
+pub staying-is : (t : HandleTable) (r : Request) (x : ℕ) → staying t r ≡ Some x → (n : ℕ) × (r ≡ Resize x n) × (stays t x ≡ true)
+staying-is t (NewBlock n) x is = absurd (cc is)
+staying-is t NewEmpty x is = absurd (cc is)
+staying-is t (NewPointer n) x is = absurd (cc is)
+staying-is t NewMaster x is = absurd (cc is)
+staying-is t (Reserve n) x is = absurd (cc is)
+staying-is t (Resize y n) x is = by_test (stays t y) refl is
+  where
+    by_test : (c : Bool) → stays t y ≡ c → cond c (Some y) None ≡ Some x → (k : ℕ) × (Resize y n ≡ Resize x k) × (stays t x ≡ true)
+    by_test true stay is = let same : y ≡ x = cc is in (n, ap (λ y. Resize y n) same, ap (stays t) (sym same) ∙ stay)
+    by_test false stay is = absurd (cc is)
+staying-is t (Replace h n) x is = absurd (cc is)
+
+-- what is purged for it
+pub staying-purges : (z : ZoneState) (protected : List ℕ) (r : Request) (x n : ℕ) (limit : Limit) → r ≡ Resize x n → stays z.heap.table x ≡ true
+    → Purges z protected (can_grow z.heap.table x (size_needed z.shape r)) (candidates_in z.heap.table protected (blocks_behind z.heap.table x z.heap.map)) limit → PurgesFor z protected r limit
+staying-purges z protected r x n limit is stay purges =
+    subst (λ r. Purges z protected (can_grow z.heap.table x (size_needed z.shape r)) (candidates_in z.heap.table protected (blocks_behind z.heap.table x z.heap.map)) limit → PurgesFor z protected r limit) (sym is)
+    (λ h. subst (λ c. Purges z protected (can_grow z.heap.table x (size_needed z.shape (Resize x n))) (candidates_in z.heap.table protected (cond c (blocks_behind z.heap.table x z.heap.map) z.heap.map)) limit) (sym stay) h) purges
+
+-- and when it doesn't fit
+pub staying-less : (z : ZoneState) (r : Request) (x n : ℕ) → r ≡ Resize x n → fits z.shape z.heap.table r z.heap.map ≡ false → can_grow z.heap.table x (size_needed z.shape r) z.heap.map ≡ false
+staying-less z r x n is = subst (λ r. fits z.shape z.heap.table r z.heap.map ≡ false → can_grow z.heap.table x (size_needed z.shape r) z.heap.map ≡ false) (sym is) (λ h. h)

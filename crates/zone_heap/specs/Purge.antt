@@ -7,7 +7,7 @@ use Rattle.mac_base.specs.declared.request.Request.{Request}
 use Rattle.mac_base.specs.declared.request.Request.TheVariants.{Resize, Replace}
 use Rattle.mac_base.specs.Gap.{Gap, gap_behind, gaps, is_fixed}
 use Rattle.std.specs.Option.{option_map_or}
-use Rattle.mac_base.specs.HandleTable.{HandleTable, emptied, is_handle, is_locked, is_purgeable}
+use Rattle.mac_base.specs.HandleTable.{HandleTable, emptied, has_block, is_handle, is_locked, is_purgeable}
 use Rattle.mac_base.specs.Request.{candidates, candidates_in, fits, is_among, purged_until, stays}
 use Rattle.mac_base.specs.ZoneMap.{ZoneMap, block, handle_of, is_free, is_named, address_behind, largest_free, released, total_size}
 use Rattle.mac_base.specs.ZoneState.{ZoneState, with_heap}
@@ -46,10 +46,24 @@ operand (Resize x n) = Some x
 operand (Replace h n) = Some h
 operand _ = None
 
+-- the number whose block a request gives another size
+abbrev pub resized : Request → Option ℕ
+resized (Resize x n) = Some x
+resized _ = None
+
+-- the block of this number, if it stays where it is
+abbrev pub staying_block : HandleTable → Option ℕ → Option ℕ
+staying_block t None = None
+staying_block t (Some x) = if stays t x then Some x else None
+
 -- the block that a request gives another size where it is, if it stays
 abbrev pub staying : HandleTable → Request → Option ℕ
-staying t (Resize x n) = if stays t x then Some x else None
-staying t _ = None
+staying t r = staying_block t (resized r)
+
+-- this number has a block, if there is one
+abbrev pub HasBlockIf : HandleTable → Option ℕ → Type 0
+HasBlockIf t None = ⊤
+HasBlockIf t (Some x) = IsTrue (has_block t x)
 
 -- the blocks of the gap right behind the block of x
 abbrev pub blocks_behind : HandleTable → ℕ → ZoneMap → ZoneMap
@@ -107,6 +121,11 @@ pub record BlocksAt (z : ZoneState) (start end : ℕ) : Type 0 where
   pub map : z.heap.map ≡ before ++ (blocks ++ behind)
   pub place : start ≡ address_behind z.shape before
   pub long : end ≡ start + total_size blocks
+
+-- blocks stand between two addresses, and between those that bound gaps k bytes count nowhere
+pub record ShortGaps (z : ZoneState) (start end : ℕ) (counted : Option ℕ) (k : ℕ) : Type 0 where
+  pub at : BlocksAt z start end
+  pub short : IsFalse (run_has (bounds_gap z.heap.table counted) (counts counted) k 0 at.blocks)
 
 -- the zone in which those of them that may be purged are free, not joined, and their handles empty
 abbrev pub purged_between : {start end : ℕ} → (z : ZoneState) → BlocksAt z start end → List ℕ → ZoneState
