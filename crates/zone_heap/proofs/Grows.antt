@@ -25,7 +25,8 @@ use Rattle.zone_heap.proofs.EmptyingBlocks.{once-freed}
 use Rattle.zone_heap.proofs.FreedBlocks.{Once, once-At, released-candidates}
 use Rattle.zone_heap.proofs.Until.{gap-run, run-gaps, run-none, some-gap_run}
 
-absorb : (a b c : Bool) → (b ≡ true → a ≡ true) → (a || c) ≡ (a || (b || c))
+-- a test that implies another adds nothing beside it
+pub absorb : (a b c : Bool) → (b ≡ true → a ≡ true) → (a || c) ≡ (a || (b || c))
 absorb true b c h = refl
 absorb false true c h = absurd (cc (h refl))
 absorb false false c h = refl
@@ -98,7 +99,7 @@ module _ (t : HandleTable) (x k n h : ℕ) (b : ZoneMap) (moves : is_locked t h 
       ap (λ c. cond c (nat_le k r || run_has (bounds_gap t (Some x)) (counts (Some x)) k 0 m) (run_has (bounds_gap t (Some x)) (counts (Some x)) k (r + size_if (counts (Some x)) d) m)) (unnamed_bounds t x d.kind parts.0)
       ∙ ap (λ c. cond (is_fixed t d.kind) (nat_le k r || run_has (bounds_gap t (Some x)) (counts (Some x)) k 0 m) (run_has (bounds_gap t (Some x)) (counts (Some x)) k (r + cond c d.size 0) m)) (unnamed_counts x d.kind parts.0)
       ∙ elim (is_fixed t d.kind) as (λ c. cond c (nat_le k r || run_has (bounds_gap t (Some x)) (counts (Some x)) k 0 m) (run_has (bounds_gap t (Some x)) (counts (Some x)) k (r + free_size d) m)
-          ≡ (nat_le k (n + cond c (own_room 0 a) (own_room (r + free_size d) a)) || cond c (nat_le k r || run_has (is_fixed t) is_free k 0 m) (run_has (is_fixed t) is_free k (r + free_size d) m))) [
+      ≡ (nat_le k (n + cond c (own_room 0 a) (own_room (r + free_size d) a)) || cond c (nat_le k r || run_has (is_fixed t) is_free k 0 m) (run_has (is_fixed t) is_free k (r + free_size d) m))) [
         | true ↦ ap (λ c. nat_le k r || c) zero_rest ∙ swap (nat_le k r) (nat_le k (n + own_room 0 a)) (run_has (is_fixed t) is_free k 0 m)
         | false ↦ on_rest
       ]
@@ -108,7 +109,7 @@ module _ (t : HandleTable) (x k n h : ℕ) (b : ZoneMap) (moves : is_locked t h 
   own_found r [] none =
       let g : Gap = first_gap t b in
       ap (λ c. let f : Gap = cond c (record { before = []; blocks = []; behind = block (Rel h) n ∷ b }) (record g { blocks = block (Rel h) n ∷ g.blocks }) in
-          cond (has_named x f.blocks) (r + room f) (room_of (find (λ (g : Gap). has_named x g.blocks) (map (further (block (Rel h) n)) (cond c (g ∷ later_gaps t b) (later_gaps t b)))))) moves
+      cond (has_named x f.blocks) (r + room f) (room_of (find (λ (g : Gap). has_named x g.blocks) (map (further (block (Rel h) n)) (cond c (g ∷ later_gaps t b) (later_gaps t b)))))) moves
       ∙ ap (λ c. cond (c || has_named x g.blocks) (r + (0 + room g)) (room_of (find (λ (g : Gap). has_named x g.blocks) (map (further (block (Rel h) n)) (later_gaps t b))))) named
       ∙ (let e : r + (0 + room g) ≡ r + room g = omega arith in e)
   own_found r (d ∷ a) none =
@@ -118,7 +119,7 @@ module _ (t : HandleTable) (x k n h : ℕ) (b : ZoneMap) (moves : is_locked t h 
       let zero_rest = own_found 0 a parts.1 in
       let on_rest = own_found (r + free_size d) a parts.1 in
       elim (is_fixed t d.kind) as (λ c. (let f : Gap = cond c (record { before = []; blocks = []; behind = d ∷ m }) (record g { blocks = d ∷ g.blocks }) in
-          cond (has_named x f.blocks) (r + room f) (room_of (find (λ (g : Gap). has_named x g.blocks) (map (further d) (cond c (g ∷ later_gaps t m) (later_gaps t m)))))) ≡ cond c (own_room 0 a) (own_room (r + free_size d) a)) [
+      cond (has_named x f.blocks) (r + room f) (room_of (find (λ (g : Gap). has_named x g.blocks) (map (further d) (cond c (g ∷ later_gaps t m) (later_gaps t m)))))) ≡ cond c (own_room 0 a) (own_room (r + free_size d) a)) [
         | true ↦ room_further (λ (g : Gap). has_named x g.blocks) d (g ∷ later_gaps t m) (λ g. refl) ∙ found_first (has_named x g.blocks) g (find (λ (g : Gap). has_named x g.blocks) (later_gaps t m)) ∙ zero_rest
         | false ↦ ap (λ c. cond (c || has_named x g.blocks) (r + (free_size d + room g)) (room_of (find (λ (g : Gap). has_named x g.blocks) (map (further d) (later_gaps t m))))) parts.0
             ∙ ap (λ s. cond (has_named x g.blocks) s (room_of (find (λ (g : Gap). has_named x g.blocks) (map (further d) (later_gaps t m))))) (let e : r + (free_size d + room g) ≡ r + free_size d + room g = omega arith in e)
@@ -231,8 +232,8 @@ bytes-joined t [] = refl
 bytes-joined t (e ∷ es) =
     join_cases (λ j. bytes_before (is_fixed t) is_free j ≡ bytes_before (is_fixed t) is_free (e ∷ joined es)) e (joined es)
     (λ f fs was free also.
-        (let n : ℕ = bytes_before (is_fixed t) is_free fs in let s : e.size + f.size + n ≡ e.size + (f.size + n) = omega arith in s)
-        ∙ sym (bytes-free t e (f ∷ fs) free ∙ ap (λ n. e.size + n) (bytes-free t f fs also)) ∙ ap (λ j. bytes_before (is_fixed t) is_free (e ∷ j)) (sym was))
+    (let n : ℕ = bytes_before (is_fixed t) is_free fs in let s : e.size + f.size + n ≡ e.size + (f.size + n) = omega arith in s)
+    ∙ sym (bytes-free t e (f ∷ fs) free ∙ ap (λ n. e.size + n) (bytes-free t f fs also)) ∙ ap (λ j. bytes_before (is_fixed t) is_free (e ∷ j)) (sym was))
     refl
     ∙ ap (λ n. cond (is_fixed t e.kind) 0 (free_size e + n)) (bytes-joined t es)
 
@@ -285,10 +286,10 @@ module _ (t : HandleTable) (protected : List ℕ) (k x : ℕ) (m a : ZoneMap) (e
       let sides : joined whole ≡ joined a ++ e ∷ joined rest = joined-around a e rest (fixed-used t e.kind fixed) in
       let none : sizes (is_named x) (joined a) ≡ [] = sizes-joined (is_named x) a refl ∙ alone.none_front in
       let one : sizes (is_named x) (joined whole) ≡ e.size ∷ [] =
-          sizes-joined (is_named x) whole refl ∙ sizes-append (is_named x) a (e ∷ rest) ∙ ap (λ ns. ns ++ sizes (is_named x) (e ∷ rest)) alone.none_front ∙ ap (λ c. cond c (e.size ∷ []) [] ++ sizes (is_named x) rest) named ∙ ap (λ ns. e.size ∷ ns) alone.none_back in
+      sizes-joined (is_named x) whole refl ∙ sizes-append (is_named x) a (e ∷ rest) ∙ ap (λ ns. ns ++ sizes (is_named x) (e ∷ rest)) alone.none_front ∙ ap (λ c. cond c (e.size ∷ []) [] ++ sizes (is_named x) rest) named ∙ ap (λ ns. e.size ∷ ns) alone.none_back in
       let bytes : room_of (gap_behind x (gaps t (joined whole))) ≡ bytes_before (is_fixed t) is_free (freed_where test d ++ f) =
-          ap (λ m. room_of (gap_behind x (gaps t m))) sides ∙ room-behind t x e (joined rest) fixed named (joined a) none ∙ first-room t (joined rest) ∙ bytes-joined t rest
-          ∙ ap (bytes_before (is_fixed t) is_free) (sym (append_assoc (freed_where test d) f c)) ∙ bytes-front t (freed_where test d ++ f) c above in
+      ap (λ m. room_of (gap_behind x (gaps t m))) sides ∙ room-behind t x e (joined rest) fixed named (joined a) none ∙ first-room t (joined rest) ∙ bytes-joined t rest
+      ∙ ap (bytes_before (is_fixed t) is_free) (sym (append_assoc (freed_where test d) f c)) ∙ bytes-front t (freed_where test d ++ f) c above in
       ap (can_grow t x k) now
       ∙ ap (λ s. nat_le k (size_of x (joined whole) + room_of (cond s (gap_behind x (gaps t (joined whole))) (own_gap x (gaps t (joined whole))))) || (not s && some_gap_has k (gaps t (joined whole)))) stay
       ∙ no_others (nat_le k (size_of x (joined whole) + room_of (gap_behind x (gaps t (joined whole))))) (some_gap_has k (gaps t (joined whole)))

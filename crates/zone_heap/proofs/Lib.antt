@@ -25,3 +25,4 @@ pub mod Until
 pub mod Grows
 pub mod Limits
 pub mod Behind
+pub mod RunWalks

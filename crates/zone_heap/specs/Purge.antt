@@ -127,6 +127,11 @@ pub record ShortGaps (z : ZoneState) (start end : ℕ) (counted : Option ℕ) (k
   pub at : BlocksAt z start end
   pub short : IsFalse (run_has (bounds_gap z.heap.table counted) (counts counted) k 0 at.blocks)
 
+-- blocks stand between two addresses, and k bytes are free nowhere in one run of blocks
+pub record ShortBlocks (z : ZoneState) (start end k : ℕ) : Type 0 where
+  pub at : BlocksAt z start end
+  pub short : IsFalse (run_has bounds_free (counts None) k 0 at.blocks)
+
 -- the zone in which those of them that may be purged are free, not joined, and their handles empty
 abbrev pub purged_between : {start end : ℕ} → (z : ZoneState) → BlocksAt z start end → List ℕ → ZoneState
 purged_between z at protected = with_heap (record {

@@ -14,7 +14,7 @@ ghost use Rattle.linked_zone.specs.Fit.{HasSizes};
 ghost use Rattle.linked_zone.specs.Places.{EntryAt, HasOwner};
 ghost use Rattle.zone_heap.specs.Attempts.{CanAsk, SoundZone};
 ghost use Rattle.zone_heap.specs.Joins.{all_joined};
-ghost use Rattle.zone_heap.specs.Purge.{BlocksAt, IsLimit, ShortGaps, Purges, PurgesFor, PurgesTo, blocks_behind, bounds_gap, bounds_free, bytes_before, counts, handle_to_purge, is_kept, is_protected, may_purge, purged_between, released_if, staying_block, CanCount, HasBlockIf};
+ghost use Rattle.zone_heap.specs.Purge.{BlocksAt, IsLimit, ShortBlocks, ShortGaps, Purges, PurgesFor, PurgesTo, blocks_behind, bounds_gap, bounds_free, bytes_before, counts, handle_to_purge, is_kept, is_protected, may_purge, purged_between, released_if, staying_block, CanCount, HasBlockIf};
 
 use linked_zone::LinkedZone;
 use mac_base::block::Kind;
@@ -282,7 +282,11 @@ fn staying(zone: &LinkedZone, block: Option<u32>) -> Option<u32>
     ensures { result ≡ staying_block zone.now.heap.table block }
 {
     let number = block?;
-    if stays(zone, number) { Some(number) } else { None }
+    if stays(zone, number) {
+        Some(number)
+    } else {
+        None
+    }
 }
 
 /// How far to purge for a request: as few blocks as serve, and all where none do. A block that stays can use only the gap
@@ -335,5 +339,73 @@ pub(crate) fn purge_for(zone: &mut LinkedZone, request: Request, protected: &[u3
 {
     let limit = limit_for(zone, request, protected);
     purge_between(zone, limit.start, limit.end, protected);
+    limit.enough
+}
+
+/// The size of the free block at an address below the end, and 0 where none stands there.
+fn free_at(zone: &LinkedZone, start: u32, end: u32) -> u32
+    requires blocks { BlocksAt zone.now start end }
+    requires sound { SoundZone zone.now }
+    ensures { (blocks : BlocksAt zone.now start end) → result ≡ bytes_before bounds_free (counts None) blocks.blocks }
+{
+    if start < end {
+        let here = zone.entry_at(start);
+        if here.kind.is_free() {
+            return here.size;
+        }
+    }
+    0
+}
+
+/// How far to purge between two addresses so that `needed` bytes are free in one block: as few blocks as leave them, and all
+/// where none do.
+fn block_limit(zone: &LinkedZone, start: u32, end: u32, needed: u32, protected: &[u32]) -> Limit
+    requires blocks { ShortBlocks zone.now start end needed }
+    requires sound { SoundZone zone.now }
+    ensures { (blocks : ShortBlocks zone.now start end needed) → IsLimit bounds_free (counts None) (may_purge zone.now.heap.table protected.now) needed blocks.at.blocks start result }
+{
+    let mut at = start;
+    let mut run = 0;
+    while at < end {
+        let here = zone.entry_at(at);
+        at += here.size;
+        if here.kind.is_free() {
+            run += here.size;
+        } else if handle_to_purge(zone, here.kind, protected).is_some() {
+            run += here.size;
+            if needed <= run + free_at(zone, at, end) {
+                return Limit {
+                    start,
+                    end: at,
+                    enough: true,
+                };
+            }
+        } else {
+            run = 0;
+        }
+    }
+    Limit {
+        start,
+        end: at,
+        enough: false,
+    }
+}
+
+/// Empties as few handles that may be purged as leave `needed` free bytes in one block, in order of address, and all where
+/// none do. Gives whether there is such a block then.
+pub(crate) fn purge_to(zone: &mut LinkedZone, needed: u32) -> bool
+    requires sound { SoundZone zone.old }
+    ensures zone { zone.new ≡ with_heap (purged_for needed zone.old.heap) zone.old }
+    ensures enough { result ≡ nat_le needed (largest_free zone.new.heap.map) }
+    ensures loans { KeepsLoans zone.old zone.new }
+    ensures sound { SoundZone zone.new }
+{
+    if needed == 0 || zone.lowest_free(needed).is_some() {
+        return true;
+    }
+    let start = zone_start(zone);
+    let end = zone_end(zone);
+    let limit = block_limit(zone, start, end, needed, &[]);
+    purge_between(zone, limit.start, limit.end, &[]);
     limit.enough
 }

@@ -65,4 +65,4 @@ returns c =
     let start = c.place_of-at.result + c.entry_at-size.result.size in
     purges_here z c.args.block c.place_of-at.result c.place_of-at.ensures c.requires.sound c.requires.stays start (start_is v) c.args.needed c.requires.no_room c.gap_end-end.result (ends w (start_is v)) c.args.protected.now c.gap_limit.result
     (subst (λ k. IsLimit (bounds_gap z.heap.table None) (counts None) (may_purge z.heap.table c.args.protected.now) (c.args.needed - k) (gap_here z c.args.block c.place_of-at.result c.place_of-at.ensures c.requires.sound c.requires.stays).blocks start c.gap_limit.result) (read v)
-        (c.gap_limit.ensures (short w (start_is v) (read v))))
+    (c.gap_limit.ensures (short w (start_is v) (read v))))

@@ -61,4 +61,4 @@ returns c =
     let w = (goal.at.returns c).After-zone_end-end in
     request-purges z p c.requires.sound r c.requires.ready.operand c.requires.protects (stay_none w) c.requires.no_room c.zone_start-start.result c.gap_limit.result c.zone_start-start.ensures
     (subst (λ o. IsLimit (bounds_gap z.heap.table o) (counts o) (may_purge z.heap.table p) (size_needed z.shape r) z.heap.map c.zone_start-start.result c.gap_limit.result) c.of-asked.ensures.counted
-        (subst (λ k. IsLimit (bounds_gap z.heap.table c.of-asked.result.counted) (counts c.of-asked.result.counted) (may_purge z.heap.table p) k z.heap.map c.zone_start-start.result c.gap_limit.result) now (c.gap_limit.ensures (short w))))
+    (subst (λ k. IsLimit (bounds_gap z.heap.table c.of-asked.result.counted) (counts c.of-asked.result.counted) (may_purge z.heap.table p) k z.heap.map c.zone_start-start.result c.gap_limit.result) now (c.gap_limit.ensures (short w))))
