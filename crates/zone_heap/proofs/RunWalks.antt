@@ -1,6 +1,7 @@
 -- Walks by which runs of free blocks are measured.
-use Rattle.std.proofs.Common.{◌≡◌, ℕ, ◌+◌, ◌<◌, ◌≤◌, Bool, true, false, not, cond, List, [], ◌∷◌, ◌++◌, refl, ap, sym, ◌∙◌, arith, subst, None, max}
-use Rattle.std.specs.Prelude.{◌&&◌, ◌||◌, nat_le}
+use Rattle.std.proofs.Common.{◌≡◌, ℕ, ◌+◌, ◌<◌, ◌≤◌, Bool, true, false, not, cond, List, [], ◌∷◌, ◌++◌, refl, ap, sym, ◌∙◌, arith, subst, None, Some, Option, max}
+use Rattle.std.specs.Prelude.{◌&&◌, ◌||◌, ◌==◌, nat_le, is_some, IfSome, IfNone}
+use Rattle.std.specs.List.{list_all}
 use Rattle.std.proofs.lemmas.Bool.{le-leb, leb-true}
 use Rattle.std.proofs.lemmas.Bool.Decides.{nat_tests}
 use Rattle.mac_base.specs.declared.block.Entry.{Entry}
@@ -10,8 +11,11 @@ use Rattle.mac_base.specs.HandleTable.{HandleTable}
 use Rattle.mac_base.specs.HeadKind.{Shape}
 use Rattle.mac_base.specs.Request.{candidates_in, purged_until}
 use Rattle.mac_base.specs.Suits.{Suits, free_apart, starts_free}
-use Rattle.mac_base.specs.ZoneMap.{ZoneMap, address_behind, free_size, is_free, joined, largest_free, total_size}
-use Rattle.mac_base.specs.ZoneState.{ZoneState}
+use Rattle.mac_base.specs.ZoneMap.{ZoneMap, address_behind, block, free_size, has_free, is_free, joined, largest_free, total_size}
+use Rattle.mac_base.specs.ZoneState.{ZoneState, with_heap}
+use Rattle.mac_base.specs.Heap.{with_all_emptied}
+use Rattle.mac_base.specs.Purging.{purged_for}
+use Rattle.linked_zone.specs.Places.{LowestAt}
 use Rattle.zone_laws.proofs.Joined.{free_apart-joined}
 use Rattle.zone_laws.proofs.GapApart.{free_apart-back, free_apart-front}
 use Rattle.zone_laws.proofs.Maps.{both_true, not_true, true_not}
@@ -20,9 +24,10 @@ use Rattle.zone_heap.specs.Attempts.{SoundZone}
 use Rattle.zone_heap.specs.Purge.{BlocksAt, IsLimit, Purges, PurgesTo, all_released, bounds_free, bytes_before, counts, freed_where, may_purge, run_has, size_if}
 use Rattle.zone_heap.specs.declared.purge.Limit.{Limit}
 use Rattle.zone_heap.proofs.FreedBlocks.{Once, once-suits, released-candidates}
+use Rattle.zone_heap.proofs.GapWalks.{too-many}
 use Rattle.zone_heap.proofs.Grows.{absorb}
 use Rattle.zone_heap.proofs.Runs.{Swept, bound_swept, bytes-within, limit_here, limit_last, more-run, none_behind, none_swept, pass_swept, purge_swept}
-use Rattle.zone_heap.proofs.Until.{run-joined, until-limit, until-enough_then}
+use Rattle.zone_heap.proofs.Until.{run-joined, until-enough, until-limit, until-enough_then}
 use Rattle.zone_heap.proofs.Walks.{Walked, Facing, end_walked, none_walked, walked_end, walked_on, within_facing}
 
 run_apart : (k r : ℕ) (m : ZoneMap) → starts_free m ≡ false → run_has bounds_free (counts None) k r m ≡ (nat_le k r || run_has bounds_free (counts None) k 0 m)
@@ -186,3 +191,45 @@ module _ {start end : ℕ} (z : ZoneState) (b : BlocksAt z start end) (k : ℕ) 
         let last = end_walked z b at s.walked in
         let all = ap total_size f.is in
         omega arith
+
+-- a free block of k bytes makes the largest as large
+largest-some : (k size : ℕ) (a b : ZoneMap) → k ≤ size → nat_le k (largest_free (a ++ block Free size ∷ b)) ≡ true
+largest-some k size [] b fits = at_least k size (largest_free b) (le-leb k size fits)
+  where
+    at_least : (k m n : ℕ) → nat_le k m ≡ true → nat_le k (max m n) ≡ true
+    at_least k m n h = grind (arith, nat_tests)
+largest-some k size (e ∷ a) b fits = at_most k (free_size e) (largest_free (a ++ block Free size ∷ b)) (largest-some k size a b fits)
+  where
+    at_most : (k m n : ℕ) → nat_le k n ≡ true → nat_le k (max m n) ≡ true
+    at_most k m n h = grind (arith, nat_tests)
+
+-- so where one is found
+pub large-found : (z : ZoneState) (k : ℕ) (o : Option ℕ) → IfSome o (λ at. LowestAt z k at) → is_some o ≡ true → nat_le k (largest_free z.heap.map) ≡ true
+large-found z k None found some = absurd (cc some)
+large-found z k (Some at) found some = ap (λ m. nat_le k (largest_free m)) found.free.map ∙ largest-some k found.free.size found.free.before found.free.behind found.large
+
+largest-none : (k : ℕ) (m : ZoneMap) → 0 < k → list_all (λ (e : Entry). not (has_free k e)) m ≡ true → nat_le k (largest_free m) ≡ false
+largest-none k [] some none = too-many k 0 some
+largest-none k (e ∷ es) some none =
+    let parts = both_true (not (has_free k e)) (list_all (λ (e : Entry). not (has_free k e)) es) none in
+    by_free (is_free e.kind) parts.0 (largest-none k es some parts.1)
+  where
+    both_small : (k m n : ℕ) → nat_le k m ≡ false → nat_le k n ≡ false → nat_le k (max m n) ≡ false
+    both_small k m n h g = grind (arith, nat_tests)
+
+    by_free : (c : Bool) → not (c && nat_le k e.size) ≡ true → nat_le k (largest_free es) ≡ false → nat_le k (max (cond c e.size 0) (largest_free es)) ≡ false
+    by_free true small rest = both_small k e.size (largest_free es) (true_not (nat_le k e.size) small) rest
+    by_free false small rest = both_small k 0 (largest_free es) (too-many k 0 some) rest
+
+-- and where none is
+pub large-none : (z : ZoneState) (k : ℕ) (o : Option ℕ) → 0 < k → IfNone o (list_all (λ (e : Entry). not (has_free k e)) z.heap.map ≡ true) → is_some o ≡ false → nat_le k (largest_free z.heap.map) ≡ false
+large-none z k None some none is = largest-none k z.heap.map some none
+large-none z k (Some at) some none is = absurd (cc is)
+
+-- where a block is large enough, none is purged
+pub purged-already : (z : ZoneState) (k : ℕ) → nat_le k (largest_free z.heap.map) ≡ true → z ≡ with_heap (purged_for k z.heap) z
+purged-already z k enough = ap (λ hs. with_heap (with_all_emptied hs z.heap) z) (sym (until-enough (λ (m : ZoneMap). nat_le k (largest_free m)) (candidates_in z.heap.table [] z.heap.map) z.heap.map enough))
+
+-- no bytes are always there
+pub none-needed : (k n : ℕ) → k ≡ 0 → (k == 0) ≡ nat_le k n
+none-needed k n none = grind (arith, nat_tests)

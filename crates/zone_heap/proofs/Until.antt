@@ -21,7 +21,7 @@ use Rattle.zone_heap.specs.declared.purge.Limit.{Limit}
 use Rattle.zone_heap.proofs.FreedBlocks.{Once, once-suits, candidate_here, candidates-append, candidates-cons, joined-freed, released-candidates}
 
 -- where it is enough, no more is purged
-until-enough : (test : ZoneMap → Bool) (hs : List ℕ) (m : ZoneMap) → test m ≡ true → purged_until test hs m ≡ []
+pub until-enough : (test : ZoneMap → Bool) (hs : List ℕ) (m : ZoneMap) → test m ≡ true → purged_until test hs m ≡ []
 until-enough test [] m enough = refl
 until-enough test (h ∷ hs) m enough = ap (λ c. cond c [] (h ∷ purged_until test hs (released h m))) enough
 

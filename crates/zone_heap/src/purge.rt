@@ -400,7 +400,7 @@ pub(crate) fn purge_to(zone: &mut LinkedZone, needed: u32) -> bool
     ensures loans { KeepsLoans zone.old zone.new }
     ensures sound { SoundZone zone.new }
 {
-    if needed == 0 || zone.lowest_free(needed).is_some() {
+    if has_free(zone, needed) {
         return true;
     }
     let start = zone_start(zone);
@@ -408,4 +408,11 @@ pub(crate) fn purge_to(zone: &mut LinkedZone, needed: u32) -> bool
     let limit = block_limit(zone, start, end, needed, &[]);
     purge_between(zone, limit.start, limit.end, &[]);
     limit.enough
+}
+
+/// Whether `needed` bytes are free in one block.
+fn has_free(zone: &LinkedZone, needed: u32) -> bool
+    ensures { result ≡ nat_le needed (largest_free zone.now.heap.map) }
+{
+    needed == 0 || zone.lowest_free(needed).is_some()
 }
