@@ -51,7 +51,7 @@ none-among t protected h (f ∷ fs) none =
     ]
 
 -- what is none of the handles that become empty stays as it was
-same-live : (hs : List ℕ) (t : HandleTable) (h : ℕ) → is_among hs h ≡ false → live_at (all_emptied hs t) h ≡ live_at t h
+pub same-live : (hs : List ℕ) (t : HandleTable) (h : ℕ) → is_among hs h ≡ false → live_at (all_emptied hs t) h ≡ live_at t h
 same-live [] t h other = refl
 same-live (g ∷ hs) t h other =
     let parts = or_parts (g == h) (is_among hs h) other in

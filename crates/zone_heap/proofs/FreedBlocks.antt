@@ -54,6 +54,12 @@ once-At x m a e b once was named =
     alone (k ∷ []) n b h = absurd (omega arith)
     alone (k ∷ l ∷ a) n b h = absurd (omega arith)
 
+-- so its size is the only one
+pub sizes-At : (x : ℕ) (m : ZoneMap) (n : ℕ) (a : ZoneMap) (kind : Kind) (b : ZoneMap) → At x m n a kind b → sizes (is_named x) m ≡ n ∷ []
+sizes-At x m n a kind b at =
+    ap (sizes (is_named x)) at.was ∙ sizes_around x a (block kind n) b ∙ ap (λ ns. ns ++ (cond (is_named x kind) (n ∷ []) [] ++ sizes (is_named x) b)) at.none_front
+    ∙ ap (λ c. cond c (n ∷ []) [] ++ sizes (is_named x) b) at.named ∙ ap (λ ns. n ∷ ns) at.none_back
+
 -- it stays so where a block becomes free
 pub once-free : (a : ZoneMap) (e : Entry) (b : ZoneMap) → Once (a ++ e ∷ b) → Once (a ++ block Free e.size ∷ b)
 once-free a e b once x =

@@ -11,7 +11,7 @@ use Rattle.mac_base.specs.declared.block.Kind.TheVariants.{Free, Master, Ptr, Re
 use Rattle.mac_base.specs.Gap.{Gap, ends_with, further, gaps, gap_behind, has_named, is_fixed, own_gap, room, some_gap_has}
 use Rattle.mac_base.specs.HandleTable.{HandleTable, is_locked}
 use Rattle.mac_base.specs.Request.{can_grow, candidates_in, room_of, size_of, stays}
-use Rattle.mac_base.specs.ZoneMap.{ZoneMap, block, free_size, is_free, is_named, joined, joined_to, released, sizes}
+use Rattle.mac_base.specs.ZoneMap.{ZoneMap, block, free_bytes, free_size, is_free, is_named, joined, joined_to, released, sizes}
 use Rattle.mac_base.specs.Suits.{free_apart, starts_free}
 use Rattle.zone_laws.proofs.GapAppend.{sizes-append}
 use Rattle.zone_laws.proofs.GapParts.{all_move, first_gap, first_gap-before, gaps-first, later_gaps, starts_fixed}
@@ -25,7 +25,8 @@ use Rattle.zone_heap.proofs.EmptyingBlocks.{once-freed}
 use Rattle.zone_heap.proofs.FreedBlocks.{Once, once-At, released-candidates}
 use Rattle.zone_heap.proofs.Until.{gap-run, run-gaps, run-none, some-gap_run}
 
-absorb : (a b c : Bool) → (b ≡ true → a ≡ true) → (a || c) ≡ (a || (b || c))
+-- a test that implies another adds nothing beside it
+pub absorb : (a b c : Bool) → (b ≡ true → a ≡ true) → (a || c) ≡ (a || (b || c))
 absorb true b c h = refl
 absorb false true c h = absurd (cc (h refl))
 absorb false false c h = refl
@@ -98,7 +99,7 @@ module _ (t : HandleTable) (x k n h : ℕ) (b : ZoneMap) (moves : is_locked t h 
       ap (λ c. cond c (nat_le k r || run_has (bounds_gap t (Some x)) (counts (Some x)) k 0 m) (run_has (bounds_gap t (Some x)) (counts (Some x)) k (r + size_if (counts (Some x)) d) m)) (unnamed_bounds t x d.kind parts.0)
       ∙ ap (λ c. cond (is_fixed t d.kind) (nat_le k r || run_has (bounds_gap t (Some x)) (counts (Some x)) k 0 m) (run_has (bounds_gap t (Some x)) (counts (Some x)) k (r + cond c d.size 0) m)) (unnamed_counts x d.kind parts.0)
       ∙ elim (is_fixed t d.kind) as (λ c. cond c (nat_le k r || run_has (bounds_gap t (Some x)) (counts (Some x)) k 0 m) (run_has (bounds_gap t (Some x)) (counts (Some x)) k (r + free_size d) m)
-          ≡ (nat_le k (n + cond c (own_room 0 a) (own_room (r + free_size d) a)) || cond c (nat_le k r || run_has (is_fixed t) is_free k 0 m) (run_has (is_fixed t) is_free k (r + free_size d) m))) [
+      ≡ (nat_le k (n + cond c (own_room 0 a) (own_room (r + free_size d) a)) || cond c (nat_le k r || run_has (is_fixed t) is_free k 0 m) (run_has (is_fixed t) is_free k (r + free_size d) m))) [
         | true ↦ ap (λ c. nat_le k r || c) zero_rest ∙ swap (nat_le k r) (nat_le k (n + own_room 0 a)) (run_has (is_fixed t) is_free k 0 m)
         | false ↦ on_rest
       ]
@@ -108,7 +109,7 @@ module _ (t : HandleTable) (x k n h : ℕ) (b : ZoneMap) (moves : is_locked t h 
   own_found r [] none =
       let g : Gap = first_gap t b in
       ap (λ c. let f : Gap = cond c (record { before = []; blocks = []; behind = block (Rel h) n ∷ b }) (record g { blocks = block (Rel h) n ∷ g.blocks }) in
-          cond (has_named x f.blocks) (r + room f) (room_of (find (λ (g : Gap). has_named x g.blocks) (map (further (block (Rel h) n)) (cond c (g ∷ later_gaps t b) (later_gaps t b)))))) moves
+      cond (has_named x f.blocks) (r + room f) (room_of (find (λ (g : Gap). has_named x g.blocks) (map (further (block (Rel h) n)) (cond c (g ∷ later_gaps t b) (later_gaps t b)))))) moves
       ∙ ap (λ c. cond (c || has_named x g.blocks) (r + (0 + room g)) (room_of (find (λ (g : Gap). has_named x g.blocks) (map (further (block (Rel h) n)) (later_gaps t b))))) named
       ∙ (let e : r + (0 + room g) ≡ r + room g = omega arith in e)
   own_found r (d ∷ a) none =
@@ -118,7 +119,7 @@ module _ (t : HandleTable) (x k n h : ℕ) (b : ZoneMap) (moves : is_locked t h 
       let zero_rest = own_found 0 a parts.1 in
       let on_rest = own_found (r + free_size d) a parts.1 in
       elim (is_fixed t d.kind) as (λ c. (let f : Gap = cond c (record { before = []; blocks = []; behind = d ∷ m }) (record g { blocks = d ∷ g.blocks }) in
-          cond (has_named x f.blocks) (r + room f) (room_of (find (λ (g : Gap). has_named x g.blocks) (map (further d) (cond c (g ∷ later_gaps t m) (later_gaps t m)))))) ≡ cond c (own_room 0 a) (own_room (r + free_size d) a)) [
+      cond (has_named x f.blocks) (r + room f) (room_of (find (λ (g : Gap). has_named x g.blocks) (map (further d) (cond c (g ∷ later_gaps t m) (later_gaps t m)))))) ≡ cond c (own_room 0 a) (own_room (r + free_size d) a)) [
         | true ↦ room_further (λ (g : Gap). has_named x g.blocks) d (g ∷ later_gaps t m) (λ g. refl) ∙ found_first (has_named x g.blocks) g (find (λ (g : Gap). has_named x g.blocks) (later_gaps t m)) ∙ zero_rest
         | false ↦ ap (λ c. cond (c || has_named x g.blocks) (r + (free_size d + room g)) (room_of (find (λ (g : Gap). has_named x g.blocks) (map (further d) (later_gaps t m))))) parts.0
             ∙ ap (λ s. cond (has_named x g.blocks) s (room_of (find (λ (g : Gap). has_named x g.blocks) (map (further d) (later_gaps t m))))) (let e : r + (free_size d + room g) ≡ r + free_size d + room g = omega arith in e)
@@ -145,42 +146,55 @@ module _ (t : HandleTable) (x k n h : ℕ) (b : ZoneMap) (moves : is_locked t h 
       ≡ (nat_le k (n + room_of (own_gap x (gaps t (a ++ block (Rel h) n ∷ b)))) || run_has (is_fixed t) is_free k 0 (a ++ block (Rel h) n ∷ b))
   grows-moving a none = own_run 0 a none ∙ ap (λ r. nat_le k (n + r) || run_has (is_fixed t) is_free k 0 (a ++ block (Rel h) n ∷ b)) (sym (own-room a none))
 
+-- the blocks of a gap, if there is one
+abbrev pub blocks_of : Option Gap → ZoneMap
+blocks_of g = option_map_or (λ (g : Gap). g.blocks) g []
+
+-- its room is that of its blocks
+room_blocks : (o : Option Gap) → room_of o ≡ free_bytes (blocks_of o)
+room_blocks None = refl
+room_blocks (Some g) = refl
+
 -- the gap right behind a fixed block that x names, and no other before it
 module _ (t : HandleTable) (x : ℕ) (e : Entry) (d : ZoneMap) (fixed : is_fixed t e.kind ≡ true) (named : is_named x e.kind ≡ true) where
-  ends_twice : (f g : Entry) (gs : List Gap) → room_of (find (λ (g : Gap). ends_with x g.before) (map (further f) (map (further g) gs))) ≡ room_of (find (λ (g : Gap). ends_with x g.before) (map (further g) gs))
+  ends_twice : (f g : Entry) (gs : List Gap) → blocks_of (find (λ (g : Gap). ends_with x g.before) (map (further f) (map (further g) gs))) ≡ blocks_of (find (λ (g : Gap). ends_with x g.before) (map (further g) gs))
   ends_twice f g [] = refl
   ends_twice f g (h ∷ gs) =
       let rest = ends_twice f g gs in
-      elim (ends_with x (g ∷ h.before)) as (λ c. room_of (cond c (Some (further f (further g h))) (find (λ (g : Gap). ends_with x g.before) (map (further f) (map (further g) gs)))) ≡ room_of (cond c (Some (further g h)) (find (λ (g : Gap). ends_with x g.before) (map (further g) gs)))) [
+      elim (ends_with x (g ∷ h.before)) as (λ c. blocks_of (cond c (Some (further f (further g h))) (find (λ (g : Gap). ends_with x g.before) (map (further f) (map (further g) gs)))) ≡ blocks_of (cond c (Some (further g h)) (find (λ (g : Gap). ends_with x g.before) (map (further g) gs)))) [
         | true ↦ refl
         | false ↦ rest
       ]
 
-  ends_behind : (f : Entry) (m : ZoneMap) → room_of (find (λ (g : Gap). ends_with x g.before) (map (further f) (later_gaps t m))) ≡ room_of (find (λ (g : Gap). ends_with x g.before) (later_gaps t m))
+  ends_behind : (f : Entry) (m : ZoneMap) → blocks_of (find (λ (g : Gap). ends_with x g.before) (map (further f) (later_gaps t m))) ≡ blocks_of (find (λ (g : Gap). ends_with x g.before) (later_gaps t m))
   ends_behind f [] = refl
   ends_behind f (g ∷ m) = ends_twice f g (cond (is_fixed t g.kind) (first_gap t m ∷ later_gaps t m) (later_gaps t m))
 
-  behind_later : (a : ZoneMap) → sizes (is_named x) a ≡ [] → room_of (find (λ (g : Gap). ends_with x g.before) (later_gaps t (a ++ e ∷ d))) ≡ room (first_gap t d)
+  behind_later : (a : ZoneMap) → sizes (is_named x) a ≡ [] → blocks_of (find (λ (g : Gap). ends_with x g.before) (later_gaps t (a ++ e ∷ d))) ≡ (first_gap t d).blocks
   behind_later [] none =
-      ap (λ c. room_of (find (λ (g : Gap). ends_with x g.before) (map (further e) (cond c (first_gap t d ∷ later_gaps t d) (later_gaps t d))))) fixed
-      ∙ ap (λ before. room_of (cond (ends_with x (e ∷ before)) (Some (further e (first_gap t d))) (find (λ (g : Gap). ends_with x g.before) (map (further e) (later_gaps t d))))) (first_gap-before t d)
-      ∙ ap (λ c. room_of (cond c (Some (further e (first_gap t d))) (find (λ (g : Gap). ends_with x g.before) (map (further e) (later_gaps t d))))) named
+      ap (λ c. blocks_of (find (λ (g : Gap). ends_with x g.before) (map (further e) (cond c (first_gap t d ∷ later_gaps t d) (later_gaps t d))))) fixed
+      ∙ ap (λ before. blocks_of (cond (ends_with x (e ∷ before)) (Some (further e (first_gap t d))) (find (λ (g : Gap). ends_with x g.before) (map (further e) (later_gaps t d))))) (first_gap-before t d)
+      ∙ ap (λ c. blocks_of (cond c (Some (further e (first_gap t d))) (find (λ (g : Gap). ends_with x g.before) (map (further e) (later_gaps t d))))) named
   behind_later (f ∷ a) none =
       let parts = nothing_passes (is_named x f.kind) f.size (sizes (is_named x) a) none in
       let m : ZoneMap = a ++ e ∷ d in
       let rest = behind_later a parts.1 in
-      elim (is_fixed t f.kind) as (λ c. room_of (find (λ (g : Gap). ends_with x g.before) (map (further f) (cond c (first_gap t m ∷ later_gaps t m) (later_gaps t m)))) ≡ room (first_gap t d)) [
-        | true ↦ ap (λ before. room_of (cond (ends_with x (f ∷ before)) (Some (further f (first_gap t m))) (find (λ (g : Gap). ends_with x g.before) (map (further f) (later_gaps t m))))) (first_gap-before t m)
-            ∙ ap (λ c. room_of (cond c (Some (further f (first_gap t m))) (find (λ (g : Gap). ends_with x g.before) (map (further f) (later_gaps t m))))) parts.0 ∙ ends_behind f m ∙ rest
+      elim (is_fixed t f.kind) as (λ c. blocks_of (find (λ (g : Gap). ends_with x g.before) (map (further f) (cond c (first_gap t m ∷ later_gaps t m) (later_gaps t m)))) ≡ (first_gap t d).blocks) [
+        | true ↦ ap (λ before. blocks_of (cond (ends_with x (f ∷ before)) (Some (further f (first_gap t m))) (find (λ (g : Gap). ends_with x g.before) (map (further f) (later_gaps t m))))) (first_gap-before t m)
+            ∙ ap (λ c. blocks_of (cond c (Some (further f (first_gap t m))) (find (λ (g : Gap). ends_with x g.before) (map (further f) (later_gaps t m))))) parts.0 ∙ ends_behind f m ∙ rest
         | false ↦ ends_behind f m ∙ rest
       ]
 
-  -- has the room of the lowest gap behind it
-  pub room-behind : (a : ZoneMap) → sizes (is_named x) a ≡ [] → room_of (gap_behind x (gaps t (a ++ e ∷ d))) ≡ room (first_gap t d)
-  room-behind a none =
+  -- has the blocks of the lowest gap behind it
+  pub blocks-behind : (a : ZoneMap) → sizes (is_named x) a ≡ [] → blocks_of (gap_behind x (gaps t (a ++ e ∷ d))) ≡ (first_gap t d).blocks
+  blocks-behind a none =
       let m : ZoneMap = a ++ e ∷ d in
-      ap (λ gs. room_of (gap_behind x gs)) (gaps-first t m)
-      ∙ ap (λ before. room_of (cond (ends_with x before) (Some (first_gap t m)) (find (λ (g : Gap). ends_with x g.before) (later_gaps t m)))) (first_gap-before t m) ∙ behind_later a none
+      ap (λ gs. blocks_of (gap_behind x gs)) (gaps-first t m)
+      ∙ ap (λ before. blocks_of (cond (ends_with x before) (Some (first_gap t m)) (find (λ (g : Gap). ends_with x g.before) (later_gaps t m)))) (first_gap-before t m) ∙ behind_later a none
+
+  -- and its room
+  pub room-behind : (a : ZoneMap) → sizes (is_named x) a ≡ [] → room_of (gap_behind x (gaps t (a ++ e ∷ d))) ≡ room (first_gap t d)
+  room-behind a none = room_blocks (gap_behind x (gaps t (a ++ e ∷ d))) ∙ ap free_bytes (blocks-behind a none)
 
 -- of two tests one passes, and not the second
 pub other_full : (a b : Bool) → (a || b) ≡ true → b ≡ false → a ≡ true
@@ -218,8 +232,8 @@ bytes-joined t [] = refl
 bytes-joined t (e ∷ es) =
     join_cases (λ j. bytes_before (is_fixed t) is_free j ≡ bytes_before (is_fixed t) is_free (e ∷ joined es)) e (joined es)
     (λ f fs was free also.
-        (let n : ℕ = bytes_before (is_fixed t) is_free fs in let s : e.size + f.size + n ≡ e.size + (f.size + n) = omega arith in s)
-        ∙ sym (bytes-free t e (f ∷ fs) free ∙ ap (λ n. e.size + n) (bytes-free t f fs also)) ∙ ap (λ j. bytes_before (is_fixed t) is_free (e ∷ j)) (sym was))
+    (let n : ℕ = bytes_before (is_fixed t) is_free fs in let s : e.size + f.size + n ≡ e.size + (f.size + n) = omega arith in s)
+    ∙ sym (bytes-free t e (f ∷ fs) free ∙ ap (λ n. e.size + n) (bytes-free t f fs also)) ∙ ap (λ j. bytes_before (is_fixed t) is_free (e ∷ j)) (sym was))
     refl
     ∙ ap (λ n. cond (is_fixed t e.kind) 0 (free_size e + n)) (bytes-joined t es)
 
@@ -272,10 +286,10 @@ module _ (t : HandleTable) (protected : List ℕ) (k x : ℕ) (m a : ZoneMap) (e
       let sides : joined whole ≡ joined a ++ e ∷ joined rest = joined-around a e rest (fixed-used t e.kind fixed) in
       let none : sizes (is_named x) (joined a) ≡ [] = sizes-joined (is_named x) a refl ∙ alone.none_front in
       let one : sizes (is_named x) (joined whole) ≡ e.size ∷ [] =
-          sizes-joined (is_named x) whole refl ∙ sizes-append (is_named x) a (e ∷ rest) ∙ ap (λ ns. ns ++ sizes (is_named x) (e ∷ rest)) alone.none_front ∙ ap (λ c. cond c (e.size ∷ []) [] ++ sizes (is_named x) rest) named ∙ ap (λ ns. e.size ∷ ns) alone.none_back in
+      sizes-joined (is_named x) whole refl ∙ sizes-append (is_named x) a (e ∷ rest) ∙ ap (λ ns. ns ++ sizes (is_named x) (e ∷ rest)) alone.none_front ∙ ap (λ c. cond c (e.size ∷ []) [] ++ sizes (is_named x) rest) named ∙ ap (λ ns. e.size ∷ ns) alone.none_back in
       let bytes : room_of (gap_behind x (gaps t (joined whole))) ≡ bytes_before (is_fixed t) is_free (freed_where test d ++ f) =
-          ap (λ m. room_of (gap_behind x (gaps t m))) sides ∙ room-behind t x e (joined rest) fixed named (joined a) none ∙ first-room t (joined rest) ∙ bytes-joined t rest
-          ∙ ap (bytes_before (is_fixed t) is_free) (sym (append_assoc (freed_where test d) f c)) ∙ bytes-front t (freed_where test d ++ f) c above in
+      ap (λ m. room_of (gap_behind x (gaps t m))) sides ∙ room-behind t x e (joined rest) fixed named (joined a) none ∙ first-room t (joined rest) ∙ bytes-joined t rest
+      ∙ ap (bytes_before (is_fixed t) is_free) (sym (append_assoc (freed_where test d) f c)) ∙ bytes-front t (freed_where test d ++ f) c above in
       ap (can_grow t x k) now
       ∙ ap (λ s. nat_le k (size_of x (joined whole) + room_of (cond s (gap_behind x (gaps t (joined whole))) (own_gap x (gaps t (joined whole))))) || (not s && some_gap_has k (gaps t (joined whole)))) stay
       ∙ no_others (nat_le k (size_of x (joined whole) + room_of (gap_behind x (gaps t (joined whole))))) (some_gap_has k (gaps t (joined whole)))

@@ -36,3 +36,6 @@ pub mod GapWalks
 pub mod Until
 pub mod Grows
 pub mod Replacing
+pub mod Limits
+pub mod Behind
+pub mod RunWalks

@@ -21,7 +21,7 @@ use Rattle.zone_heap.specs.declared.purge.Limit.{Limit}
 use Rattle.zone_heap.proofs.FreedBlocks.{Once, once-suits, candidate_here, candidates-append, candidates-cons, joined-freed, released-candidates}
 
 -- where it is enough, no more is purged
-until-enough : (test : ZoneMap → Bool) (hs : List ℕ) (m : ZoneMap) → test m ≡ true → purged_until test hs m ≡ []
+pub until-enough : (test : ZoneMap → Bool) (hs : List ℕ) (m : ZoneMap) → test m ≡ true → purged_until test hs m ≡ []
 until-enough test [] m enough = refl
 until-enough test (h ∷ hs) m enough = ap (λ c. cond c [] (h ∷ purged_until test hs (released h m))) enough
 
@@ -96,8 +96,8 @@ module _ (bounds counted : Kind → Bool) (k : ℕ) (free_counts : counted Free 
   run-joined r (e ∷ es) =
       join_cases (λ j. run_has bounds counted k r j ≡ run_has bounds counted k r (e ∷ joined es)) e (joined es)
       (λ f fs was free also.
-          free_step r (block Free (e.size + f.size)) fs refl ∙ ap (λ n. run_has bounds counted k n fs) (let s : r + (e.size + f.size) ≡ r + e.size + f.size = omega arith in s)
-          ∙ sym (free_step r e (f ∷ fs) free ∙ free_step (r + e.size) f fs also) ∙ ap (λ j. run_has bounds counted k r (e ∷ j)) (sym was))
+      free_step r (block Free (e.size + f.size)) fs refl ∙ ap (λ n. run_has bounds counted k n fs) (let s : r + (e.size + f.size) ≡ r + e.size + f.size = omega arith in s)
+      ∙ sym (free_step r e (f ∷ fs) free ∙ free_step (r + e.size) f fs also) ∙ ap (λ j. run_has bounds counted k r (e ∷ j)) (sym was))
       refl
       ∙ (let zero_rest = run-joined 0 es in let on_rest = run-joined (r + size_if counted e) es in
       elim (bounds e.kind) as (λ c. cond c (nat_le k r || run_has bounds counted k 0 (joined es)) (run_has bounds counted k (r + size_if counted e) (joined es)) ≡ cond c (nat_le k r || run_has bounds counted k 0 es) (run_has bounds counted k (r + size_if counted e) es)) [
@@ -127,7 +127,7 @@ run-gaps t k r (e ∷ es) =
     let zero_rest = run-gaps t k 0 es in
     let on_rest = run-gaps t k (r + free_size e) es in
     elim (is_fixed t e.kind) as (λ c. cond c (nat_le k r || run_has (is_fixed t) is_free k 0 es) (run_has (is_fixed t) is_free k (r + free_size e) es)
-        ≡ (nat_le k (r + room (let g = first_gap t es in cond c (record { before = []; blocks = []; behind = e ∷ es }) (record g { blocks = e ∷ g.blocks }))) || list_any (λ g. nat_le k (room g)) (map (further e) (cond c (first_gap t es ∷ later_gaps t es) (later_gaps t es))))) [
+    ≡ (nat_le k (r + room (let g = first_gap t es in cond c (record { before = []; blocks = []; behind = e ∷ es }) (record g { blocks = e ∷ g.blocks }))) || list_any (λ g. nat_le k (room g)) (map (further e) (cond c (first_gap t es ∷ later_gaps t es) (later_gaps t es))))) [
       | true ↦ ap (λ c. c || run_has (is_fixed t) is_free k 0 es) (no_bytes_more k r)
           ∙ ap (λ c. nat_le k (r + 0) || c) (zero_rest ∙ ap (λ n. nat_le k n || list_any (λ g. nat_le k (room g)) (later_gaps t es)) (let e : 0 + room (first_gap t es) ≡ room (first_gap t es) = omega arith in e)
           ∙ ap (λ c. nat_le k (room (first_gap t es)) || c) (sym (any_further k e (later_gaps t es))))
@@ -163,18 +163,18 @@ run-freed t k x r (e ∷ es) = by_kind e.kind (λ n. run-freed t k x n es)
     by_kind Master rest = ap (λ c. nat_le k r || c) (rest 0)
     by_kind (Ptr p) rest = elim (is_named x (Ptr p)) as (λ d. run_has (is_fixed t) is_free k r (cond d (block Free e.size) (block (Ptr p) e.size) ∷ freed x es)
         ≡ cond (not d && true) (nat_le k r || run_has (bounds_gap t (Some x)) (counts (Some x)) k 0 es) (run_has (bounds_gap t (Some x)) (counts (Some x)) k (r + cond d e.size 0) es)) [
-      | true ↦ rest (r + e.size)
-      | false ↦ ap (λ c. nat_le k r || c) (rest 0)
-    ]
+          | true ↦ rest (r + e.size)
+          | false ↦ ap (λ c. nat_le k r || c) (rest 0)
+        ]
     by_kind (Rel h) rest = elim (is_named x (Rel h)) as (λ d. run_has (is_fixed t) is_free k r (cond d (block Free e.size) (block (Rel h) e.size) ∷ freed x es)
         ≡ cond (not d && is_locked t h) (nat_le k r || run_has (bounds_gap t (Some x)) (counts (Some x)) k 0 es) (run_has (bounds_gap t (Some x)) (counts (Some x)) k (r + cond d e.size 0) es)) [
-      | true ↦ rest (r + e.size)
-      | false ↦ elim (is_locked t h) as (λ c. cond c (nat_le k r || run_has (is_fixed t) is_free k 0 (freed x es)) (run_has (is_fixed t) is_free k (r + 0) (freed x es))
-          ≡ cond c (nat_le k r || run_has (bounds_gap t (Some x)) (counts (Some x)) k 0 es) (run_has (bounds_gap t (Some x)) (counts (Some x)) k (r + 0) es)) [
-        | true ↦ ap (λ c. nat_le k r || c) (rest 0)
-        | false ↦ rest (r + 0)
-      ]
-    ]
+          | true ↦ rest (r + e.size)
+          | false ↦ elim (is_locked t h) as (λ c. cond c (nat_le k r || run_has (is_fixed t) is_free k 0 (freed x es)) (run_has (is_fixed t) is_free k (r + 0) (freed x es))
+              ≡ cond c (nat_le k r || run_has (bounds_gap t (Some x)) (counts (Some x)) k 0 es) (run_has (bounds_gap t (Some x)) (counts (Some x)) k (r + 0) es)) [
+                | true ↦ ap (λ c. nat_le k r || c) (rest 0)
+                | false ↦ rest (r + 0)
+              ]
+        ]
 
 -- a gap has room in a map, in which the block of a handle may count as free, where a run between fixed blocks has so many bytes that count
 pub gap-run : (t : HandleTable) (k : ℕ) (counted : Option ℕ) (m : ZoneMap) → some_gap_has k (gaps t (released_if counted (joined m))) ≡ run_has (bounds_gap t counted) (counts counted) k 0 m

@@ -5,9 +5,10 @@ use Rattle.mac_base.specs.declared.block.Kind.{Kind}
 use Rattle.mac_base.specs.declared.block.Kind.TheVariants.{Free, Master, Ptr, Rel}
 use Rattle.mac_base.specs.declared.request.Request.{Request}
 use Rattle.mac_base.specs.declared.request.Request.TheVariants.{Resize, Replace}
-use Rattle.mac_base.specs.Gap.{is_fixed}
-use Rattle.mac_base.specs.HandleTable.{HandleTable, emptied, is_handle, is_locked, is_purgeable}
-use Rattle.mac_base.specs.Request.{candidates, candidates_in, fits, is_among, purged_until}
+use Rattle.mac_base.specs.Gap.{Gap, gap_behind, gaps, is_fixed}
+use Rattle.std.specs.Option.{option_map_or}
+use Rattle.mac_base.specs.HandleTable.{HandleTable, emptied, has_block, is_handle, is_locked, is_purgeable}
+use Rattle.mac_base.specs.Request.{candidates, candidates_in, fits, is_among, purged_until, stays}
 use Rattle.mac_base.specs.ZoneMap.{ZoneMap, block, handle_of, is_free, is_named, address_behind, largest_free, released, total_size}
 use Rattle.mac_base.specs.ZoneState.{ZoneState, with_heap}
 use Rattle.zone_heap.specs.declared.purge.Limit.{Limit}
@@ -44,6 +45,29 @@ abbrev pub operand : Request → Option ℕ
 operand (Resize x n) = Some x
 operand (Replace h n) = Some h
 operand _ = None
+
+-- the number whose block a request gives another size
+abbrev pub resized : Request → Option ℕ
+resized (Resize x n) = Some x
+resized _ = None
+
+-- the block of this number, if it stays where it is
+abbrev pub staying_block : HandleTable → Option ℕ → Option ℕ
+staying_block t None = None
+staying_block t (Some x) = if stays t x then Some x else None
+
+-- the block that a request gives another size where it is, if it stays
+abbrev pub staying : HandleTable → Request → Option ℕ
+staying t r = staying_block t (resized r)
+
+-- this number has a block, if there is one
+abbrev pub HasBlockIf : HandleTable → Option ℕ → Type 0
+HasBlockIf t None = ⊤
+HasBlockIf t (Some x) = IsTrue (has_block t x)
+
+-- the blocks of the gap right behind the block of x
+abbrev pub blocks_behind : HandleTable → ℕ → ZoneMap → ZoneMap
+blocks_behind t x m = option_map_or (λ (g : Gap). g.blocks) (gap_behind x (gaps t m)) []
 
 -- the map with the block of this handle free, if there is one
 abbrev pub released_if : Option ℕ → ZoneMap → ZoneMap
@@ -97,6 +121,16 @@ pub record BlocksAt (z : ZoneState) (start end : ℕ) : Type 0 where
   pub map : z.heap.map ≡ before ++ (blocks ++ behind)
   pub place : start ≡ address_behind z.shape before
   pub long : end ≡ start + total_size blocks
+
+-- blocks stand between two addresses, and between those that bound gaps k bytes count nowhere
+pub record ShortGaps (z : ZoneState) (start end : ℕ) (counted : Option ℕ) (k : ℕ) : Type 0 where
+  pub at : BlocksAt z start end
+  pub short : IsFalse (run_has (bounds_gap z.heap.table counted) (counts counted) k 0 at.blocks)
+
+-- blocks stand between two addresses, and k bytes are free nowhere in one run of blocks
+pub record ShortBlocks (z : ZoneState) (start end k : ℕ) : Type 0 where
+  pub at : BlocksAt z start end
+  pub short : IsFalse (run_has bounds_free (counts None) k 0 at.blocks)
 
 -- the zone in which those of them that may be purged are free, not joined, and their handles empty
 abbrev pub purged_between : {start end : ℕ} → (z : ZoneState) → BlocksAt z start end → List ℕ → ZoneState

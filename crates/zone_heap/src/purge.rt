@@ -5,7 +5,7 @@ ghost use Rattle.mac_base.specs.Gap.{gaps, some_gap_has};
 ghost use Rattle.mac_base.specs.HandleTable.{has_block, is_handle, is_locked};
 ghost use Rattle.mac_base.specs.Heap.{all_purged, with_all_emptied};
 ghost use Rattle.mac_base.specs.Purging.{purged, purged_for};
-ghost use Rattle.mac_base.specs.Request.{candidates_in, fits, length_asked, stays};
+ghost use Rattle.mac_base.specs.Request.{can_grow, candidates_in, fits, stays};
 ghost use Rattle.mac_base.specs.Suits.{starts_free};
 ghost use Rattle.mac_base.specs.ZoneMap.{address_behind, is_free, largest_free, released};
 ghost use Rattle.mac_base.specs.ZoneState.{with_heap};
@@ -14,14 +14,15 @@ ghost use Rattle.linked_zone.specs.Fit.{HasSizes};
 ghost use Rattle.linked_zone.specs.Places.{EntryAt, HasOwner};
 ghost use Rattle.zone_heap.specs.Attempts.{CanAsk, SoundZone};
 ghost use Rattle.zone_heap.specs.Joins.{all_joined};
-ghost use Rattle.zone_heap.specs.Purge.{BlocksAt, IsLimit, PurgesFor, PurgesTo, bounds_gap, bounds_free, bytes_before, counts, handle_to_purge, is_kept, is_protected, operand, may_purge, purged_between, released_if, run_has, CanCount};
+ghost use Rattle.zone_heap.specs.Purge.{BlocksAt, IsLimit, ShortBlocks, ShortGaps, Purges, PurgesFor, PurgesTo, blocks_behind, bounds_gap, bounds_free, bytes_before, counts, handle_to_purge, is_kept, is_protected, may_purge, purged_between, released_if, staying_block, CanCount, HasBlockIf};
 
 use linked_zone::LinkedZone;
 use mac_base::block::Kind;
 use mac_base::handle::{Handle, Ptr};
 use mac_base::request::Request;
 use mac_base::size::{MASTER_LENGTH, ZONE_HEADER, need_for};
-use zone_gaps::{is_fixed, zone_end};
+use mac_base::zone_spec::ADDRESS_END;
+use zone_gaps::{gap_end, is_fixed, zone_end};
 
 /// Which blocks are purged: those between two addresses that may be.
 #[derive(Clone, Copy, Debug, PartialEq, Eq)]
@@ -144,11 +145,10 @@ fn gap_limit(
     counted: Option<u32>,
     protected: &[u32],
 ) -> Limit
-    requires blocks { BlocksAt zone.now start end }
+    requires gaps { ShortGaps zone.now start end counted needed }
     requires sound { SoundZone zone.now }
     requires kept { IsTrue (is_kept protected.now counted) }
-    requires no_room { (blocks : BlocksAt zone.now start end) → IsFalse (run_has (bounds_gap zone.now.heap.table counted) (counts counted) needed 0 blocks.blocks) }
-    ensures { (blocks : BlocksAt zone.now start end) → IsLimit (bounds_gap zone.now.heap.table counted) (counts counted) (may_purge zone.now.heap.table protected.now) needed blocks.blocks start result }
+    ensures { (gaps : ShortGaps zone.now start end counted needed) → IsLimit (bounds_gap zone.now.heap.table counted) (counts counted) (may_purge zone.now.heap.table protected.now) needed gaps.at.blocks start result }
 {
     let mut at = start;
     let mut room = gap_room(zone, start, end, counted);
@@ -230,27 +230,41 @@ pub(crate) fn purge_all(zone: &mut LinkedZone)
     purge_between(zone, start, end, &[]);
 }
 
-/// The bytes of contents that a request asks for.
-fn length_asked(request: Request) -> u32
-    ensures { result ≡ length_asked request }
-{
-    match request {
-        Request::NewBlock(length) | Request::NewPointer(length) | Request::Reserve(length) => length,
-        Request::Resize(_, length) | Request::Replace(_, length) => length,
-        Request::NewEmpty => 0,
-        Request::NewMaster => MASTER_LENGTH,
-    }
+/// What a request asks for.
+#[derive(Clone, Copy, Debug, PartialEq, Eq)]
+pub(crate) struct Asked {
+    /// The bytes of contents.
+    pub(crate) length: u32,
+    /// The number whose block counts as free while the request looks for room: that which gets another size, or is replaced.
+    pub(crate) counted: Option<u32>,
+    /// The number whose block gets another size.
+    pub(crate) resized: Option<u32>,
 }
 
-/// The number whose block counts as free while a request looks for room: that which gets another size, or is replaced.
-fn operand(request: Request) -> Option<u32>
-    ensures { result ≡ operand request }
-{
-    match request {
-        Request::Resize(block, _) => Some(block),
-        Request::Replace(handle, _) => Some(handle.number()),
-        Request::NewBlock(_) | Request::NewEmpty | Request::NewPointer(_) => None,
-        Request::NewMaster | Request::Reserve(_) => None,
+impl Asked {
+    ghost use Rattle.std.specs.Prelude.{◌≡◌};
+    ghost use Rattle.mac_base.specs.Request.{length_asked};
+    ghost use Rattle.zone_heap.specs.Purge.{operand, resized};
+
+    /// What this request asks for.
+    fn of(request: Request) -> Asked
+        ensures length { result.length ≡ length_asked request }
+        ensures counted { result.counted ≡ operand request }
+        ensures resized { result.resized ≡ resized request }
+    {
+        let (length, counted, resized) = match request {
+            Request::Resize(block, length) => (length, Some(block), Some(block)),
+            Request::Replace(handle, length) => (length, Some(handle.number()), None),
+            Request::NewBlock(length) | Request::NewPointer(length) => (length, None, None),
+            Request::Reserve(length) => (length, None, None),
+            Request::NewEmpty => (0, None, None),
+            Request::NewMaster => (MASTER_LENGTH, None, None),
+        };
+        Asked {
+            length,
+            counted,
+            resized,
+        }
     }
 }
 
@@ -260,4 +274,145 @@ fn stays(zone: &LinkedZone, block: u32) -> bool
     ensures { result ≡ stays zone.now.heap.table block }
 {
     zone.is_pointer(Ptr::new(block)) || zone.flags(Handle::new(block)).lock
+}
+
+/// The block of this number, if it stays where it is.
+fn staying(zone: &LinkedZone, block: Option<u32>) -> Option<u32>
+    requires { HasBlockIf zone.now.heap.table block }
+    ensures { result ≡ staying_block zone.now.heap.table block }
+{
+    let number = block?;
+    if stays(zone, number) {
+        Some(number)
+    } else {
+        None
+    }
+}
+
+/// How far to purge for a request: as few blocks as serve, and all where none do. A block that stays can use only the gap
+/// right behind it.
+fn limit_for(zone: &LinkedZone, request: Request, protected: &[u32]) -> Limit
+    requires sound { SoundZone zone.now }
+    requires ready { CanAsk zone.now request }
+    requires protects { IsTrue (is_protected protected.now request) }
+    requires no_room { IsFalse (fits zone.now.shape zone.now.heap.table request zone.now.heap.map) }
+    ensures { PurgesFor zone.now protected.now request result }
+{
+    let asked = Asked::of(request);
+    let needed = need_for(zone.spec().heads(), asked.length);
+    if let Some(block) = staying(zone, asked.resized) {
+        return limit_behind(zone, block, needed, protected);
+    }
+    let start = zone_start(zone);
+    let end = zone_end(zone);
+    gap_limit(zone, start, end, needed, asked.counted, protected)
+}
+
+/// How far to purge in the gap right behind a block that stays, so that the block can be made `needed` bytes long.
+fn limit_behind(zone: &LinkedZone, block: u32, needed: u32, protected: &[u32]) -> Limit
+    requires sound { SoundZone zone.now }
+    requires block { IsTrue (has_block zone.now.heap.table block) }
+    requires stays { IsTrue (stays zone.now.heap.table block) }
+    requires no_room { IsFalse (can_grow zone.now.heap.table block needed zone.now.heap.map) }
+    ensures { Purges zone.now protected.now (can_grow zone.now.heap.table block needed) (candidates_in zone.now.heap.table protected.now (blocks_behind zone.now.heap.table block zone.now.heap.map)) result }
+{
+    let top = zone_end(zone);
+    prove!(top <= ADDRESS_END);
+    let at = zone.place_of(block);
+    let size = zone.entry_at(at).size;
+    let start = at + size;
+    let end = gap_end(zone, start);
+    gap_limit(zone, start, end, needed - size, None, protected)
+}
+
+/// Empties as few handles that may be purged as serve a request, in order of address, and all where none do. Gives whether
+/// the request fits then.
+pub(crate) fn purge_for(zone: &mut LinkedZone, request: Request, protected: &[u32]) -> bool
+    requires sound { SoundZone zone.old }
+    requires ready { CanAsk zone.old request }
+    requires protects { IsTrue (is_protected protected.now request) }
+    requires no_room { IsFalse (fits zone.old.shape zone.old.heap.table request zone.old.heap.map) }
+    ensures zone { zone.new ≡ with_heap (purged zone.old.shape protected.now request zone.old.heap) zone.old }
+    ensures fits { result ≡ fits zone.new.shape zone.new.heap.table request zone.new.heap.map }
+    ensures loans { KeepsLoans zone.old zone.new }
+    ensures sound { SoundZone zone.new }
+{
+    let limit = limit_for(zone, request, protected);
+    purge_between(zone, limit.start, limit.end, protected);
+    limit.enough
+}
+
+/// The size of the free block at an address below the end, and 0 where none stands there.
+fn free_at(zone: &LinkedZone, start: u32, end: u32) -> u32
+    requires blocks { BlocksAt zone.now start end }
+    requires sound { SoundZone zone.now }
+    ensures { (blocks : BlocksAt zone.now start end) → result ≡ bytes_before bounds_free (counts None) blocks.blocks }
+{
+    if start < end {
+        let here = zone.entry_at(start);
+        if here.kind.is_free() {
+            return here.size;
+        }
+    }
+    0
+}
+
+/// How far to purge between two addresses so that `needed` bytes are free in one block: as few blocks as leave them, and all
+/// where none do.
+fn block_limit(zone: &LinkedZone, start: u32, end: u32, needed: u32, protected: &[u32]) -> Limit
+    requires blocks { ShortBlocks zone.now start end needed }
+    requires sound { SoundZone zone.now }
+    ensures { (blocks : ShortBlocks zone.now start end needed) → IsLimit bounds_free (counts None) (may_purge zone.now.heap.table protected.now) needed blocks.at.blocks start result }
+{
+    let mut at = start;
+    let mut run = 0;
+    while at < end {
+        let here = zone.entry_at(at);
+        at += here.size;
+        if here.kind.is_free() {
+            run += here.size;
+        } else if handle_to_purge(zone, here.kind, protected).is_some() {
+            run += here.size;
+            if needed <= run + free_at(zone, at, end) {
+                return Limit {
+                    start,
+                    end: at,
+                    enough: true,
+                };
+            }
+        } else {
+            run = 0;
+        }
+    }
+    Limit {
+        start,
+        end: at,
+        enough: false,
+    }
+}
+
+/// Empties as few handles that may be purged as leave `needed` free bytes in one block, in order of address, and all where
+/// none do. Gives whether there is such a block then.
+pub(crate) fn purge_to(zone: &mut LinkedZone, needed: u32) -> bool
+    requires sound { SoundZone zone.old }
+    ensures zone { zone.new ≡ with_heap (purged_for needed zone.old.heap) zone.old }
+    ensures enough { result ≡ nat_le needed (largest_free zone.new.heap.map) }
+    ensures loans { KeepsLoans zone.old zone.new }
+    ensures sound { SoundZone zone.new }
+{
+    if has_free(zone, needed) {
+        return true;
+    }
+    let start = zone_start(zone);
+    let end = zone_end(zone);
+    let limit = block_limit(zone, start, end, needed, &[]);
+    purge_between(zone, limit.start, limit.end, &[]);
+    limit.enough
+}
+
+/// Whether `needed` bytes are free in one block.
+fn has_free(zone: &LinkedZone, needed: u32) -> bool
+    ensures { result ≡ nat_le needed (largest_free zone.now.heap.map) }
+{
+    needed == 0 || zone.lowest_free(needed).is_some()
 }

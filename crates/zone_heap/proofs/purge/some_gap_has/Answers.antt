@@ -64,7 +64,7 @@ loop-at-preserved c blocks =
       | else-counts+then-is_fixed+else-needed-room w ↦
           subst (λ r. Through z blocks n k next r) (sym w.room-is)
           (through_next z blocks n k l.at l.room (l.invariant blocks) f
-              (bounds-other z.heap.table k c.entry_at-here.result.kind (sym c.counts.ensures ∙ w.if-counts.false) ∙ sym w.is_fixed.ensures ∙ w.if-is_fixed.true) (too-many n l.room w.if-needed-room.false))
+          (bounds-other z.heap.table k c.entry_at-here.result.kind (sym c.counts.ensures ∙ w.if-counts.false) ∙ sym w.is_fixed.ensures ∙ w.if-is_fixed.true) (too-many n l.room w.if-needed-room.false))
       | else-counts+else-is_fixed w ↦
           let other = sym c.counts.ensures ∙ w.if-counts.false in
           subst (λ r. Through z blocks n k next r) (sym w.room-is)
@@ -79,7 +79,7 @@ returns-then-needed-room c =
     let f = read (goal.at.returns-then-needed-room c).After-entry_at-here b in
     sym (gap-now z.shape z.heap.table c.args.needed c.args.counted z.heap.map c.requires.sound.suits
     ∙ through_found z b c.args.needed c.args.counted l.at l.room (l.invariant b) f
-        (bounds-other z.heap.table c.args.counted c.entry_at-here.result.kind (sym c.counts.ensures ∙ c.if-counts.false) ∙ sym c.is_fixed.ensures ∙ c.if-is_fixed.true) (le-leb c.args.needed l.room c.if-needed-room.true))
+    (bounds-other z.heap.table c.args.counted c.entry_at-here.result.kind (sym c.counts.ensures ∙ c.if-counts.false) ∙ sym c.is_fixed.ensures ∙ c.if-is_fixed.true) (le-leb c.args.needed l.room c.if-needed-room.true))
 
 pub returns : goal.returns
 returns c =
