@@ -22,4 +22,5 @@ pub mod Copied
 pub mod Loans
 pub mod NewZone
 pub mod Exchanging
+pub mod Carrying
 pub mod Extending

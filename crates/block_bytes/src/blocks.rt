@@ -100,7 +100,7 @@ impl Blocks {
     ghost use Rattle.mac_base.specs.ZoneSizes.{shape_of};
     ghost use Rattle.raw_region.specs.Bytes.{part, written};
     ghost use Rattle.block_bytes.specs.declared.header.Role.TheVariants.{Free};
-    ghost use Rattle.block_bytes.specs.Layout.{RawBlock, Layout, BlockAt, UnlentAt, WordAt, CanBe, CanTurn, CanResize, CanSplit, PairAt, CanMerge, Exchanged, CanLend, IsLoanOf, NothingLent, in_role, front_of, rest_of, with_word, cleared, cleared_from, CanClear, body, raw_block, free_raw_block, size_of, header_of, is_possible, joint_body, zone_bytes, with_blocks, with_front, extended, address_behind, free_total, lent_count, most_lent, loan_of, lent_block, given_back};
+    ghost use Rattle.block_bytes.specs.Layout.{RawBlock, Layout, BlockAt, UnlentAt, WordAt, CanBe, CanTurn, CanResize, CanSplit, PairAt, ParcelAt, carried, CanMerge, Exchanged, CanLend, IsLoanOf, NothingLent, in_role, front_of, rest_of, with_word, cleared, cleared_from, CanClear, body, raw_block, free_raw_block, size_of, header_of, is_possible, joint_body, zone_bytes, with_blocks, with_front, extended, address_behind, free_total, lent_count, most_lent, loan_of, lent_block, given_back};
     ghost use Rattle.block_bytes.specs.Finding.{HoldsByte, LiesOutside, LowestFree, NoneFree};
     ghost use Rattle.block_bytes.specs.Copying.{CanCopy, copied_over};
     ghost use Rattle.block_bytes.specs.WritingBack.{WritesBackContents};
@@ -390,6 +390,32 @@ impl Blocks {
         self.index.set(start / 4, second.mark());
         self.index
             .set(start / 4 + second.size as usize / 4, first.mark());
+        count_free(&mut self.memory, &self.index, base, 0, 0);
+    }
+
+    /// The block at an address changes places with those behind it up to an address. The bytes of all stay: each is moved
+    /// at most twice.
+    pub fn carry(&mut self, at: u32, end: u32)
+        requires { ParcelAt self.old at end }
+        ensures { (parcel : ParcelAt self.old at end) → self.new ≡ carried self.old parcel }
+    {
+        let heads = self.spec.heads();
+        let base = self.spec.base();
+        let first = self.entry_at(at);
+        let size = first.size as usize;
+        let start = (at - base) as usize;
+        let stop = (end - base) as usize;
+        let mut next = start + size;
+        while next < stop {
+            let passed = self.memory.header(heads, next);
+            let place = (next - size) / 4;
+            self.index.set(next / 4, 0);
+            self.index.set(place, passed.mark());
+            self.index
+                .set(place + passed.size as usize / 4, first.mark());
+            next += passed.size as usize;
+        }
+        self.memory.rotate(start, start + size, stop);
         count_free(&mut self.memory, &self.index, base, 0, 0);
     }
 

@@ -33,14 +33,14 @@ use Rattle.linked_zone.proofs.EndsSaid.{part-passes, contents-said, full-said, e
 use Rattle.linked_zone.proofs.ChangeExchanged.{rel-full, pair_exchange, exchanged-fits, exchanged-slots, exchanged-first, exchanged-second, exchanged-others, exchanged-slot}
 
 -- what is in a block that may move is the same elsewhere
-content-moves : (o : Owners) (a b : ℕ) (k : Kind) → is_movable k ≡ true → content_of o a k ≡ content_of o b k
+pub content-moves : (o : Owners) (a b : ℕ) (k : Kind) → is_movable k ≡ true → content_of o a k ≡ content_of o b k
 content-moves o a b kind.Free moves = refl
 content-moves o a b kind.Master moves = absurd (cc moves)
 content-moves o a b (kind.Ptr p) moves = absurd (cc moves)
 content-moves o a b (kind.Rel h) moves = refl
 
 -- what isn't lent has a block that isn't
-here-unlent : (z : ZoneState) (k : Kind) → is_here z.heap.table k ≡ true → lent_of (owners_of z) k ≡ false
+pub here-unlent : (z : ZoneState) (k : Kind) → is_here z.heap.table k ≡ true → lent_of (owners_of z) k ≡ false
 here-unlent z kind.Free here = refl
 here-unlent z kind.Master here = refl
 here-unlent z (kind.Ptr p) here = true_not _ here

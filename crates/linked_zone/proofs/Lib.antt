@@ -1,5 +1,6 @@
 mod Bare
 mod ChangeBlock
+mod ChangeCarried
 mod ChangeCut
 mod ChangeEmptied
 mod ChangeExchanged
@@ -16,6 +17,7 @@ mod ChangeTaken
 mod ChangeUnfixed
 mod ChangeWritten
 mod Ends
+mod EndsCarried
 mod EndsCut
 mod EndsExchange
 mod EndsExtended

@@ -9,7 +9,7 @@ use Rattle.mac_base.specs.ZoneSizes.{ZoneSizes, shape_of}
 use Rattle.mac_base.specs.HandleTable.{HandleTable, EmptyHandle, FullHandle, Pointer, new_table, no_flags, zeros, bytes_of, resized, with_live, with_bytes, with_flags, without, emptied}
 use Rattle.mac_base.specs.Suits.{slots_from}
 use Rattle.mac_base.specs.ZoneState.{Memory, ZoneState, with_heap}
-use Rattle.linked_zone.specs.Places.{FreeAt, FreePair, CanHold, CanGrow, MovablePair}
+use Rattle.linked_zone.specs.Places.{FreeAt, FreePair, CanHold, CanGrow, MovablePair, ParcelAt}
 
 -- the zone with another map
 abbrev pub with_map : ZoneMap → ZoneState → ZoneState
@@ -102,6 +102,10 @@ enlarged {x = x} {size = size} {n = n} z can = with_heap (record {
 -- two neighbours have changed places; every handle and pointer has the same bytes
 abbrev pub exchanged : {at : ℕ} → (z : ZoneState) → MovablePair z at → ZoneState
 exchanged z pair = with_map (pair.before ++ pair.second ∷ pair.first ∷ pair.behind) z
+
+-- the zone with the block behind the run
+abbrev pub carried_up : {start end : ℕ} → (z : ZoneState) → ParcelAt z start end → ZoneState
+carried_up z parcel = with_map (parcel.before ++ (parcel.blocks ++ parcel.here ∷ parcel.behind)) z
 
 -- the block of the handle h is the free one, with n bytes, and its old block is free
 abbrev pub relocated : ℕ → ℕ → {at : ℕ} → (z : ZoneState) → FreeAt z at → ZoneState

@@ -9,8 +9,8 @@ impl LinkedZone {
     ghost use Rattle.std.specs.Prelude.{◌≡◌, ◌+◌, IsTrue, IsFalse, MatchOption, Some, ◌∷◌, [], drop};
     ghost use Rattle.mac_base.specs.HandleTable.{EmptyHandle, is_full, is_lent, is_pointer, live_at};
     ghost use Rattle.mac_base.specs.HeadKind.{master_length, head_size};
-    ghost use Rattle.linked_zone.specs.Changes.{extended, taken, given_back, pointed, without_block, fixed, unfixed, cut_in_two, joined_pair, with_master, exchanged};
-    ghost use Rattle.linked_zone.specs.Places.{RoomFor, CanCut, FreePair, MovablePair};
+    ghost use Rattle.linked_zone.specs.Changes.{extended, taken, given_back, pointed, without_block, fixed, unfixed, cut_in_two, joined_pair, with_master, exchanged, carried_up};
+    ghost use Rattle.linked_zone.specs.Places.{RoomFor, CanCut, FreePair, MovablePair, ParcelAt};
 
     /// Makes the next slot to be given an empty handle. There is none exactly where no slot is free, and then nothing
     /// has changed.
@@ -77,6 +77,22 @@ impl LinkedZone {
         self.records.exchange(at);
         follow(&mut self.records, second.kind, at + head_size);
         follow(&mut self.records, first.kind, at + second.size + head_size);
+    }
+
+    /// The block at an address changes places with those behind it up to an address, each of a handle or free. Every handle
+    /// has the same bytes and flags. Each byte is moved at most twice.
+    pub fn carry(&mut self, at: u32, end: u32)
+        requires { ParcelAt self.old at end }
+        ensures { (parcel : ParcelAt self.old at end) → self.new ≡ carried_up self.old parcel }
+    {
+        let head_size = self.records.spec().heads().head_size();
+        self.records.carry(at, end);
+        let mut next = at;
+        while next < end {
+            let here = self.records.entry_at(next);
+            follow(&mut self.records, here.kind, next + head_size);
+            next += here.size;
+        }
     }
 
     /// Gives an empty handle a free block, with `length` bytes of zero and no flags.

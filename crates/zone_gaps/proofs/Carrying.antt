@@ -8,10 +8,9 @@ use Rattle.mac_base.specs.ZoneMap.{ZoneMap, total_size, address_behind}
 use Rattle.mac_base.specs.ZoneState.{ZoneState}
 use Rattle.zone_laws.proofs.GapAppend.{total_size-append}
 use Rattle.zone_laws.proofs.GapApart.{sizes_possible}
-use Rattle.linked_zone.specs.Changes.{with_map, exchanged}
+use Rattle.linked_zone.specs.Changes.{with_map, exchanged, carried_up}
 use Rattle.linked_zone.specs.Fit.{HasSizes}
-use Rattle.linked_zone.specs.Places.{EntryAt, MovablePair}
-use Rattle.zone_gaps.specs.Runs.{ParcelAt, carried_up, can_move, all_can_move}
+use Rattle.linked_zone.specs.Places.{EntryAt, MovablePair, ParcelAt, can_move, all_can_move}
 use Rattle.zone_gaps.proofs.Sizes.{all_parts, first_bytes, no_bytes, total_size-push}
 
 -- The block stands behind the first of the others, at an address.

@@ -21,9 +21,9 @@ use Rattle.zone_laws.proofs.OpenedGap.{own-At}
 use Rattle.zone_laws.proofs.Owners.{nothing_passes}
 use Rattle.zone_laws.proofs.SuitsNamed.{full-no_pointer}
 use Rattle.gap_laws.proofs.FittingResize.{own_gap-found, one_size}
-use Rattle.linked_zone.specs.Places.{BlockOf, EntryAt}
+use Rattle.linked_zone.specs.Places.{BlockOf, EntryAt, all_can_move}
 use Rattle.zone_gaps.specs.Gaps.{Settled}
-use Rattle.zone_gaps.specs.Runs.{FrontAt, RestAt, none_fixed, all_can_move, has_owner}
+use Rattle.zone_gaps.specs.Runs.{FrontAt, RestAt, none_fixed, has_owner}
 use Rattle.zone_gaps.proofs.Settling.{owners-settled, all_move-unfixed}
 use Rattle.zone_gaps.proofs.Sizes.{all_parts}
 

@@ -4,7 +4,9 @@ ghost use Rattle.std.specs.Prelude.{◌≡◌, ◌+◌};
 ghost use Rattle.mac_base.specs.Arrangement.{down, up, used_blocks};
 ghost use Rattle.mac_base.specs.ZoneMap.{total_size};
 ghost use Rattle.linked_zone.specs.Fit.{HasSizes};
-ghost use Rattle.zone_gaps.specs.Runs.{RunAt, arranged, ParcelAt, LastAt, carried_up};
+ghost use Rattle.linked_zone.specs.Changes.{carried_up};
+ghost use Rattle.linked_zone.specs.Places.{ParcelAt};
+ghost use Rattle.zone_gaps.specs.Runs.{RunAt, arranged, LastAt};
 
 use linked_zone::LinkedZone;
 

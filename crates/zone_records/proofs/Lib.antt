@@ -15,6 +15,7 @@ mod Fitting
 mod Fitted
 mod Growing
 mod Exchanging
+mod Carrying
 mod Flagging
 mod Lending
 mod Copied

@@ -1,6 +1,6 @@
 use Rattle.std.proofs.Common.{◌≡◌, ◌+◌, ◌<◌, ◌≤◌, ap, subst, arith}
 use Rattle.mac_base.specs.declared.block.Entry.{Entry}
-use Rattle.zone_gaps.specs.Runs.{ParcelAt}
+use Rattle.linked_zone.specs.Places.{ParcelAt}
 use Rattle.zone_gaps.proofs.Carrying.{Below, entry_parcel, none_carried, within_carried, below, below_read, carried_zone, carried_end, entry_next, pair_below, some_below, within_below, carried_on}
 use Rattle.zone_gaps.proofs.run.carry_up.Goals as goal
 use Rattle.zone_gaps.proofs.run.carry_up.Goals.{At-loop-at, After-entry_at-passed}

@@ -1,5 +1,5 @@
 use Rattle.std.proofs.Common.{◌-◌}
-use Rattle.zone_gaps.specs.Runs.{ParcelAt}
+use Rattle.linked_zone.specs.Places.{ParcelAt}
 use Rattle.zone_gaps.proofs.Carrying.{Carrying}
 use Rattle.zone_gaps.proofs.run.carry_up.Given as goal
 
