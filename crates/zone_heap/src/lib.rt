@@ -1,10 +1,10 @@
 //! A heap zone: one attempt to place, size, flag, release or show a block.
 #![tactic(auto)]
 
+mod attempt;
 mod compact;
 mod growth;
 mod place;
-mod attempt;
 mod purge;
 mod replace;
 mod shortage;
