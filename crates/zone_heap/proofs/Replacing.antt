@@ -31,18 +31,16 @@ use Rattle.zone_heap.specs.declared.shortage.Shortage.TheVariants.{NoRoom}
 use Rattle.zone_heap.specs.Joins.{CanTake, with_front}
 use Rattle.zone_heap.specs.Purge.{CanCount}
 use Rattle.zone_heap.specs.Room.{IsOpened, LacksRoom}
+use Rattle.zone_heap.proofs.Attempting.{none_of}
+use Rattle.zone_heap.proofs.Clearing.{opened_taken}
 use Rattle.zone_heap.proofs.Loans.{keeps-both, keeps-loans}
 use Rattle.zone_heap.proofs.Moving.{can-take, cut_zone, cut-done, room}
-use Rattle.zone_heap.proofs.Taking.{front_rest, front_size, take_lowest-there, taken-parts}
+use Rattle.zone_heap.proofs.Taking.{taken-parts}
 use Rattle.zone_heap.proofs.Twice.{with_live-twice}
 
 -- the zone in which a handle is empty, and its block free
 abbrev pub emptied_zone : ℕ → ZoneState → ZoneState
 emptied_zone h z = with_heap (with_emptied z.heap h) z
-
-none_of : {A : Type 0} (o : Option A) → is_some o ≡ false → o ≡ None
-none_of None h = refl
-none_of (Some a) h = absurd (cc h)
 
 -- ---- what is asked
 
@@ -154,10 +152,7 @@ module _ (z : ZoneState) (h n : ℕ) (asks : CanAsk z (Replace h n)) where
           let s = z.shape in
           let m = released h z.heap.map in
           ap (λ gs. option_or (take_lowest s k (Rel h) m) (option_and_then (λ (g : Gap). option_map (filled g) (take_lowest s k (Rel h) (down g.blocks))) (lowest_gap k gs))) (sym (gaps-emptied m))
-          ∙ opened.taken (Rel h)
-          ∙ ap (λ (w : ZoneState). take_lowest w.shape k (Rel h) w.heap.map) (sym opened.zone)
-          ∙ ap (take_lowest v.shape k (Rel h)) opened.low.free.map
-          ∙ take_lowest-there v.shape k (Rel h) opened.low.free.before opened.low.free.size opened.low.free.behind opened.low.lowest opened.low.large
+          ∙ opened_taken (emptied_zone h z) v k at opened (Rel h)
 
       -- the heap is the one that is asked for
       heap-there : granted (Replace h n) h replaced_map z.heap ≡ replaced_zone.heap

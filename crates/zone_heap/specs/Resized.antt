@@ -21,10 +21,3 @@ way_made t x m = option_map_or (opened_for t x) (gap_to_grow t x m) m
 -- n bytes for x in a new place, if there is one
 abbrev pub resized_away : Shape → ℕ → ℕ → Heap → Option Heap
 resized_away s x n heap = option_map (λ m. granted (Resize x n) x m heap) (resized_elsewhere s heap.table (need s.heads n) x heap.map)
-
--- a place for a relocatable block is found: a free block of at least k bytes, of the old zone or of the new one
-pub record IsPlace (old : ZoneState) (k at : ℕ) (new : ZoneState) : Type 0 where
-  pub free : FreeAt new at
-  pub large : k ≤ free.size
-  pub placed : (kind : Kind) → placed_relocatable old.shape old.heap.table k kind old.heap.map ≡ Some (free.before ++ (taken old.shape k kind free.size ++ free.behind))
-  pub zone : new ≡ with_map (free.before ++ block Free free.size ∷ free.behind) old
