@@ -1,6 +1,6 @@
 -- A new block for a handle, once its old one is free.
-use Rattle.std.proofs.Common.{◌≡◌, ℕ, ◌≤◌, true, false, ◌++◌, ◌∷◌, Some, None, Option, refl, ap, sym, ◌∙◌, subst, IsTrue}
-use Rattle.std.specs.Prelude.{is_some, option_map, option_and_then}
+use Rattle.std.proofs.Common.{◌≡◌, ℕ, true, false, ◌++◌, Some, Option, refl, ap, sym, ◌∙◌, subst}
+use Rattle.std.specs.Prelude.{option_map, option_and_then}
 use Rattle.std.specs.Option.{option_or}
 use Rattle.std.proofs.lemmas.Bool.{and_parts, not-true}
 use Rattle.mac_base.specs.declared.block.Kind.TheVariants.{Rel}
@@ -8,13 +8,12 @@ use Rattle.mac_base.specs.declared.request.Request.TheVariants.{Replace}
 use Rattle.mac_base.specs.Arrangement.{down}
 use Rattle.mac_base.specs.Attempt.{attempted}
 use Rattle.mac_base.specs.Gap.{Gap, gaps, filled, lowest_gap, some_gap_has}
-use Rattle.mac_base.specs.HandleTable.{HandleTable, EmptyHandle, FullHandle, no_flags, zeros, emptied, is_handle, is_lent, is_locked, is_pointer, live_at, live_flags, live_pointer, with_live}
+use Rattle.mac_base.specs.HandleTable.{HandleTable, EmptyHandle, FullHandle, no_flags, zeros, emptied, is_handle, is_lent, is_locked, is_pointer, live_at, live_flags, live_pointer}
 use Rattle.mac_base.specs.HeadKind.{need}
 use Rattle.mac_base.specs.Heap.{Heap, front_slot, granted, with_emptied}
-use Rattle.mac_base.specs.Loans.{LoansAreFixed}
-use Rattle.mac_base.specs.Serve.{gives, placed_relocatable, serve, taken, take_lowest}
+use Rattle.mac_base.specs.Serve.{gives, placed_relocatable, taken, take_lowest}
 use Rattle.mac_base.specs.Sound.{Sound}
-use Rattle.mac_base.specs.ZoneMap.{ZoneMap, block, is_named, released}
+use Rattle.mac_base.specs.ZoneMap.{ZoneMap, is_named, released}
 use Rattle.mac_base.specs.ZoneState.{ZoneState, with_heap}
 use Rattle.zone_laws.proofs.Fitting.{is_some-lowest_gap, serve-Replace}
 use Rattle.zone_laws.proofs.Lent.{KeepsLent, keeps-others}

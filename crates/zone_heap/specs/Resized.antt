@@ -1,18 +1,13 @@
 -- A block that gets another size, and what makes way for it.
-use Rattle.std.specs.Prelude.{◌≡◌, ℕ, ◌≤◌, ◌∷◌, ◌++◌, Option, Some, option_map}
+use Rattle.std.specs.Prelude.{ℕ, Option, option_map}
 use Rattle.std.specs.Option.{option_map_or}
-use Rattle.mac_base.specs.declared.block.Kind.{Kind}
-use Rattle.mac_base.specs.declared.block.Kind.TheVariants.{Free}
 use Rattle.mac_base.specs.declared.request.Request.TheVariants.{Resize}
 use Rattle.mac_base.specs.HandleTable.{HandleTable}
 use Rattle.mac_base.specs.HeadKind.{Shape, need}
 use Rattle.mac_base.specs.Heap.{Heap, granted}
 use Rattle.mac_base.specs.Request.{gap_to_grow}
-use Rattle.mac_base.specs.Serve.{opened_for, placed_relocatable, resized_elsewhere, taken}
-use Rattle.mac_base.specs.ZoneMap.{ZoneMap, block}
-use Rattle.mac_base.specs.ZoneState.{ZoneState}
-use Rattle.linked_zone.specs.Changes.{with_map}
-use Rattle.linked_zone.specs.Places.{FreeAt}
+use Rattle.mac_base.specs.Serve.{opened_for, resized_elsewhere}
+use Rattle.mac_base.specs.ZoneMap.{ZoneMap}
 
 -- the map in which the other blocks have made way for that of x, in the gap in which it can grow
 abbrev pub way_made : HandleTable → ℕ → ZoneMap → ZoneMap

@@ -2,9 +2,9 @@
 #![tactic(auto)]
 
 mod attempt;
-mod place;
 mod compact;
 mod growth;
+mod place;
 mod purge;
 mod replace;
 mod shortage;
