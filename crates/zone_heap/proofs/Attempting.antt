@@ -29,7 +29,8 @@ use Rattle.zone_heap.proofs.Taking.{take_lowest-there}
 
 -- ---- no room
 
-none_of : {A : Type 0} (o : Option A) → is_some o ≡ false → o ≡ None
+-- what isn't there is none
+pub none_of : {A : Type 0} (o : Option A) → is_some o ≡ false → o ≡ None
 none_of None h = refl
 none_of (Some a) h = absurd (cc h)
 

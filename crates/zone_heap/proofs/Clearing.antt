@@ -40,6 +40,12 @@ opened_there z k at low = record {
       ap (λ o. option_or o (option_and_then (λ (g : Gap). option_map (filled g) (take_lowest z.shape k kind (down g.blocks))) (lowest_gap k (gaps z.heap.table z.heap.map)))) there ∙ sym there;
 }
 
+-- so it does once a free block is opened for it
+pub opened_taken : (z new : ZoneState) (k at : ℕ) (o : IsOpened z k at new) (kind : Kind) → placed_relocatable z.shape z.heap.table k kind z.heap.map ≡ Some (o.low.free.before ++ (taken new.shape k kind o.low.free.size ++ o.low.free.behind))
+opened_taken z new k at o kind =
+    o.taken kind ∙ ap (λ (w : ZoneState). take_lowest w.shape k kind w.heap.map) (sym o.zone) ∙ ap (take_lowest new.shape k kind) o.low.free.map
+    ∙ take_lowest-there new.shape k kind o.low.free.before o.low.free.size o.low.free.behind o.low.lowest o.low.large
+
 -- a first block that isn't free or is too small does not do, and any other does
 pub does_not : (free is : Bool) (k n : ℕ) → free ≡ is → (free ≡ false) ⊎ ((free ≡ true) × (n < k)) → (is && nat_le k n) ≡ false
 does_not free is k n same (inl used) = ap (λ b. b && nat_le k n) (sym same ∙ used)

@@ -20,7 +20,6 @@ pub mod Masters
 pub mod Attempting
 pub mod Extending
 pub mod Resizing
-pub mod NewPlaces
 pub mod Moving
 pub mod Largest
 pub mod Compacting

@@ -1,6 +1,6 @@
 -- A handle's block in a new place: the new block is taken, has the handle's bytes, and the old one is free and joined.
-use Rattle.std.proofs.Common.{◌≡◌, ℕ, ◌+◌, ◌≤◌, ◌-◌, Bool, true, false, cond, eqb, [], ◌∷◌, ◌++◌, length, refl, ap, sym, ◌∙◌, arith, subst, Some, None, Option, IsTrue}
-use Rattle.std.specs.Prelude.{◌&&◌, ◌==◌, ◌||◌, nat_lt, option_map}
+use Rattle.std.proofs.Common.{◌≡◌, ℕ, ◌+◌, ◌<◌, ◌≤◌, ◌-◌, Bool, true, false, cond, eqb, [], ◌∷◌, ◌++◌, length, refl, ap, sym, ◌∙◌, arith, subst, Some, None, Option, IsTrue}
+use Rattle.std.specs.Prelude.{◌&&◌, ◌==◌, ◌||◌, is_some, nat_lt, option_map}
 use Rattle.std.specs.List.{list_all}
 use Rattle.std.proofs.lemmas.List.{map-append}
 use Rattle.std.proofs.lemmas.List.Folds.{list_all-append}
@@ -10,6 +10,7 @@ use Rattle.mac_base.specs.declared.block.Kind.TheVariants.{Free, Master, Ptr, Re
 use Rattle.mac_base.specs.declared.request.Request.TheVariants.{Resize}
 use Rattle.mac_base.specs.HandleTable.{live_at, refilled, resized, bytes_of, has_block, is_full, is_lent, is_locked, is_pointer}
 use Rattle.mac_base.specs.HeadKind.{Shape, need, smallest_block, zone_header}
+use Rattle.mac_base.specs.Gap.{gaps, lowest_gap}
 use Rattle.mac_base.specs.Heap.{Heap, granted}
 use Rattle.mac_base.specs.Loans.{LoansAreFixed}
 use Rattle.mac_base.specs.Request.{stays}
@@ -18,6 +19,7 @@ use Rattle.mac_base.specs.Sound.{Sound}
 use Rattle.mac_base.specs.Suits.{free_apart, has_length, is_block_size}
 use Rattle.mac_base.specs.ZoneMap.{ZoneMap, address_behind, addresses_from, block, is_free, is_named, joined, joined_to, released, sizes, total_size}
 use Rattle.mac_base.specs.ZoneState.{ZoneState}
+use Rattle.zone_laws.proofs.Fitting.{is_some-lowest_gap, is_some-placed_relocatable, size_needed-positive}
 use Rattle.zone_laws.proofs.GapAppend.{length-addresses_from, sizes-append}
 use Rattle.zone_laws.proofs.Lent.{KeepsLent, contents_of-same, fixed-kept, keeps-others, lent-apart, lent-block, other_named}
 use Rattle.zone_laws.proofs.Maps.{both_true, list_all-middle, true_both}
@@ -38,7 +40,10 @@ use Rattle.linked_zone.specs.Loans.{KeepsLoans}
 use Rattle.linked_zone.specs.Places.{BlockOf, FreeAt, RoomFor}
 use Rattle.zone_heap.specs.Attempts.{SoundZone}
 use Rattle.zone_heap.specs.Joins.{CanTake, NewlyFree, all_joined, with_front}
-use Rattle.zone_heap.specs.Resized.{IsPlace, resized_away}
+use Rattle.zone_heap.specs.Resized.{resized_away}
+use Rattle.zone_heap.specs.Room.{IsOpened}
+use Rattle.zone_heap.proofs.Attempting.{none_of}
+use Rattle.zone_heap.proofs.Clearing.{opened_taken}
 use Rattle.zone_heap.proofs.Loans.{keeps-both, keeps-loans}
 use Rattle.zone_heap.proofs.Releasing.{freed-At, free_apart-front}
 use Rattle.zone_heap.proofs.Taking.{front_size, front_rest, taken-parts, front-has_length, all-there}
@@ -325,7 +330,7 @@ module _ (w : ZoneState) (h n k at : ℕ) (sound : Sound w.shape w.heap) (free :
         }
 
 -- a place that was found for h in a zone, where h may move
-module _ (z w : ZoneState) (h n k at : ℕ) (p : IsPlace z k at w) (size : k ≡ need z.shape.heads n) (full : is_full z.heap.table h ≡ true) (unlocked : is_locked z.heap.table h ≡ false) where
+module _ (z w : ZoneState) (h n k at : ℕ) (p : IsOpened z k at w) (size : k ≡ need z.shape.heads n) (full : is_full z.heap.table h ≡ true) (unlocked : is_locked z.heap.table h ≡ false) where
   -- the size is that of the new zone too
   pub size-found : k ≡ need w.shape.heads n
   size-found = size ∙ ap (λ (v : ZoneState). need v.shape.heads n) (sym p.zone)
@@ -338,41 +343,45 @@ module _ (z w : ZoneState) (h n k at : ℕ) (p : IsPlace z k at w) (size : k ≡
   moves = ap (λ c. c || is_locked z.heap.table h) (full-no_pointer z.heap.table h full) ∙ unlocked
 
   -- the zone in which h has moved there has the heap that is asked for
-  pub moved-away : (last : ZoneState) → last ≡ moved h n k w p.free.before p.free.size p.free.behind → (resized_away z.shape h n z.heap ≡ Some last.heap) × (last.shape ≡ z.shape)
+  pub moved-away : (last : ZoneState) → last ≡ moved h n k w p.low.free.before p.low.free.size p.low.free.behind → (resized_away z.shape h n z.heap ≡ Some last.heap) × (last.shape ≡ z.shape)
   moved-away last is =
       let there : Option ZoneMap → Option Heap = option_map (λ m. granted (Resize h n) h m z.heap) in
       let tidy : ZoneMap → ZoneMap = λ m. renamed 0 h (released h m) in
-      let whole = is ∙ ap (λ v. moved h n k v p.free.before p.free.size p.free.behind) p.zone in (
+      let whole = is ∙ ap (λ v. moved h n k v p.low.free.before p.low.free.size p.low.free.behind) p.zone in (
         ap (λ j. there (resized_elsewhere z.shape z.heap.table j h z.heap.map)) (sym size)
             ∙ ap (λ c. there (cond c None (option_map tidy (placed_relocatable z.shape z.heap.table k (Rel 0) z.heap.map)))) moves
-            ∙ ap (λ o. there (option_map tidy o)) (p.placed (Rel 0)) ∙ ap (λ (v : ZoneState). Some v.heap) (sym whole),
+            ∙ ap (λ o. there (option_map tidy o)) (opened_taken z w k at p (Rel 0) ∙ ap (λ (v : ZoneState). Some (p.low.free.before ++ (taken v.shape k (Rel 0) p.low.free.size ++ p.low.free.behind))) p.zone) ∙ ap (λ (v : ZoneState). Some v.heap) (sym whole),
         ap (λ (v : ZoneState). v.shape) whole,
       )
 
--- where no place was found there is none for h
-pub not-away : (z : ZoneState) (h n k : ℕ) → k ≡ need z.shape.heads n → ((kind : Kind) → placed_relocatable z.shape z.heap.table k kind z.heap.map ≡ None) → resized_away z.shape h n z.heap ≡ None
+-- where no gap has room there is none for h
+pub not-away : (z : ZoneState) (h n k : ℕ) → k ≡ need z.shape.heads n → lowest_gap k (gaps z.heap.table z.heap.map) ≡ None → resized_away z.shape h n z.heap ≡ None
 not-away z h n k size none =
+    let s = z.shape in
+    let t = z.heap.table in
+    let m = z.heap.map in
+    let some = subst (λ k. 0 < k) (sym size) (size_needed-positive s (Resize h n)) in
+    let full = none_of _ (is_some-placed_relocatable s t k (Rel 0) m some ∙ sym (is_some-lowest_gap t k m) ∙ ap is_some none) in
     let there : Option ZoneMap → Option Heap = option_map (λ m. granted (Resize h n) h m z.heap) in
     let tidy : ZoneMap → ZoneMap = λ m. renamed 0 h (released h m) in
-    ap (λ j. there (resized_elsewhere z.shape z.heap.table j h z.heap.map)) (sym size)
-    ∙ ap (λ o. there (cond (stays z.heap.table h) None (option_map tidy o))) (none (Rel 0)) ∙ either (stays z.heap.table h)
+    ap (λ j. there (resized_elsewhere s t j h m)) (sym size) ∙ ap (λ o. there (cond (stays t h) None (option_map tidy o))) full ∙ either (stays t h)
   where
     either : (c : Bool) → option_map (λ m. granted (Resize h n) h m z.heap) (cond c None None) ≡ None
     either true = refl
     either false = refl
 
 -- the zone in which h has moved is sound
-pub moved-sound : (z w last : ZoneState) (h n k at : ℕ) (p : IsPlace z k at w) → k ≡ need w.shape.heads n → is_full w.heap.table h ≡ true → is_lent w.heap.table h ≡ false → SoundZone w → last ≡ moved h n k w p.free.before p.free.size p.free.behind → SoundZone last
+pub moved-sound : (z w last : ZoneState) (h n k at : ℕ) (p : IsOpened z k at w) → k ≡ need w.shape.heads n → is_full w.heap.table h ≡ true → is_lent w.heap.table h ≡ false → SoundZone w → last ≡ moved h n k w p.low.free.before p.low.free.size p.low.free.behind → SoundZone last
 moved-sound z w last h n k at p size full here sound is =
     subst SoundZone (sym is)
     (record {
-      sound = moved-Sound w h n k at sound.sound p.free p.large size full;
-      fixed = fixed-kept w.shape w.heap (moved h n k w p.free.before p.free.size p.free.behind).heap (moved-keeps w h n k at sound.sound p.free p.large size full sound.fixed here) sound.fixed;
+      sound = moved-Sound w h n k at sound.sound p.low.free p.low.large size full;
+      fixed = fixed-kept w.shape w.heap (moved h n k w p.low.free.before p.low.free.size p.low.free.behind).heap (moved-keeps w h n k at sound.sound p.low.free p.low.large size full sound.fixed here) sound.fixed;
     })
 
 -- and has all loans
-pub moved-loans : (z w last : ZoneState) (h n k at : ℕ) (p : IsPlace z k at w) → k ≡ need w.shape.heads n → is_full w.heap.table h ≡ true → is_lent w.heap.table h ≡ false → SoundZone w → KeepsLoans z w → last ≡ moved h n k w p.free.before p.free.size p.free.behind
+pub moved-loans : (z w last : ZoneState) (h n k at : ℕ) (p : IsOpened z k at w) → k ≡ need w.shape.heads n → is_full w.heap.table h ≡ true → is_lent w.heap.table h ≡ false → SoundZone w → KeepsLoans z w → last ≡ moved h n k w p.low.free.before p.low.free.size p.low.free.behind
     → KeepsLoans z last
 moved-loans z w last h n k at p size full here sound loans is =
-    let new = moved h n k w p.free.before p.free.size p.free.behind in
-    subst (KeepsLoans z) (sym is) (keeps-both z w new loans (keeps-loans w new refl refl (moved-keeps w h n k at sound.sound p.free p.large size full sound.fixed here)))
+    let new = moved h n k w p.low.free.before p.low.free.size p.low.free.behind in
+    subst (KeepsLoans z) (sym is) (keeps-both z w new loans (keeps-loans w new refl refl (moved-keeps w h n k at sound.sound p.low.free p.low.large size full sound.fixed here)))

@@ -1,6 +1,6 @@
 -- A new block for a handle, once its old one is free.
-use Rattle.std.proofs.Common.{◌≡◌, ℕ, ◌≤◌, true, false, ◌++◌, ◌∷◌, Some, None, Option, refl, ap, sym, ◌∙◌, subst, IsTrue}
-use Rattle.std.specs.Prelude.{is_some, option_map, option_and_then}
+use Rattle.std.proofs.Common.{◌≡◌, ℕ, true, false, ◌++◌, Some, Option, refl, ap, sym, ◌∙◌, subst}
+use Rattle.std.specs.Prelude.{option_map, option_and_then}
 use Rattle.std.specs.Option.{option_or}
 use Rattle.std.proofs.lemmas.Bool.{and_parts, not-true}
 use Rattle.mac_base.specs.declared.block.Kind.TheVariants.{Rel}
@@ -8,13 +8,12 @@ use Rattle.mac_base.specs.declared.request.Request.TheVariants.{Replace}
 use Rattle.mac_base.specs.Arrangement.{down}
 use Rattle.mac_base.specs.Attempt.{attempted}
 use Rattle.mac_base.specs.Gap.{Gap, gaps, filled, lowest_gap, some_gap_has}
-use Rattle.mac_base.specs.HandleTable.{HandleTable, EmptyHandle, FullHandle, no_flags, zeros, emptied, is_handle, is_lent, is_locked, is_pointer, live_at, live_flags, live_pointer, with_live}
+use Rattle.mac_base.specs.HandleTable.{HandleTable, EmptyHandle, FullHandle, no_flags, zeros, emptied, is_handle, is_lent, is_locked, is_pointer, live_at, live_flags, live_pointer}
 use Rattle.mac_base.specs.HeadKind.{need}
 use Rattle.mac_base.specs.Heap.{Heap, front_slot, granted, with_emptied}
-use Rattle.mac_base.specs.Loans.{LoansAreFixed}
-use Rattle.mac_base.specs.Serve.{gives, placed_relocatable, serve, taken, take_lowest}
+use Rattle.mac_base.specs.Serve.{gives, placed_relocatable, taken, take_lowest}
 use Rattle.mac_base.specs.Sound.{Sound}
-use Rattle.mac_base.specs.ZoneMap.{ZoneMap, block, is_named, released}
+use Rattle.mac_base.specs.ZoneMap.{ZoneMap, is_named, released}
 use Rattle.mac_base.specs.ZoneState.{ZoneState, with_heap}
 use Rattle.zone_laws.proofs.Fitting.{is_some-lowest_gap, serve-Replace}
 use Rattle.zone_laws.proofs.Lent.{KeepsLent, keeps-others}
@@ -31,18 +30,16 @@ use Rattle.zone_heap.specs.declared.shortage.Shortage.TheVariants.{NoRoom}
 use Rattle.zone_heap.specs.Joins.{CanTake, with_front}
 use Rattle.zone_heap.specs.Purge.{CanCount}
 use Rattle.zone_heap.specs.Room.{IsOpened, LacksRoom}
+use Rattle.zone_heap.proofs.Attempting.{none_of}
+use Rattle.zone_heap.proofs.Clearing.{opened_taken}
 use Rattle.zone_heap.proofs.Loans.{keeps-both, keeps-loans}
 use Rattle.zone_heap.proofs.Moving.{can-take, cut_zone, cut-done, room}
-use Rattle.zone_heap.proofs.Taking.{front_rest, front_size, take_lowest-there, taken-parts}
+use Rattle.zone_heap.proofs.Taking.{taken-parts}
 use Rattle.zone_heap.proofs.Twice.{with_live-twice}
 
 -- the zone in which a handle is empty, and its block free
 abbrev pub emptied_zone : ℕ → ZoneState → ZoneState
 emptied_zone h z = with_heap (with_emptied z.heap h) z
-
-none_of : {A : Type 0} (o : Option A) → is_some o ≡ false → o ≡ None
-none_of None h = refl
-none_of (Some a) h = absurd (cc h)
 
 -- ---- what is asked
 
@@ -154,10 +151,7 @@ module _ (z : ZoneState) (h n : ℕ) (asks : CanAsk z (Replace h n)) where
           let s = z.shape in
           let m = released h z.heap.map in
           ap (λ gs. option_or (take_lowest s k (Rel h) m) (option_and_then (λ (g : Gap). option_map (filled g) (take_lowest s k (Rel h) (down g.blocks))) (lowest_gap k gs))) (sym (gaps-emptied m))
-          ∙ opened.taken (Rel h)
-          ∙ ap (λ (w : ZoneState). take_lowest w.shape k (Rel h) w.heap.map) (sym opened.zone)
-          ∙ ap (take_lowest v.shape k (Rel h)) opened.low.free.map
-          ∙ take_lowest-there v.shape k (Rel h) opened.low.free.before opened.low.free.size opened.low.free.behind opened.low.lowest opened.low.large
+          ∙ opened_taken (emptied_zone h z) v k at opened (Rel h)
 
       -- the heap is the one that is asked for
       heap-there : granted (Replace h n) h replaced_map z.heap ≡ replaced_zone.heap

@@ -21,6 +21,7 @@ use Rattle.zone_heap.specs.declared.shortage.Shortage.{Shortage}
 use Rattle.zone_heap.specs.declared.shortage.Shortage.TheVariants.{NoRoom}
 use Rattle.zone_heap.specs.Placed.{resized_there}
 use Rattle.zone_heap.specs.Resized.{resized_away, way_made}
+use Rattle.zone_heap.proofs.Attempting.{none_of}
 use Rattle.zone_heap.proofs.Resizing.{way-fits}
 
 -- what is asked for has a block
@@ -30,11 +31,6 @@ asked-block z x n asks = (and_parts (has_block z.heap.table x) _ asks.operand).0
 -- which is not lent
 pub asked-here : (z : ZoneState) (x n : ℕ) → CanAsk z (Resize x n) → is_lent z.heap.table x ≡ false
 asked-here z x n asks = not-true _ (and_parts (has_block z.heap.table x) _ asks.operand).1
-
--- there is none where there is not some
-none_of : {A : Type 0} (o : Option A) → is_some o ≡ false → o ≡ None
-none_of None h = refl
-none_of (Some a) h = absurd (cc h)
 
 -- the request is served where the block can have the size
 served-block : (s : Shape) (x n : ℕ) (heap : Heap) (m : ZoneMap) → resized_block s heap.table (need s.heads n) x heap.map ≡ Some m → attempted s (Resize x n) heap ≡ Some (x, granted (Resize x n) x m heap)

@@ -1,18 +1,13 @@
 -- A block that gets another size, and what makes way for it.
-use Rattle.std.specs.Prelude.{◌≡◌, ℕ, ◌≤◌, ◌∷◌, ◌++◌, Option, Some, option_map}
+use Rattle.std.specs.Prelude.{ℕ, Option, option_map}
 use Rattle.std.specs.Option.{option_map_or}
-use Rattle.mac_base.specs.declared.block.Kind.{Kind}
-use Rattle.mac_base.specs.declared.block.Kind.TheVariants.{Free}
 use Rattle.mac_base.specs.declared.request.Request.TheVariants.{Resize}
 use Rattle.mac_base.specs.HandleTable.{HandleTable}
 use Rattle.mac_base.specs.HeadKind.{Shape, need}
 use Rattle.mac_base.specs.Heap.{Heap, granted}
 use Rattle.mac_base.specs.Request.{gap_to_grow}
-use Rattle.mac_base.specs.Serve.{opened_for, placed_relocatable, resized_elsewhere, taken}
-use Rattle.mac_base.specs.ZoneMap.{ZoneMap, block}
-use Rattle.mac_base.specs.ZoneState.{ZoneState}
-use Rattle.linked_zone.specs.Changes.{with_map}
-use Rattle.linked_zone.specs.Places.{FreeAt}
+use Rattle.mac_base.specs.Serve.{opened_for, resized_elsewhere}
+use Rattle.mac_base.specs.ZoneMap.{ZoneMap}
 
 -- the map in which the other blocks have made way for that of x, in the gap in which it can grow
 abbrev pub way_made : HandleTable → ℕ → ZoneMap → ZoneMap
@@ -21,10 +16,3 @@ way_made t x m = option_map_or (opened_for t x) (gap_to_grow t x m) m
 -- n bytes for x in a new place, if there is one
 abbrev pub resized_away : Shape → ℕ → ℕ → Heap → Option Heap
 resized_away s x n heap = option_map (λ m. granted (Resize x n) x m heap) (resized_elsewhere s heap.table (need s.heads n) x heap.map)
-
--- a place for a relocatable block is found: a free block of at least k bytes, of the old zone or of the new one
-pub record IsPlace (old : ZoneState) (k at : ℕ) (new : ZoneState) : Type 0 where
-  pub free : FreeAt new at
-  pub large : k ≤ free.size
-  pub placed : (kind : Kind) → placed_relocatable old.shape old.heap.table k kind old.heap.map ≡ Some (free.before ++ (taken old.shape k kind free.size ++ free.behind))
-  pub zone : new ≡ with_map (free.before ++ block Free free.size ∷ free.behind) old

@@ -27,6 +27,7 @@ impl Zone {
         ensures attempt { Attempts request self.old result self.new }
         ensures loans { KeepsLoans self.old self.new }
     {
+        // What it holds is sound.
         let _ = &self.pointers;
         match request {
             Request::NewBlock(length) => Ok(self.new_block(length)?.number()),

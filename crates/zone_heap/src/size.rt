@@ -1,27 +1,27 @@
 //! Another size for a block: where it is, or where others make way for it.
 
-ghost use Rattle.std.specs.Prelude.{◌≡◌, ◌<◌, ◌≤◌, IsTrue, IsFalse, MatchOption, MatchResult, Some, None, if◌then◌else◌, is_some};
-ghost use Rattle.mac_base.specs.declared.block.Kind.{Kind};
+ghost use Rattle.std.specs.Prelude.{◌≡◌, ◌<◌, ◌≤◌, IsTrue, IsFalse, MatchResult, Some, None, if◌then◌else◌, is_some};
 ghost use Rattle.mac_base.specs.declared.request.Request.TheVariants.{Resize};
 ghost use Rattle.mac_base.specs.HandleTable.{has_block, is_full, is_lent, is_locked};
 ghost use Rattle.mac_base.specs.HeadKind.{max_size, need};
 ghost use Rattle.mac_base.specs.Request.{gap_to_grow, stays};
-ghost use Rattle.mac_base.specs.Serve.{placed_relocatable, resized_in_gap, resized_in_place};
+ghost use Rattle.mac_base.specs.Serve.{resized_in_gap, resized_in_place};
 ghost use Rattle.linked_zone.specs.Changes.{with_map};
 ghost use Rattle.linked_zone.specs.Loans.{KeepsLoans};
 ghost use Rattle.zone_gaps.specs.Gaps.{IsGapOf};
 ghost use Rattle.zone_heap.specs.Attempts.{CanAsk, IsRefused, IsServed, SoundZone};
 ghost use Rattle.zone_heap.specs.Placed.{resized_there};
-ghost use Rattle.zone_heap.specs.Resized.{IsPlace, resized_away, way_made};
+ghost use Rattle.zone_heap.specs.Resized.{resized_away, way_made};
 ghost use Rattle.zone_heap.specs.declared.shortage.Shortage.TheVariants.{NoRoom};
 
+use crate::place::open_lowest;
 use crate::shortage::Shortage;
 use crate::zone::{Zone, cut, free_behind, front, join, shrink};
 use linked_zone::LinkedZone;
 use mac_base::handle::{Handle, Ptr};
 use mac_base::size::need_for;
 use mac_base::zone_spec::{ADDRESS_END, LARGEST_LIMIT};
-use zone_gaps::{FoundGap, gap_behind, lowest_gap, open_after, own_gap, squeeze_down, squeeze_up};
+use zone_gaps::{FoundGap, gap_behind, open_after, own_gap, squeeze_up};
 
 /// Gives the block of a handle or a pointer `length` bytes: where it is; or else once the other blocks of the gap in which
 /// it can grow have made way for it; or else, if it may move, in a new place. Bytes that were in it stay, as far as they
@@ -130,23 +130,6 @@ fn make_way(zone: &mut LinkedZone, block: u32, length: u32) -> bool
     true
 }
 
-/// Finds a free block of at least `needed` bytes for a relocatable block: the lowest one, or else the room of the lowest
-/// gap with room, which is arranged down for it. Where there is none, nothing has changed.
-fn new_place(zone: &mut LinkedZone, needed: u32) -> Option<u32>
-    requires sound { SoundZone zone.old }
-    requires some { 0 < needed }
-    ensures place { MatchOption result (((kind : Kind) → placed_relocatable zone.old.shape zone.old.heap.table needed kind zone.old.heap.map ≡ None) × (zone.new ≡ zone.old)) (λ at. IsPlace zone.old needed at zone.new) }
-    ensures loans { KeepsLoans zone.old zone.new }
-    ensures sound { SoundZone zone.new }
-{
-    if let Some(at) = zone.lowest_free(needed) {
-        return Some(at);
-    }
-    let gap = lowest_gap(zone, needed)?;
-    squeeze_down(zone, gap.start);
-    Some(gap.end - gap.room)
-}
-
 /// Gives an unlocked handle's block `length` bytes in a new place. The old block is free then, and joined to its free
 /// neighbours. Where there is no place, nothing has changed.
 fn resize_elsewhere(zone: &mut LinkedZone, handle: Handle, length: u32) -> Result<(), Shortage>
@@ -162,7 +145,7 @@ fn resize_elsewhere(zone: &mut LinkedZone, handle: Handle, length: u32) -> Resul
     ensures sound { SoundZone zone.new }
 {
     let needed = need_for(zone.spec().heads(), length);
-    let Some(at) = new_place(zone, needed) else {
+    let Some(at) = open_lowest(zone, needed) else {
         return Err(Shortage::NoRoom);
     };
     cut(zone, at, needed);

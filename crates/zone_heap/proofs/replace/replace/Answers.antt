@@ -1,7 +1,5 @@
 use Rattle.std.proofs.Common.{◌≡◌, ◌∙◌, sym, ap, subst}
-use Rattle.mac_base.specs.Gap.{gaps, some_gap_has}
 use Rattle.mac_base.specs.HeadKind.{need}
-use Rattle.mac_base.specs.ZoneMap.{released}
 use Rattle.mac_base.specs.ZoneSizes.{ZoneSizes}
 use Rattle.zone_heap.specs.Room.{IsOpened}
 use Rattle.zone_heap.proofs.Replacing.{emptied_zone, replace-refused, replace-room, replace-cuts, replace-empty, replace-point, replace-done, replaced_zone, replace-served, replace-sound, replace-loans}
