@@ -158,7 +158,7 @@ fn a_new_handle_leaves_the_bytes_of_the_format(rt: HostRuntime) {
 }
 
 /// Writes over the first two bytes of a block, if the number has one that isn't lent.
-fn write_front(zone: &mut Zone, block: u32) {
+pub(crate) fn write_front(zone: &mut Zone, block: u32) {
     if zone.has_block(block) && !zone.is_lent(block) {
         if let Some(bytes) = zone.bytes_mut(block).get_mut(..2) {
             bytes.copy_from_slice(b"BB");
