@@ -1,15 +1,20 @@
 -- What a zone is once a block has changed places with a run behind it.
-use Rattle.std.proofs.Common.{◌≡◌, ℕ, ◌+◌, Bool, true, false, not, [], ◌∷◌, ◌++◌, refl, ap, sym, ◌∙◌, subst, append_assoc, arith}
+use Rattle.std.proofs.Common.{◌≡◌, ℕ, ◌+◌, Bool, true, false, not, eqb, [], ◌∷◌, ◌++◌, refl, ap, sym, ◌∙◌, subst, append_assoc, arith}
 use Rattle.std.specs.List.{list_all}
 use Rattle.mac_base.specs.declared.block.Entry.{Entry}
+use Rattle.mac_base.specs.declared.block.Kind.{Kind}
+use Rattle.mac_base.specs.declared.block.Kind.TheVariants.{Free, Master, Ptr, Rel}
+use Rattle.mac_base.specs.HandleTable.{HandleTable, is_lent}
 use Rattle.mac_base.specs.Loans.{is_here}
 use Rattle.mac_base.specs.Suits.{slots}
 use Rattle.mac_base.specs.ZoneMap.{ZoneMap, is_named, total_size, address_behind, contents_of}
 use Rattle.mac_base.specs.ZoneState.{ZoneState}
 use Rattle.zone_laws.proofs.Maps.{Exchanged, both_true, true_both, true_not, total_size-append}
 use Rattle.zone_laws.proofs.Owners.{none_named}
+use Rattle.zone_laws.proofs.Tables.{eqb-true-is}
 use Rattle.linked_zone.specs.Changes.{with_map, exchanged, carried_up}
 use Rattle.linked_zone.specs.Fit.{Fits}
+use Rattle.linked_zone.specs.Loans.{KeepsLoans}
 use Rattle.linked_zone.specs.Places.{MovablePair, ParcelAt, is_movable, can_move, all_can_move}
 use Rattle.linked_zone.proofs.ChangeExchanged.{exchanged-fits, exchanged-slots, exchanged-others}
 
@@ -75,3 +80,29 @@ module _ {at end : ℕ} (z : ZoneState) (parcel : ParcelAt z at end) where
   -- the zone is as it was but for their order
   pub carried-reordered : Fits z → Reordered z (carried_up z parcel) (parcel.here ∷ parcel.blocks)
   carried-reordered fits = passed-all z parcel.before parcel.here parcel.blocks parcel.behind parcel.map parcel.moves fits
+
+-- what is lent has no block that may be moved now
+lent-named : (t : HandleTable) (x : ℕ) (k : Kind) → can_move t k ≡ true → is_lent t x ≡ true → not (is_named x k) ≡ true
+lent-named t x Free moves lent = refl
+lent-named t x Master moves lent = absurd (cc moves)
+lent-named t x (Ptr p) moves lent = absurd (cc moves)
+lent-named t x (Rel h) moves lent = by_test (eqb h x) refl
+  where
+    by_test : (b : Bool) → eqb h x ≡ b → not b ≡ true
+    by_test true same = let away = true_not (is_lent t h) moves in absurd (cc (lent, ap (is_lent t) (eqb-true-is h x same), away))
+    by_test false apart = refl
+
+lent-none_named : (t : HandleTable) (x : ℕ) (m : ZoneMap) → all_can_move t m ≡ true → is_lent t x ≡ true → none_named x m ≡ true
+lent-none_named t x [] moves lent = refl
+lent-none_named t x (e ∷ es) moves lent =
+    let all = both_true (can_move t e.kind) (all_can_move t es) moves in
+    true_both (not (is_named x e.kind)) (none_named x es) (lent-named t x e.kind all.0 lent) (lent-none_named t x es all.1 lent)
+
+-- each loan is one once a block that isn't lent has changed places with others that aren't
+pub keeps_loans-carried : {at end : ℕ} (z : ZoneState) (parcel : ParcelAt z at end) → Fits z → KeepsLoans z (carried_up z parcel)
+keeps_loans-carried z parcel fits x loan is = record {
+  lent = is.lent;
+  memory = is.memory;
+  contents = is.contents ∙ sym ((carried-reordered z parcel fits).others x (lent-none_named z.heap.table x (parcel.here ∷ parcel.blocks) parcel.moves is.lent));
+  long = is.long;
+}

@@ -1,6 +1,6 @@
 mod Bare
 mod ChangeBlock
-mod ChangeCarried
+pub mod ChangeCarried
 mod ChangeCut
 mod ChangeEmptied
 mod ChangeExchanged

@@ -7,7 +7,6 @@ pub mod Lasts
 pub mod Stepping
 pub mod Lifting
 pub mod Backing
-pub mod Carrying
 pub mod Owning
 pub mod Opening
 pub mod Raising

@@ -79,7 +79,8 @@ fn last_block(zone: &LinkedZone, start: u32, end: u32) -> u32
     last
 }
 
-/// Moves a block up past the blocks between it and an address. Gives the address at which it stands then.
+/// Moves a block up past the blocks between it and an address. Gives the address at which it stands then. Each byte is
+/// moved at most twice.
 pub(crate) fn carry_up(zone: &mut LinkedZone, start: u32, end: u32) -> u32
     requires parcel { ParcelAt zone.old start end }
     requires sizes { HasSizes zone.old }
@@ -87,11 +88,6 @@ pub(crate) fn carry_up(zone: &mut LinkedZone, start: u32, end: u32) -> u32
     ensures address { (parcel : ParcelAt zone.old start end) → result + parcel.here.size ≡ end }
 {
     let size = zone.entry_at(start).size;
-    let mut at = start;
-    while at + size < end {
-        let passed = zone.entry_at(at + size).size;
-        zone.exchange(at);
-        at += passed;
-    }
-    at
+    zone.carry(start, end);
+    end - size
 }

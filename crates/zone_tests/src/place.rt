@@ -1,6 +1,6 @@
 //! Where new blocks are placed, and what moves for them.
 
-use crate::zone::assert_nothing_lent;
+use crate::zone::{assert_nothing_lent, write_front};
 use mac_base::block::{Block, Entry, Kind};
 use mac_base::zone_spec::ZoneSpec;
 use std::alloc::Global;
@@ -70,4 +70,26 @@ fn a_handle_lacks_a_slot_where_all_are_live(rt: HostRuntime) {
     assert_eq!(rt; zone.new_empty(), Err(Shortage::NoSlot));
     assert_eq!(rt; zone.new_block(9000), Err(Shortage::NoSlot));
     assert_nothing_lent(&rt, &zone);
+}
+
+#[test]
+fn a_handle_is_moved_high_past_the_others_of_its_gap(rt: HostRuntime) {
+    let mut zone = small_zone(&rt, rt.alloc());
+    let first = zone.new_block(1000).expect(&rt, "the zone has room");
+    let second = zone.new_block(500).expect(&rt, "the zone has room");
+    let third = zone.new_block(200).expect(&rt, "the zone has room");
+    write_front(&mut zone, first.number());
+    assert!(rt; zone.is_live(second), "it is live");
+    assert_nothing_lent(&rt, &zone);
+    zone.release(second);
+    assert!(rt;
+        zone.is_live(first) && zone.has_block(first.number()) && !zone.flags(first).lock,
+        "it has a block, and isn't locked"
+    );
+    zone.move_high(first);
+    assert_eq!(rt; kind_at(&zone, 0x10_013c), Some(Kind::Rel(third)));
+    assert_eq!(rt; kind_at(&zone, 0x10_020c), Some(Kind::Free));
+    assert_eq!(rt; kind_at(&zone, 0x10_0c10), Some(Kind::Rel(first)));
+    assert_nothing_lent(&rt, &zone);
+    assert_eq!(rt; &zone.image()[0xc18..0xc1c], b"BB\0\0".as_slice());
 }
