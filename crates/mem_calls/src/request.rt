@@ -6,7 +6,8 @@ ghost use Rattle.mac_base.specs.HeadKind.{max_size};
 ghost use Rattle.mac_base.specs.Sound.{Sound};
 ghost use Rattle.mac_base.specs.Request.{is_among, length_asked};
 ghost use Rattle.mac_calls.specs.GrowZone.{may_ask, may_note, carried_once, carried_out};
-ghost use Rattle.zone_heap.specs.Attempts.{CanAsk, is_protected, lacks_slot};
+ghost use Rattle.zone_heap.specs.Attempts.{CanAsk, lacks_slot};
+ghost use Rattle.zone_heap.specs.Purge.{is_protected};
 ghost use Rattle.mem_calls.specs.Requesting.{EndsAttempt, IsTrial, IsNewlyAnswered, IsTurn, MayAskMore, IsRun, IsCallRun, given_or_full, with_carried};
 
 use crate::releasing::{operand_of, release};

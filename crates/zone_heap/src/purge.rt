@@ -1,5 +1,54 @@
 //! Purging: handles that may be purged become empty, in order of address, until it is enough.
 
+impl Zone {
+    ghost use Rattle.std.specs.Prelude.{◌≡◌, nat_le, IsTrue, IsFalse, MatchResult};
+    ghost use Rattle.mac_base.specs.declared.request.Request.TheVariants.{Replace};
+    ghost use Rattle.mac_base.specs.Heap.{all_purged};
+    ghost use Rattle.mac_base.specs.Purging.{purged, purged_for};
+    ghost use Rattle.mac_base.specs.Request.{fits};
+    ghost use Rattle.mac_base.specs.Sound.{Sound};
+    ghost use Rattle.mac_base.specs.ZoneMap.{largest_free};
+    ghost use Rattle.mac_base.specs.ZoneState.{with_heap};
+    ghost use Rattle.linked_zone.specs.Loans.{KeepsLoans};
+    ghost use Rattle.zone_heap.specs.Attempts.{CanAsk, IsServed, IsRefused};
+    ghost use Rattle.zone_heap.specs.Purge.{is_protected};
+
+    /// Purges for a request that doesn't fit: relocatable blocks that are unlocked, purgeable and not protected are purged, in
+    /// order of address, until it does. No more are purged than that takes, and all where it never does; a purged block's
+    /// handle is empty. Gives whether the request fits then (Inside Macintosh: Memory, "Freeing Memory").
+    pub fn purge_for(&mut self, request: Request, protected: &[u32]) -> bool
+        requires ready { CanAsk self.old request }
+        requires protects { IsTrue (is_protected protected.now request) }
+        requires no_room { IsFalse (fits self.old.shape self.old.heap.table request self.old.heap.map) }
+        ensures sound { Sound self.old.shape self.old.heap }
+        ensures zone { self.new ≡ with_heap (purged self.old.shape protected.now request self.old.heap) self.old }
+        ensures fits { result ≡ fits self.new.shape self.new.heap.table request self.new.heap.map }
+        ensures loans { KeepsLoans self.old self.new }
+    {
+        purge_for(&mut self.pointers, request, protected)
+    }
+
+    /// Purges relocatable blocks that are unlocked and purgeable, in order of address, until `needed` bytes are free in one
+    /// block, and no more than that takes. Gives whether so many are (Inside Macintosh: Memory, "PurgeMem").
+    pub fn purge_to(&mut self, needed: u32) -> bool
+        ensures sound { Sound self.old.shape self.old.heap }
+        ensures zone { self.new ≡ with_heap (purged_for needed self.old.heap) self.old }
+        ensures enough { result ≡ nat_le needed (largest_free self.new.heap.map) }
+        ensures loans { KeepsLoans self.old self.new }
+    {
+        purge_to(&mut self.pointers, needed)
+    }
+
+    /// Purges all relocatable blocks that are unlocked and purgeable (Inside Macintosh: Memory, "MaxMem").
+    pub fn purge_all(&mut self)
+        ensures sound { Sound self.old.shape self.old.heap }
+        ensures zone { self.new ≡ with_heap (all_purged self.old.heap) self.old }
+        ensures loans { KeepsLoans self.old self.new }
+    {
+        purge_all(&mut self.pointers);
+    }
+}
+
 ghost use Rattle.std.specs.Prelude.{◌≡◌, ◌&&◌, ◌≤◌, nat_le, IsTrue, IsFalse, [], Some, None};
 ghost use Rattle.mac_base.specs.Gap.{gaps, some_gap_has};
 ghost use Rattle.mac_base.specs.HandleTable.{has_block, is_handle, is_locked};
@@ -16,6 +65,7 @@ ghost use Rattle.zone_heap.specs.Attempts.{CanAsk, SoundZone};
 ghost use Rattle.zone_heap.specs.Joins.{all_joined};
 ghost use Rattle.zone_heap.specs.Purge.{BlocksAt, IsLimit, ShortBlocks, ShortGaps, Purges, PurgesFor, PurgesTo, blocks_behind, bounds_gap, bounds_free, bytes_before, counts, handle_to_purge, is_kept, is_protected, may_purge, purged_between, released_if, staying_block, CanCount, HasBlockIf};
 
+use crate::zone::Zone;
 use linked_zone::LinkedZone;
 use mac_base::block::Kind;
 use mac_base::handle::{Handle, Ptr};
