@@ -4,9 +4,9 @@ use Rattle.mac_base.specs.HeadKind.{Shape}
 use Rattle.mac_base.specs.Heap.{Heap}
 use Rattle.mac_base.specs.ZoneState.{ZoneState}
 use Rattle.mac_base.specs.declared.request.Request.{Request}
-use Rattle.mac_calls.specs.GrowZone.{Ask, carried_out}
-use Rattle.mac_calls.specs.ExactRequest.{prepared}
-use Rattle.zone_heap.specs.Attempts.{CanAsk, is_protected, lacks_slot}
+use Rattle.mac_calls.specs.GrowZone.{Ask}
+use Rattle.zone_heap.specs.Attempts.{CanAsk, lacks_slot}
+use Rattle.zone_heap.specs.Purge.{is_protected}
 use Rattle.mem_calls.specs.Requesting.{IsTrial, IsTurn, calls_in}
 use Rattle.mem_calls.proofs.Keeping.{Keeps, keeps-both, keeps-prepared, keeps-carried_out, ready-kept, slot-kept}
 

@@ -1,5 +1,5 @@
 -- The calls of an answer, one behind another, and what the procedure is told of them.
-use Rattle.std.proofs.Common.{◌≡◌, ℕ, zero, suc, ◌+◌, ◌<◌, ◌≤◌, Bool, true, false, cond, List, [], ◌∷◌, ◌++◌, length, Option, Some, None, refl, ap, sym, ◌∙◌, subst, arith, append-nil, append_assoc, length-append, nat_lt}
+use Rattle.std.proofs.Common.{◌≡◌, ℕ, ◌+◌, ◌<◌, ◌≤◌, Bool, true, false, cond, List, [], ◌∷◌, ◌++◌, length, Option, Some, refl, ap, sym, ◌∙◌, arith, append-nil, append_assoc, length-append, nat_lt}
 use Rattle.std.proofs.lemmas.Bool.Decides.{nat_tests}
 use Rattle.mac_base.specs.declared.error.OsErr.{OsErr}
 use Rattle.mac_base.specs.HeadKind.{Shape}
@@ -7,7 +7,7 @@ use Rattle.mac_base.specs.Heap.{Heap}
 use Rattle.mac_base.specs.declared.releasing.ReleasingCall.{ReleasingCall}
 use Rattle.mac_base.specs.Releasing.{operand_of, heap_released}
 use Rattle.mac_base.specs.Request.{is_among}
-use Rattle.mac_calls.specs.GrowZone.{Answer, Ask, new_ask, noted, may_note, Carried, memory_call, heap_unless, carried_once, carried_from, carried_out}
+use Rattle.mac_calls.specs.GrowZone.{Answer, Ask, new_ask, noted, may_note, Carried, memory_call, heap_unless, carried_once, carried_from}
 use Rattle.mac_calls.specs.Tests.{refusal}
 use Rattle.mem_calls.specs.Requesting.{IsNewlyAnswered, with_carried}
 

@@ -1,6 +1,5 @@
 -- What a running call protects stays as it is while handles are purged and an answer's calls are carried out.
 use Rattle.std.proofs.Common.{◌≡◌, ℕ, Bool, true, false, cond, not, ◌&&◌, ◌||◌, eqb, List, [], ◌∷◌, ◌++◌, Option, Some, None, refl, ap, sym, ◌∙◌, subst, Contains, filter_map, inl, inr}
-use Rattle.std.specs.Prelude.{filter}
 use Rattle.std.specs.List.{list_any}
 use Rattle.std.proofs.lemmas.List.Elements.{All-contains, filter_passes}
 use Rattle.mac_base.specs.declared.error.OsErr.{OsErr}
@@ -19,7 +18,8 @@ use Rattle.mac_base.specs.Request.{fits, candidates, candidates_in, blocks_to_pu
 use Rattle.mac_calls.specs.ExactRequest.{prepared}
 use Rattle.mac_calls.specs.GrowZone.{Carried, memory_call, heap_unless, carried_once, carried_from, carried_out}
 use Rattle.mac_calls.specs.Tests.{refusal}
-use Rattle.zone_heap.specs.Attempts.{is_ready, is_protected, lacks_slot}
+use Rattle.zone_heap.specs.Attempts.{is_ready, lacks_slot}
+use Rattle.zone_heap.specs.Purge.{is_protected}
 use Rattle.zone_laws.proofs.Maps.{both_true}
 use Rattle.zone_laws.proofs.Tables.{eqb-true-is, with_live_agrees, without_agrees}
 use Rattle.zone_laws.proofs.SlotPlaces.{Contains-none, Contains-cons_cases, Contains-here, Contains-later}

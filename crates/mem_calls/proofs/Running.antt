@@ -1,5 +1,5 @@
 -- The run of a request: trials and turns of the grow-zone procedure, one behind another.
-use Rattle.std.proofs.Common.{◌≡◌, ◌≢◌, ℕ, ◌+◌, ◌-◌, ◌≤◌, Bool, true, false, cond, not, eqb, List, [], ◌∷◌, ◌++◌, length, Option, Some, None, refl, ap, sym, ◌∙◌, subst, arith, append-nil, append_assoc, length-append}
+use Rattle.std.proofs.Common.{◌≡◌, ◌≢◌, ℕ, ◌+◌, ◌-◌, ◌≤◌, Bool, true, false, cond, not, eqb, List, [], ◌∷◌, ◌++◌, length, Option, Some, None, refl, ap, sym, ◌∙◌, arith, append-nil, append_assoc, length-append}
 use Rattle.std.specs.Prelude.{is_some, ◌&&◌, nat_lt, option_map}
 use Rattle.std.specs.List.{list_all}
 use Rattle.std.proofs.lemmas.Bool.Decides.{nat_tests}
@@ -10,7 +10,7 @@ use Rattle.mac_base.specs.ZoneMap.{ZoneMap}
 use Rattle.mac_base.specs.Heap.{Heap, front_slot, granted}
 use Rattle.mac_base.specs.declared.request.Request.{Request}
 use Rattle.mac_base.specs.Serve.{serve}
-use Rattle.mac_calls.specs.GrowZone.{Answer, Ask, new_ask, answers_in, may_ask, most_answers, carried_out}
+use Rattle.mac_calls.specs.GrowZone.{Answer, Ask, answers_in, may_ask, most_answers, carried_out}
 use Rattle.mac_calls.specs.ExactRequest.{Ending, unserved, served_or, after_ask, asked, prepared, request_run}
 use Rattle.mem_calls.specs.Requesting.{IsTrial, IsTurn, MayAskMore, IsRun, calls_in, is_worth}
 

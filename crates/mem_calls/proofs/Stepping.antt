@@ -1,8 +1,7 @@
 -- The steps of calls: what a call does exactly, and that it may.
-use Rattle.std.proofs.Common.{◌≡◌, ℕ, Bool, true, false, cond, List, [], ◌∷◌, ◌++◌, Option, Some, None, Result, Ok, Err, refl, ap, sym, ◌∙◌, subst}
+use Rattle.std.proofs.Common.{◌≡◌, ℕ, Bool, true, false, List, [], ◌++◌, Option, Some, None, Result, Ok, Err, refl, ap, sym, ◌∙◌, subst}
 use Rattle.std.specs.Result.{IsErrAnd}
 use Rattle.mac_base.specs.declared.error.OsErr.{OsErr}
-use Rattle.mac_base.specs.declared.error.OsErr.TheVariants.{MemFullErr}
 use Rattle.mac_base.specs.HeadKind.{Shape}
 use Rattle.mac_base.specs.HandleTable.{HandleTable}
 use Rattle.mac_base.specs.Heap.{Heap, with_table}
@@ -10,12 +9,11 @@ use Rattle.mac_base.specs.Sound.{Sound}
 use Rattle.mac_base.specs.ZoneState.{ZoneState}
 use Rattle.mac_base.specs.declared.request.Request.{Request}
 use Rattle.mac_base.specs.declared.request.Request.TheVariants.{NewMaster}
-use Rattle.mac_base.specs.Request.{makes_handle}
 use Rattle.mac_calls.specs.declared.memory_call.MemoryCall.{MemoryCall}
 use Rattle.mac_calls.specs.Tests.{refusal, protected_by}
 use Rattle.mac_calls.specs.GrowZone.{Answer, Ask, answers_in, most_answers}
 use Rattle.mac_calls.specs.ExactRequest.{Ending, request_run}
-use Rattle.mac_calls.specs.ExactStep.{StepEnd, rearranged, quiet_outcome, request_end, behind_master, request_step, step_asking, step_unless, exact_step, IsExactStep}
+use Rattle.mac_calls.specs.ExactStep.{StepEnd, rearranged, quiet_outcome, request_end, behind_master, request_step, step_asking, step_unless, IsExactStep}
 use Rattle.mac_calls.specs.Effect.{request_of, table_copied, effect_of}
 use Rattle.mac_calls.specs.Outcomes.{Outcome, given_results}
 use Rattle.mac_calls.specs.MemoryStep.{MemoryStep}

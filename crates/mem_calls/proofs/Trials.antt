@@ -1,6 +1,6 @@
 -- A trial in the zone: it grows where the request doesn't fit, and then is purged.
-use Rattle.std.proofs.Common.{◌≡◌, ℕ, true, false, List, Some, refl, ap, ◌∙◌, sym, subst}
-use Rattle.std.specs.Prelude.{IsFalse, IsTrue}
+use Rattle.std.proofs.Common.{◌≡◌, ℕ, true, false, List, Some, ap, ◌∙◌, sym, subst}
+use Rattle.std.specs.Prelude.{IsFalse}
 use Rattle.mac_base.specs.Attempt.{attempted}
 use Rattle.mac_base.specs.Heap.{grown}
 use Rattle.mac_base.specs.Purging.{purged}

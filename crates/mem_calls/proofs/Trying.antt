@@ -1,5 +1,5 @@
 -- Attempts and trials: an attempt is served just where the request fits, and a trial prepares no more than it needs.
-use Rattle.std.proofs.Common.{◌≡◌, ℕ, ◌<◌, Bool, true, false, cond, not, ◌&&◌, ◌||◌, List, [], ◌∷◌, length, Option, Some, None, refl, ap, sym, ◌∙◌, arith}
+use Rattle.std.proofs.Common.{◌≡◌, ℕ, ◌<◌, Bool, true, false, cond, not, List, [], ◌∷◌, length, Some, refl, ap, sym, ◌∙◌, arith}
 use Rattle.std.specs.Prelude.{is_some}
 use Rattle.mac_base.specs.Attempt.{attempted}
 use Rattle.mac_base.specs.HeadKind.{Shape}

@@ -1,6 +1,5 @@
 -- How a call that releases a block ends.
 use Rattle.std.specs.Prelude.{◌≡◌, Result, Ok, Err, Some, None}
-use Rattle.std.specs.Result.{result_err}
 use Rattle.mac_base.specs.declared.error.OsErr.{OsErr}
 use Rattle.mac_base.specs.ZoneState.{ZoneState}
 use Rattle.mac_base.specs.declared.releasing.ReleasingCall.{ReleasingCall}

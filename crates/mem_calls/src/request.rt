@@ -142,8 +142,8 @@ fn turn<G: GrowZone>(
     }
 }
 
-/// Runs a request: trials, and turns of the procedure between them while it may still answer. It counts the answers down, of
-/// which there are 16 at most, and so are the calls of itself.
+/// Runs a request: trials, and turns of the procedure between them while it may still answer. It counts the answers down, and
+/// calls itself behind each turn: 17 deep at most, since a call begins with 16 answers.
 fn run<G: GrowZone>(
     zone: &mut Zone,
     request: &Request,

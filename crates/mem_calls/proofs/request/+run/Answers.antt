@@ -1,6 +1,4 @@
-use Rattle.std.proofs.Common.{◌≡◌, ℕ, ◌-◌, ◌<◌, true, subst, arith}
-use Rattle.mac_base.specs.HeadKind.{Shape}
-use Rattle.mem_calls.specs.Requesting.{IsTurn}
+use Rattle.std.proofs.Common.{◌-◌, ◌<◌, true, arith}
 use Rattle.mem_calls.proofs.Again.{keeps-again, can_ask-again, slot-again}
 use Rattle.mem_calls.proofs.Running.{may_ask-again}
 use Rattle.mem_calls.proofs.request.+run.Goals as goal

@@ -1,4 +1,3 @@
-use Rattle.std.proofs.Common.{Some}
 use Rattle.mem_calls.proofs.Trying.{attempted-fits}
 use Rattle.mem_calls.proofs.request.attempt.Goals as goal
 

@@ -1,9 +1,6 @@
-use Rattle.std.proofs.Common.{◌≡◌, ℕ, ◌+◌, List, [], ◌∷◌, ◌++◌, take, length, refl, sym, ap, ◌∙◌, subst, arith}
+use Rattle.std.proofs.Common.{◌≡◌, List, [], ◌∷◌, ◌++◌, take, length, refl, sym, ap, ◌∙◌, subst, arith}
 use Rattle.mac_base.specs.declared.releasing.ReleasingCall.{ReleasingCall}
-use Rattle.mac_base.specs.ZoneState.{ZoneState}
-use Rattle.mac_calls.specs.GrowZone.{carried_out}
-use Rattle.mem_calls.specs.Requesting.{with_carried}
-use Rattle.mem_calls.proofs.Telling.{calls_at, calls-more, calls-same, calls-all, calls-fewer, Carries, carries-none, carries-more, carries-may_note}
+use Rattle.mem_calls.proofs.Telling.{calls_at, calls-more, calls-same, calls-fewer, Carries, carries-none, carries-more, carries-may_note}
 use Rattle.mem_calls.proofs.request.carry_out.Goals as goal
 use Rattle.mem_calls.proofs.request.carry_out.Goals.{in-Some, in_default}
 

@@ -1,4 +1,4 @@
-use Rattle.std.proofs.Common.{◌≡◌, ℕ, Result, sym, ap, ◌∙◌, subst}
+use Rattle.std.proofs.Common.{ℕ, Result, sym, subst}
 use Rattle.mac_base.specs.declared.error.OsErr.{OsErr}
 use Rattle.mac_base.specs.HeadKind.{Shape}
 use Rattle.mem_calls.specs.Requesting.{IsRun, IsCallRun}

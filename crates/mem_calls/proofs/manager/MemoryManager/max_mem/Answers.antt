@@ -2,7 +2,7 @@ use Rattle.std.proofs.Common.{[], ◌+◌, ◌-◌, Ok, refl, ap, ◌∙◌}
 use Rattle.mac_base.specs.HeadKind.{Shape, zone_header}
 use Rattle.mac_base.specs.ZoneMap.{ZoneMap, total_size, largest_free}
 use Rattle.mac_base.specs.Compaction.{all_down}
-use Rattle.mac_base.specs.Heap.{Heap, all_purged, with_map}
+use Rattle.mac_base.specs.Heap.{all_purged, with_map}
 use Rattle.mac_base.specs.ZoneState.{ZoneState}
 use Rattle.mac_calls.specs.declared.memory_call.MemoryCall.TheVariants.{MaxMem}
 use Rattle.mac_calls.specs.declared.reply.Results.TheVariants.{TwoNumbers}
