@@ -32,6 +32,9 @@ fn each_request_gives_its_number(rt: HostRuntime) {
     let handle = Handle::new(0x10_0218);
     assert_eq!(rt; given(&rt, &mut zone, handle, false), Ok(0x10_0218));
     assert_eq!(rt; given(&rt, &mut zone, handle, true), Ok(0x10_0218));
-    assert_eq!(rt; zone.attempt(Request::NewBlock(9000)), Err(Shortage::NoRoom));
+    assert_eq!(rt;
+        zone.attempt(Request::NewBlock(9000)),
+        Err(Shortage::NoRoom)
+    );
     assert_nothing_lent(&rt, &zone);
 }

@@ -23,7 +23,10 @@ fn attempt(rt: &impl Abort, zone: &mut Zone, handle: Handle, length: u32) -> Res
 /// How many bytes a handle has, and whether all of them are zero.
 fn assert_bytes(rt: &impl Abort, zone: &Zone, handle: Handle, length: usize, zero: bool) {
     let block = handle.number();
-    assert!(rt; zone.has_block(block) && !zone.is_lent(block), "it has its bytes");
+    assert!(rt;
+        zone.has_block(block) && !zone.is_lent(block),
+        "it has its bytes"
+    );
     let bytes = zone.bytes(block);
     assert_eq!(rt; bytes.len(), length);
     assert_eq!(rt; bytes.iter().all(|byte| *byte == 0), zero);
