@@ -1,5 +1,5 @@
 -- A block that is carried past those behind it: their marks, their bytes, and what the list of blocks is then.
-use Rattle.std.proofs.Common.{◌≡◌, ℕ, ◌+◌, ◌-◌, ◌/◌, ◌<◌, ◌≤◌, Bool, true, false, not, List, [], ◌∷◌, ◌++◌, length, refl, sym, ap, ◌∙◌, subst, arith, append_assoc, append-nil, length-append, length-set, drop, IsTrue}
+use Rattle.std.proofs.Common.{◌≡◌, ℕ, ◌+◌, ◌-◌, ◌/◌, ◌<◌, ◌≤◌, false, not, List, [], ◌∷◌, ◌++◌, length, refl, sym, ap, ◌∙◌, subst, arith, append_assoc, append-nil, length-append, length-set, drop, IsTrue}
 use Rattle.std.specs.List.{list_all}
 use Rattle.std.proofs.Math.ListN.{set}
 use Rattle.std.proofs.lemmas.List.Folds.{list_all-append}
@@ -13,11 +13,11 @@ use Rattle.zone_laws.proofs.Maps.{true_not}
 use Rattle.block_bytes.specs.declared.header.Header.{Header}
 use Rattle.block_bytes.specs.declared.blocks.Blocks.TheInside.{Inside}
 use Rattle.block_bytes.specs.Head.{header_in}
-use Rattle.block_bytes.specs.Layout.{RawBlock, Layout, BlockAt, ParcelAt, carried, none_lent, size_of, total_of, free_total, header_of, is_possible, rendered, header_bytes, with_blocks}
+use Rattle.block_bytes.specs.Layout.{RawBlock, Layout, BlockAt, ParcelAt, carried, none_lent, size_of, total_of, header_of, is_possible, rendered, header_bytes, with_blocks}
 use Rattle.block_bytes.specs.Starts.{mark_in, mark_of, marks_of, first_marked, starts_of}
 use Rattle.block_bytes.specs.Reading.{layout_of, IsLayout}
 use Rattle.block_bytes.proofs.Rendered.{total_of-append, length-rendered, rendered-append, part-middle, written-middle}
-use Rattle.block_bytes.proofs.ReadBlocks.{and-true, IsPossible, IsPossible-from, smallest-block, head_size-positive}
+use Rattle.block_bytes.proofs.ReadBlocks.{and-true, IsPossible-from, smallest-block, head_size-positive}
 use Rattle.block_bytes.proofs.Starts.{unmarked, length-marks_of, length-before}
 use Rattle.block_bytes.proofs.Spans.{AllUnlent}
 use Rattle.block_bytes.proofs.Parts.{IsRead, front, rear, stale_image, length-front, possible-with, possible-more, marked-parts, total-ends}

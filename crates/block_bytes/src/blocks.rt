@@ -393,8 +393,8 @@ impl Blocks {
         count_free(&mut self.memory, &self.index, base, 0, 0);
     }
 
-    /// The block at an address changes places with those behind it up to an address. The bytes of all stay: each is moved
-    /// at most twice.
+    /// The block at an address changes places with those behind it up to an address. The bytes of all of them, those of
+    /// free ones too, are kept, and turn in one rotation.
     pub fn carry(&mut self, at: u32, end: u32)
         requires { ParcelAt self.old at end }
         ensures { (parcel : ParcelAt self.old at end) → self.new ≡ carried self.old parcel }

@@ -1,13 +1,12 @@
 -- What a zone is once a block has changed places with a run behind it.
-use Rattle.std.proofs.Common.{◌≡◌, ℕ, ◌+◌, Bool, true, false, not, eqb, [], ◌∷◌, ◌++◌, refl, ap, sym, ◌∙◌, subst, append_assoc, arith}
-use Rattle.std.specs.List.{list_all}
+use Rattle.std.proofs.Common.{◌≡◌, ℕ, Bool, true, false, not, eqb, [], ◌∷◌, ◌++◌, refl, ap, sym, ◌∙◌, subst, append_assoc, arith}
 use Rattle.mac_base.specs.declared.block.Entry.{Entry}
 use Rattle.mac_base.specs.declared.block.Kind.{Kind}
 use Rattle.mac_base.specs.declared.block.Kind.TheVariants.{Free, Master, Ptr, Rel}
 use Rattle.mac_base.specs.HandleTable.{HandleTable, is_lent}
 use Rattle.mac_base.specs.Loans.{is_here}
 use Rattle.mac_base.specs.Suits.{slots}
-use Rattle.mac_base.specs.ZoneMap.{ZoneMap, is_named, total_size, address_behind, contents_of}
+use Rattle.mac_base.specs.ZoneMap.{ZoneMap, is_named, address_behind, contents_of}
 use Rattle.mac_base.specs.ZoneState.{ZoneState}
 use Rattle.zone_laws.proofs.Maps.{Exchanged, both_true, true_both, true_not, total_size-append}
 use Rattle.zone_laws.proofs.Owners.{none_named}

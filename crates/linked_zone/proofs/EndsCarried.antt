@@ -1,38 +1,35 @@
 -- How the call ends by which a block changes places with a run behind it.
-use Rattle.std.proofs.Common.{◌≡◌, ℕ, ◌+◌, ◌%◌, ◌<◌, ◌≤◌, ◌&&◌, Bool, true, false, not, cond, [], ◌∷◌, ◌++◌, refl, ap, sym, ◌∙◌, subst, arith, append_assoc, append-nil, Contains, nat_lt}
+use Rattle.std.proofs.Common.{◌≡◌, ℕ, ◌+◌, ◌<◌, ◌≤◌, ◌&&◌, Bool, true, false, not, cond, [], ◌∷◌, ◌++◌, refl, ap, sym, ◌∙◌, subst, arith, append_assoc, append-nil, Contains, nat_lt}
 use Rattle.std.specs.List.{list_all}
 use Rattle.std.proofs.lemmas.Bool.Decides.{nat_tests}
 use Rattle.std.proofs.lemmas.List.Folds.{list_all-append}
 use Rattle.mac_base.specs.declared.block.Entry.{Entry}
-use Rattle.mac_base.specs.declared.block.Flags.{Flags}
 use Rattle.mac_base.specs.declared.block.Kind.{Kind}
 use Rattle.mac_base.specs.declared.block.Kind.TheVariants as kind
 use Rattle.mac_base.specs.HeadKind.{Shape, head_size}
 use Rattle.mac_base.specs.HandleTable.{live_at, live_full}
 use Rattle.mac_base.specs.Heap.{front_slot}
-use Rattle.mac_base.specs.Suits.{is_block_size, slots}
+use Rattle.mac_base.specs.Suits.{is_block_size}
 use Rattle.mac_base.specs.Loans.{is_here}
 use Rattle.mac_base.specs.ZoneMap.{ZoneMap, block, is_named, total_size, address_behind, contents_of}
 use Rattle.mac_base.specs.ZoneState.{ZoneState}
 use Rattle.zone_laws.proofs.Maps.{both_true, true_both, total_size-append, total_size-exchanged, list_all-exchanged}
 use Rattle.zone_laws.proofs.Owners.{none_named}
 use Rattle.zone_laws.proofs.Tables.{full_handle}
-use Rattle.zone_records.specs.declared.slot.Slot.{Slot}
-use Rattle.zone_records.specs.declared.slot.Slot.TheVariants as slot
 use Rattle.zone_records.specs.Changes as changes
 use Rattle.zone_records.specs.Places as places
 use Rattle.zone_records.specs.Places.{RecordAt, can_say}
-use Rattle.zone_records.specs.Records.{BlockRecord, ZoneRecords, kind_of}
+use Rattle.zone_records.specs.Records.{ZoneRecords, kind_of}
 use Rattle.linked_zone.specs.Changes.{carried_up}
 use Rattle.linked_zone.specs.Fit.{has_room}
 use Rattle.linked_zone.specs.Following.{moved_to, CanFollow, followed}
-use Rattle.linked_zone.specs.Owned.{Owners, owners_of, records_of, records_from, record_of, content_of, lent_of, slot_flags, slot_of, slot_of_live, next_free}
+use Rattle.linked_zone.specs.Owned.{Owners, owners_of, records_of, records_from, record_of, content_of, lent_of, slot_of, slot_of_live, next_free}
 use Rattle.linked_zone.specs.Places.{ParcelAt, EntryAt, is_movable, can_move, all_can_move}
 use Rattle.linked_zone.proofs.Standing.{Stands, Kept, kept}
 use Rattle.linked_zone.proofs.Owning.{image, image-same, records_from-append, records-total, records-place}
 use Rattle.linked_zone.proofs.Ends.{lower, upper, parts-before, parts-place, parts-after}
 use Rattle.linked_zone.proofs.EndsFollow.{following, Follows, follows-from, following-can, following-image, following-slot, following-flags, following-bytes, following-lent}
-use Rattle.linked_zone.proofs.EndsSaid.{part-passes, contents-said, entry-room, entry-end, entry-below}
+use Rattle.linked_zone.proofs.EndsSaid.{part-passes, contents-said, entry-room}
 use Rattle.linked_zone.proofs.EndsExchange.{content-moves, here-unlent, moved-said}
 use Rattle.linked_zone.proofs.ChangeExchanged.{rel-full, moved-slot}
 use Rattle.linked_zone.proofs.ChangeSized.{named-contents}
@@ -229,7 +226,7 @@ module _ {at end : ℕ} (r : ZoneRecords) (z : ZoneState) (held : Stands r z) (p
     pub coming-range : (next + (c.here).size ≤ end) × (head_size z.shape.heads < (c.here).size)
     coming-range = (
       let all : total_size (run_now z parcel) ≡ total_size c.done + ((c.here).size + total_size c.rest) = ap total_size (c.is).parts ∙ total_size-append c.done (c.here ∷ c.rest) in
-      let place = (c.is).place in let long = end-now in omega arith,
+          let place = (c.is).place in let long = end-now in omega arith,
       entry-room (records_of (carried_up z parcel)) (carried_up z parcel) stands_now next entry_now,
     )
 

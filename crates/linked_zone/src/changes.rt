@@ -80,7 +80,7 @@ impl LinkedZone {
     }
 
     /// The block at an address changes places with those behind it up to an address, each of a handle or free. Every handle
-    /// has the same bytes and flags. Each byte is moved at most twice.
+    /// has the same bytes and flags. The bytes turn in one rotation, however many blocks there are.
     pub fn carry(&mut self, at: u32, end: u32)
         requires { ParcelAt self.old at end }
         ensures { (parcel : ParcelAt self.old at end) → self.new ≡ carried_up self.old parcel }

@@ -79,8 +79,8 @@ fn last_block(zone: &LinkedZone, start: u32, end: u32) -> u32
     last
 }
 
-/// Moves a block up past the blocks between it and an address. Gives the address at which it stands then. Each byte is
-/// moved at most twice.
+/// Moves a block up past the blocks between it and an address. Gives the address at which it stands then. The
+/// bytes turn in one rotation.
 pub(crate) fn carry_up(zone: &mut LinkedZone, start: u32, end: u32) -> u32
     requires parcel { ParcelAt zone.old start end }
     requires sizes { HasSizes zone.old }

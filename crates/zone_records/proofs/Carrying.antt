@@ -1,6 +1,5 @@
 -- A block that is carried past those behind it.
 use Rattle.std.proofs.Common.{◌≡◌, ◌+◌, ℕ, Bool, true, not, ◌&&◌, List, [], ◌∷◌, ◌++◌, refl, ap, sym, ◌∙◌, subst, arith, append_assoc}
-use Rattle.std.specs.List.{All, list_all}
 use Rattle.std.proofs.lemmas.List.Elements.{All-append, All-same}
 use Rattle.std.proofs.lemmas.List.Folds.{list_all-append}
 use Rattle.mac_base.specs.declared.block.HeadKind.{HeadKind}
@@ -13,7 +12,7 @@ use Rattle.zone_records.specs.Places.{ParcelAt, none_lent}
 use Rattle.zone_records.specs.Changes.{carried}
 use Rattle.zone_records.specs.Reading.{is_sound, HasWords}
 use Rattle.zone_records.proofs.Apart.{read, total-read, total-append, read-append, One, InTwo, in-two}
-use Rattle.zone_records.proofs.Held.{Held, one, address-is, sound-two, sound-one, words-at, words-first, words-rest, words-one, changed}
+use Rattle.zone_records.proofs.Held.{Held, one, address-is, sound-two, words-at, words-first, words-rest, words-one, changed}
 
 -- blocks of bytes of which none is lent
 pub lent-read : (heads : HeadKind) (base : ℕ) (bs : List RawBlock) → raw.none_lent bs ≡ none_lent (read heads base bs)

@@ -1,9 +1,8 @@
-use Rattle.std.proofs.Common.{◌≡◌, ◌+◌, ◌-◌, ◌*◌, ◌/◌, ◌<◌, ◌≤◌, ℕ, List, length, refl, sym, ap, ◌∙◌, subst, arith, length-set}
+use Rattle.std.proofs.Common.{◌≡◌, ◌+◌, ◌-◌, ◌/◌, length, refl, sym, ap, ◌∙◌, subst, arith, length-set}
 use Rattle.std.proofs.Math.ListN.{set}
 use Rattle.mac_base.specs.HeadKind.{head_size}
 use Rattle.raw_region.specs.Span.{IsFree}
 use Rattle.raw_region.specs.State.{State}
-use Rattle.block_bytes.specs.declared.header.Header.{Header}
 use Rattle.block_bytes.specs.Layout.{Layout, ParcelAt, carried, header_of}
 use Rattle.block_bytes.specs.Reading.{layout_of}
 use Rattle.block_bytes.specs.Starts.{mark_in}

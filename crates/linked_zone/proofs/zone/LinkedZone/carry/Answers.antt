@@ -1,4 +1,4 @@
-use Rattle.std.proofs.Common.{◌≡◌, ◌+◌, ◌<◌, ◌≤◌, ap, arith}
+use Rattle.std.proofs.Common.{◌+◌, ap, arith}
 use Rattle.mac_base.specs.declared.block.Entry.{Entry}
 use Rattle.linked_zone.specs.Changes.{carried_up}
 use Rattle.linked_zone.specs.Places.{ParcelAt}
