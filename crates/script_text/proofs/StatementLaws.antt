@@ -1,13 +1,14 @@
 -- What the tokens of a line say.
-use Rattle.std.proofs.Common.{◌≢◌, ℕ, ◌<◌, ◌≤◌, List, [], ◌∷◌, Some, refl, subst, arith}
+use Rattle.std.proofs.Common.{◌≡◌, ◌≢◌, ℕ, ◌<◌, ◌≤◌, List, [], ◌∷◌, Option, Some, refl, sym, ap, subst, ◌∙◌, arith, codes}
 use Rattle.script_text.specs.declared.line.CallLine.{CallLine}
 use Rattle.script_text.specs.declared.line.Statement.{Statement}
 use Rattle.script_text.specs.declared.line.Statement.TheVariants.{Call, Answer}
 use Rattle.script_text.specs.declared.line.WrittenAnswer.{WrittenAnswer}
 use Rattle.script_text.specs.Answers.{IsAnswer}
-use Rattle.script_text.specs.Tokens.{Token, AreTokens, HasNoTokens}
-use Rattle.script_text.specs.Script.{IsCall, IsStatement, MayStand, IsNoLine, max_lines}
-use Rattle.script_text.specs.Reading.{Says}
+use Rattle.script_text.specs.Tokens.{Token, Word, AreTokens, HasNoTokens}
+use Rattle.script_text.specs.Script.{IsCall, IsStatement, MayStand, IsNoLine, with_assigned, max_lines}
+use Rattle.script_text.specs.Reading.{Says, Reads}
+use Rattle.script_text.proofs.OneAnswer.{answer_assigns}
 use Rattle.script_text.proofs.TokenLaws.{one_tokens}
 
 -- no line has a number above the largest
@@ -37,3 +38,15 @@ says_line number names (token ∷ tokens) statement small some is = (small, refl
 pub no_statement : (names : List (List ℕ)) (tokens : List Token) → ((line : CallLine) → ¬ IsCall names tokens line) → ((line : WrittenAnswer) → ¬ IsAnswer names tokens line) → (statement : Statement) → ¬ IsStatement names tokens statement
 no_statement names tokens call answer (Call line) is = call line is
 no_statement names tokens call answer (Answer line) is = answer line is
+
+-- the tokens of a text that queue an answer say what its line says, and assign no name
+pub reads_answer : (number : ℕ) (names after : List (List ℕ)) (text : List ℕ) (tokens : List Token) (answer : WrittenAnswer) → number ≤ max_lines → AreTokens text tokens → IsAnswer names tokens answer → after ≡ names → Reads number names text (Some (record { number = number; statement = Answer answer })) after
+reads_answer number names after text tokens answer small are is same = record {
+  tokens = tokens;
+  are = are;
+  says = says_line number names tokens (Answer answer) small (λ e. nothing (sym e ∙ is.2)) is;
+  named = same ∙ ap (λ (o : Option (List ℕ)). with_assigned names o) (sym (answer_assigns names tokens answer is));
+}
+  where
+    nothing : [] ≡ Word (codes "gz") ∷ is.0 ∷ is.1 → ⊥
+    nothing e = absurd cc

@@ -5,9 +5,10 @@ ghost use Rattle.std.specs.Str.Lines.{lines, strip_carriage_return};
 ghost use Rattle.script_text.specs.Script as script;
 ghost use Rattle.script_text.specs.Reading.{Reads, Fails};
 
-use crate::line::Line;
+use crate::answer::answer_line;
+use crate::line::{Line, Statement};
 use crate::names::Names;
-use crate::statement::statement;
+use crate::statement::call_line;
 use crate::token::{Token, read_tokens};
 use bumpalo::Bump;
 use mac_base::error::HostFull;
@@ -88,8 +89,19 @@ fn read_line<'a>(
     if tokens.is_empty() {
         return Ok(None);
     }
-    match statement(arena, tokens, names) {
-        Ok(Some(statement)) => Ok(Some(Line { number, statement })),
+    match call_line(arena, tokens, names) {
+        Ok(Some(call)) => {
+            let statement = Statement::Call(call);
+            return Ok(Some(Line { number, statement }));
+        }
+        Ok(None) => {}
+        Err(HostFull) => return Err(Fault::HostFull),
+    }
+    match answer_line(arena, tokens, names) {
+        Ok(Some(answer)) => {
+            let statement = Statement::Answer(answer);
+            Ok(Some(Line { number, statement }))
+        }
         Ok(None) => Err(Fault::Line(number)),
         Err(HostFull) => Err(Fault::HostFull),
     }

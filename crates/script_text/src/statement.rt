@@ -6,10 +6,9 @@ ghost use Rattle.script_text.specs.Found.{Finds};
 ghost use Rattle.script_text.specs.Tokens as tokens;
 ghost use Rattle.script_text.specs.Front.{view};
 ghost use Rattle.script_text.specs.Names.{place_for};
-ghost use Rattle.script_text.specs.Script.{assignment, assigned_by, HasNoFirstWord, IsCall, IsStatement, with_assigned, names_after};
+ghost use Rattle.script_text.specs.Script.{assignment, assigned_by, HasNoFirstWord, IsCall, with_assigned, names_after};
 
-use crate::answer::answer_line;
-use crate::line::{CallLine, Name, Statement};
+use crate::line::{CallLine, Name};
 use crate::names::Names;
 use crate::operand::{is_name, operands};
 use crate::token::Token;
@@ -53,7 +52,7 @@ fn add_assigned(names: &mut Names, word: Option<&[u8]>) -> Result<Option<Name>, 
 }
 
 /// The call that the tokens of a line make, where these names have been assigned.
-fn call_line<'a>(
+pub fn call_line<'a>(
     arena: &'a Bump,
     line: &[Token<'a>],
     names: &mut Names,
@@ -85,24 +84,4 @@ fn call_line<'a>(
         call,
         operands,
     }))
-}
-
-/// What the tokens of a line say, where these names have been assigned: a call, or an answer.
-pub fn statement<'a>(
-    arena: &'a Bump,
-    line: &[Token<'a>],
-    names: &mut Names,
-) -> Result<Option<Statement<'a>>, HostFull>
-    ensures statement { IfOk result (λ found.
-        Finds found (IsStatement names.old (map view line.now))) }
-    ensures names { IfOk result (λ found. IfSome found (λ _.
-        names.new ≡ names_after names.old (map view line.now))) }
-{
-    if let Some(call) = call_line(arena, line, names)? {
-        return Ok(Some(Statement::Call(call)));
-    }
-    match answer_line(arena, line, names)? {
-        Some(answer) => Ok(Some(Statement::Answer(answer))),
-        None => Ok(None),
-    }
 }
