@@ -15,3 +15,4 @@ pub mod StepQuiet
 pub mod StepRequests
 pub mod Steps
 pub mod Unmoved
+pub mod LentSteps

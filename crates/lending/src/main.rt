@@ -9,6 +9,7 @@ use mac_base::block::Status;
 use mac_base::error::OsErr;
 use mac_base::handle::Ptr;
 use mac_base::zone_spec::ZoneSpec;
+use mac_calls::NoProcedure;
 use mem_calls::MemoryManager;
 use raw_region::Lent;
 use std::io;
@@ -29,7 +30,7 @@ fn filled(memory: &mut MemoryManager) -> Result<Ptr, OsErr>
     ensures nothing_lent { memory.new.heap.table.lent ≡ [] }
     ensures filled { IfOk result (λ pointer. bytes_of memory.new.heap.table pointer ≡ replicate 4 42) }
 {
-    let pointer = memory.new_ptr(COUNT)?;
+    let pointer = memory.new_ptr(COUNT, &mut NoProcedure::new())?;
     let mut loan = memory.lend(pointer.number())?;
     device(&mut loan);
     memory.give_back(pointer.number(), loan);
