@@ -6,9 +6,9 @@ mod attempt;
 #[cfg(test)]
 mod gaps;
 #[cfg(test)]
-mod place;
-#[cfg(test)]
 mod growth;
+#[cfg(test)]
+mod place;
 #[cfg(test)]
 mod region;
 #[cfg(test)]
