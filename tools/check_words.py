@@ -49,7 +49,7 @@ NO_NUMBERS = [
     ("--zone +4096", "zone"),
     ("--zone $1000", "zone"),
     ("--limit=", "limit"),
-    ("--limit -1 --base a", "limit"),
+    ("--limit=-1 --base a", "limit"),
     ("--base=", "base"),
     ("--base 4294967296", "base"),
     ("--mode thirtytwo", "mode"),

@@ -20,7 +20,7 @@ ghost use Rattle.std.specs.Prelude.{◌≡◌, ◌≤◌, ◌&&◌, not, IsTrue,
 ghost use Rattle.mac_base.specs.HandleTable.{has_block, is_full, is_handle, is_lent, is_locked, is_pointer};
 ghost use Rattle.mac_base.specs.HeadKind.{max_size};
 
-use mac_base::block::{Flags, HeadKind, Kind};
+use mac_base::block::{Block, Entry, Flags, HeadKind, Kind};
 use mac_base::handle::{Handle, Ptr};
 use mac_base::size::MAX_SIZE;
 use mac_base::zone_spec::ZoneSpec;
@@ -172,9 +172,12 @@ fn step(rt: &impl Abort, zone: &mut Zone, made: &mut Made, word: &str) {
     match word {
         "A" => zone.compact_all(),
         "G" => zone.extend(),
+        "X" => zone.purge_all(),
         _ => {
             if let Some(size) = word.strip_prefix('C') {
                 zone.compact(number_of(rt, size));
+            } else if let Some(size) = word.strip_prefix('Q') {
+                zone.purge_to(number_of(rt, size));
             } else if word.starts_with('R') {
                 make(rt, zone, word).expect(rt, "there is room");
             } else {
@@ -188,11 +191,16 @@ fn step(rt: &impl Abort, zone: &mut Zone, made: &mut Made, word: &str) {
 fn assert_well_formed(rt: &impl Abort, zone: &Zone) {
     let mut at = zone.first_block();
     let mut lowest = 0;
-    while let Some(block) = zone.entry(at) {
-        if block.entry.kind.is_free() && lowest == 0 {
+    for _ in 0..1024 {
+        let Some(block) = zone.entry(at) else {
+            break;
+        };
+        let Block { entry, .. } = block;
+        let Entry { size, kind } = entry;
+        if kind.is_free() && lowest == 0 {
             lowest = at;
         }
-        at += block.entry.size;
+        at = at.wrapping_add(size);
     }
     assert_nothing_lent(rt, zone);
     let image = zone.image();
@@ -224,9 +232,14 @@ fn check_steps(rt: &impl Abort, zone: &mut Zone, steps: &str, blocks: &str) {
     for word in blocks.split(' ') {
         let (size, kind) = word.split_once(':').expect(rt, "a size and a kind");
         let block = zone.entry(at).expect(rt, "a block stands there");
-        assert_eq!(rt; block.entry.size, number_of(rt, size), "{steps}");
-        assert!(rt; is_said(rt, &made, kind, block.entry.kind), "{steps}");
-        at = at.wrapping_add(block.entry.size);
+        let Block { entry, .. } = block;
+        let Entry {
+            size: stands,
+            kind: is,
+        } = entry;
+        assert_eq!(rt; stands, number_of(rt, size), "{steps}");
+        assert!(rt; is_said(rt, &made, kind, is), "{steps}");
+        at = at.wrapping_add(stands);
     }
     assert!(rt; zone.entry(at).is_none(), "no further block stands there");
 }
@@ -279,6 +292,12 @@ const GROWING: &str = "\
 +500 !+1000 G +1000 | 508:0 1008:1 2264:.
 +700 G | 708:0 3072:.
 *700 G G S0:3772 | 3780:0
++100 +200 +300 P0 P2 Q600 | 108:. 208:1 392:.
++100 +200 +300 P0 P2 Q80 | 108:0 208:1 308:2 84:.
++100 +200 +300 P0 P1 Q300 | 316:. 308:2 84:.
++100 +200 +300 P0 P1 Q700 | 316:. 308:2 84:.
++100 +200 +300 P0 L1 X A | 108:. 208:1 308:2 84:.
++100 +200 +300 P0 P2 X A | 208:1 500:.
 ";
 
 #[test]
