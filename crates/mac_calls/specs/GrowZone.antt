@@ -57,11 +57,6 @@ may_note [] = false
 may_note (a ∷ []) = option_map_or (λ (answer : Answer). nat_lt (length a.carried) (length answer.calls)) a.answer false
 may_note (a ∷ b ∷ asks) = may_note (b ∷ asks)
 
--- the asks of one who was asked for so many bytes, and has no answers
-abbrev pub unanswered : Option ℕ → List Ask
-unanswered None = []
-unanswered (Some needed) = new_ask needed None ∷ []
-
 -- as a call of the Memory Manager
 abbrev pub memory_call : ReleasingCall → MemoryCall
 memory_call (DisposesHandle h) = DisposeHandle h

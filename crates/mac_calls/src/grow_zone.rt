@@ -94,36 +94,3 @@ pub struct Asked {
     /// The answer's value.
     pub value: u32,
 }
-
-/// No grow-zone procedure: it was asked for so many bytes, or not yet.
-#[derive(Clone, Copy)]
-pub struct NoProcedure {
-    asked: Option<u32>,
-}
-
-impl NoProcedure {
-    ghost use Rattle.std.specs.Prelude.{◌≡◌, []};
-    ghost use Rattle.mac_calls.specs.GrowZone.{unanswered};
-
-    /// It was asked nothing yet.
-    pub fn new() -> NoProcedure
-        ensures { unanswered result.asked ≡ [] }
-    {
-        NoProcedure { asked: None }
-    }
-}
-
-impl GrowZone for NoProcedure {
-    ghost use Rattle.mac_calls.specs.GrowZone.{unanswered};
-
-    ghost asks = { λ p. unanswered p.asked };
-
-    ghost source = { λ p. [] };
-
-    fn ask(&mut self, needed: u32) -> Option<Answer> {
-        self.asked = Some(needed);
-        None
-    }
-
-    fn did(&mut self, _call: ReleasingCall, _code: Option<OsErr>) {}
-}

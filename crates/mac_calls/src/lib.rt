@@ -10,7 +10,7 @@ mod reply;
 mod table;
 
 pub use call::Call;
-pub use grow_zone::{Answer, Asked, GrowZone, NoProcedure};
+pub use grow_zone::{Answer, Asked, GrowZone};
 pub use loan_call::LoanCall;
 pub use memory_call::{MemoryCall, Span};
 pub use reply::{BlockList, Outcome, Reply, Results};
