@@ -39,7 +39,7 @@ fi
 
 maps=0
 for output in examples/*.output; do
-    printed=$(grep -c '^  ' "$output")
+    printed=$(grep -c '^  \$' "$output")
     if [ "$printed" -eq 0 ]; then
         continue
     fi

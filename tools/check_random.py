@@ -1,5 +1,5 @@
 #!/usr/bin/env python3
-"""Checks a macheap program against a small model, on random scripts in zones of both modes.
+"""Checks a macheap program against a small model, on random scripts in zones of both modes that grow or don't.
 
     tools/check_random.py PROGRAM [SCRIPTS [LINES [FIRST]]]
 
@@ -12,7 +12,8 @@ import random
 import subprocess
 import sys
 
-PARAM, NIL, DEAD, FULL, LOCKED, LENT = -50, -109, -111, -108, -112, -117
+PARAM, NIL, DEAD, FULL, LOCKED, LENT, NO_BLOCK = -50, -109, -111, -108, -112, -117, -115
+MOST_ANSWERS = 16
 MAX_SIZE = 8388608
 LOCK, PURGE, RESOURCE = 128, 64, 32
 FLAG_CALLS = {
@@ -27,6 +28,10 @@ FLAG_CALLS = {
 
 class Refused(Exception):
     """A call is refused with this code."""
+
+
+class NoRoom(Exception):
+    """An attempt finds no room. Nothing has changed."""
 
 
 class Owner:
@@ -44,9 +49,10 @@ class Block:
 
 
 class Zone:
-    def __init__(self, mode, size, base):
+    def __init__(self, mode, size, limit, base):
         self.head, self.least = (8, 12) if mode == 24 else (12, 16)
-        self.first = base + 52
+        self.first, self.limit = base + 52, limit
+        self.answers, self.asked = [], []
         master = self.needed(256)
         self.blocks = [Block(master, "master"), Block(size - 52 - master, "free")]
         self.slots = [self.first + self.head + 4 * it for it in range(64)]
@@ -101,20 +107,130 @@ class Zone:
 
     # what calls do to blocks
 
-    def take(self, length, owner):
-        """Gives the front of the lowest free block with room to an owner; a function gives its number from the header's address."""
-        needed = self.needed(length)
-        for index, (at, block) in enumerate(self.placed()):
-            if block.owner == "free" and block.size >= needed:
-                number = owner(at)
-                size = needed if block.size - needed >= self.least else block.size
-                rest = [Block(block.size - size, "free")] if size < block.size else []
-                self.blocks[index : index + 1] = [Block(size, number), *rest]
-                return number
-        raise Refused(FULL)
+    def growth_left(self):
+        return self.limit - 52 - sum(it.size for it in self.blocks)
+
+    def grow(self):
+        if self.growth_left():
+            self.blocks.append(Block(self.growth_left(), "free"))
+            self.join()
+
+    def largest(self):
+        return max([it.size for it in self.blocks if it.owner == "free"], default=0)
+
+    def is_fixed(self, owner):
+        return owner == "master" or owner in self.live and (not self.live[owner].is_handle or bool(self.live[owner].flags & LOCK))
+
+    def gaps(self):
+        """The gaps, lowest first: the index of the first block of each, and that behind its last."""
+        start, gaps = 0, []
+        for index, block in enumerate(self.blocks):
+            if self.is_fixed(block.owner):
+                gaps.append((start, index))
+                start = index + 1
+        return [*gaps, (start, len(self.blocks))]
+
+    def room(self, gap):
+        return sum(it.size for it in self.blocks[slice(*gap)] if it.owner == "free")
+
+    def arrange(self, gap, front, behind):
+        """Puts the gap's free bytes between blocks of it."""
+        free = [Block(self.room(gap), "free")] if self.room(gap) else []
+        self.blocks[slice(*gap)] = [*front, *free, *behind]
+
+    def used(self, gap):
+        return [it for it in self.blocks[slice(*gap)] if it.owner != "free"]
+
+    def arrange_down(self, gap):
+        self.arrange(gap, self.used(gap), [])
+
+    def arrange_up(self, gap):
+        self.arrange(gap, [], self.used(gap))
+
+    def lowest_gap(self, needed):
+        for gap in self.gaps():
+            if self.room(gap) >= needed:
+                return gap
+        raise NoRoom
+
+    def index_of(self, number):
+        return next(index for index, it in enumerate(self.blocks) if it.owner == number)
+
+    def own_gap(self, number):
+        index = self.index_of(number)
+        return next(gap for gap in self.gaps() if gap[0] <= index < gap[1])
+
+    def gap_behind(self, number):
+        index = self.index_of(number)
+        return next(gap for gap in self.gaps() if gap[0] == index + 1)
+
+    def take_front(self, index, needed, owner):
+        """Gives the front of a free block to an owner."""
+        size = self.blocks[index].size
+        given = needed if size - needed >= self.least else size
+        rest = [Block(size - given, "free")] if given < size else []
+        self.blocks[index : index + 1] = [Block(given, owner), *rest]
+
+    def place_relocatable(self, needed, owner):
+        free = [index for index, it in enumerate(self.blocks) if it.owner == "free" and it.size >= needed]
+        if not free:
+            gap = self.lowest_gap(needed)
+            free = [gap[0] + len(self.used(gap))]
+            self.arrange_down(gap)
+        self.take_front(free[0], needed, owner)
+
+    def clear_gap(self, needed):
+        """The lowest gap with room begins with the free bytes; the index of its first block, and its address."""
+        gap = self.lowest_gap(needed)
+        first = self.blocks[gap[0]]
+        if first.owner != "free" or first.size < needed:
+            self.arrange_up(gap)
+        return gap[0], self.first + sum(it.size for it in self.blocks[: gap[0]])
+
+    def place_fixed(self, needed, owner):
+        index, at = self.clear_gap(needed)
+        self.take_front(index, needed, owner or at + self.head)
+        return at + self.head
+
+    def resize_there(self, number, needed):
+        """Whether the block can have the size where it is, which is done."""
+        index = self.index_of(number)
+        block, behind = self.blocks[index], self.blocks[index + 1 : index + 2]
+        whole = block.size
+        if needed > whole:
+            whole += sum(it.size for it in behind if it.owner == "free")
+            if whole < needed:
+                return False
+            del self.blocks[index + 1]
+        block.size = needed if whole - needed >= self.least else whole
+        if block.size < whole:
+            self.blocks.insert(index + 1, Block(whole - block.size, "free"))
+            self.join()
+        return True
+
+    def resize(self, number, needed):
+        if self.resize_there(number, needed):
+            return
+        stays = self.is_fixed(number)
+        gap = self.gap_behind(number) if stays else self.own_gap(number)
+        if self.blocks[self.index_of(number)].size + self.room(gap) >= needed:
+            if stays:
+                self.arrange_up(gap)
+            else:
+                used = self.used(gap)
+                place = next(index for index, it in enumerate(used) if it.owner == number) + 1
+                self.arrange(gap, used[:place], used[place:])
+            assert self.resize_there(number, needed)
+            return
+        if stays:
+            raise NoRoom
+        self.place_relocatable(needed, "new")
+        self.blocks[self.index_of(number)].owner = "free"
+        self.blocks[self.index_of("new")].owner = number
+        self.join()
 
     def free(self, number):
-        next(it for it in self.blocks if it.owner == number).owner = "free"
+        self.blocks[self.index_of(number)].owner = "free"
         self.join()
 
     def join(self):
@@ -126,21 +242,63 @@ class Zone:
                 joined.append(block)
         self.blocks = joined
 
-    def resize(self, number, length):
+    def candidates(self, protected, blocks=None):
+        """The handles that may be purged, in order of address."""
+        owners = [it.owner for it in (self.blocks if blocks is None else blocks) if it.owner in self.live]
+        return [it for it in owners if it not in protected and self.live[it].is_handle and self.live[it].flags & (LOCK | PURGE) == PURGE]
+
+    def purge(self, number):
+        self.free(number)
+        self.live[number] = Owner(True, None)
+
+    # requests: trials, and the grow-zone procedure between them
+
+    def trial(self, attempt, protected, candidates):
+        """Makes attempts: in the zone as it is, grown to its limit, and with one handle more purged each."""
+        try:
+            return attempt()
+        except NoRoom:
+            self.grow()
+        left = candidates()
+        while True:
+            try:
+                return attempt()
+            except NoRoom:
+                if not left:
+                    raise
+                self.purge(left.pop(0))
+
+    def request(self, needed, attempt, protected=(), candidates=None):
+        candidates = candidates or (lambda: self.candidates(protected))
+        while True:
+            try:
+                return self.trial(attempt, protected, candidates)
+            except NoRoom:
+                pass
+            if len(self.asked) == MOST_ANSWERS or not self.answers:
+                raise Refused(FULL)
+            calls, value = self.answers.pop(0)
+            self.asked.append((needed, value))
+            for name, number in calls:
+                if number not in protected:
+                    try:
+                        CALLS[name](self, number)
+                    except Refused:
+                        pass
+            if value == 0:
+                raise Refused(FULL)
+
+    def slot(self, protected=()):
+        """The slot that the next new handle takes; where there is none, a master block is built first."""
+        if not self.slots:
+            self.more_masters(protected)
+
+    def request_size(self, number, length):
         self.test(length > MAX_SIZE, PARAM)
         needed = self.needed(length)
-        index = next(at for at, it in enumerate(self.blocks) if it.owner == number)
-        block, behind = self.blocks[index], self.blocks[index + 1 : index + 2]
-        if needed > block.size:
-            whole = block.size + sum(it.size for it in behind if it.owner == "free")
-            self.test(whole < needed, FULL)
-            del self.blocks[index + 1]
-        else:
-            whole = block.size
-        block.size = needed if whole - needed >= self.least else whole
-        if block.size < whole:
-            self.blocks.insert(index + 1, Block(whole - block.size, "free"))
-            self.join()
+        stays = self.is_fixed(number)
+        behind = (lambda: self.candidates([number], self.blocks[slice(*self.gap_behind(number))])) if stays else None
+        self.request(needed, lambda: self.resize(number, needed), [number], behind)
         owner = self.live[number]
         owner.contents = owner.contents[:length] + bytes(max(0, length - len(owner.contents)))
 
@@ -148,22 +306,77 @@ class Zone:
 
     def new_handle(self, length):
         self.test(length > MAX_SIZE, PARAM)
-        self.test(not self.slots, FULL)
-        number = self.take(length, lambda at: self.slots[0])
-        self.live[self.slots.pop(0)] = Owner(True, bytearray(length))
+        self.slot()
+        needed = self.needed(length)
+        self.request(needed, lambda: self.place_relocatable(needed, self.slots[0]))
+        number = self.slots.pop(0)
+        self.live[number] = Owner(True, bytearray(length))
         return address(number)
 
     def new_empty_handle(self):
-        self.test(not self.slots, FULL)
+        self.slot()
         number = self.slots.pop(0)
         self.live[number] = Owner(True, None)
         return address(number)
 
     def new_ptr(self, length):
         self.test(length > MAX_SIZE, PARAM)
-        number = self.take(length, lambda at: at + self.head)
+        needed = self.needed(length)
+        number = self.request(needed, lambda: self.place_fixed(needed, None))
         self.live[number] = Owner(False, bytearray(length))
         return address(number)
+
+    def more_masters(self, protected=()):
+        needed = self.needed(256)
+        at = self.request(needed, lambda: self.place_fixed(needed, "master"), protected)
+        self.slots = [at + 4 * it for it in range(64)] + self.slots
+
+    def reserve_mem(self, length):
+        self.test(length > MAX_SIZE, PARAM)
+        needed = self.needed(length)
+        self.request(needed, lambda: self.clear_gap(needed))
+
+    def compact_mem(self, size):
+        self.test(size > MAX_SIZE, PARAM)
+        if self.largest() < size:
+            fitting = [gap for gap in self.gaps() if self.room(gap) >= size][:1]
+            self.compact(fitting or self.gaps())
+        return str(self.largest())
+
+    def compact(self, gaps):
+        for gap in reversed(gaps):
+            self.arrange_down(gap)
+
+    def purge_mem(self, size):
+        self.test(size > MAX_SIZE, PARAM)
+        for number in self.candidates([]):
+            if self.largest() >= size:
+                return
+            self.purge(number)
+        self.test(self.largest() < size, FULL)
+
+    def max_mem(self):
+        for number in self.candidates([]):
+            self.purge(number)
+        self.compact(self.gaps())
+        return f"{self.largest()} {self.growth_left()}"
+
+    def move_hhi(self, number):
+        owner = self.full_handle(number)
+        self.test(owner.flags & LOCK, LENT)
+        gap = self.own_gap(number)
+        used = self.used(gap)
+        self.arrange(gap, [it for it in used if it.owner != number], [it for it in used if it.owner == number])
+
+    def hlock_hi(self, number):
+        self.move_hhi(number)
+        self.live[number].flags |= LOCK
+
+    def recover_handle(self, at):
+        for place, block in self.placed():
+            if place + self.head == at and block.owner in self.live and self.live[block.owner].is_handle:
+                return address(block.owner)
+        raise Refused(NO_BLOCK)
 
     def dispose_handle(self, number):
         owner = self.handle(number)
@@ -190,12 +403,12 @@ class Zone:
     def set_handle_size(self, number, length):
         self.full_handle(number)
         self.not_lent(number)
-        self.resize(number, length)
+        self.request_size(number, length)
 
     def set_ptr_size(self, number, length):
         self.pointer(number)
         self.not_lent(number)
-        self.resize(number, length)
+        self.request_size(number, length)
 
     def get_handle_size(self, number):
         return str(len(self.full_handle(number).contents))
@@ -278,15 +491,16 @@ class Zone:
         """What the call prints behind its name."""
         if name == "MemError":
             return f"{self.refused} 0"
+        self.asked = []
         try:
             made = self.flag(name, *operands) if name in FLAG_CALLS else CALLS[name](self, *operands)
         except Refused as refused:
             self.refused = refused.args[0]
-            return str(self.refused)
-        self.refused = 0
-        if name == "ZoneMap":
-            return made
-        return f"{made} 0" if made is not None else "0"
+            said = str(self.refused)
+        else:
+            self.refused = 0
+            said = made if name == "ZoneMap" else f"{made} 0" if made is not None else "0"
+        return said + "".join(f"\n  gz {needed} {value}" for needed, value in self.asked)
 
 
 CALLS = {
@@ -310,13 +524,22 @@ CALLS = {
     "LentPoke": Zone.lent_poke,
     "Return": Zone.return_,
     "ZoneMap": Zone.zone_map,
+    "ReserveMem": Zone.reserve_mem,
+    "MoreMasters": Zone.more_masters,
+    "CompactMem": Zone.compact_mem,
+    "PurgeMem": Zone.purge_mem,
+    "MaxMem": Zone.max_mem,
+    "MaxApplZone": Zone.grow,
+    "MoveHHi": Zone.move_hhi,
+    "HLockHi": Zone.hlock_hi,
+    "RecoverHandle": Zone.recover_handle,
 }
 
 # how often each call is made
 WEIGHTS = {
     **dict.fromkeys([*CALLS, *FLAG_CALLS, "MemError"], 2),
     **dict(NewHandle=14, NewPtr=9, DisposeHandle=7, DisposePtr=5, SetHandleSize=6, SetPtrSize=5, HLock=9, Peek=8, Poke=8),
-    **dict(Lend=9, LentPeek=6, LentPoke=7, Return=6, ZoneMap=1),
+    **dict(Lend=9, LentPeek=6, LentPoke=7, Return=6, ZoneMap=1, MaxApplZone=0.2, MaxMem=1, MoreMasters=0.5, HUnlock=7, HPurge=7, gz=5),
 }
 
 
@@ -366,10 +589,13 @@ class Chooser:
 
     def operands(self, name):
         zone, live = self.zone, self.zone.live
-        if name in ("NewHandle", "NewPtr"):
+        if name in ("NewHandle", "NewPtr", "ReserveMem", "CompactMem", "PurgeMem"):
             return [self.length()]
-        if name in ("NewEmptyHandle", "ZoneMap", "MemError"):
+        if name in ("NewEmptyHandle", "ZoneMap", "MemError", "MoreMasters", "MaxMem", "MaxApplZone"):
             return []
+        if name == "RecoverHandle":
+            places = [at + zone.head for at, block in zone.placed() if block.owner in live]
+            return [self.number(places)]
         if name in ("LentPeek", "LentPoke", "Return"):
             among = list(zone.lent)
         elif name == "Lend":
@@ -391,9 +617,15 @@ class Chooser:
             return [number, self.offset(number), self.data()]
         return [number]
 
+    def answer(self):
+        """An answer of the grow-zone procedure: its calls, and its value."""
+        names = ["DisposeHandle", "DisposePtr", "EmptyHandle"]
+        calls = [(name, self.operands(name)[0]) for name in self.random.choices(names, k=self.random.choice([0, 1, 1, 2, 3, 8]))]
+        return calls, self.random.choice([0, 1, 2, self.random.randrange(2**32)])
+
     def line(self):
         name = self.random.choices(list(WEIGHTS), list(WEIGHTS.values()))[0]
-        return name, self.operands(name)
+        return name, self.answer() if name == "gz" else self.operands(name)
 
 
 def written(operand, is_hexadecimal):
@@ -406,14 +638,21 @@ def compare(program, seed, lines):
     """Runs one random script by the program and by the model; tells the first line in which they differ."""
     dice = random.Random(seed)
     mode, size, base = dice.choice([24, 32]), dice.choice([1024, 2048, 4096, 65536]), dice.choice([0x1000, 0x100000, 0x400000])
-    zone = Zone(mode, size, base)
+    limit = size + dice.choice([0, 0, 16, 1000, size])
+    zone = Zone(mode, size, limit, base)
     chooser = Chooser(seed, zone, size)
     script, wanted = [], []
     for number in range(1, lines + 1):
         name, operands = chooser.line()
-        script.append(" ".join([name, *(written(it, dice.random() < 0.5) for it in operands)]))
+        number_text = lambda it: written(it, dice.random() < 0.5)
+        if name == "gz":
+            calls, value = operands
+            zone.answers.append(operands)
+            script.append(f"gz {number_text(value)} " + dice.choice([";", " ; "]).join(f"{call} {number_text(it)}" for call, it in calls))
+            continue
+        script.append(" ".join([name, *map(number_text, operands)]))
         wanted += f"{number} {name} {zone.reply(name, operands)}".split("\n")
-    words = [program, "--mode", str(mode), "--zone", str(size), "--base", str(base)]
+    words = [program, "--mode", str(mode), "--zone", str(size), "--limit", str(limit), "--base", str(base)]
     ran = subprocess.run(words, input="\n".join(script), capture_output=True, text=True, check=False)
     printed = ran.stdout.split("\n")[:-1]
     if printed == wanted:

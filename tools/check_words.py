@@ -14,6 +14,9 @@ ZONES = [
     ("", 1048576, 4096, 264),
     ("--zone 8192", 1048576, 8192, 264),
     ("--zone=8192", 1048576, 8192, 264),
+    ("--limit 4096", 1048576, 4096, 264),
+    ("--zone 1024 --limit=1040", 1048576, 1024, 264),
+    ("--limit 1048576", 1048576, 4096, 264),
     ("--base 0004096", 4096, 4096, 264),
     ("--base=4096 --zone 4096", 4096, 4096, 264),
     ("--zone 1048576 --base 15728640", 15728640, 1048576, 264),
@@ -30,7 +33,8 @@ NO_WORDS = [
     "--zone",
     "--zone 4096 --zone 4096",
     "--base=4096 --base=4096",
-    "--limit 4096",
+    "--limit 4096 --limit 4096",
+    "--limit",
     "--zone -4096",
     "--fork a",
     "script",
@@ -44,6 +48,8 @@ NO_NUMBERS = [
     ("--zone=-4096", "zone"),
     ("--zone +4096", "zone"),
     ("--zone $1000", "zone"),
+    ("--limit=", "limit"),
+    ("--limit=-1 --base a", "limit"),
     ("--base=", "base"),
     ("--base 4294967296", "base"),
     ("--mode thirtytwo", "mode"),
@@ -64,6 +70,10 @@ NO_ZONES = [
     ("--zone 1022", "a zone's size is a multiple of 4 bytes, and 1022 is none"),
     ("--zone 1020", "a zone has 1024 bytes at least, and 1020 are too few"),
     ("--zone 1048580", "a zone's limit is 1048576 bytes at most, and 1048580 are too many"),
+    ("--limit 4098", "a zone's limit is a multiple of 4 bytes, and 4098 is none"),
+    ("--limit 1048580", "a zone's limit is 1048576 bytes at most, and 1048580 are too many"),
+    ("--limit 4092", "a zone of 4096 bytes can't have a limit of 4092: its size is at most its limit"),
+    ("--limit 4108", "a zone that may grow may grow by 16 bytes at least, and 12 are too few"),
     ("--base 4092", "a zone begins at 4096 or above, and 4092 is too low"),
     ("--base 4098", "a zone begins at a multiple of 4, and 4098 is none"),
     ("--mode 32 --base 16773124", "a zone ends at 16777216 or below: at 16773124 its limit can't be 4096"),
@@ -72,7 +82,7 @@ NO_ZONES = [
 
 NO_NUMBER = "error: --{} takes decimal digits for a number up to 4294967295; see 'macheap --help'\n"
 NO_MODE = "error: --mode is 24 or 32, and not {}; see 'macheap --help'\n"
-NO_ZONE = "error: {}; give other numbers with --zone and --base, see 'macheap --help'\n"
+NO_ZONE = "error: {}; give other numbers with --zone, --limit and --base, see 'macheap --help'\n"
 
 
 def map_of(base, size, master):

@@ -22,7 +22,7 @@ BLOCK = re.compile(
     r"(?:(?P<plain>free|master)|ptr (?P<bytes>\d+)|rel \$(?P<handle>[0-9A-F]{8}) (?P<length>\d+) (?P<flags>[L-][P-][R-]))"
 )
 REPLY = re.compile(r"(?P<number>\d+) (?P<call>[A-Za-z]\w*)(?P<results>(?: .*)?) (?P<code>0|-\d+)")
-NO_REPLY = re.compile(r"script fault at line \d+|no memory")
+NO_REPLY = re.compile(r"script fault at line \d+|no memory|  gz \d+ \d+")
 ASSIGNMENT = re.compile(r"[ \t]*(?P<name>[A-Za-z]\w*)[ \t]*=")
 
 ZONE_HEADER = 52  # the bytes of a zone before its first block

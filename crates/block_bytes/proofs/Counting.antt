@@ -67,10 +67,10 @@ pub record CanCount (m : State) (index : List ℕ) (base gained lost : ℕ) : Ty
   pub counted : lost ≤ big_number 4 (part m.bytes free_field 4) + gained
   pub small : base + 4 * length index < 2 ^ 32
 
--- it is so
-pub can-count : (z : Inside) → IsLayout z → ArePossible z.spec → (m : State) (index : List ℕ) (base gained lost : ℕ) → IsKept z m → length index ≡ length z.index → base ≡ z.spec.base
-    → gained ≤ z.spec.size → lost ≤ free_total z.spec.heads (layout_of z).blocks → CanCount m index base gained lost
-can-count z whole small m index base gained lost kept same base_is gained_few lost_few =
+-- it is so, where no more bytes come to the free ones than the zone may have
+pub can-count_more : (z : Inside) → IsLayout z → ArePossible z.spec → (m : State) (index : List ℕ) (base gained lost : ℕ) → IsKept z m → length index ≡ length z.index → base ≡ z.spec.base
+    → gained ≤ z.spec.limit → lost ≤ free_total z.spec.heads (layout_of z).blocks → CanCount m index base gained lost
+can-count_more z whole small m index base gained lost kept same base_is gained_few lost_few =
     let free = kept.free in let limit = small.small_enough in let end = small.end_low_enough in let few = free-few z whole in let marks = index-limit z whole in let long = kept.long in
     let low = whole.low in let high = whole.high in
     record {
@@ -80,3 +80,9 @@ can-count z whole small m index base gained lost kept same base_is gained_few lo
       counted = omega arith;
       small = omega arith;
     }
+
+-- or than it has
+pub can-count : (z : Inside) → IsLayout z → ArePossible z.spec → (m : State) (index : List ℕ) (base gained lost : ℕ) → IsKept z m → length index ≡ length z.index → base ≡ z.spec.base
+    → gained ≤ z.spec.size → lost ≤ free_total z.spec.heads (layout_of z).blocks → CanCount m index base gained lost
+can-count z whole small m index base gained lost kept same base_is gained_few lost_few = let high = whole.high in
+    can-count_more z whole small m index base gained lost kept same base_is (omega arith) lost_few

@@ -88,7 +88,7 @@ second-written front x y w mid rest q there =
     ap (λ (l : List ℕ). set l q w) (sym (append_assoc front (x ∷ mid) (y ∷ rest))) ∙ set_at (front ++ x ∷ mid) y rest w q (omega arith) ∙ append_assoc front (x ∷ mid) (w ∷ rest)
 
 -- two marks change places with those behind them
-marks-exchanged : (front : List ℕ) (x y a b : ℕ) (rest : List ℕ) (p q r : ℕ) → length front ≡ p → q ≡ p + suc a → r ≡ p + suc b
+pub marks-exchanged : (front : List ℕ) (x y a b : ℕ) (rest : List ℕ) (p q r : ℕ) → length front ≡ p → q ≡ p + suc a → r ≡ p + suc b
     → set (set (set (front ++ x ∷ (unmarked a ++ y ∷ (unmarked b ++ rest))) q 0) p y) r x ≡ front ++ y ∷ (unmarked b ++ x ∷ (unmarked a ++ rest))
 marks-exchanged front x y a b rest p q r long there there' =
     let first = length-unmarked a in let second = length-unmarked b in
@@ -97,7 +97,7 @@ marks-exchanged front x y a b rest p q r long there there' =
     ∙ second-written front y 0 x (unmarked b) (unmarked a ++ rest) r (omega arith)
 
 -- the index of two neighbours
-starts-two : (l : Layout) (before : List RawBlock) (b c : RawBlock) (behind : List RawBlock) → starts_of (with_blocks (before ++ b ∷ c ∷ behind) l)
+pub starts-two : (l : Layout) (before : List RawBlock) (b c : RawBlock) (behind : List RawBlock) → starts_of (with_blocks (before ++ b ∷ c ∷ behind) l)
     ≡ (unmarked (zone_header / 4) ++ marks_of l.heads before) ++ mark_of l.heads b ∷ (unmarked (size_of l.heads b / 4 - 1)
     ++ mark_of l.heads c ∷ (unmarked (size_of l.heads c / 4 - 1) ++ (marks_of l.heads behind ++ unmarked (length l.spare / 4))))
 starts-two l before b c behind = starts-parts l before b (c ∷ behind) ∙ simp append_assoc

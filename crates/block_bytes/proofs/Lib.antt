@@ -18,6 +18,9 @@ pub mod LowestFree
 pub mod Holders
 pub mod Walks
 pub mod WrittenBack
+pub mod Copied
 pub mod Loans
 pub mod NewZone
 pub mod Exchanging
+pub mod Carrying
+pub mod Extending

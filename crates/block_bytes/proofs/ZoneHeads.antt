@@ -1,11 +1,11 @@
 -- A zone's header as bytes: how long it is, what is read there, and that its numbers are written.
-use Rattle.std.proofs.Common.{◌≡◌, ℕ, ◌<◌, ◌^◌, List, ◌++◌, length, ap, sym, subst, ◌∙◌, arith, append_assoc, length-append}
+use Rattle.std.proofs.Common.{◌≡◌, ℕ, ◌<◌, ◌^◌, List, [], ◌++◌, length, refl, ap, sym, subst, ◌∙◌, arith, append_assoc, length-append}
 use Rattle.std.proofs.lemmas.List.{length-replicate}
 use Rattle.byteorder.specs.Endian.{big_bytes, big_number}
 use Rattle.raw_region.specs.Bytes.{part, written}
 use Rattle.raw_region.proofs.Numbers.{length-big_bytes, number-bytes}
 use Rattle.mac_base.specs.HeadKind.{zone_header, slot_count}
-use Rattle.block_bytes.specs.ZoneHead.{front_field, free_field, lowest_field, zeros, zone_head}
+use Rattle.block_bytes.specs.ZoneHead.{end_field, front_field, free_field, lowest_field, zeros, zone_head}
 use Rattle.block_bytes.proofs.Rendered.{part-middle, written-middle}
 
 -- how many zeros there are
@@ -58,6 +58,15 @@ module _ (end front free lowest : ℕ) (rest : List ℕ) where
       ap (λ (l : List ℕ). big_number 4 (part l free_field 4)) (zone_head-parts ∙ sym (append_assoc before_front (big_bytes 4 front) (big_bytes 4 free ++ (behind_free ++ (big_bytes 4 lowest ++ rest)))))
       ∙ ap (big_number 4) (part-middle (before_front ++ big_bytes 4 front) (big_bytes 4 free) (behind_free ++ (big_bytes 4 lowest ++ rest)) free_field 4 (omega arith) (omega arith))
       ∙ number-bytes 4 free (omega arith)
+
+  -- the end is written
+  pub end-written : (n : ℕ) → written (zone_head end front free lowest ++ rest) end_field (big_bytes 4 n) ≡ zone_head n front free lowest ++ rest
+  end-written n = let long = length-big_bytes 4 end in let long' = length-big_bytes 4 n in
+      let behind = zeros 4 ++ (big_bytes 4 front ++ (big_bytes 4 free ++ (behind_free ++ big_bytes 4 lowest))) in
+      let parts : zone_head end front free lowest ++ rest ≡ [] ++ (big_bytes 4 end ++ (behind ++ rest)) = simp append_assoc in
+      ap (λ (l : List ℕ). written l end_field (big_bytes 4 n)) parts
+      ∙ written-middle [] (big_bytes 4 end) (behind ++ rest) (big_bytes 4 n) end_field refl (omega arith)
+      ∙ sym (simp append_assoc)
 
   -- the first free slot is written
   pub front-written : (n : ℕ) → written (zone_head end front free lowest ++ rest) front_field (big_bytes 4 n) ≡ zone_head end n free lowest ++ rest

@@ -1,5 +1,6 @@
 -- A zone as a list of blocks, each with all bytes behind its header.
 use Rattle.std.specs.Prelude.{◌≡◌, ℕ, suc, ◌+◌, ◌-◌, ◌≤◌, ◌<◌, ◌^◌, ◌%◌, Bool, true, false, not, ◌&&◌, ◌||◌, ◌==◌, nat_le, nat_lt, if◌then◌else◌, IsTrue, IsFalse, List, [], ◌∷◌, ◌++◌, length, take, drop, replicate}
+use Rattle.std.specs.List.{list_all}
 use Rattle.byteorder.specs.Endian.{big_bytes}
 use Rattle.raw_region.specs.Bytes.{written}
 use Rattle.raw_region.specs.State.{Name, Loan}
@@ -260,6 +261,25 @@ pub record Exchanged (old : Layout) {at : ℕ} (pair : PairAt old at) (new : Lay
   pub first_moved : IsMoved pair.next first
   pub second_moved : IsMoved pair.here second
 
+-- whether none of these is lent
+abbrev pub none_lent : List RawBlock → Bool
+none_lent bs = list_all (λ (b : RawBlock). not b.lent) bs
+
+-- a block and the others behind it stand between two addresses, none of them lent
+pub record ParcelAt (l : Layout) (at end : ℕ) : Type 0 where
+  pub before : List RawBlock
+  pub here : RawBlock
+  pub others : List RawBlock
+  pub behind : List RawBlock
+  pub blocks : l.blocks ≡ before ++ (here ∷ others ++ behind)
+  pub place : at ≡ address_behind l before
+  pub long : end ≡ at + total_of l.heads (here ∷ others)
+  pub unlent : IsTrue (none_lent (here ∷ others))
+
+-- the zone with the block behind the others
+abbrev pub carried : {at end : ℕ} → (l : Layout) → ParcelAt l at end → Layout
+carried l parcel = with_blocks (parcel.before ++ (parcel.others ++ parcel.here ∷ parcel.behind)) l
+
 -- the block at an address can be lent: it is a handle's or a pointer's, it isn't lent yet, and few are
 pub record CanLend (l : Layout) (at : ℕ) : Type 0 where
   pub block : BlockAt l at
@@ -286,3 +306,12 @@ pub record IsLoanOf (l : Layout) (at : ℕ) (loan : Loan) : Type 0 where
 -- a block that was lent, with the bytes that came back
 abbrev pub given_back : RawBlock → List ℕ → RawBlock
 given_back b bytes = record b { contents = bytes; lent = false }
+
+-- a free block of these bytes, the first of which its header takes the place of; none where there are no bytes
+abbrev pub free_block_of : HeadKind → List ℕ → List RawBlock
+free_block_of heads [] = []
+free_block_of heads (x ∷ xs) = free_raw_block (drop (head_size heads) (x ∷ xs)) ∷ []
+
+-- the zone grown to its limit: the bytes up to there are a free block behind the others
+abbrev pub extended : Layout → Layout
+extended l = record l { blocks = l.blocks ++ free_block_of l.heads l.spare; spare = [] }

@@ -6,4 +6,5 @@ pub mod Starts
 pub mod Reading
 pub mod NewLayout
 pub mod WritingBack
+pub mod Copying
 pub mod Walk

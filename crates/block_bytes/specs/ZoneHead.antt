@@ -3,7 +3,10 @@ use Rattle.std.specs.Prelude.{ℕ, List, ◌++◌, replicate}
 use Rattle.byteorder.specs.Endian.{big_bytes}
 use Rattle.mac_base.specs.HeadKind.{slot_count}
 
--- where it has the first free slot, the free bytes, and the header of the lowest free block
+-- where it has the address behind the last block, the first free slot, the free bytes, and the header of the lowest free block
+abbrev pub end_field : ℕ
+end_field = 0
+
 abbrev pub front_field : ℕ
 front_field = 8
 

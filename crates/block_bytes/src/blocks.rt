@@ -100,8 +100,9 @@ impl Blocks {
     ghost use Rattle.mac_base.specs.ZoneSizes.{shape_of};
     ghost use Rattle.raw_region.specs.Bytes.{part, written};
     ghost use Rattle.block_bytes.specs.declared.header.Role.TheVariants.{Free};
-    ghost use Rattle.block_bytes.specs.Layout.{RawBlock, Layout, BlockAt, UnlentAt, WordAt, CanBe, CanTurn, CanResize, CanSplit, PairAt, CanMerge, Exchanged, CanLend, IsLoanOf, NothingLent, in_role, front_of, rest_of, with_word, cleared, cleared_from, CanClear, body, raw_block, free_raw_block, size_of, header_of, is_possible, joint_body, zone_bytes, with_blocks, with_front, address_behind, free_total, lent_count, most_lent, loan_of, lent_block, given_back};
+    ghost use Rattle.block_bytes.specs.Layout.{RawBlock, Layout, BlockAt, UnlentAt, WordAt, CanBe, CanTurn, CanResize, CanSplit, PairAt, ParcelAt, carried, CanMerge, Exchanged, CanLend, IsLoanOf, NothingLent, in_role, front_of, rest_of, with_word, cleared, cleared_from, CanClear, body, raw_block, free_raw_block, size_of, header_of, is_possible, joint_body, zone_bytes, with_blocks, with_front, extended, address_behind, free_total, lent_count, most_lent, loan_of, lent_block, given_back};
     ghost use Rattle.block_bytes.specs.Finding.{HoldsByte, LiesOutside, LowestFree, NoneFree};
+    ghost use Rattle.block_bytes.specs.Copying.{CanCopy, copied_over};
     ghost use Rattle.block_bytes.specs.WritingBack.{WritesBackContents};
     ghost use Rattle.block_bytes.specs.NewLayout.{new_layout};
     ghost use Rattle.block_bytes.specs.Walk.{Walks};
@@ -392,6 +393,56 @@ impl Blocks {
         count_free(&mut self.memory, &self.index, base, 0, 0);
     }
 
+    /// The block at an address changes places with those behind it up to an address. The bytes of all of them, those of
+    /// free ones too, are kept, and turn in one rotation.
+    pub fn carry(&mut self, at: u32, end: u32)
+        requires { ParcelAt self.old at end }
+        ensures { (parcel : ParcelAt self.old at end) → self.new ≡ carried self.old parcel }
+    {
+        let heads = self.spec.heads();
+        let base = self.spec.base();
+        let first = self.entry_at(at);
+        let size = first.size as usize;
+        let start = (at - base) as usize;
+        let stop = (end - base) as usize;
+        let mut next = start + size;
+        while next < stop {
+            let passed = self.memory.header(heads, next);
+            let place = (next - size) / 4;
+            self.index.set(next / 4, 0);
+            self.index.set(place, passed.mark());
+            self.index
+                .set(place + passed.size as usize / 4, first.mark());
+            next += passed.size as usize;
+        }
+        self.memory.rotate(start, start + size, stop);
+        count_free(&mut self.memory, &self.index, base, 0, 0);
+    }
+
+    /// Grows the zone to its limit: the bytes up to there become one free block behind the last. Its header is written, and
+    /// the other bytes stay. Where the zone is as large as its limit nothing changes.
+    pub fn extend(&mut self)
+        ensures { self.new ≡ extended self.old }
+    {
+        let heads = self.spec.heads();
+        let base = self.spec.base();
+        let size = self.spec.size();
+        let limit = self.spec.limit();
+        if size == limit {
+            return;
+        }
+        let free = Header {
+            size: limit - size,
+            role: Role::Free,
+            correction: 0,
+        };
+        self.memory.set_header(heads, size as usize, base, free);
+        self.index.set(size as usize / 4, free.size);
+        count_free(&mut self.memory, &self.index, base, free.size, 0);
+        self.memory.set_end(base + limit);
+        self.spec = self.spec.at_limit();
+    }
+
     /// Lends the contents of the block at an address: who has the loan reads and writes them.
     pub fn lend(&mut self, at: u32) -> Lent
         requires { CanLend self.old at }
@@ -484,6 +535,21 @@ impl Blocks {
         let start = at - self.spec.base() + head_size + from;
         let length = header.size - head_size - header.correction - from;
         self.memory.clear(start as usize, length as usize);
+    }
+
+    /// Copies the first `count` bytes of the contents of the block at `from` over the first of the contents of the block
+    /// at `to`, which stands below it or above.
+    pub fn copy(&mut self, from: u32, to: u32, count: u32)
+        requires { CanCopy self.old from to count }
+        ensures { (can : CanCopy self.old from to count)
+            → self.new ≡ with_blocks (can.target.before ++ copied_over can.target.here (take count can.source.here.contents) ∷ can.target.behind) self.old }
+    {
+        let base = self.spec.base();
+        let head_size = self.spec.heads().head_size();
+        let source = from - base + head_size;
+        let target = to - base + head_size;
+        self.memory
+            .slide(source as usize, target as usize, count as usize);
     }
 
     /// The bytes of the zone, from its start to the end of its last block. Its blocks are possible ones.

@@ -8,7 +8,7 @@ ghost use Rattle.raw_region.specs.Bytes.{part, written};
 ghost use Rattle.raw_region.specs.Span.{IsFree, IsListed, without};
 ghost use Rattle.raw_region.specs.State.{State, with_bytes};
 ghost use Rattle.block_bytes.specs.Head.{head_bytes, header_in, most_over};
-ghost use Rattle.block_bytes.specs.ZoneHead.{zone_head, front_field, free_field, lowest_field};
+ghost use Rattle.block_bytes.specs.ZoneHead.{zone_head, end_field, front_field, free_field, lowest_field};
 ghost use Rattle.block_bytes.specs.Layout.{is_free};
 ghost use Rattle.block_bytes.specs.WritingBack.{WritesBackPart};
 
@@ -255,6 +255,15 @@ impl Memory {
         self.region.put32(FREE_FIELD, free);
         self.region.put16(SLOTS_FIELD, SLOT_COUNT as u16);
         self.region.put32(LOWEST_FIELD, lowest);
+    }
+
+    /// Writes in the zone's header the address behind its last block.
+    pub fn set_end(&mut self, end: u32)
+        requires inside { end_field + 4 ≤ length self.old.bytes }
+        requires free { IsFree self.old.lent end_field 4 }
+        ensures { self.new ≡ with_bytes self.old end_field (big_bytes 4 end) }
+    {
+        self.set_word(END_FIELD, end);
     }
 
     /// The number in the zone's header of the free slots.

@@ -14,7 +14,7 @@ use Rattle.mac_base.specs.declared.error.OsErr.TheVariants.{MemFullErr}
 use Rattle.mac_calls.specs.declared.memory_call.MemoryCall.TheVariants.{NewHandle, Peek, Poke}
 use Rattle.mac_calls.specs.declared.reply.Results.TheVariants.{Handle, Bytes}
 use Rattle.mac_calls.specs.Outcomes.{Outcome}
-use Rattle.mac_base.specs.Request.{NewBlock}
+use Rattle.mac_base.specs.declared.request.Request.TheVariants.{NewBlock}
 use Rattle.mac_base.specs.Sound.{Sound}
 use Rattle.mac_calls.specs.ExactStep.{heap_after}
 use Rattle.mac_calls.specs.FirstRuns.{UnmovedRun}
@@ -91,7 +91,7 @@ first_step = (
   one_handle,
   (
     record { grows = false; purges = [] },
-    record { grows_at_need = λ h. absurd (cc h); purges_at_need = inl refl; purges_candidates = λ h in_none. absurd (omega (arith, in_none.1)) },
+    record { grows_at_need = λ h. absurd (cc h); purges_at_need = inl refl; purges_at_limit = inl refl; purges_candidates = λ h in_none. absurd (omega (arith, in_none.1)) },
     record { fitted = refl; number = refl; table = refl; map = record { same_blocks = same_blocks; same_places = same_places; same_total = refl }; suits = one_handle_suits },
   ),
   (refl, refl, refl),

@@ -6,14 +6,15 @@ use Rattle.mac_base.specs.declared.error.OsErr.TheVariants.{MemFullErr}
 use Rattle.mac_base.specs.HeadKind.{Shape, need}
 use Rattle.mac_base.specs.ZoneMap.{ZoneMap}
 use Rattle.mac_base.specs.HandleTable.{is_full, is_pointer}
-use Rattle.mac_base.specs.Request.{NewPointer, NewEmpty, Resize}
+use Rattle.mac_base.specs.declared.request.Request.TheVariants.{NewPointer, NewEmpty, Resize}
 use Rattle.mac_base.specs.Serve.{take_lowest, resized_in_place, lowest_contents}
 use Rattle.mac_base.specs.Heap.{Heap, granted, grown}
 use Rattle.mac_base.specs.Sound.{Sound}
 use Rattle.mac_calls.specs.Tests.{IsPointer, NotLent, IsSize, refusal}
 use Rattle.mac_calls.specs.declared.memory_call.MemoryCall.TheVariants.{NewPtr, NewEmptyHandle, SetHandleSize, SetPtrSize, DisposePtr, EmptyHandle, MaxApplZone}
 use Rattle.mac_calls.specs.GrowZone.{most_answers}
-use Rattle.mac_base.specs.Releasing.{heap_released, DisposesPtr, Empties}
+use Rattle.mac_base.specs.declared.releasing.ReleasingCall.TheVariants.{DisposesPtr, Empties}
+use Rattle.mac_base.specs.Releasing.{heap_released}
 use Rattle.mac_calls.specs.declared.reply.Results.TheVariants.{Nothing, Handle, Pointer}
 use Rattle.mac_calls.specs.FirstRuns.{UnmovedRun}
 use Rattle.mac_calls.specs.MemoryStep.{RunRelation, StepBy, StepUnless, RequestStep}

@@ -13,7 +13,7 @@ use Rattle.mac_base.specs.Heap.{Heap, new_heap}
 use Rattle.mac_calls.specs.declared.memory_call.MemoryCall.{MemoryCall}
 use Rattle.mac_calls.specs.declared.memory_call.MemoryCall.TheVariants.{NewHandle, NewPtr, ReserveMem, CompactMem, PurgeMem, NewEmptyHandle, MoreMasters, MaxMem, PurgeSpace, MaxBlock, FreeMem, MaxApplZone, DisposeHandle, EmptyHandle, GetHandleSize, HandToHand, HLock, HPurge, HGetState, HSetState, MoveHHi, HLockHi, Deref, DisposePtr, GetPtrSize, RecoverHandle, SetHandleSize, SetPtrSize, ReallocateHandle, PtrToHand, HandAndHand, PtrToXHand, PtrAndHand, Peek, Poke, BlockMove, ZoneMap as WalkZone}
 use Rattle.mac_calls.specs.GrowZone.{Answer}
-use Rattle.mac_base.specs.Releasing.{DisposesHandle, Empties}
+use Rattle.mac_base.specs.declared.releasing.ReleasingCall.TheVariants.{DisposesHandle, Empties}
 use Rattle.mac_calls.specs.declared.reply.Results.TheVariants.{Nothing, Handle, Pointer, Address, Number, TwoNumbers, Bytes, Blocks}
 use Rattle.mac_calls.specs.Outcomes.{Outcome}
 use Rattle.mac_calls.specs.ExactStep.{exact_step, heap_after, outcomes_to}
@@ -132,8 +132,8 @@ abbrev two_answers : List Answer
 two_answers = record { calls = DisposesHandle h1 ∷ []; value = 40 } ∷ record { calls = []; value = 0 } ∷ []
 
 protected_from_answer : (exact_step zone two_answers (heap_after zone fresh (NewHandle 3000 ∷ [])) (SetHandleSize h1 3800)).asks
-    ≡ record { needed = 3808; answer = Some (record { calls = DisposesHandle h1 ∷ []; value = 40 }); codes = [] }
-    ∷ record { needed = 3808; answer = Some (record { calls = []; value = 0 }); codes = [] } ∷ []
+    ≡ record { needed = 3808; answer = Some (record { calls = DisposesHandle h1 ∷ []; value = 40 }); carried = [] }
+    ∷ record { needed = 3808; answer = Some (record { calls = []; value = 0 }); carried = [] } ∷ []
 protected_from_answer = refl
 
 abbrev one : Answer
@@ -215,7 +215,7 @@ copies_map = refl
 
 answer_emptied : (exact_step zone (record { calls = Empties h1 ∷ DisposesHandle h2 ∷ []; value = 7 } ∷ record { calls = []; value = 0 } ∷ [])
     (heap_after zone fresh (NewHandle 2000 ∷ NewHandle 1000 ∷ [])) (SetHandleSize h2 3500)).asks
-    ≡ record { needed = 3508; answer = Some (record { calls = Empties h1 ∷ DisposesHandle h2 ∷ []; value = 7 }); codes = None ∷ [] } ∷ []
+    ≡ record { needed = 3508; answer = Some (record { calls = Empties h1 ∷ DisposesHandle h2 ∷ []; value = 7 }); carried = (Empties h1, None) ∷ [] } ∷ []
 answer_emptied = refl
 
 answer_emptied_sizes : outcomes_to zone (exact_step zone (record { calls = Empties h1 ∷ DisposesHandle h2 ∷ []; value = 7 } ∷ []) (heap_after zone fresh (NewHandle 2000 ∷ NewHandle 1000 ∷ [])) (SetHandleSize h2 3500)).heap

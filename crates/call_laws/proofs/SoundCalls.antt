@@ -7,7 +7,8 @@ use Rattle.mac_base.specs.Heap.{Heap, with_table}
 use Rattle.mac_base.specs.Sound.{Sound}
 use Rattle.mac_calls.specs.Tests.{Test, IsHandle, IsBlock, NotEmpty, NotLent, IsWithin, first_refusal, refusal}
 use Rattle.mac_calls.specs.declared.memory_call.MemoryCall.TheVariants.{DisposeHandle, DisposePtr, EmptyHandle, Poke, BlockMove}
-use Rattle.mac_base.specs.Releasing.{heap_released, DisposesHandle, DisposesPtr, Empties}
+use Rattle.mac_base.specs.declared.releasing.ReleasingCall.TheVariants.{DisposesHandle, DisposesPtr, Empties}
+use Rattle.mac_base.specs.Releasing.{heap_released}
 use Rattle.mac_calls.specs.Effect.{written}
 use Rattle.zone_laws.proofs.SoundReleased.{sound-disposed}
 use Rattle.call_laws.proofs.SoundCarried.{sound-carried}

@@ -7,7 +7,9 @@ use Rattle.mac_base.specs.Heap.{Heap}
 use Rattle.mac_base.specs.Sound.{Sound}
 use Rattle.mac_base.specs.Request.{is_among}
 use Rattle.mac_calls.specs.Tests.{IsHandle, IsPointer, NotLent, NotLocked, refusal}
-use Rattle.mac_base.specs.Releasing.{ReleasingCall, DisposesHandle, DisposesPtr, Empties, operand_of, heap_released}
+use Rattle.mac_base.specs.declared.releasing.ReleasingCall.{ReleasingCall}
+use Rattle.mac_base.specs.declared.releasing.ReleasingCall.TheVariants.{DisposesHandle, DisposesPtr, Empties}
+use Rattle.mac_base.specs.Releasing.{operand_of, heap_released}
 use Rattle.mac_calls.specs.GrowZone.{Carried, memory_call, heap_unless, carried_once, carried_from, carried_out}
 use Rattle.zone_laws.proofs.SoundReleased.{sound-disposed, sound-disposed_pointer, sound-emptied}
 use Rattle.call_laws.proofs.Refusals.{first_passed, passed-IsHandle, passed-IsPointer, passed-DisposeHandle}
@@ -25,7 +27,7 @@ carried_one s call heap (Some code) is sound = sound
 -- one more call of an answer
 pub sound-carried_once : (s : Shape) (protected : List ℕ) (call : ReleasingCall) (c : Carried) → Sound s c.heap → Sound s (carried_once s protected call c).heap
 sound-carried_once s protected call c sound =
-    elim (is_among protected (operand_of call)) as (λ b. Sound s (cond b c (record { heap = heap_unless (refusal s c.heap (memory_call call)) (heap_released call c.heap) c.heap; codes = c.codes ++ refusal s c.heap (memory_call call) ∷ [] })).heap) [
+    elim (is_among protected (operand_of call)) as (λ b. Sound s (cond b c (record { heap = heap_unless (refusal s c.heap (memory_call call)) (heap_released call c.heap) c.heap; calls = c.calls ++ (call, refusal s c.heap (memory_call call)) ∷ [] })).heap) [
       | true ↦ sound
       | false ↦ carried_one s call c.heap (refusal s c.heap (memory_call call)) refl sound
     ]
@@ -37,4 +39,4 @@ sound-carried_from s protected (call ∷ calls) c sound = sound-carried_from s p
 
 -- all calls of an answer
 pub sound-carried_out : (s : Shape) (protected : List ℕ) (calls : List ReleasingCall) (heap : Heap) → Sound s heap → Sound s (carried_out s protected calls heap).heap
-sound-carried_out s protected calls heap sound = sound-carried_from s protected calls (record { heap = heap; codes = [] }) sound
+sound-carried_out s protected calls heap sound = sound-carried_from s protected calls (record { heap = heap; calls = [] }) sound

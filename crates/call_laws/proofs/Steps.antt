@@ -6,7 +6,7 @@ use Rattle.mac_base.specs.declared.block.Kind.TheVariants.{Rel}
 use Rattle.mac_base.specs.HeadKind.{Shape, need}
 use Rattle.mac_base.specs.ZoneMap.{ZoneMap, address_behind}
 use Rattle.mac_base.specs.HandleTable.{bytes_of, with_bytes}
-use Rattle.mac_base.specs.Request.{NewBlock}
+use Rattle.mac_base.specs.declared.request.Request.TheVariants.{NewBlock}
 use Rattle.mac_base.specs.Serve.{take_lowest}
 use Rattle.mac_base.specs.Heap.{Heap, granted, every_slot_live, with_table}
 use Rattle.mac_base.specs.Sound.{Sound}
@@ -14,7 +14,8 @@ use Rattle.mac_calls.specs.declared.memory_call.MemoryCall.{MemoryCall}
 use Rattle.mac_calls.specs.declared.memory_call.MemoryCall.TheVariants.{NewHandle, DisposeHandle, Poke, Peek, ZoneMap as WalkZone}
 use Rattle.mac_calls.specs.Tests.{refusal}
 use Rattle.mac_calls.specs.GrowZone.{most_answers}
-use Rattle.mac_base.specs.Releasing.{heap_released, DisposesHandle}
+use Rattle.mac_base.specs.declared.releasing.ReleasingCall.TheVariants.{DisposesHandle}
+use Rattle.mac_base.specs.Releasing.{heap_released}
 use Rattle.mac_calls.specs.Effect.{request_of, written}
 use Rattle.mac_calls.specs.declared.reply.Results.TheVariants.{Nothing, Handle, Bytes, Blocks}
 use Rattle.mac_calls.specs.Outcomes.{Outcome}

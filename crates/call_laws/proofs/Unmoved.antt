@@ -8,7 +8,7 @@ use Rattle.mac_base.specs.HeadKind.{Shape, need}
 use Rattle.mac_base.specs.ZoneMap.{ZoneMap, has_free}
 use Rattle.mac_base.specs.HandleTable.{is_full, is_handle, is_pointer}
 use Rattle.mac_base.specs.Suits.{slots}
-use Rattle.mac_base.specs.Request.{NewBlock, NewEmpty, NewPointer, NewMaster, Resize}
+use Rattle.mac_base.specs.declared.request.Request.TheVariants.{NewBlock, NewEmpty, NewPointer, NewMaster, Resize}
 use Rattle.mac_base.specs.Serve.{taken, take_lowest, lowest_contents, resized_in_place}
 use Rattle.mac_base.specs.Heap.{Heap, granted, every_slot_live}
 use Rattle.mac_base.specs.Sound.{Sound}

@@ -13,7 +13,8 @@ use Rattle.mac_base.specs.HandleTable.{HandleTable}
 use Rattle.mac_base.specs.Suits.{Suits}
 use Rattle.mac_base.specs.Gap.{Gap, gaps, filled, room, is_fixed, has_named, some_gap_has, own_gap, gap_behind}
 use Rattle.mac_base.specs.Arrangement.{used_blocks, up, open_at}
-use Rattle.mac_base.specs.Request.{Resize, size_needed, stays, gap_to_grow, room_of, can_grow, fits}
+use Rattle.mac_base.specs.declared.request.Request.TheVariants.{Resize}
+use Rattle.mac_base.specs.Request.{size_needed, size_of, stays, gap_to_grow, room_of, can_grow, fits}
 use Rattle.mac_base.specs.Serve.{free_in_front, resized_in_place, opened_for, resized_in_gap, resized_elsewhere, resized_block, placed_relocatable, renamed, gives, serve}
 use Rattle.zone_laws.proofs.GapAppend.{free_bytes-append}
 use Rattle.zone_laws.proofs.GapParts.{IsGap, own_gap-is, gap_behind-is}
@@ -134,6 +135,13 @@ is_some-elsewhere s t k x m some = elim (stays t x) as (λ c. is_some (cond c No
 absorbs : (a b c : Bool) → (a ≡ true → b ≡ true) → (a || (b || c)) ≡ (b || c)
 absorbs true b c h = sym (or_left b c (h refl))
 absorbs false b c h = refl
+
+-- it can be exactly where the gap in which it can grow has them with it
+pub is_some-resized_in_gap : (s : Shape) (t : HandleTable) (k x : ℕ) (m : ZoneMap) → Suits s t m → length (sizes (is_named x) m) ≡ 1 → is_some (resized_in_gap s t k x m) ≡ nat_le k (size_of x m + room_of (gap_to_grow t x m))
+is_some-resized_in_gap s t k x m suits once =
+    let one = one_size (sizes (is_named x) m) once in
+    let n : ℕ = one.0 in
+    in_gap_room s t k x n m (growing s t k x n m suits one.1 (first_named x m (some_named x n m one.1))) ∙ ap (λ n. nat_le k (n + room_of (gap_to_grow t x m))) (sym (size_of-At x m n one.1))
 
 -- the block of x can be made k bytes long exactly where it can grow to them
 pub is_some-resized_block : (s : Shape) (t : HandleTable) (k x : ℕ) (m : ZoneMap) → 0 < k → Suits s t m → length (sizes (is_named x) m) ≡ 1 → is_some (resized_block s t k x m) ≡ can_grow t x k m

@@ -101,7 +101,8 @@ slots_at-append s at a b =
     ∙ ap (flat_map (slots_from slot_count)) (map-append (λ at. at + head_size s.heads) (addresses_from at is_master a) (addresses_from (at + total_size a) is_master b))
     ∙ flat_map-append (slots_from slot_count) (map (λ at. at + head_size s.heads) (addresses_from at is_master a)) (map (λ at. at + head_size s.heads) (addresses_from (at + total_size a) is_master b))
 
-need-above : (heads : HeadKind) (n : ℕ) → head_size heads + n ≤ need heads n
+-- a block has room for its header and its contents
+pub need-above : (heads : HeadKind) (n : ℕ) → head_size heads + n ≤ need heads n
 need-above Bits24 n = omega arith
 need-above Bits32 n = omega arith
 

@@ -1,5 +1,10 @@
+pub mod Emptied
 pub mod FittingResize
+pub mod FixesSame
 pub mod FreshNumbers
+pub mod KeepsLoans
+pub mod KeepsServed
+pub mod PurgeBlocks
 pub mod RearrangedSuits
 pub mod RearrangingAll
 pub mod ServedBase
@@ -9,5 +14,10 @@ pub mod ServedRequests
 pub mod ServedResize
 pub mod SlotBounds
 pub mod SoundGrown
+pub mod SoundMoved
+pub mod SoundMaster
 pub mod SoundPurged
+pub mod SoundServed
+pub mod SoundTaken
 pub mod SuitsNil
+pub mod SuitsRestored

@@ -15,7 +15,8 @@ use Rattle.mac_base.specs.ZoneMap.{ZoneMap, Rearranged, block, is_master, joined
 use Rattle.mac_base.specs.HandleTable.{HandleTable}
 use Rattle.mac_base.specs.Suits.{free_apart, is_block_size}
 use Rattle.mac_base.specs.Gap.{Gap, filled, is_fixed, room}
-use Rattle.mac_base.specs.Request.{NewMaster, size_needed}
+use Rattle.mac_base.specs.declared.request.Request.TheVariants.{NewMaster}
+use Rattle.mac_base.specs.Request.{size_needed}
 use Rattle.mac_base.specs.Serve.{taken, take_lowest, begins_free, cleared, placed_fixed, serve}
 use Rattle.mac_base.specs.Trial.{MapServed}
 use Rattle.zone_laws.proofs.GapAppend.{addresses_from-append}

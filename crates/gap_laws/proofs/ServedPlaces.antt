@@ -11,7 +11,8 @@ use Rattle.mac_base.specs.HandleTable.{HandleTable}
 use Rattle.mac_base.specs.Suits.{free_apart}
 use Rattle.mac_base.specs.Gap.{Gap, gaps, filled, is_fixed, room, lowest_gap}
 use Rattle.mac_base.specs.Arrangement.{down}
-use Rattle.mac_base.specs.Request.{NewBlock, NewEmpty, NewPointer, Reserve, Replace, size_needed}
+use Rattle.mac_base.specs.declared.request.Request.TheVariants.{NewBlock, NewEmpty, NewPointer, Reserve, Replace}
+use Rattle.mac_base.specs.Request.{size_needed}
 use Rattle.mac_base.specs.Serve.{take_lowest, placed_relocatable, placed_fixed, reserved, begins_free, cleared, contents_at_gap, gives, serve}
 use Rattle.mac_base.specs.Trial.{stays_for, MapServed}
 use Rattle.zone_laws.proofs.GapParts.{IsGap, lowest_gap-is}

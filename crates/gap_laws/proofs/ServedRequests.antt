@@ -7,7 +7,9 @@ use Rattle.mac_base.specs.HeadKind.{Shape}
 use Rattle.mac_base.specs.ZoneMap.{ZoneMap}
 use Rattle.mac_base.specs.HandleTable.{HandleTable, live_at, is_full, is_pointer}
 use Rattle.mac_base.specs.Suits.{Suits}
-use Rattle.mac_base.specs.Request.{Request, NewBlock, NewEmpty, NewPointer, NewMaster, Reserve, Resize, Replace, size_needed, fits}
+use Rattle.mac_base.specs.declared.request.Request.{Request}
+use Rattle.mac_base.specs.declared.request.Request.TheVariants.{NewBlock, NewEmpty, NewPointer, NewMaster, Reserve, Resize, Replace}
+use Rattle.mac_base.specs.Request.{size_needed, fits}
 use Rattle.mac_base.specs.Serve.{serve, gives, placed_relocatable}
 use Rattle.mac_base.specs.Heap.{Heap, front_slot, table_granted, granted}
 use Rattle.mac_base.specs.Sound.{Sound}

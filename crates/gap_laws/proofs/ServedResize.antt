@@ -10,7 +10,8 @@ use Rattle.mac_base.specs.HandleTable.{HandleTable}
 use Rattle.mac_base.specs.Suits.{Suits}
 use Rattle.mac_base.specs.Gap.{Gap, gaps, filled, is_fixed, own_gap, gap_behind}
 use Rattle.mac_base.specs.Arrangement.{up, open_at}
-use Rattle.mac_base.specs.Request.{Resize, size_needed, stays, gap_to_grow}
+use Rattle.mac_base.specs.declared.request.Request.TheVariants.{Resize}
+use Rattle.mac_base.specs.Request.{size_needed, stays, gap_to_grow}
 use Rattle.mac_base.specs.Serve.{resized_in_place, opened_for, resized_in_gap, resized_elsewhere, resized_block, placed_relocatable, renamed, gives, serve}
 use Rattle.mac_base.specs.Trial.{MapServed}
 use Rattle.zone_laws.proofs.GapParts.{own_gap-is, gap_behind-is}

@@ -12,7 +12,7 @@ use Rattle.zone_laws.proofs.SlotPlaces.{Contains-none, has_room, slots_at, slot_
 use Rattle.zone_laws.proofs.SlotOwners.{rooms-suits}
 
 -- a slot's four bytes lie within the blocks
-slots_at-below : (head n at : ℕ) (m : ZoneMap) (h : ℕ) → list_all (has_room head n) m ≡ true → Contains (slots_at head n at m) h → h + 4 ≤ at + total_size m
+pub slots_at-below : (head n at : ℕ) (m : ZoneMap) (h : ℕ) → list_all (has_room head n) m ≡ true → Contains (slots_at head n at m) h → h + 4 ≤ at + total_size m
 slots_at-below head n at [] h room c = absurd (Contains-none h c)
 slots_at-below head n at (e ∷ es) h room c =
     let rooms = both_true (has_room head n e) (list_all (has_room head n) es) room in

@@ -1,5 +1,6 @@
 -- What lending a new pointer's block, and giving it back, leave.
-use Rattle.std.proofs.Common.{◌≡◌, ◌∙◌, ℕ, ◌+◌, ◌==◌, ◌||◌, Bool, true, false, not, List, [], ◌∷◌, ◌++◌, length, replicate, take, drop, filter, Option, Some, None, Result, Ok, Err, cond, refl, sym, ap, ap₂, subst, arith, nat_eq}
+use Rattle.std.specs.Prelude.{MatchBool, MatchOption}
+use Rattle.std.proofs.Common.{◌≡◌, ◌∙◌, ℕ, ◌+◌, ◌-◌, ◌==◌, ◌||◌, Bool, true, false, not, List, [], ◌∷◌, ◌++◌, length, replicate, take, drop, filter, Option, Some, None, Result, Ok, Err, cond, refl, sym, ap, ap₂, subst, arith, nat_eq}
 use Rattle.mac_base.specs.HeadKind.{Shape}
 use Rattle.mac_base.specs.HandleTable.{HandleTable, Live, Pointer, bytes_of, live_at, live_bytes, refilled, with_live, zeros}
 use Rattle.std.proofs.lemmas.List.{length-replicate}
@@ -9,16 +10,17 @@ use Rattle.mac_base.specs.Loans.{lent_out, owners, returned}
 use Rattle.mac_base.specs.ZoneState.{ZoneState, with_heap}
 use Rattle.mac_calls.specs.declared.memory_call.MemoryCall.TheVariants as call
 use Rattle.mac_calls.specs.declared.reply.Results.TheVariants as results
-use Rattle.mac_calls.specs.FirstRuns.{UnmovedRun}
-use Rattle.mac_calls.specs.MemoryStep.{StepBy}
+use Rattle.mac_base.specs.declared.error.OsErr.{OsErr}
+use Rattle.mac_base.specs.declared.releasing.ReleasingCall.{ReleasingCall}
+use Rattle.mac_base.specs.declared.request.Request.TheVariants.{NewPointer}
+use Rattle.mac_base.specs.Trial.{prepared_by}
+use Rattle.mac_calls.specs.GrowZone.{Answer, Ask, Carried, carried_out, most_answers}
+use Rattle.mac_calls.specs.MemoryStep.{MemoryStep}
+use Rattle.mac_calls.specs.RequestRun.{EndsUnserved, RequestRun}
+use Rattle.call_laws.proofs.LentSteps.{step_keeps_lent}
 use Rattle.linked_zone.specs.Loans.{IsLoanOf}
 use Rattle.raw_region.specs.Bytes.{written, length-written}
 use Rattle.raw_region.specs.State.{Loan, with_loan}
-
--- a new pointer of four bytes has four zeros, and nothing else has changed in the table
-pub new_table : (s : Shape) (old new : Heap) (p : ℕ) → StepBy UnmovedRun s old (call.NewPtr 4) [] (Ok (results.Pointer p)) new → new.table ≡ with_live p (Pointer (zeros 4)) old.table
-new_table s old new p (Some x, mid, run, ends) = let same : x ≡ p = cc in subst (λ (q : ℕ). new.table ≡ with_live q (Pointer (zeros 4)) old.table) same (ends.1 ∙ run.2)
-new_table s old new p (None, mid, run, ends) = let other = ends.0 in absurd (cc)
 
 -- none passes both tests
 filtered : (p q : ℕ → Bool) → ((y : ℕ) → p y ≡ true → q y ≡ false) → (ys : List ℕ) → filter q (filter p ys) ≡ []
@@ -60,16 +62,44 @@ live_now x l t = live_at-with_live x l t x ∙ ap (λ b. cond b (Some l) (live_a
 pub bytes_back : (x : ℕ) (bytes old : List ℕ) (heap : Heap) → live_at heap.table x ≡ Some (Pointer old) → bytes_of (returned x bytes (lent_out x heap)).table x ≡ bytes
 bytes_back x bytes old heap is = ap live_bytes (live_now x (refilled bytes (live_at heap.table x)) heap.table) ∙ ap (λ (l : Option Live). live_bytes (Some (refilled bytes l))) is
 
--- a new pointer of four bytes is there, and nothing is lent where nothing was
-pub new_pointer : (s : Shape) (old new : Heap) (p : ℕ) → StepBy UnmovedRun s old (call.NewPtr 4) [] (Ok (results.Pointer p)) new → live_at new.table p ≡ Some (Pointer (zeros 4))
-new_pointer s old new p step = ap (λ (t : HandleTable). live_at t p) (new_table s old new p step) ∙ live_now p (Pointer (zeros 4)) old.table
+-- a request that ended unserved gave nothing
+unserved_gave : (A : Type 0) (heap : Heap) (asks : List Ask) (x : ℕ) (new : Heap) → EndsUnserved heap asks (Some x) new → A
+unserved_gave A heap asks x new ends = let other = ends.1 in absurd (cc)
 
-pub none_lent_yet : (s : Shape) (old new : Heap) (p : ℕ) → StepBy UnmovedRun s old (call.NewPtr 4) [] (Ok (results.Pointer p)) new → old.table.lent ≡ [] → new.table.lent ≡ []
-none_lent_yet s old new p step none = ap (λ (t : HandleTable). t.lent) (new_table s old new p step) ∙ none
+by_value : (A : Type 0) (b : Bool) (One Other : Type 0) → (One → A) → (Other → A) → MatchBool b One Other → A
+by_value A true One Other one other run = one run
+by_value A false One Other one other run = other run
+
+by_answer : (A : Type 0) (s : Shape) (protected : List ℕ) (allowed : ℕ) (mid : Heap) (carried : List (ReleasingCall × Option OsErr)) (asks : List Ask) (x : ℕ) (new : Heap)
+    → ((heap : Heap) → RequestRun s protected (NewPointer 4) allowed heap asks (Some x) new → A) → (o : Option Answer)
+    → MatchOption o ((carried ≡ []) × EndsUnserved mid asks (Some x) new) (λ a.
+    (carried ≡ (carried_out s protected a.calls mid).calls) × MatchBool (a.value == 0) (EndsUnserved (carried_out s protected a.calls mid).heap asks (Some x) new) (RequestRun s protected (NewPointer 4) allowed (carried_out s protected a.calls mid).heap asks (Some x) new))
+    → A
+by_answer A s protected allowed mid carried asks x new later None run = unserved_gave A mid asks x new run.1
+by_answer A s protected allowed mid carried asks x new later (Some a) run =
+    let c : Carried = carried_out s protected a.calls mid in
+    by_value A (a.value == 0) (EndsUnserved c.heap asks (Some x) new) (RequestRun s protected (NewPointer 4) allowed c.heap asks (Some x) new) (unserved_gave A c.heap asks x new) (later c.heap) run.1
+
+-- a request for a pointer to four bytes gives one that has four zeros
+given_by : (s : Shape) (protected : List ℕ) (allowed : ℕ) (old : Heap) (asks : List Ask) (x : ℕ) (new : Heap) → RequestRun s protected (NewPointer 4) allowed old asks (Some x) new → live_at new.table x ≡ Some (Pointer (zeros 4))
+given_by s protected allowed old [] x new run = ap (λ (t : HandleTable). live_at t x) run.2.table ∙ live_now x (Pointer (zeros 4)) (prepared_by s run.0 old).table
+given_by s protected allowed old (ask ∷ asks) x new run =
+    by_answer (live_at new.table x ≡ Some (Pointer (zeros 4))) s protected (allowed - 1) run.2 ask.carried asks x new (λ heap. given_by s protected (allowed - 1) heap asks x new) ask.answer run.4
+
+-- a new pointer of four bytes is there, and nothing is lent where nothing was
+pub new_pointer : (s : Shape) (old new : Heap) (asks : List Ask) (p : ℕ) → MemoryStep s old (call.NewPtr 4) asks (Ok (results.Pointer p)) new → live_at new.table p ≡ Some (Pointer (zeros 4))
+new_pointer s old new asks p (Some x, mid, run, ends) =
+    let same : x ≡ p = cc in
+    ap (λ (t : HandleTable). live_at t p) ends.1 ∙ subst (λ (q : ℕ). live_at mid.table q ≡ Some (Pointer (zeros 4))) same (given_by s [] most_answers old asks x mid run)
+new_pointer s old new asks p (None, mid, run, ends) = let other = ends.0 in absurd (cc)
+
+pub none_lent_yet : (s : Shape) (old new : Heap) (asks : List Ask) (p : ℕ) → MemoryStep s old (call.NewPtr 4) asks (Ok (results.Pointer p)) new → old.table.lent ≡ [] → new.table.lent ≡ []
+none_lent_yet s old new asks p step none = step_keeps_lent s old (call.NewPtr 4) asks (Ok (results.Pointer p)) new step ∙ none
 
 -- a loan of this pointer, which the device has filled, came back: nothing is lent, and the pointer has the device's bytes
 pub record CameBack (s : Shape) (start : Heap) (first second third : ZoneState) (p x y : ℕ) (loan other : Loan) : Type 0 where
-  pub step : StepBy UnmovedRun s start (call.NewPtr 4) [] (Ok (results.Pointer p)) first.heap
+  pub asks : List Ask
+  pub step : MemoryStep s start (call.NewPtr 4) asks (Ok (results.Pointer p)) first.heap
   pub none : start.table.lent ≡ []
   pub x_is : x ≡ p
   pub y_is : y ≡ p
@@ -84,11 +114,11 @@ heap_back s start first second third p x y loan other came = ap (λ (z : ZoneSta
 
 pub nothing_lent : (s : Shape) (start : Heap) (first second third : ZoneState) (p x y : ℕ) (loan other : Loan) → CameBack s start first second third p x y loan other → third.heap.table.lent ≡ []
 nothing_lent s start first second third p x y loan other came = ap (λ (h : Heap). h.table.lent) (heap_back s start first second third p x y loan other came)
-    ∙ none_lent p other.bytes first.heap (none_lent_yet s start first.heap p came.step came.none)
+    ∙ none_lent p other.bytes first.heap (none_lent_yet s start first.heap came.asks p came.step came.none)
 
 pub device_bytes : (s : Shape) (start : Heap) (first second third : ZoneState) (p x y : ℕ) (loan other : Loan) → CameBack s start first second third p x y loan other → bytes_of third.heap.table p ≡ replicate 4 42
 device_bytes s start first second third p x y loan other came =
-    let there = new_pointer s start first.heap p came.step in
+    let there = new_pointer s start first.heap came.asks p came.step in
     let four : length loan.bytes ≡ 4 = ap length came.loaned ∙ ap (λ z. length (bytes_of first.heap.table z)) came.x_is ∙ ap (λ (l : Option Live). length (live_bytes l)) there in
     ap (λ (h : Heap). bytes_of h.table p) (heap_back s start first second third p x y loan other came)
     ∙ bytes_back p other.bytes (zeros 4) first.heap there

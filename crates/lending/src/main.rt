@@ -12,6 +12,7 @@ use mac_base::zone_spec::ZoneSpec;
 use mem_calls::MemoryManager;
 use raw_region::Lent;
 use std::io;
+use toolbox::AnswerQueue;
 
 /// How many bytes the device gives.
 const COUNT: u32 = 4;
@@ -24,12 +25,13 @@ fn device(loan: &mut Lent)
 }
 
 /// A new pointer, whose block the device has filled.
-fn filled(memory: &mut MemoryManager) -> Result<Ptr, OsErr>
+fn filled(memory: &mut MemoryManager, procedure: &mut AnswerQueue) -> Result<Ptr, OsErr>
     requires nothing_lent { memory.old.heap.table.lent ≡ [] }
+    requires unasked { procedure.old.asks ≡ [] }
     ensures nothing_lent { memory.new.heap.table.lent ≡ [] }
     ensures filled { IfOk result (λ pointer. bytes_of memory.new.heap.table pointer ≡ replicate 4 42) }
 {
-    let pointer = memory.new_ptr(COUNT)?;
+    let pointer = memory.new_ptr(COUNT, procedure)?;
     let mut loan = memory.lend(pointer.number())?;
     device(&mut loan);
     memory.give_back(pointer.number(), loan);
@@ -54,7 +56,8 @@ fn main(rt: HostRuntime) -> Result<(), io::Error> {
     let Ok(mut memory) = MemoryManager::create(rt.alloc(), spec) else {
         return rt.println("no memory");
     };
-    match filled(&mut memory) {
+    let mut no_answers = AnswerQueue::new(rt.alloc());
+    match filled(&mut memory, &mut no_answers) {
         Ok(pointer) => rt.println(shown(&memory, pointer.number())),
         Err(_) => rt.println("the zone has no room"),
     }

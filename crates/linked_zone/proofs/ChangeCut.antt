@@ -23,7 +23,7 @@ free_pair-skip at test n k free = addresses_from-skip at test (block Free n) (bl
 
 module _ (z : ZoneState) (m : ZoneMap) (same : (test : Kind → Bool) → test Free ≡ false → addresses z.shape test m ≡ addresses z.shape test z.heap.map) where
   -- a zone whose blocks but the free ones stay fits
-  free_changed-fits : Fits z → LoansFit (with_map m z).heap → Fits (with_map m z)
+  pub free_changed-fits : Fits z → LoansFit (with_map m z).heap → Fits (with_map m z)
   free_changed-fits fits loans = Fits-kept z z.heap.table m fits
       (λ g. ap length (same (is_handle_block g) refl) ∙ fits.coherent.handles g)
       (λ p. contents-same z.shape (is_pointer_block p) z.heap.map m (same (is_pointer_block p) refl) ∙ fits.coherent.pointers p)
@@ -31,7 +31,7 @@ module _ (z : ZoneState) (m : ZoneMap) (same : (test : Kind → Bool) → test F
       (λ x. refl) fits.coherent.in_order loans
 
   -- and its master pointers stay
-  free_changed-pointers : (x : ℕ) → slot_of (with_map m z) x ≡ slot_of z x
+  pub free_changed-pointers : (x : ℕ) → slot_of (with_map m z) x ≡ slot_of z x
   free_changed-pointers x = same_slot z (with_map m z) x refl refl (ap (λ found. slice_index (map (λ a. a + head_size z.shape.heads) found) 0) (same (is_named x) refl)) refl
 
 module _ (z : ZoneState) (at size : ℕ) (free : FreeAt z at) (smaller : size < free.size) where

@@ -33,21 +33,21 @@ use Rattle.linked_zone.proofs.EndsSaid.{part-passes, contents-said, full-said, e
 use Rattle.linked_zone.proofs.ChangeExchanged.{rel-full, pair_exchange, exchanged-fits, exchanged-slots, exchanged-first, exchanged-second, exchanged-others, exchanged-slot}
 
 -- what is in a block that may move is the same elsewhere
-content-moves : (o : Owners) (a b : ℕ) (k : Kind) → is_movable k ≡ true → content_of o a k ≡ content_of o b k
+pub content-moves : (o : Owners) (a b : ℕ) (k : Kind) → is_movable k ≡ true → content_of o a k ≡ content_of o b k
 content-moves o a b kind.Free moves = refl
 content-moves o a b kind.Master moves = absurd (cc moves)
 content-moves o a b (kind.Ptr p) moves = absurd (cc moves)
 content-moves o a b (kind.Rel h) moves = refl
 
 -- what isn't lent has a block that isn't
-here-unlent : (z : ZoneState) (k : Kind) → is_here z.heap.table k ≡ true → lent_of (owners_of z) k ≡ false
+pub here-unlent : (z : ZoneState) (k : Kind) → is_here z.heap.table k ≡ true → lent_of (owners_of z) k ≡ false
 here-unlent z kind.Free here = refl
 here-unlent z kind.Master here = refl
 here-unlent z (kind.Ptr p) here = true_not _ here
 here-unlent z (kind.Rel h) here = true_not _ here
 
 -- a handle's slot can say where its block's contents are to begin
-moved-said : (heads : HeadKind) (l : Option Live) (old new next : ℕ) → live_full l ≡ true → ((flags : Flags) → can_say heads (slot.Full (slot_flags heads flags) new) ≡ true) → can_say heads (moved_to new (slot_of_live heads l old next)) ≡ true
+pub moved-said : (heads : HeadKind) (l : Option Live) (old new next : ℕ) → live_full l ≡ true → ((flags : Flags) → can_say heads (slot.Full (slot_flags heads flags) new) ≡ true) → can_say heads (moved_to new (slot_of_live heads l old next)) ≡ true
 moved-said heads None old new next full said = absurd (cc full)
 moved-said heads (Some EmptyHandle) old new next full said = absurd (cc full)
 moved-said heads (Some (FullHandle flags bytes)) old new next full said = said flags

@@ -1,26 +1,32 @@
 mod Bare
 mod ChangeBlock
+pub mod ChangeCarried
 mod ChangeCut
 mod ChangeEmptied
 mod ChangeExchanged
+pub mod ChangeExtended
 mod ChangeFixed
 mod ChangeFlagged
 mod ChangeGivenBack
 mod ChangeMaster
 mod ChangeParts
 mod ChangePointed
+mod ChangeRelocated
 mod ChangeSized
 mod ChangeTaken
 mod ChangeUnfixed
 mod ChangeWritten
 mod Ends
+mod EndsCarried
 mod EndsCut
 mod EndsExchange
+mod EndsExtended
 mod EndsFlags
 mod EndsFollow
 mod EndsGiven
 mod EndsLoans
 mod EndsMaster
+mod EndsRelocated
 mod EndsSaid
 mod EndsSized
 mod EndsSlots
@@ -35,5 +41,8 @@ mod ReadBlocks
 mod ReadFree
 mod ReadNumbers
 mod Reported
+pub mod RelocatedLoans
+mod RelocatedPlaces
 mod Standing
+mod TwoPlaces
 mod Unlent

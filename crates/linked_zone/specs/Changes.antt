@@ -4,16 +4,20 @@ use Rattle.mac_base.specs.declared.block.Entry.{Entry}
 use Rattle.mac_base.specs.declared.block.Flags.{Flags}
 use Rattle.mac_base.specs.declared.block.Kind.TheVariants.{Free, Master, Ptr, Rel}
 use Rattle.mac_base.specs.HeadKind.{zone_header, head_size, slot_count}
-use Rattle.mac_base.specs.ZoneMap.{ZoneMap, block, free_block, is_named}
+use Rattle.mac_base.specs.ZoneMap.{ZoneMap, block, free_block, is_named, total_size}
 use Rattle.mac_base.specs.ZoneSizes.{ZoneSizes, shape_of}
 use Rattle.mac_base.specs.HandleTable.{HandleTable, EmptyHandle, FullHandle, Pointer, new_table, no_flags, zeros, bytes_of, resized, with_live, with_bytes, with_flags, without, emptied}
 use Rattle.mac_base.specs.Suits.{slots_from}
 use Rattle.mac_base.specs.ZoneState.{Memory, ZoneState, with_heap}
-use Rattle.linked_zone.specs.Places.{FreeAt, FreePair, CanHold, CanGrow, MovablePair}
+use Rattle.linked_zone.specs.Places.{FreeAt, FreePair, CanHold, CanGrow, MovablePair, ParcelAt}
 
 -- the zone with another map
 abbrev pub with_map : ZoneMap → ZoneState → ZoneState
 with_map m z = record z { heap = record { table = z.heap.table; map = m; free_slots = z.heap.free_slots } }
+
+-- the zone grown to its limit: the bytes up to there are a free block behind the others
+abbrev pub extended : ZoneState → ZoneState
+extended z = with_map (z.heap.map ++ free_block (z.shape.limit - (zone_header + total_size z.heap.map))) z
 
 -- a new zone without a slot: one free block
 abbrev pub bare_zone : Memory → ZoneSizes → ZoneState
@@ -98,3 +102,15 @@ enlarged {x = x} {size = size} {n = n} z can = with_heap (record {
 -- two neighbours have changed places; every handle and pointer has the same bytes
 abbrev pub exchanged : {at : ℕ} → (z : ZoneState) → MovablePair z at → ZoneState
 exchanged z pair = with_map (pair.before ++ pair.second ∷ pair.first ∷ pair.behind) z
+
+-- the zone with the block behind the run
+abbrev pub carried_up : {start end : ℕ} → (z : ZoneState) → ParcelAt z start end → ZoneState
+carried_up z parcel = with_map (parcel.before ++ (parcel.blocks ++ parcel.here ∷ parcel.behind)) z
+
+-- the block of the handle h is the free one, with n bytes, and its old block is free
+abbrev pub relocated : ℕ → ℕ → {at : ℕ} → (z : ZoneState) → FreeAt z at → ZoneState
+relocated h n z free = with_heap (record {
+  table = sized h n z.heap.table;
+  map = freed h free.before ++ block (Rel h) free.size ∷ freed h free.behind;
+  free_slots = z.heap.free_slots;
+}) z

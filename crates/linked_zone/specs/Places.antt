@@ -1,12 +1,12 @@
 -- Places of blocks in a zone map, by the address of the header.
-use Rattle.std.specs.Prelude.{◌≡◌, ℕ, ◌+◌, ◌-◌, ◌<◌, ◌≤◌, ◌⊎◌, Bool, true, false, not, IsTrue, ◌∷◌, ◌++◌, ⊤}
+use Rattle.std.specs.Prelude.{◌≡◌, ℕ, ◌+◌, ◌-◌, ◌<◌, ◌≤◌, ◌⊎◌, Bool, true, false, not, ◌&&◌, IsTrue, ◌∷◌, ◌++◌, ⊤}
 use Rattle.std.specs.List.{list_all}
 use Rattle.mac_base.specs.declared.block.Entry.{Entry}
 use Rattle.mac_base.specs.declared.block.Kind.TheVariants.{Free, Master, Ptr, Rel}
 use Rattle.mac_base.specs.declared.block.Kind.{Kind}
-use Rattle.mac_base.specs.HandleTable.{is_handle}
+use Rattle.mac_base.specs.HandleTable.{HandleTable, is_handle}
 use Rattle.mac_base.specs.Loans.{is_here}
-use Rattle.mac_base.specs.ZoneMap.{ZoneMap, block, has_free, is_named, address_behind}
+use Rattle.mac_base.specs.ZoneMap.{ZoneMap, block, has_free, is_named, address_behind, total_size}
 use Rattle.mac_base.specs.Suits.{is_block_size, has_length}
 use Rattle.mac_base.specs.HeadKind.{Shape}
 use Rattle.mac_base.specs.ZoneState.{ZoneState}
@@ -124,3 +124,22 @@ pub record MovablePair (z : ZoneState) (at : ℕ) : Type 0 where
   pub second_moves : IsTrue (is_movable second.kind)
   pub first_here : IsTrue (is_here z.heap.table first.kind)
   pub second_here : IsTrue (is_here z.heap.table second.kind)
+
+-- whether a block may be moved now: it may move, and isn't lent
+abbrev pub can_move : HandleTable → Kind → Bool
+can_move t kind = is_movable kind && is_here t kind
+
+-- whether all blocks can
+abbrev pub all_can_move : HandleTable → ZoneMap → Bool
+all_can_move t blocks = list_all (λ (e : Entry). can_move t e.kind) blocks
+
+-- a block and a run behind it can be moved, and stand between two addresses
+pub record ParcelAt (z : ZoneState) (start end : ℕ) : Type 0 where
+  pub before : ZoneMap
+  pub here : Entry
+  pub blocks : ZoneMap
+  pub behind : ZoneMap
+  pub map : z.heap.map ≡ before ++ (here ∷ blocks ++ behind)
+  pub place : start ≡ address_behind z.shape before
+  pub long : end ≡ start + (here.size + total_size blocks)
+  pub moves : IsTrue (all_can_move z.heap.table (here ∷ blocks))

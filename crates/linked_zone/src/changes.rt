@@ -9,8 +9,8 @@ impl LinkedZone {
     ghost use Rattle.std.specs.Prelude.{◌≡◌, ◌+◌, IsTrue, IsFalse, MatchOption, Some, ◌∷◌, [], drop};
     ghost use Rattle.mac_base.specs.HandleTable.{EmptyHandle, is_full, is_lent, is_pointer, live_at};
     ghost use Rattle.mac_base.specs.HeadKind.{master_length, head_size};
-    ghost use Rattle.linked_zone.specs.Changes.{taken, given_back, pointed, without_block, fixed, unfixed, cut_in_two, joined_pair, with_master, exchanged};
-    ghost use Rattle.linked_zone.specs.Places.{RoomFor, CanCut, FreePair, MovablePair};
+    ghost use Rattle.linked_zone.specs.Changes.{extended, taken, given_back, pointed, without_block, fixed, unfixed, cut_in_two, joined_pair, with_master, exchanged, carried_up};
+    ghost use Rattle.linked_zone.specs.Places.{RoomFor, CanCut, FreePair, MovablePair, ParcelAt};
 
     /// Makes the next slot to be given an empty handle. There is none exactly where no slot is free, and then nothing
     /// has changed.
@@ -41,6 +41,15 @@ impl LinkedZone {
         self.records.set_front(slot);
     }
 
+    /// Grows the zone to its limit: the bytes up to there are a free block behind the last. Where the zone is as large as its
+    /// limit nothing changes.
+    pub fn extend(&mut self)
+        ensures { self.new ≡ extended self.old }
+    {
+        let _size = self.records.spec().size();
+        self.records.extend();
+    }
+
     /// Cuts a free block in two, the first of `size` bytes.
     pub fn split(&mut self, at: u32, size: u32)
         requires { CanCut self.old at size }
@@ -68,6 +77,22 @@ impl LinkedZone {
         self.records.exchange(at);
         follow(&mut self.records, second.kind, at + head_size);
         follow(&mut self.records, first.kind, at + second.size + head_size);
+    }
+
+    /// The block at an address changes places with those behind it up to an address, each of a handle or free. Every handle
+    /// has the same bytes and flags. The bytes turn in one rotation, however many blocks there are.
+    pub fn carry(&mut self, at: u32, end: u32)
+        requires { ParcelAt self.old at end }
+        ensures { (parcel : ParcelAt self.old at end) → self.new ≡ carried_up self.old parcel }
+    {
+        let head_size = self.records.spec().heads().head_size();
+        self.records.carry(at, end);
+        let mut next = at;
+        while next < end {
+            let here = self.records.entry_at(next);
+            follow(&mut self.records, here.kind, next + head_size);
+            next += here.size;
+        }
     }
 
     /// Gives an empty handle a free block, with `length` bytes of zero and no flags.
@@ -130,7 +155,7 @@ ghost use Rattle.std.specs.Prelude.{◌≡◌};
 ghost use Rattle.linked_zone.specs.Following.{CanFollow, followed};
 
 /// Makes the slot of a handle, if the block is one's, say where the block's contents begin now.
-fn follow(records: &mut Records, kind: Kind, contents: u32)
+pub(crate) fn follow(records: &mut Records, kind: Kind, contents: u32)
     requires { CanFollow records.old kind contents }
     ensures { (can : CanFollow records.old kind contents) → records.new ≡ followed records.old kind contents can }
 {

@@ -4,6 +4,7 @@
 mod changes;
 mod flags;
 mod loans;
+mod relocating;
 mod sizes;
 mod zone;
 

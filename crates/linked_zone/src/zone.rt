@@ -45,6 +45,7 @@ impl LinkedZone {
     ghost use Rattle.std.specs.Borrow.{sem};
     ghost use Rattle.mac_base.specs.HandleTable.{EmptyHandle, has_block, is_handle, is_full, is_lent, is_pointer, live_at, bytes_of, flags_of};
     ghost use Rattle.mac_base.specs.HeadKind.{master_length, head_size};
+    ghost use Rattle.mac_base.specs.Heap.{has_none};
     ghost use Rattle.mac_base.specs.Loans.{most_loans, LoansFit};
     ghost use Rattle.mac_base.specs.Suits.{slots, wanted_length};
     ghost use Rattle.mac_base.specs.BlockReport.{report_at, block_flags};
@@ -82,6 +83,13 @@ impl LinkedZone {
         ensures walks { Walks self.now.shape.heads result.now }
     {
         self.records.image()
+    }
+
+    /// Whether a slot is free.
+    pub fn has_slot(&self) -> bool
+        ensures { result ≡ not (has_none self.now.heap.free_slots) }
+    {
+        self.records.front() != 0
     }
 
     /// Whether a handle is live: the address of a slot that isn't free.

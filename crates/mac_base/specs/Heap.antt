@@ -6,7 +6,9 @@ use Rattle.mac_base.specs.HeadKind.{Shape, need, zone_header, slot_count, master
 use Rattle.mac_base.specs.ZoneMap.{ZoneMap, block, released, at_limit}
 use Rattle.mac_base.specs.HandleTable.{HandleTable, new_table, is_handle, FullHandle, Pointer, EmptyHandle, with_live, with_bytes, bytes_of, resized, zeros, no_flags, emptied}
 use Rattle.mac_base.specs.Suits.{slots_from, slots}
-use Rattle.mac_base.specs.Request.{Request, candidates_in, NewBlock, NewEmpty, NewPointer, NewMaster, Reserve, Resize, Replace}
+use Rattle.mac_base.specs.declared.request.Request.{Request}
+use Rattle.mac_base.specs.declared.request.Request.TheVariants.{NewBlock, NewEmpty, NewPointer, NewMaster, Reserve, Resize, Replace}
+use Rattle.mac_base.specs.Request.{candidates_in}
 
 -- a handle table, the zone map that places it, and the slots that aren't live, in the order in which they are given
 pub record Heap : Type 0 where

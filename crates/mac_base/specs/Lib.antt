@@ -18,3 +18,5 @@ pub mod FlagState
 pub mod BlockReport
 pub mod Releasing
 pub mod Trial
+pub mod Attempt
+pub mod Purging

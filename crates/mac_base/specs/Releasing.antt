@@ -1,14 +1,12 @@
 -- The calls that release a block, and what each makes of the heap.
 use Rattle.std.specs.Prelude.{ℕ, ◌∷◌}
+use Rattle.mac_base.specs.declared.releasing.ReleasingCall.{ReleasingCall}
+use Rattle.mac_base.specs.declared.releasing.ReleasingCall.TheVariants.{DisposesHandle, DisposesPtr, Empties}
 use Rattle.mac_base.specs.ZoneMap.{released}
 use Rattle.mac_base.specs.HandleTable.{without}
 use Rattle.mac_base.specs.Heap.{Heap, with_emptied}
 
--- a call that releases the block of a handle or a pointer
-pub data ReleasingCall : Type 0 where
-  DisposesHandle DisposesPtr Empties : ℕ → ReleasingCall
-
--- its operand
+-- the operand of such a call
 abbrev pub operand_of : ReleasingCall → ℕ
 operand_of (DisposesHandle h) = h
 operand_of (DisposesPtr p) = p

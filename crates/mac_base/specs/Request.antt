@@ -3,25 +3,12 @@ use Rattle.std.specs.Prelude.{ℕ, ◌+◌, Bool, true, false, not, ◌&&◌, �
 use Rattle.std.specs.Option.{option_map_or}
 use Rattle.std.specs.List.{list_any}
 use Rattle.mac_base.specs.declared.block.Entry.{Entry}
+use Rattle.mac_base.specs.declared.request.Request.{Request}
+use Rattle.mac_base.specs.declared.request.Request.TheVariants.{NewBlock, NewEmpty, NewPointer, NewMaster, Reserve, Resize, Replace}
 use Rattle.mac_base.specs.HeadKind.{Shape, need, master_length}
 use Rattle.mac_base.specs.ZoneMap.{ZoneMap, is_named, handle_of, sizes, released}
 use Rattle.mac_base.specs.HandleTable.{HandleTable, is_locked, is_pointer, is_purgeable}
 use Rattle.mac_base.specs.Gap.{Gap, gaps, room, some_gap_has, own_gap, gap_behind}
-
--- what a call asks of the zone
-pub data Request : Type 0 where
-  -- a new handle with a block of n bytes, a new empty handle, a new pointer to n bytes
-  NewBlock : ℕ → Request
-  NewEmpty : Request
-  NewPointer : ℕ → Request
-  -- a master block
-  NewMaster : Request
-  -- room for a pointer to n bytes, which stays free
-  Reserve : ℕ → Request
-  -- n bytes for x
-  Resize : ℕ → ℕ → Request
-  -- a new block of n bytes for the handle h in place of its old one, if it has one
-  Replace : ℕ → ℕ → Request
 
 -- the bytes of contents that it asks for
 abbrev pub length_asked : Request → ℕ

@@ -7,7 +7,9 @@ use Rattle.mac_base.specs.ZoneMap.{ZoneMap, Rearranged, is_free, is_master, rele
 use Rattle.mac_base.specs.HandleTable.{HandleTable, live_at}
 use Rattle.mac_base.specs.Suits.{Suits}
 use Rattle.mac_base.specs.Gap.{Gap, gaps, is_fixed}
-use Rattle.mac_base.specs.Request.{Request, NewBlock, NewEmpty, NewPointer, NewMaster, Reserve, Resize, Replace, size_needed, fits, candidates, stays}
+use Rattle.mac_base.specs.declared.request.Request.{Request}
+use Rattle.mac_base.specs.declared.request.Request.TheVariants.{NewBlock, NewEmpty, NewPointer, NewMaster, Reserve, Resize, Replace}
+use Rattle.mac_base.specs.Request.{size_needed, fits, candidates, stays}
 use Rattle.mac_base.specs.Serve.{begins_free}
 use Rattle.mac_base.specs.Heap.{Heap, grown, with_all_emptied, table_granted}
 
@@ -25,10 +27,11 @@ pub record Preparation : Type 0 where
 abbrev pub prepared_by : Shape → Preparation → Heap → Heap
 prepared_by s p heap = with_all_emptied p.purges (if p.grows then grown s heap else heap)
 
--- A trial may prepare so: the zone grows only where the request doesn't fit, and handles are purged only where it doesn't fit in the zone so grown.
+-- A trial may prepare so: the zone grows only where the request doesn't fit, and handles are purged only where it doesn't fit in the zone grown to its limit, once it has grown so.
 pub record MayPrepare (s : Shape) (protected : List ℕ) (r : Request) (heap : Heap) (p : Preparation) : Type 0 where
   pub grows_at_need : IsTrue p.grows → IsFalse (fits s heap.table r heap.map)
   pub purges_at_need : (p.purges ≡ []) ⊎ IsFalse (fits s heap.table r (at_limit s heap.map))
+  pub purges_at_limit : (p.purges ≡ []) ⊎ (zone_header + total_size (prepared_by s p heap).map ≡ s.limit)
   pub purges_candidates : (h : ℕ) → Contains p.purges h → Contains (candidates heap.table protected r heap.map) h
 
 -- whether a block stays while a new relocatable one is placed: each where a free block serves, else those that are fixed

@@ -6,5 +6,7 @@ pub mod block;
 pub mod bytes;
 pub mod error;
 pub mod handle;
+pub mod releasing;
+pub mod request;
 pub mod size;
 pub mod zone_spec;

@@ -145,4 +145,14 @@ impl ZoneSpec {
     {
         self.limit
     }
+
+    /// The zone grown to its limit.
+    pub fn at_limit(self) -> ZoneSpec
+        ensures { result ≡ record { heads = self.heads; base = self.base; size = self.limit; limit = self.limit } }
+    {
+        ZoneSpec {
+            size: self.limit,
+            ..self
+        }
+    }
 }

@@ -7,19 +7,10 @@ use Rattle.mac_calls.specs.declared.memory_call.MemoryCall.TheVariants as memory
 
 -- whether a call of the Memory Manager can be made yet
 abbrev pub is_built_memory : MemoryCall → Bool
-is_built_memory (memory_call.ReserveMem size) = false
-is_built_memory (memory_call.CompactMem size) = false
-is_built_memory (memory_call.PurgeMem size) = false
-is_built_memory memory_call.MoreMasters = false
-is_built_memory memory_call.MaxMem = false
 is_built_memory memory_call.PurgeSpace = false
 is_built_memory memory_call.MaxBlock = false
 is_built_memory memory_call.FreeMem = false
-is_built_memory memory_call.MaxApplZone = false
 is_built_memory (memory_call.HandToHand handle) = false
-is_built_memory (memory_call.MoveHHi handle) = false
-is_built_memory (memory_call.HLockHi handle) = false
-is_built_memory (memory_call.RecoverHandle address) = false
 is_built_memory (memory_call.ReallocateHandle handle size) = false
 is_built_memory (memory_call.PtrToHand pointer size) = false
 is_built_memory (memory_call.HandAndHand one other) = false

@@ -2,12 +2,14 @@
 use Rattle.std.specs.Prelude.{ℕ, ◌+◌, true, false, List, ◌++◌, length, take, drop, Option, Some, None}
 use Rattle.mac_base.specs.HeadKind.{Shape}
 use Rattle.mac_base.specs.HandleTable.{HandleTable, bytes_of, flags_of, with_bytes, with_flags}
-use Rattle.mac_base.specs.Request.{Request, NewBlock, NewEmpty, NewPointer, NewMaster, Reserve, Resize, Replace}
+use Rattle.mac_base.specs.declared.request.Request.{Request}
+use Rattle.mac_base.specs.declared.request.Request.TheVariants.{NewBlock, NewEmpty, NewPointer, NewMaster, Reserve, Resize, Replace}
 use Rattle.mac_base.specs.Heap.{Heap, with_table, grown}
 use Rattle.mac_calls.specs.declared.memory_call.MemoryCall.{MemoryCall}
 use Rattle.mac_calls.specs.declared.memory_call.MemoryCall.TheVariants as memory_call
 use Rattle.mac_base.specs.FlagState.{flags_from}
-use Rattle.mac_base.specs.Releasing.{heap_released, DisposesHandle, DisposesPtr, Empties}
+use Rattle.mac_base.specs.declared.releasing.ReleasingCall.TheVariants.{DisposesHandle, DisposesPtr, Empties}
+use Rattle.mac_base.specs.Releasing.{heap_released}
 
 -- the request of a call, if it makes one
 abbrev pub request_of : HandleTable → MemoryCall → Option Request

@@ -2,14 +2,12 @@
 use Rattle.std.specs.Prelude.{ℕ, ◌-◌, ◌==◌, if◌then◌else◌, List, [], ◌∷◌, Option, Some, None}
 use Rattle.mac_base.specs.HeadKind.{Shape}
 use Rattle.mac_base.specs.ZoneMap.{ZoneMap}
-use Rattle.mac_base.specs.Request.{Request, size_needed, fits, candidates, purged_until}
+use Rattle.mac_base.specs.declared.request.Request.{Request}
+use Rattle.mac_base.specs.Request.{size_needed, fits, candidates, purged_until}
 use Rattle.mac_base.specs.Serve.{serve}
+use Rattle.mac_base.specs.Purging.{purged}
 use Rattle.mac_base.specs.Heap.{Heap, grown, front_slot, with_all_emptied, granted}
 use Rattle.mac_calls.specs.GrowZone.{Answer, Ask, Carried, carried_out}
-
--- the heap once as few candidates as serve the request are empty, and all where none do
-abbrev pub purged : Shape → List ℕ → Request → Heap → Heap
-purged s protected r heap = with_all_emptied (purged_until (fits s heap.table r) (candidates heap.table protected r heap.map) heap.map) heap
 
 -- the heap in which a trial looks for room: as it is where the request fits, or else grown and purged
 abbrev pub prepared : Shape → List ℕ → Request → Heap → Heap
@@ -37,7 +35,7 @@ after_ask ask e = record e { asks = ask ∷ e.asks }
 
 -- what is asked for a request, and how the answer's calls went
 abbrev pub asked : Shape → Request → Option Answer → Carried → Ask
-asked s r answer c = record { needed = size_needed s r; answer = answer; codes = c.codes }
+asked s r answer c = record { needed = size_needed s r; answer = answer; carried = c.calls }
 
 -- The run of a request, where the procedure may still answer so many times and these are its answers, in order.
 abbrev pub request_run : Shape → List ℕ → Request → ℕ → List Answer → Heap → Ending

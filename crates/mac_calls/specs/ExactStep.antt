@@ -1,17 +1,20 @@
 -- What a call of the Memory Manager does exactly: its outcome, the heap after it, and what it asked.
-use Rattle.std.specs.Prelude.{ℕ, ◌-◌, Bool, true, false, ◌&&◌, nat_le, if◌then◌else◌, List, [], ◌∷◌, ◌++◌, length, Option, Some, None, Ok, Err}
+use Rattle.std.specs.Prelude.{◌≡◌, ℕ, ◌-◌, Bool, true, false, ◌&&◌, nat_le, if◌then◌else◌, List, [], ◌∷◌, ◌++◌, length, Option, Some, None, Ok, Err}
 use Rattle.mac_base.specs.declared.error.OsErr.{OsErr}
 use Rattle.mac_base.specs.declared.error.OsErr.TheVariants.{MemFullErr}
 use Rattle.mac_base.specs.HeadKind.{Shape}
 use Rattle.mac_base.specs.ZoneMap.{largest_free}
 use Rattle.mac_base.specs.HandleTable.{HandleTable}
 use Rattle.mac_base.specs.Compaction.{all_down, compacted, moved_high}
-use Rattle.mac_base.specs.Request.{Request, NewMaster, candidates_in, purged_until, makes_handle}
+use Rattle.mac_base.specs.declared.request.Request.{Request}
+use Rattle.mac_base.specs.declared.request.Request.TheVariants.{NewMaster}
+use Rattle.mac_base.specs.Request.{makes_handle}
+use Rattle.mac_base.specs.Purging.{purged_for}
 use Rattle.mac_base.specs.Heap.{Heap, with_table, with_map, all_purged, with_all_emptied, has_none}
 use Rattle.mac_calls.specs.declared.memory_call.MemoryCall.{MemoryCall}
 use Rattle.mac_calls.specs.declared.memory_call.MemoryCall.TheVariants as memory_call
 use Rattle.mac_calls.specs.Tests.{refusal, protected_by}
-use Rattle.mac_calls.specs.GrowZone.{Answer, Ask, most_answers}
+use Rattle.mac_calls.specs.GrowZone.{Answer, Ask, answers_in, most_answers}
 use Rattle.mac_calls.specs.ExactRequest.{Ending, unserved, request_run}
 use Rattle.mac_calls.specs.Effect.{request_of, table_copied, effect_of}
 use Rattle.mac_calls.specs.declared.reply.Results.TheVariants.{Nothing}
@@ -27,7 +30,7 @@ pub record StepEnd : Type 0 where
 -- what a call that makes no request moves and purges
 abbrev pub rearranged : MemoryCall → Heap → Heap
 rearranged (memory_call.CompactMem n) heap = with_map (compacted heap.table n heap.map) heap
-rearranged (memory_call.PurgeMem n) heap = with_all_emptied (purged_until (λ m. nat_le n (largest_free m)) (candidates_in heap.table [] heap.map) heap.map) heap
+rearranged (memory_call.PurgeMem n) heap = purged_for n heap
 rearranged memory_call.MaxMem heap = with_map (all_down heap.table (all_purged heap).map) (all_purged heap)
 rearranged (memory_call.MoveHHi h) heap = with_map (moved_high heap.table h heap.map) heap
 rearranged (memory_call.HLockHi h) heap = with_map (moved_high heap.table h heap.map) heap
@@ -77,6 +80,10 @@ step_unless s answers heap call None = step_asking s answers heap call (request_
 -- A call, where the grow-zone procedure will give these answers and is gone behind them.
 abbrev pub exact_step : Shape → List Answer → Heap → MemoryCall → StepEnd
 exact_step s answers heap call = step_unless s answers heap call (refusal s heap call)
+
+-- The call did just what it does where the procedure gives the answers that it gave.
+abbrev pub IsExactStep : Shape → Heap → MemoryCall → List Ask → Outcome → Heap → Type 0
+IsExactStep s old call asks outcome new = exact_step s (answers_in asks) old call ≡ record { outcome = outcome; heap = new; asks = asks; left = [] }
 
 -- the heap after calls during which no procedure answers
 abbrev pub heap_after : Shape → Heap → List MemoryCall → Heap

@@ -4,7 +4,9 @@ use Rattle.mac_base.specs.HeadKind.{Shape}
 use Rattle.mac_base.specs.declared.block.Kind.TheVariants.{Ptr, Rel}
 use Rattle.mac_base.specs.ZoneMap.{ZoneMap}
 use Rattle.mac_base.specs.Suits.{Suits}
-use Rattle.mac_base.specs.Request.{Request, NewBlock, NewEmpty, NewPointer, Resize, size_needed, fits, makes_handle}
+use Rattle.mac_base.specs.declared.request.Request.{Request}
+use Rattle.mac_base.specs.declared.request.Request.TheVariants.{NewBlock, NewEmpty, NewPointer, Resize}
+use Rattle.mac_base.specs.Request.{size_needed, fits, makes_handle}
 use Rattle.mac_base.specs.Serve.{take_lowest, resized_in_place}
 use Rattle.mac_base.specs.Heap.{Heap, table_granted, every_slot_live}
 use Rattle.mac_calls.specs.GrowZone.{Ask}

@@ -7,7 +7,9 @@ use Rattle.mac_base.specs.ZoneMap.{Rearranged, largest_free}
 use Rattle.mac_base.specs.HandleTable.{HandleTable}
 use Rattle.mac_base.specs.Suits.{Suits}
 use Rattle.mac_base.specs.Gap.{is_fixed}
-use Rattle.mac_base.specs.Request.{Request, NewMaster, candidates_in, makes_handle}
+use Rattle.mac_base.specs.declared.request.Request.{Request}
+use Rattle.mac_base.specs.declared.request.Request.TheVariants.{NewMaster}
+use Rattle.mac_base.specs.Request.{candidates_in, makes_handle}
 use Rattle.mac_base.specs.Heap.{Heap, with_all_emptied, all_purged, every_slot_live}
 use Rattle.mac_calls.specs.declared.memory_call.MemoryCall.{MemoryCall}
 use Rattle.mac_calls.specs.declared.memory_call.MemoryCall.TheVariants as memory_call

@@ -1,7 +1,8 @@
 -- How a request may run: trials that may choose what moves and what is purged, with the grow-zone procedure between them.
 use Rattle.std.specs.Prelude.{◌≡◌, ℕ, ◌-◌, ◌<◌, ◌==◌, List, [], ◌∷◌, Option, Some, None, MatchOption, MatchBool}
 use Rattle.mac_base.specs.HeadKind.{Shape}
-use Rattle.mac_base.specs.Request.{Request, size_needed}
+use Rattle.mac_base.specs.declared.request.Request.{Request}
+use Rattle.mac_base.specs.Request.{size_needed}
 use Rattle.mac_base.specs.Heap.{Heap}
 use Rattle.mac_base.specs.Trial.{SameHeap, Serves, Fails}
 use Rattle.mac_calls.specs.GrowZone.{Ask, carried_out}
@@ -16,6 +17,6 @@ RequestRun s protected r allowed old [] (Some x) new = Serves s protected r x ol
 RequestRun s protected r allowed old [] None new = (allowed ≡ 0) × Fails s protected r old new
 RequestRun s protected r allowed old (ask ∷ asks) given new =
     (0 < allowed) × (ask.needed ≡ size_needed s r) × (mid : Heap) × Fails s protected r old mid
-    × MatchOption ask.answer ((ask.codes ≡ []) × EndsUnserved mid asks given new) (λ a.
+    × MatchOption ask.answer ((ask.carried ≡ []) × EndsUnserved mid asks given new) (λ a.
     let c = carried_out s protected a.calls mid in
-    (ask.codes ≡ c.codes) × MatchBool (a.value == 0) (EndsUnserved c.heap asks given new) (RequestRun s protected r (allowed - 1) c.heap asks given new))
+    (ask.carried ≡ c.calls) × MatchBool (a.value == 0) (EndsUnserved c.heap asks given new) (RequestRun s protected r (allowed - 1) c.heap asks given new))

@@ -3,12 +3,14 @@
 #![tactic(auto)]
 
 mod call;
+mod grow_zone;
 mod loan_call;
 mod memory_call;
 mod reply;
 mod table;
 
 pub use call::Call;
+pub use grow_zone::{Answer, Asked, GrowZone};
 pub use loan_call::LoanCall;
 pub use memory_call::{MemoryCall, Span};
 pub use reply::{BlockList, Outcome, Reply, Results};

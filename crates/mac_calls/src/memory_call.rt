@@ -147,19 +147,10 @@ impl MemoryCall<'_> {
     {
         !matches!(
             self,
-            MemoryCall::ReserveMem(_)
-                | MemoryCall::CompactMem(_)
-                | MemoryCall::PurgeMem(_)
-                | MemoryCall::MoreMasters
-                | MemoryCall::MaxMem
-                | MemoryCall::PurgeSpace
+            MemoryCall::PurgeSpace
                 | MemoryCall::MaxBlock
                 | MemoryCall::FreeMem
-                | MemoryCall::MaxApplZone
                 | MemoryCall::HandToHand(_)
-                | MemoryCall::MoveHHi(_)
-                | MemoryCall::HLockHi(_)
-                | MemoryCall::RecoverHandle(_)
                 | MemoryCall::ReallocateHandle(..)
                 | MemoryCall::PtrToHand(..)
                 | MemoryCall::HandAndHand(..)

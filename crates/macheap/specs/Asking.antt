@@ -12,22 +12,25 @@ use Rattle.macheap.specs.declared.asked.NotAsked.{NotAsked}
 use Rattle.macheap.specs.declared.asked.NotAsked.TheVariants.{Words, NoNumber, Mode, Spec, HostFull}
 use Rattle.macheap.specs.Options.{faults, heads_of, value_of, IsNumberOf, IsNoNumber}
 
--- the words match the options, and give these numbers: the zone's first address, its size in bytes, and the mode
-pub record GivesNumbers (words : List Text) (base size mode : ℕ) : Type 0 where
+-- the words match the options, and give these numbers: the zone's first address, its size in bytes, the size that it may grow to,
+-- which is its own where none is given, and the mode
+pub record GivesNumbers (words : List Text) (base size limit mode : ℕ) : Type 0 where
   pub matched : faults words ≡ []
   pub size_given : IsNumberOf (value_of (codes "zone") words) 4096 size
+  pub limit_given : IsNumberOf (value_of (codes "limit") words) size limit
   pub base_given : IsNumberOf (value_of (codes "base") words) 0x10_0000 base
   pub mode_given : IsNumberOf (value_of (codes "mode") words) 24 mode
 
--- the words ask for a run on a zone of these sizes, of blocks as the mode has them, which doesn't grow
+-- the words ask for a run on a zone of these sizes, of blocks as the mode has them
 pub record AsksForRun (words : List Text) (sizes : ZoneSizes) : Type 0 where
   pub base : ℕ
   pub size : ℕ
+  pub limit : ℕ
   pub mode : ℕ
   pub heads : HeadKind
-  pub numbers : GivesNumbers words base size mode
+  pub numbers : GivesNumbers words base size limit mode
   pub headed : heads_of mode ≡ Some heads
-  pub is : sizes ≡ record { heads = heads; base = base; size = size; limit = size }
+  pub is : sizes ≡ record { heads = heads; base = base; size = size; limit = limit }
   pub possible : ArePossible sizes
 
 -- the words ask for help
@@ -38,22 +41,25 @@ AsksForHelp words = IsAmong DisplayHelp (faults words)
 abbrev pub DontMatch : List Text → Type 0
 DontMatch words = (fault : ErrorKind) × IsAmong fault (faults words) × (fault ≢ DisplayHelp)
 
--- the words match the options, and this is the first of `zone`, `base` and `mode` whose value is no number
+-- the words match the options, and this is the first of `zone`, `limit`, `base` and `mode` whose value is no number
 pub data GivesNoNumber (words : List Text) (option : Text) : Type 0 where
   of_zone : option ≡ codes "zone" → faults words ≡ [] → IsNoNumber (value_of (codes "zone") words) → GivesNoNumber words option
-  of_base : option ≡ codes "base" → faults words ≡ [] → (size : ℕ) → IsNumberOf (value_of (codes "zone") words) 4096 size
-      → IsNoNumber (value_of (codes "base") words) → GivesNoNumber words option
-  of_mode : option ≡ codes "mode" → faults words ≡ [] → (size base : ℕ) → IsNumberOf (value_of (codes "zone") words) 4096 size
-      → IsNumberOf (value_of (codes "base") words) 0x10_0000 base → IsNoNumber (value_of (codes "mode") words) → GivesNoNumber words option
+  of_limit : option ≡ codes "limit" → faults words ≡ [] → (size : ℕ) → IsNumberOf (value_of (codes "zone") words) 4096 size
+      → IsNoNumber (value_of (codes "limit") words) → GivesNoNumber words option
+  of_base : option ≡ codes "base" → faults words ≡ [] → (size limit : ℕ) → IsNumberOf (value_of (codes "zone") words) 4096 size
+      → IsNumberOf (value_of (codes "limit") words) size limit → IsNoNumber (value_of (codes "base") words) → GivesNoNumber words option
+  of_mode : option ≡ codes "mode" → faults words ≡ [] → (size limit base : ℕ) → IsNumberOf (value_of (codes "zone") words) 4096 size
+      → IsNumberOf (value_of (codes "limit") words) size limit → IsNumberOf (value_of (codes "base") words) 0x10_0000 base
+      → IsNoNumber (value_of (codes "mode") words) → GivesNoNumber words option
 
 -- the words give numbers, and there is no such mode
 abbrev pub GivesNoMode : List Text → ℕ → Type 0
-GivesNoMode words mode = (base : ℕ) × (size : ℕ) × GivesNumbers words base size mode × (heads_of mode ≡ None)
+GivesNoMode words mode = (base : ℕ) × (size : ℕ) × (limit : ℕ) × GivesNumbers words base size limit mode × (heads_of mode ≡ None)
 
 -- the words give numbers and a mode, and no zone has these sizes for this reason
 abbrev pub GivesNoZone : List Text → BadSpec → Type 0
-GivesNoZone words fault = (base : ℕ) × (size : ℕ) × (mode : ℕ) × (heads : HeadKind)
-    × GivesNumbers words base size mode × (heads_of mode ≡ Some heads) × (first_fault base size size ≡ Some fault)
+GivesNoZone words fault = (base : ℕ) × (size : ℕ) × (limit : ℕ) × (mode : ℕ) × (heads : HeadKind)
+    × GivesNumbers words base size limit mode × (heads_of mode ≡ Some heads) × (first_fault base size limit ≡ Some fault)
 
 -- What the words ask for, or why they ask for nothing; what is shown or told of it is of that kind. Want of memory may come at any time.
 abbrev pub Asks : List Text → Result Asked NotAsked → Type 0

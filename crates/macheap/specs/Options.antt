@@ -12,7 +12,7 @@ option_named name = record (new_rule name) { long = Some name; action = Some Set
 
 -- the program and its options
 abbrev pub options : App
-options = with_rule (with_rule (with_rule (new_app (codes "macheap")) (option_named (codes "zone"))) (option_named (codes "base"))) (option_named (codes "mode"))
+options = with_rule (with_rule (with_rule (with_rule (new_app (codes "macheap")) (option_named (codes "zone"))) (option_named (codes "limit"))) (option_named (codes "base"))) (option_named (codes "mode"))
 
 -- the ways in which the words don't match the options, of which `--help` is one; none where they do
 abbrev pub faults : List Text → Kinds

@@ -46,7 +46,7 @@ pub enum NotAsked {
     #[error("error: --mode is 24 or 32, and not {0}; see 'macheap --help'")]
     Mode(u32),
     /// There is no zone of these sizes.
-    #[error("error: {0}; give other numbers with --zone and --base, see 'macheap --help'")]
+    #[error("error: {0}; give other numbers with --zone, --limit and --base, see 'macheap --help'")]
     Spec(BadSpec),
     /// The host has no memory for the words.
     #[error("error: the host has no memory")]
@@ -81,12 +81,14 @@ fn command<'a>(alloc: Global) -> Result<Command<'a>, AllocError>
     ensures { IfOk result (λ command. app_of command ≡ options) }
 {
     let zone_help = "The zone's size in bytes, a multiple of 4 from 1024 to 1048576 (default 4096)";
+    let limit_help = "The size that the zone may grow to, up to 1048576 (default: the zone's size)";
     let base_help = "The address of its first byte, a multiple of 4 from 4096 on (default 1048576)";
     let mode_help =
         "The headers of its blocks: 24 for those of 8 bytes, 32 for those of 12 (default 24)";
     Command::new(alloc, "macheap")
         .about("Runs the script of standard input on a new heap zone, and writes each call's reply")
         .arg(number_option(alloc, "zone", zone_help))?
+        .arg(number_option(alloc, "limit", limit_help))?
         .arg(number_option(alloc, "base", base_help))?
         .arg(number_option(alloc, "mode", mode_help))
 }
@@ -100,12 +102,13 @@ pub fn asked_by<S: AsStr>(alloc: Global, words: &[S]) -> Result<Asked, NotAsked>
         Err(error) => return not_matched(error),
     };
     let zone = number("zone", matches.get_str("zone"), DEFAULT_ZONE)?;
+    let limit = number("limit", matches.get_str("limit"), zone)?;
     let base = number("base", matches.get_str("base"), DEFAULT_BASE)?;
     let mode = number("mode", matches.get_str("mode"), DEFAULT_MODE)?;
     let Some(heads) = heads_of(mode) else {
         return Err(NotAsked::Mode(mode));
     };
-    match ZoneSpec::with_kind(base, zone, zone, heads) {
+    match ZoneSpec::with_kind(base, zone, limit, heads) {
         Ok(spec) => Ok(Asked::Run(spec)),
         Err(fault) => Err(NotAsked::Spec(fault)),
     }

@@ -1,4 +1,4 @@
-//! Runs a script of calls on a heap zone: `macheap [--zone N] [--base N] [--mode 24|32] < script`.
+//! Runs a script of calls on a heap zone: `macheap [--zone N] [--limit N] [--base N] [--mode 24|32] < script`.
 #![tactic(auto)]
 
 mod asked;

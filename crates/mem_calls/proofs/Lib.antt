@@ -1,6 +1,14 @@
-pub mod Attempts
+pub mod Again
+pub mod Carrying
+pub mod Keeping
 pub mod KeptLoans
-pub mod NewHandles
+pub mod Masters
 pub mod Passing
-pub mod Resizing
+pub mod Purged
+pub mod Releases
+pub mod Running
 pub mod StateBits
+pub mod Stepping
+pub mod Telling
+pub mod Trials
+pub mod Trying

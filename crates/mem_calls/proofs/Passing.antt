@@ -1,17 +1,32 @@
--- A call whose tests all pass isn't refused.
-use Rattle.std.proofs.Common.{◌≡◌, ℕ, List, [], ◌∷◌, ◌++◌, None, ◌∙◌}
+-- What several tests of a call's operands answer, one behind another.
+use Rattle.std.proofs.Common.{◌≡◌, ℕ, List, [], ◌∷◌, ◌++◌, Option, Some, None, refl, ap, ◌∙◌}
+use Rattle.std.specs.Option.{option_or}
+use Rattle.mac_base.specs.declared.error.OsErr.{OsErr}
 use Rattle.mac_base.specs.HeadKind.{Shape}
 use Rattle.mac_base.specs.Heap.{Heap}
-use Rattle.mac_calls.specs.Tests.{Test, IsHandle, IsPointer, NotEmpty, NotLent, IsSize, first_refusal, refusal}
+use Rattle.mac_calls.specs.Tests.{Test, IsHandle, IsPointer, NotEmpty, NotLent, IsSize, refused_by, first_refusal, refusal}
 use Rattle.mac_calls.specs.declared.memory_call.MemoryCall.TheVariants.{SetHandleSize, SetPtrSize}
-use Rattle.call_laws.proofs.Refusals.{first_passed, later_refusal}
 
--- tests pass where the first of them do, and the others
+or_or : (a b c : Option OsErr) → option_or a (option_or b c) ≡ option_or (option_or a b) c
+or_or None b c = refl
+or_or (Some code) b c = refl
+
+-- tests refuse a call by the first of them, or else by the others
+pub refusal-append : (s : Shape) (heap : Heap) (tests more : List Test) → first_refusal s heap (tests ++ more) ≡ option_or (first_refusal s heap tests) (first_refusal s heap more)
+refusal-append s heap [] more = refl
+refusal-append s heap (test ∷ tests) more = ap (option_or (refused_by s heap test)) (refusal-append s heap tests more) ∙ or_or (refused_by s heap test) (first_refusal s heap tests) (first_refusal s heap more)
+
+-- they pass where the first of them do, and the others
 pub passed-both : (s : Shape) (heap : Heap) (tests more : List Test) → first_refusal s heap tests ≡ None → first_refusal s heap more ≡ None → first_refusal s heap (tests ++ more) ≡ None
-passed-both s heap [] more first rest = rest
-passed-both s heap (test ∷ tests) more first rest =
-    let parts = first_passed s heap test tests first in
-    later_refusal s heap test (tests ++ more) parts.0 ∙ passed-both s heap tests more parts.1 rest
+passed-both s heap tests more first rest = refusal-append s heap tests more ∙ ap (λ o. option_or o (first_refusal s heap more)) first ∙ rest
+
+-- they refuse where the first of them do
+pub refused-first : (s : Shape) (heap : Heap) (tests more : List Test) (code : OsErr) → first_refusal s heap tests ≡ Some code → first_refusal s heap (tests ++ more) ≡ Some code
+refused-first s heap tests more code first = refusal-append s heap tests more ∙ ap (λ o. option_or o (first_refusal s heap more)) first
+
+-- and where these pass and the others refuse
+pub refused-later : (s : Shape) (heap : Heap) (tests more : List Test) (code : OsErr) → first_refusal s heap tests ≡ None → first_refusal s heap more ≡ Some code → first_refusal s heap (tests ++ more) ≡ Some code
+refused-later s heap tests more code first rest = refusal-append s heap tests more ∙ ap (λ o. option_or o (first_refusal s heap more)) first ∙ rest
 
 -- SetHandleSize isn't refused
 pub passed-set_handle_size : (s : Shape) (heap : Heap) (h n : ℕ) → first_refusal s heap (IsHandle h ∷ NotEmpty h ∷ []) ≡ None → first_refusal s heap (NotLent h ∷ IsSize n ∷ []) ≡ None → refusal s heap (SetHandleSize h n) ≡ None

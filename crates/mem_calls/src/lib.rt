@@ -1,7 +1,16 @@
 //! The calls of the Memory Manager over one zone.
 #![tactic(auto)]
 
+mod flags;
+mod loans;
 mod manager;
+mod new_blocks;
+mod operands;
+mod places;
+mod releasing;
+mod request;
+mod room;
+mod sizes;
 mod state;
 
 pub use manager::MemoryManager;

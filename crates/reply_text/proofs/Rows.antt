@@ -5,15 +5,15 @@ use Rattle.mac_base.specs.HandleTable.{no_flags}
 use Rattle.mac_base.specs.declared.error.OsErr.TheVariants.{MemFullErr, NilHandleErr}
 use Rattle.mac_base.specs.ZoneMap.{block}
 use Rattle.mac_base.specs.declared.block.Kind.TheVariants.{Free, Master, Ptr, Rel}
-use Rattle.mac_calls.specs.declared.reply.Results.TheVariants.{Handle, Pointer, Address, Number, Code, Blocks}
-use Rattle.mac_calls.specs.declared.table.CallName.TheVariants.{NewHandle, NewPtr, HGetState, Deref, ZoneMap, MemError}
+use Rattle.mac_calls.specs.declared.reply.Results.TheVariants.{Handle, Pointer, Address, Number, TwoNumbers, Code, Blocks}
+use Rattle.mac_calls.specs.declared.table.CallName.TheVariants.{NewHandle, NewPtr, HGetState, Deref, MaxMem, ZoneMap, MemError}
 use Rattle.reply_text.specs.Text.{address, reply_text, fault_text}
 
-handle_text : reply_text 1 NewHandle (record { outcome = Ok (Handle 0x0010_003C) }) ≡ codes "1 NewHandle $0010003C 0\n"
+handle_text : reply_text 1 NewHandle (record { outcome = Ok (Handle 0x0010_003C) }) [] ≡ codes "1 NewHandle $0010003C 0\n"
 unfolding address digits
 handle_text = refl
 
-refusal_text : reply_text 1 NewHandle (record { outcome = Err MemFullErr }) ≡ codes "1 NewHandle -108\n"
+refusal_text : reply_text 1 NewHandle (record { outcome = Err MemFullErr }) [] ≡ codes "1 NewHandle -108\n"
 unfolding digits
 refusal_text = refl
 
@@ -23,31 +23,39 @@ blocks_text : reply_text 2 ZoneMap (record {
       ∷ record { address = 0x0010_013C; entry = block (Rel 0x0010_003C) 108; length = 100; flags = no_flags }
       ∷ record { address = 0x0010_0278; entry = block (Ptr 0x0010_0280) 108; length = 100; flags = no_flags }
       ∷ record { address = 0x0010_01A8; entry = block Free 3672; length = 0; flags = no_flags } ∷ []));
-})
+}) []
     ≡ codes "2 ZoneMap 4 0\n  $00100034 264 master\n  $0010013C 108 rel $0010003C 100 ---\n  $00100278 108 ptr 100\n  $001001A8 3672 free\n"
 unfolding address digits
 blocks_text = refl
 
-pointer_text : reply_text 1 NewPtr (record { outcome = Ok (Pointer 0x0010_0144) }) ≡ codes "1 NewPtr $00100144 0\n"
+pointer_text : reply_text 1 NewPtr (record { outcome = Ok (Pointer 0x0010_0144) }) [] ≡ codes "1 NewPtr $00100144 0\n"
 unfolding address digits
 pointer_text = refl
 
-contents_text : reply_text 3 Deref (record { outcome = Ok (Address 0x0010_01AC) }) ≡ codes "3 Deref $001001AC 0\n"
+contents_text : reply_text 3 Deref (record { outcome = Ok (Address 0x0010_01AC) }) [] ≡ codes "3 Deref $001001AC 0\n"
 unfolding address digits
 contents_text = refl
 
-state_text : reply_text 4 HGetState (record { outcome = Ok (Number 192) }) ≡ codes "4 HGetState 192 0\n"
+state_text : reply_text 4 HGetState (record { outcome = Ok (Number 192) }) [] ≡ codes "4 HGetState 192 0\n"
 unfolding digits
 state_text = refl
 
-code_text : reply_text 12 MemError (record { outcome = Ok (Code (Some NilHandleErr)) }) ≡ codes "12 MemError -109 0\n"
+code_text : reply_text 12 MemError (record { outcome = Ok (Code (Some NilHandleErr)) }) [] ≡ codes "12 MemError -109 0\n"
 unfolding digits
 code_text = refl
 
-no_code_text : reply_text 12 MemError (record { outcome = Ok (Code None) }) ≡ codes "12 MemError 0 0\n"
+no_code_text : reply_text 12 MemError (record { outcome = Ok (Code None) }) [] ≡ codes "12 MemError 0 0\n"
 unfolding digits
 no_code_text = refl
 
 fault_at_two : fault_text 2 ≡ codes "script fault at line 2\n"
 unfolding digits
 fault_at_two = refl
+
+asks_text : reply_text 7 NewHandle (record { outcome = Ok (Handle 0x0010_003C) }) (record { needed = 1036; value = 1 } ∷ record { needed = 1036; value = 0 } ∷ []) ≡ codes "7 NewHandle $0010003C 0\n  gz 1036 1\n  gz 1036 0\n"
+unfolding address digits
+asks_text = refl
+
+most_text : reply_text 3 MaxMem (record { outcome = Ok (TwoNumbers 3660 0) }) [] ≡ codes "3 MaxMem 3660 0 0\n"
+unfolding digits
+most_text = refl

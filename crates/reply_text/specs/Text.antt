@@ -9,6 +9,7 @@ use Rattle.mac_base.specs.declared.block.Kind.{Kind}
 use Rattle.mac_base.specs.declared.block.Kind.TheVariants.{Free, Master, Ptr, Rel}
 use Rattle.mac_base.specs.declared.error.OsErr.{OsErr}
 use Rattle.mac_base.specs.Codes.{code_of}
+use Rattle.mac_calls.specs.declared.grow_zone.Asked.{Asked}
 use Rattle.mac_calls.specs.declared.reply.Results.{Results}
 use Rattle.mac_calls.specs.declared.reply.Results.TheVariants as results
 use Rattle.mac_calls.specs.declared.reply.Reply.{Reply}
@@ -89,9 +90,13 @@ blocks_text outcome = []
 abbrev pub call_text : ℕ → List ℕ → Reply → List ℕ
 call_text number name reply = decimal number ++ spaced name ++ outcome_text reply.outcome ++ 10 ∷ [] ++ blocks_text reply.outcome
 
--- what is printed for the reply to the call of a line with this number
-abbrev pub reply_text : ℕ → CallName → Reply → List ℕ
-reply_text number call reply = call_text number (signature call).name reply
+-- the line of an ask: the bytes that were needed, and the answer's value
+abbrev pub asked_text : Asked → List ℕ
+asked_text asked = codes "  gz " ++ decimal asked.needed ++ spaced (decimal asked.value) ++ 10 ∷ []
+
+-- what is printed for the reply to the call of a line with this number, and behind it for each ask that had an answer
+abbrev pub reply_text : ℕ → CallName → Reply → List Asked → List ℕ
+reply_text number call reply asked = call_text number (signature call).name reply ++ flat_map asked_text asked
 
 -- what is printed for a script that is none, and no more
 abbrev pub fault_text : ℕ → List ℕ

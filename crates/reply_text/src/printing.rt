@@ -8,7 +8,7 @@ ghost use Rattle.reply_text.specs.Text as texts;
 use itoa::{Buffer, Integer};
 use mac_base::block::{Block, Flags, Kind};
 use mac_base::error::{HostFull, NO_ERR, OsErr};
-use mac_calls::{CallName, Reply, Results};
+use mac_calls::{Asked, CallName, Reply, Results};
 use std::alloc::Global;
 
 /// The last line of a run for which the host had no memory.
@@ -223,23 +223,48 @@ fn push_shown(text: &mut Vec<u8>, reply: &Reply) -> Result<(), HostFull>
     }
 }
 
-/// Adds what the reply to a line's call prints: the line's number, the call's name, its results and its code, and a
-/// line for each block that the call shows.
+/// Adds the line of an ask.
+fn push_ask(text: &mut Vec<u8>, asked: Asked) -> Result<(), HostFull>
+    ensures { OnOk result (text.new.items ≡ text.old.items ++ texts.asked_text asked) }
+{
+    text.extend_from_slice(b"  gz ")?;
+    push_number(text, asked.needed)?;
+    text.push(b' ')?;
+    push_number(text, asked.value)?;
+    text.push(b'\n')?;
+    Ok(())
+}
+
+/// Adds the lines of asks.
+fn push_asked(text: &mut Vec<u8>, asked: &[Asked]) -> Result<(), HostFull>
+    ensures { OnOk result
+        (text.new.items ≡ text.old.items ++ flat_map texts.asked_text asked.now) }
+{
+    for ask in asked {
+        push_ask(text, *ask)?;
+    }
+    Ok(())
+}
+
+/// Adds what the reply to a line's call prints: the line's number, the call's name, its results and its code, a line for
+/// each block that the call shows, and a line for each time that it asked the grow-zone procedure and had an answer.
 pub fn render(
     text: &mut Vec<u8>,
     number: u32,
     call: CallName,
     reply: &Reply,
+    asked: &[Asked],
 ) -> Result<(), HostFull>
     ensures { OnOk result
-        (text.new.items ≡ text.old.items ++ texts.reply_text number call reply.now) }
+        (text.new.items ≡ text.old.items ++ texts.reply_text number call reply.now asked.now) }
 {
     push_number(text, number)?;
     text.push(b' ')?;
     text.extend_from_slice(call.signature().name)?;
     push_outcome(text, reply)?;
     text.push(b'\n')?;
-    push_shown(text, reply)
+    push_shown(text, reply)?;
+    push_asked(text, asked)
 }
 
 /// The one line that is printed for a script that is none; `line` is the first line that is none.

@@ -107,12 +107,12 @@ fn eight_blocks_are_lent_at_most(rt: HostRuntime) -> Result<(), Fail> {
 /// An empty handle, an unlocked one, a pointer that is lent, and a locked handle that isn't.
 const PREPARED: (&str, &str) = (
     "e = NewEmptyHandle\nh = NewHandle 8\np = NewPtr 20\nl = NewHandle 4\nHLock l\nLend p\n",
-    "1 NewEmptyHandle $0010003C 0\n2 NewHandle $00100040 0\n3 NewPtr $00100154 0\n4 NewHandle $00100044 0\n5 HLock 0\n6 Lend 0\n",
+    "1 NewEmptyHandle $0010003C 0\n2 NewHandle $00100040 0\n3 NewPtr $00100144 0\n4 NewHandle $00100044 0\n5 HLock 0\n6 Lend 0\n",
 );
 
 /// What ZoneMap prints then.
 const PREPARED_MAP: &str =
-    "ZoneMap 5 0\n  $00100034 264 master\n  $0010013C 16 rel $00100040 8 ---\n  $0010014C 28 ptr 20\n  $00100168 12 rel $00100044 4 L--\n  $00100174 3724 free\n";
+    "ZoneMap 5 0\n  $00100034 264 master\n  $0010013C 28 ptr 20\n  $00100158 12 rel $00100044 4 L--\n  $00100164 3724 free\n  $00100FF0 16 rel $00100040 8 ---\n";
 
 /// Calls on loans that are refused then, each with its code.
 const REFUSALS: &str = "\
@@ -147,12 +147,12 @@ Return l: -50
 /// A locked handle and a pointer, both lent.
 const LENT: (&str, &str) = (
     "h = NewHandle 8\np = NewPtr 20\nHLock h\nPoke h 0 \"HandleHa\"\nLend h\nLend p\n",
-    "1 NewHandle $0010003C 0\n2 NewPtr $00100154 0\n3 HLock 0\n4 Poke 0\n5 Lend 0\n6 Lend 0\n",
+    "1 NewHandle $0010003C 0\n2 NewPtr $00100144 0\n3 HLock 0\n4 Poke 0\n5 Lend 0\n6 Lend 0\n",
 );
 
 /// What ZoneMap prints then.
 const LENT_MAP: &str =
-    "ZoneMap 4 0\n  $00100034 264 master\n  $0010013C 16 rel $0010003C 8 L--\n  $0010014C 28 ptr 20\n  $00100168 3736 free\n";
+    "ZoneMap 4 0\n  $00100034 264 master\n  $0010013C 28 ptr 20\n  $00100158 3736 free\n  $00100FF0 16 rel $0010003C 8 L--\n";
 
 /// Calls that are refused then, each with its code. What would read, write, free, resize or unlock a lent block is refused
 /// before its size or the bytes that it names are tested, but a state over 255 is refused first.
@@ -218,7 +218,7 @@ fn refused_calls_leave_lent_blocks(rt: HostRuntime) -> Result<(), Fail> {
 /// Calls that work on lent blocks, and what they print behind the six lines.
 const WORKING: (&str, &str) = (
     "HLock h\nHPurge h\nHGetState h\nHNoPurge h\nHSetRBit h\nHGetState h\nHClrRBit h\nDeref h\nGetHandleSize h\nGetPtrSize p\nHSetState h 255\nHGetState h\nHSetState h 128\nZoneMap\nLentPeek h 8 0\nLentPoke p 20 \"\"\nLentPeek p 20 0\nReturn p\nReturn h\nReturn h\nHUnlock h\nPeek h 0 8\nDisposePtr p\n",
-    "7 HLock 0\n8 HPurge 0\n9 HGetState 192 0\n10 HNoPurge 0\n11 HSetRBit 0\n12 HGetState 160 0\n13 HClrRBit 0\n14 Deref $00100144 0\n15 GetHandleSize 8 0\n16 GetPtrSize 20 0\n17 HSetState 0\n18 HGetState 224 0\n19 HSetState 0\n20 ZoneMap 4 0\n  $00100034 264 master\n  $0010013C 16 rel $0010003C 8 L--\n  $0010014C 28 ptr 20\n  $00100168 3736 free\n21 LentPeek \"\" 0\n22 LentPoke 0\n23 LentPeek \"\" 0\n24 Return 0\n25 Return 0\n26 Return -50\n27 HUnlock 0\n28 Peek \"HandleHa\" 0\n29 DisposePtr 0\n",
+    "7 HLock 0\n8 HPurge 0\n9 HGetState 192 0\n10 HNoPurge 0\n11 HSetRBit 0\n12 HGetState 160 0\n13 HClrRBit 0\n14 Deref $00100FF8 0\n15 GetHandleSize 8 0\n16 GetPtrSize 20 0\n17 HSetState 0\n18 HGetState 224 0\n19 HSetState 0\n20 ZoneMap 4 0\n  $00100034 264 master\n  $0010013C 28 ptr 20\n  $00100158 3736 free\n  $00100FF0 16 rel $0010003C 8 L--\n21 LentPeek \"\" 0\n22 LentPoke 0\n23 LentPeek \"\" 0\n24 Return 0\n25 Return 0\n26 Return -50\n27 HUnlock 0\n28 Peek \"HandleHa\" 0\n29 DisposePtr 0\n",
 );
 
 #[test]

@@ -4,7 +4,7 @@ use mac_base::block::{Block, Entry, Flags, Kind};
 use mac_base::bytes::Bytes;
 use mac_base::error::{HostFull, OsErr};
 use mac_base::handle::{Handle, Ptr};
-use mac_calls::{BlockList, CallName, Reply, Results};
+use mac_calls::{Asked, BlockList, CallName, Reply, Results};
 use reply_text::{NO_MEMORY, fault_line, render};
 use std::alloc::{AllocError, Global};
 
@@ -34,10 +34,10 @@ fn block_reply(alloc: Global) -> Result<Reply, AllocError> {
     Ok(reply(Results::Blocks(BlockList::new(blocks))))
 }
 
-/// What the reply to the call of a line with this number prints.
+/// What the reply to the call of a line with this number prints, which asked for nothing.
 fn printed(alloc: Global, number: u32, call: CallName, reply: &Reply) -> Vec<u8> {
     let mut text = Vec::new(alloc);
-    if render(&mut text, number, call, reply).is_err() {
+    if render(&mut text, number, call, reply, &[]).is_err() {
         text.clear();
     }
     text
@@ -148,4 +148,26 @@ fn prints_results(rt: HostRuntime) {
     for (call, results, text) in table {
         assert!(rt; prints(rt.alloc(), call, results, text), "at {call:?}");
     }
+}
+
+#[test]
+fn prints_asks(rt: HostRuntime) -> Result<(), HostFull> {
+    let asked = [
+        Asked {
+            needed: 1036,
+            value: 1,
+        },
+        Asked {
+            needed: 20,
+            value: 0,
+        },
+    ];
+    let mut text = Vec::new(rt.alloc());
+    let outcome = Err(OsErr::MemFullErr);
+    render(&mut text, 7, CallName::NewPtr, &Reply { outcome }, &asked)?;
+    assert_eq!(rt;
+        text.as_slice(),
+        b"7 NewPtr -108\n  gz 1036 1\n  gz 20 0\n".as_slice()
+    );
+    Ok(())
 }

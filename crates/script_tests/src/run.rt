@@ -226,7 +226,7 @@ fn handles_and_pointers_print_their_replies(rt: HostRuntime) -> Result<(), Fail>
         ),
         (
             "h = NewHandle 4\nPoke h 0 \"abcd\"\nSetHandleSize h 2\nSetHandleSize h 20\nPeek h 0 4\np = NewPtr 2\nPoke p 0 \"xy\"\nSetPtrSize p 30\nPeek p 0 3\nZoneMap\nHSetState h 255\nHGetState h\nHSetState h 31\nHGetState h\n",
-            "1 NewHandle $0010003C 0\n2 Poke 0\n3 SetHandleSize 0\n4 SetHandleSize 0\n5 Peek $\"61620000\" 0\n6 NewPtr $00100160 0\n7 Poke 0\n8 SetPtrSize 0\n9 Peek $\"787900\" 0\n10 ZoneMap 4 0\n  $00100034 264 master\n  $0010013C 28 rel $0010003C 20 ---\n  $00100158 40 ptr 30\n  $00100180 3712 free\n11 HSetState 0\n12 HGetState 224 0\n13 HSetState 0\n14 HGetState 0 0\n",
+            "1 NewHandle $0010003C 0\n2 Poke 0\n3 SetHandleSize 0\n4 SetHandleSize 0\n5 Peek $\"61620000\" 0\n6 NewPtr $00100144 0\n7 Poke 0\n8 SetPtrSize 0\n9 Peek $\"787900\" 0\n10 ZoneMap 4 0\n  $00100034 264 master\n  $0010013C 40 ptr 30\n  $00100164 3712 free\n  $00100FE4 28 rel $0010003C 20 ---\n11 HSetState 0\n12 HGetState 224 0\n13 HSetState 0\n14 HGetState 0 0\n",
         ),
         (
             "MemError\nMemError\nHLock 0\nMemError\nMemError\nPeek 4 0 1\nMemError\nZoneMap\nMemError\nPoke 0 0 \"\"\nMemError\nNewPtr 8388609\nMemError\nNewEmptyHandle\nMemError\n",
@@ -234,21 +234,21 @@ fn handles_and_pointers_print_their_replies(rt: HostRuntime) -> Result<(), Fail>
         ),
         (
             "a = GetHandleSize 0\nNewHandle a\nn = ZoneMap\nNewPtr n\n",
-            "1 GetHandleSize -109\n2 NewHandle $0010003C 0\n3 ZoneMap 3 0\n  $00100034 264 master\n  $0010013C 12 rel $0010003C 0 ---\n  $00100148 3768 free\n4 NewPtr $00100150 0\n",
+            "1 GetHandleSize -109\n2 NewHandle $0010003C 0\n3 ZoneMap 3 0\n  $00100034 264 master\n  $0010013C 12 rel $0010003C 0 ---\n  $00100148 3768 free\n4 NewPtr $00100144 0\n",
         ),
     ];
     check_replies(&rt, rt.alloc(), &rows)
 }
 
-/// A handle without a block, one with a block, a pointer and a locked handle. The first two blocks have no room to grow.
+/// A handle without a block, one with a block, a pointer and a locked handle. The pointer and the locked handle have no room to grow far.
 const PREPARED: (&str, &str) = (
     "e = NewEmptyHandle\nh = NewHandle 8\np = NewPtr 20\nl = NewHandle 4\nHLock l\n",
-    "1 NewEmptyHandle $0010003C 0\n2 NewHandle $00100040 0\n3 NewPtr $00100154 0\n4 NewHandle $00100044 0\n5 HLock 0\n",
+    "1 NewEmptyHandle $0010003C 0\n2 NewHandle $00100040 0\n3 NewPtr $00100144 0\n4 NewHandle $00100044 0\n5 HLock 0\n",
 );
 
 /// What ZoneMap prints then.
 const PREPARED_MAP: &str =
-    "ZoneMap 5 0\n  $00100034 264 master\n  $0010013C 16 rel $00100040 8 ---\n  $0010014C 28 ptr 20\n  $00100168 12 rel $00100044 4 L--\n  $00100174 3724 free\n";
+    "ZoneMap 5 0\n  $00100034 264 master\n  $0010013C 28 ptr 20\n  $00100158 12 rel $00100044 4 L--\n  $00100164 3724 free\n  $00100FF0 16 rel $00100040 8 ---\n";
 
 /// Calls that are refused then, each with its code.
 const REFUSALS: &str = "\
@@ -319,7 +319,7 @@ SetHandleSize p 1: -111
 SetHandleSize e 1: -109
 SetHandleSize h 8388609: -50
 SetHandleSize h 8388608: -108
-SetHandleSize h 9: -108
+SetHandleSize h 3765: -108
 SetHandleSize 0 8388609: -109
 SetHandleSize 4 8388609: -111
 SetHandleSize e 8388609: -109
@@ -391,17 +391,19 @@ const FULL: &str = "\
 65 ZoneMap 2 0
   $00100034 264 master
   $0010013C 3780 free
-66 NewEmptyHandle -108
-67 MemError -108 0
-68 NewHandle -108
-69 ZoneMap 2 0
+66 NewEmptyHandle $00100144 0
+67 MemError 0 0
+68 NewHandle $00100148 0
+69 ZoneMap 4 0
   $00100034 264 master
-  $0010013C 3780 free
-70 NewPtr $00100144 0
+  $0010013C 264 master
+  $00100244 12 rel $00100148 0 ---
+  $00100250 3504 free
+70 NewPtr $0010024C 0
 ";
 
 #[test]
-fn a_zone_has_sixty_four_handles(rt: HostRuntime) -> Result<(), Fail> {
+fn a_master_block_is_built_behind_sixty_four_handles(rt: HostRuntime) -> Result<(), Fail> {
     let calls = "ZoneMap\nNewEmptyHandle\nMemError\nNewHandle 0\nZoneMap\nNewPtr 0\n";
     let script = script_of_handles(rt.alloc(), 64, calls)?;
     let reader = reader_of(script.as_bytes(), usize::MAX);
@@ -428,7 +430,7 @@ fn faulty_scripts_run_nothing(rt: HostRuntime) -> Result<(), Fail> {
     let alloc = rt.alloc();
     check_fault(&rt, alloc, b"ZoneMap\nNewHandl 3", 2)?;
     check_fault(&rt, alloc, b"DisposeHandle h", 1)?;
-    check_fault(&rt, alloc, b"\n# gz comes later\ngz 1\n", 3)?;
+    check_fault(&rt, alloc, b"\n# an answer without a value\ngz\n", 3)?;
     check_fault(&rt, alloc, b"h = NewHandle 1\nx = HLock h\n", 2)?;
     check_fault(&rt, alloc, b"x = MemError\n", 1)
 }

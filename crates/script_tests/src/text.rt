@@ -48,7 +48,49 @@ ok h = NewHandle 16777216\nPeek h 0 0|\
 1 h = DisposeHandle 0|\
 ok n = ZoneMap\nNewHandle n|\
 ok gz = NewHandle 3\nDisposeHandle gz|\
-1 gz 1|\
+ok gz 1|\
+ok gz 0#;|\
+ok \tgz\t$28\t|\
+ok h = NewHandle 3\ngz 40 DisposeHandle h|\
+ok a = NewHandle 3\nb = NewHandle 3\ngz 1 EmptyHandle a; DisposePtr $100144;DisposeHandle b|\
+ok gz = NewHandle 3\ngz gz DisposeHandle gz ;EmptyHandle gz|\
+ok gz 1 DisposeHandle 1; DisposeHandle 2; DisposeHandle 3; DisposeHandle 4; DisposeHandle 5; DisposeHandle 6; DisposeHandle 7; DisposeHandle 8|\
+1 gz 1 DisposeHandle 1; DisposeHandle 2; DisposeHandle 3; DisposeHandle 4; DisposeHandle 5; DisposeHandle 6; DisposeHandle 7; DisposeHandle 8; EmptyHandle 9|\
+1 gz|\
+1 gz h|\
+1 gz 4294967296|\
+1 gz \"1\"|\
+1 gz 1 2|\
+1 gz 1;|\
+1 gz;|\
+1 gz 1 ; DisposeHandle 2|\
+1 gz DisposeHandle 2|\
+1 gz 1 DisposeHandle|\
+1 gz 1 DisposeHandle;|\
+1 gz 1 DisposeHandle 2;|\
+1 gz 1 DisposeHandle 2;;DisposePtr 3|\
+1 gz 1 DisposeHandle 2; DisposePtr|\
+1 gz 1 DisposeHandle 2 DisposePtr 3|\
+1 gz 1 DisposeHandle 2 3|\
+1 gz 1 DisposeHandle ; 2|\
+1 gz 1 DisposeHandle h|\
+1 gz 1 DisposeHandle \"2\"|\
+1 gz 1 DisposeHandle 2 = DisposePtr 3|\
+1 gz 1 disposehandle 2|\
+1 gz 1 HLock 2|\
+1 gz 1 NewHandle 2|\
+1 gz 1 gz 2|\
+1 GZ 1|\
+1 x = gz 1|\
+1 gz = gz 1|\
+2 gz 1\nDisposeHandle gz|\
+2 gz 1\ngz gz|\
+1 NewHandle 1;|\
+1 DisposeHandle 1; DisposeHandle 2|\
+1 ;|\
+1 ; ZoneMap|\
+ok Poke 0 0 \";\"|\
+ok ZoneMap#;|\
 ok NewHandle = NewHandle 3\nNewHandle NewHandle|\
 ok NewHandle 4294967295|\
 1 NewHandle 4294967296|\
@@ -108,6 +150,10 @@ ok HSetState 1 2\nSetHandleSize 1 2\nSetPtrSize 1 2\nEmptyHandle 1\nDisposePtr 1
 1 n = MemError|\
 1 NewEmptyHandle 1|\
 1 NewPtr|\
+ok a = RecoverHandle 1\nMoveHHi a\nHLockHi a\na = CompactMem 1\nPurgeMem 1\na = MaxMem\nReserveMem 1\nMoreMasters\nMaxApplZone|\
+1 a = MoveHHi 1|\
+1 MaxMem 1|\
+1 CompactMem|\
 1 DisposePtr|\
 1 EmptyHandle 1 2|\
 1 GetHandleSize|\

@@ -3,9 +3,10 @@
 use bumpalo::Bump;
 use mac_base::error::OsErr;
 use mac_base::handle::{Handle, Ptr};
+use mac_base::releasing::ReleasingCall;
 use mac_calls::{Call, CallName, MemoryCall, Reply, Results};
-use script_text::{Fault, Line, parse_script};
-use script_vars::{Vars, first_number, resolve};
+use script_text::{AnswerLine, CallLine, Fault, Line, Statement, parse_script};
+use script_vars::{Vars, answer_of, first_number, resolve};
 use std::process::Abort;
 
 /// The size of a NewHandle.
@@ -30,10 +31,36 @@ fn is_poke(call: &Call<'_>, at: (u32, u32), wanted: &[u8]) -> bool {
     }
 }
 
+/// The line of this place that makes a call.
+fn call_at<'a, 'b>(lines: &'b [Line<'a>], place: usize) -> Result<&'b CallLine<'a>, Fault> {
+    match lines.get(place) {
+        Some(
+            Line {
+                statement: Statement::Call(call),
+                ..
+            },
+        ) => Ok(call),
+        _ => Err(Fault::Line(0)),
+    }
+}
+
+/// The line of this place that queues an answer.
+fn answer_at<'a, 'b>(lines: &'b [Line<'a>], place: usize) -> Result<&'b AnswerLine<'a>, Fault> {
+    match lines.get(place) {
+        Some(
+            Line {
+                statement: Statement::Answer(answer),
+                ..
+            },
+        ) => Ok(answer),
+        _ => Err(Fault::Line(0)),
+    }
+}
+
 /// A line is a NewHandle 4, and gives its variable this value.
 fn assign_first(
     rt: &impl Abort,
-    line: &Line<'_>,
+    line: &CallLine<'_>,
     vars: &mut Vars,
     value: u32,
 ) -> Result<(), Fault> {
@@ -50,12 +77,39 @@ fn resolves_calls(rt: HostRuntime) -> Result<(), Fault> {
     let alloc = rt.alloc();
     let arena = Bump::new(alloc);
     let lines = parse_script(alloc, &arena, b"h = NewHandle 4\nPoke h 0 $\"00FF\"\n")?;
-    let (Some(first), Some(second)) = (lines.first(), lines.get(1)) else {
-        return Err(Fault::Line(0));
-    };
     let mut vars = Vars::new(alloc);
-    assign_first(&rt, first, &mut vars, 0x0010_003C)?;
-    assert!(rt; is_poke(&resolve(second, &vars), (0x0010_003C, 0), b"\x00\xFF"));
+    assign_first(&rt, call_at(&lines, 0)?, &mut vars, 0x0010_003C)?;
+    let second = resolve(call_at(&lines, 1)?, &vars);
+    assert!(rt; is_poke(&second, (0x0010_003C, 0), b"\x00\xFF"));
+    Ok(())
+}
+
+/// The number that a call of an answer is of, and its name's letter.
+fn in_short(call: &Option<ReleasingCall>) -> (u8, u32) {
+    match call {
+        Some(ReleasingCall::DisposesHandle(handle)) => (b'h', handle.number()),
+        Some(ReleasingCall::DisposesPtr(pointer)) => (b'p', pointer.number()),
+        Some(ReleasingCall::Empties(handle)) => (b'e', handle.number()),
+        None => (b'-', 0),
+    }
+}
+
+#[test]
+fn reads_answers(rt: HostRuntime) -> Result<(), Fault> {
+    let alloc = rt.alloc();
+    let arena = Bump::new(alloc);
+    let text = b"h = NewHandle 4\ngz 40 EmptyHandle h; DisposePtr 5;DisposeHandle h\ngz h\n";
+    let lines = parse_script(alloc, &arena, text)?;
+    let mut vars = Vars::new(alloc);
+    assign_first(&rt, call_at(&lines, 0)?, &mut vars, 60)?;
+    let first = answer_of(answer_at(&lines, 1)?, &vars);
+    let second = answer_of(answer_at(&lines, 2)?, &vars);
+    assert_eq!(rt; (first.value(), second.value()), (40, 60));
+    let wanted = [(b'e', 60), (b'p', 5), (b'h', 60), (b'-', 0)];
+    for (call, wanted) in first.calls().iter().zip(&wanted) {
+        assert_eq!(rt; in_short(call), *wanted);
+    }
+    assert_eq!(rt; in_short(&second.calls()[0]), (b'-', 0));
     Ok(())
 }
 

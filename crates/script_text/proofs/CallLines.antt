@@ -1,7 +1,7 @@
 -- Which tokens make a call.
 use Rattle.std.proofs.Common.{◌≡◌, ◌≢◌, ℕ, List, [], ◌∷◌, ◌++◌, Option, Some, None, sym, ap, subst, ◌∙◌}
 use Rattle.mac_calls.specs.declared.table.CallName.{CallName}
-use Rattle.script_text.specs.declared.line.Line.{Line}
+use Rattle.script_text.specs.declared.line.CallLine.{CallLine}
 use Rattle.script_text.specs.declared.line.Operand.{Operand}
 use Rattle.script_text.specs.Tokens.{Token, Equals, Word}
 use Rattle.mac_calls.specs.Calls.{signature}
@@ -16,7 +16,7 @@ pub record Parted (tokens : List Token) (name : Option (List ℕ)) (rest : List 
   pub by : name ≡ assigned_by tokens
 
 -- behind the assignment stand the call's name and its operands
-behind_by : (names : List (List ℕ)) (tokens rest : List Token) (o : Option (List ℕ)) (x : Line) → Parted tokens o rest → (p : List Token) → AreOperands names (signature x.call).operands p x.operands → (a : Option (List ℕ)) → tokens ≡ assignment a ++ Word (signature x.call).name ∷ p → rest ≡ Word (signature x.call).name ∷ p
+behind_by : (names : List (List ℕ)) (tokens rest : List Token) (o : Option (List ℕ)) (x : CallLine) → Parted tokens o rest → (p : List Token) → AreOperands names (signature x.call).operands p x.operands → (a : Option (List ℕ)) → tokens ≡ assignment a ++ Word (signature x.call).name ∷ p → rest ≡ Word (signature x.call).name ∷ p
 behind_by names tokens rest None x parted p are None e = sym parted.parts ∙ e
 behind_by names tokens rest None x parted p are (Some a) e = let bad : None ≡ Some a = parted.by ∙ ap assigned_by e in absurd cc
 behind_by names tokens rest (Some o) x parted p are None e =
@@ -27,11 +27,11 @@ behind_by names tokens rest (Some o) x parted p are (Some a) e =
     let same : Word o ∷ Equals ∷ rest ≡ Word a ∷ Equals ∷ Word (signature x.call).name ∷ p = sym parted.parts ∙ e in
     cc
 
-behind : (names : List (List ℕ)) (tokens rest : List Token) (o : Option (List ℕ)) (x : Line) → Parted tokens o rest → (p : IsCall names tokens x) → rest ≡ Word (signature x.call).name ∷ p.1
+behind : (names : List (List ℕ)) (tokens rest : List Token) (o : Option (List ℕ)) (x : CallLine) → Parted tokens o rest → (p : IsCall names tokens x) → rest ≡ Word (signature x.call).name ∷ p.1
 behind names tokens rest o x parted p = behind_by names tokens rest o x parted p.1 p.5 p.0 p.2
 
 -- no tokens make no call
-pub no_call : (names : List (List ℕ)) (line : Line) → ¬ IsCall names [] line
+pub no_call : (names : List (List ℕ)) (line : CallLine) → ¬ IsCall names [] line
 no_call names line p = empty p.0 p.2
   where
     empty : (x : Option (List ℕ)) → [] ≡ assignment x ++ Word (signature line.call).name ∷ p.1 → ⊥
@@ -39,20 +39,20 @@ no_call names line p = empty p.0 p.2
     empty (Some name) e = absurd cc
 
 -- tokens without a word behind the assignment make no call
-pub no_word : (names : List (List ℕ)) (tokens rest : List Token) (o : Option (List ℕ)) → Parted tokens o rest → HasNoFirstWord rest → (x : Line) → ¬ IsCall names tokens x
+pub no_word : (names : List (List ℕ)) (tokens rest : List Token) (o : Option (List ℕ)) → Parted tokens o rest → HasNoFirstWord rest → (x : CallLine) → ¬ IsCall names tokens x
 no_word names tokens rest o parted none x p = none (signature x.call).name p.1 (behind names tokens rest o x parted p)
 
 -- the word is the call's name, and behind it stand the operands
-name_and_operands : (names : List (List ℕ)) (tokens others : List Token) (word : List ℕ) (o : Option (List ℕ)) (x : Line) → Parted tokens o (Word word ∷ others) → (p : IsCall names tokens x) → ((signature x.call).name ≡ word) × (p.1 ≡ others)
+name_and_operands : (names : List (List ℕ)) (tokens others : List Token) (word : List ℕ) (o : Option (List ℕ)) (x : CallLine) → Parted tokens o (Word word ∷ others) → (p : IsCall names tokens x) → ((signature x.call).name ≡ word) × (p.1 ≡ others)
 name_and_operands names tokens others word o x parted p =
     let same : Word word ∷ others ≡ Word (signature x.call).name ∷ p.1 = behind names tokens (Word word ∷ others) o x parted p in (cc, cc)
 
 -- a word that is no call's name makes no call
-pub no_name : (names : List (List ℕ)) (tokens others : List Token) (word : List ℕ) (o : Option (List ℕ)) → Parted tokens o (Word word ∷ others) → ((call : CallName) → (signature call).name ≢ word) → (x : Line) → ¬ IsCall names tokens x
+pub no_name : (names : List (List ℕ)) (tokens others : List Token) (word : List ℕ) (o : Option (List ℕ)) → Parted tokens o (Word word ∷ others) → ((call : CallName) → (signature call).name ≢ word) → (x : CallLine) → ¬ IsCall names tokens x
 no_name names tokens others word o parted none x p = none x.call (name_and_operands names tokens others word o x parted p).0
 
 -- tokens that are no operands of the call make no call
-pub no_operands : (names : List (List ℕ)) (tokens others : List Token) (call : CallName) (o : Option (List ℕ)) → Parted tokens o (Word (signature call).name ∷ others) → ((xs : List Operand) → ¬ AreOperands names (signature call).operands others xs) → (x : Line) → ¬ IsCall names tokens x
+pub no_operands : (names : List (List ℕ)) (tokens others : List Token) (call : CallName) (o : Option (List ℕ)) → Parted tokens o (Word (signature call).name ∷ others) → ((xs : List Operand) → ¬ AreOperands names (signature call).operands others xs) → (x : CallLine) → ¬ IsCall names tokens x
 no_operands names tokens others call o parted none x p =
     let same = name_and_operands names tokens others (signature call).name o x parted p in
     let this : x.call ≡ call = one_call x.call call same.0 in

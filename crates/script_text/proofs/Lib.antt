@@ -13,9 +13,11 @@ pub mod NameLaws
 pub mod Lines
 pub mod Reading
 pub mod OperandLaws
-pub mod StatementLaws
 pub mod ScriptLaws
 pub mod OneOperand
+pub mod OneAnswer
+pub mod StatementLaws
+pub mod AnswerLaws
 pub mod CallLines
 pub mod OneScript
 pub mod OneFault

@@ -95,7 +95,7 @@ one_variable : (names : List (List ℕ)) (word : List ℕ) (a b : ℕ) → IsVar
 one_variable names word a b p q = let same : Some a ≡ Some b = sym p.1 ∙ q.1 in cc
 
 -- a token is one number or variable at most
-one_number_operand : (names : List (List ℕ)) (token : Token) (x y : Operand) → IsNumberOperand names token x → IsNumberOperand names token y → x ≡ y
+pub one_number_operand : (names : List (List ℕ)) (token : Token) (x y : Operand) → IsNumberOperand names token x → IsNumberOperand names token y → x ≡ y
 one_number_operand names (Word word) (operand.Number n) (operand.Number m) p q = ap operand.Number (one_number word n m p q)
 one_number_operand names (Word word) (operand.Number n) (operand.Variable b) p q = absurd (name_no_number word n q.0 p)
 one_number_operand names (Word word) (operand.Variable a) (operand.Number m) p q = absurd (name_no_number word m p.0 q)

@@ -5,29 +5,32 @@ use Rattle.std.specs.Str.Lines.{lines}
 use Rattle.mac_calls.specs.declared.table.CallName.{CallName}
 use Rattle.script_text.specs.declared.line.Name.{Name}
 use Rattle.script_text.specs.declared.line.Operand.{Operand}
+use Rattle.script_text.specs.declared.line.CallLine.{CallLine}
 use Rattle.script_text.specs.declared.line.Line.{Line}
+use Rattle.script_text.specs.declared.line.Statement.{Statement}
+use Rattle.script_text.specs.declared.line.Statement.TheVariants.{Call, Answer}
 use Rattle.script_text.specs.Tokens.{Token, Equals, Word}
 use Rattle.mac_calls.specs.Calls.{signature}
 use Rattle.script_text.specs.Operands.{AreOperands}
 use Rattle.script_text.specs.Names.{place_for}
-use Rattle.script_text.specs.Script.{assignment, IsLine, names_after, AreLines, AreParted, OneReading}
+use Rattle.script_text.specs.Script.{assignment, IsCall, IsStatement, IsLine, names_after, AreLines, AreParted, OneReading}
 use Rattle.script_text.proofs.TokenLaws.{one_tokens}
 use Rattle.mac_calls.proofs.CallNames.{one_call}
 use Rattle.script_text.proofs.OneOperand.{one_operands, operands_no_equals}
+use Rattle.script_text.proofs.OneAnswer.{one_answer, not_both}
 
--- a line of these parts
-abbrev made : ℕ → Option Name → CallName → List Operand → Line
-made number assigned call operands = record { number = number; assigned = assigned; call = call; operands = operands }
+-- a call of these parts
+abbrev made : Option Name → CallName → List Operand → CallLine
+made assigned call operands = record { assigned = assigned; call = call; operands = operands }
 
-one_made : (a b : Line) → a.number ≡ b.number → a.assigned ≡ b.assigned → a.call ≡ b.call → a.operands ≡ b.operands → a ≡ b
-one_made a b number assigned call operands =
-    ap (λ (x : ℕ). made x a.assigned a.call a.operands) number
-    ∙ ap (λ (x : Option Name). made b.number x a.call a.operands) assigned
-    ∙ ap (λ (x : CallName). made b.number b.assigned x a.operands) call
-    ∙ ap (λ (x : List Operand). made b.number b.assigned b.call x) operands
+one_made : (a b : CallLine) → a.assigned ≡ b.assigned → a.call ≡ b.call → a.operands ≡ b.operands → a ≡ b
+one_made a b assigned call operands =
+    ap (λ (x : Option Name). made x a.call a.operands) assigned
+    ∙ ap (λ (x : CallName). made b.assigned x a.operands) call
+    ∙ ap (λ (x : List Operand). made b.assigned b.call x) operands
 
 -- what stands behind a name and `=`, and what stands behind a call
-one_assignment : (names : List (List ℕ)) (a b : Line) (p q : List Token) → AreOperands names (signature a.call).operands p a.operands → AreOperands names (signature b.call).operands q b.operands → (x y : Option (List ℕ)) → assignment x ++ Word (signature a.call).name ∷ p ≡ assignment y ++ Word (signature b.call).name ∷ q → (x ≡ y) × ((signature a.call).name ≡ (signature b.call).name) × (p ≡ q)
+one_assignment : (names : List (List ℕ)) (a b : CallLine) (p q : List Token) → AreOperands names (signature a.call).operands p a.operands → AreOperands names (signature b.call).operands q b.operands → (x y : Option (List ℕ)) → assignment x ++ Word (signature a.call).name ∷ p ≡ assignment y ++ Word (signature b.call).name ∷ q → (x ≡ y) × ((signature a.call).name ≡ (signature b.call).name) × (p ≡ q)
 one_assignment names a b p q here there None None e = (refl, cc, cc)
 one_assignment names a b p q here there (Some x) (Some y) e = (cc, cc, cc)
 one_assignment names a b p q here there None (Some y) e =
@@ -37,17 +40,31 @@ one_assignment names a b p q here there (Some x) None e =
     let begins : q ≡ Equals ∷ Word (signature a.call).name ∷ p = cc in
     absurd (operands_no_equals names (signature b.call).operands (Word (signature a.call).name ∷ p) b.operands (subst (λ (t : List Token). AreOperands names (signature b.call).operands t b.operands) begins there))
 
--- tokens make the call of one line with a number at most
-one_line : (number : ℕ) (names : List (List ℕ)) (tokens : List Token) (a b : Line) → IsLine number names tokens a → IsLine number names tokens b → a ≡ b
-one_line number names tokens a b is other =
-    let p = is.2 in
-    let q = other.2 in
+-- tokens make one call at most
+one_made_call : (names : List (List ℕ)) (tokens : List Token) (a b : CallLine) → IsCall names tokens a → IsCall names tokens b → a ≡ b
+one_made_call names tokens a b p q =
     let parts = one_assignment names a b p.1 q.1 p.5 q.5 p.0 q.0 (sym p.2 ∙ q.2) in
     let call = one_call a.call b.call parts.1 in
     let there : AreOperands names (signature a.call).operands p.1 b.operands =
     subst (λ (c : CallName). AreOperands names (signature c).operands p.1 b.operands) (sym call) (subst (λ (t : List Token). AreOperands names (signature b.call).operands t b.operands) (sym parts.2) q.5) in
     let assigned : a.assigned ≡ b.assigned = p.4 ∙ ap (λ (n : Option (List ℕ)). option_map (place_for names) n) parts.0 ∙ sym q.4 in
-    one_made a b (is.1 ∙ sym other.1) assigned call (one_operands names (signature a.call).operands p.1 a.operands b.operands p.5 there)
+    one_made a b assigned call (one_operands names (signature a.call).operands p.1 a.operands b.operands p.5 there)
+
+-- tokens say one thing at most
+one_statement : (names : List (List ℕ)) (tokens : List Token) (a b : Statement) → IsStatement names tokens a → IsStatement names tokens b → a ≡ b
+one_statement names tokens (Call a) (Call b) p q = ap Call (one_made_call names tokens a b p q)
+one_statement names tokens (Call a) (Answer b) p q = absurd (not_both names tokens a b p q)
+one_statement names tokens (Answer a) (Call b) p q = absurd (not_both names tokens b a q p)
+one_statement names tokens (Answer a) (Answer b) p q = ap Answer (one_answer names tokens a b p q)
+
+-- a line of these parts
+abbrev line_of : ℕ → Statement → Line
+line_of number statement = record { number = number; statement = statement }
+
+-- tokens say what one line with a number says at most
+one_line : (number : ℕ) (names : List (List ℕ)) (tokens : List Token) (a b : Line) → IsLine number names tokens a → IsLine number names tokens b → a ≡ b
+one_line number names tokens a b is other =
+    ap (λ (n : ℕ). line_of n a.statement) (is.1 ∙ sym other.1) ∙ ap (λ (s : Statement). line_of b.number s) (one_statement names tokens a.statement b.statement is.2 other.2)
 
 -- texts have one list of tokens each at most
 pub one_parted : (texts : List (List ℕ)) (a b : List (List Token)) → AreParted texts a → AreParted texts b → a ≡ b

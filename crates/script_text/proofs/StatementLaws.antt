@@ -1,9 +1,14 @@
 -- What the tokens of a line say.
-use Rattle.std.proofs.Common.{◌≢◌, ℕ, ◌<◌, ◌≤◌, List, [], ◌∷◌, Some, refl, subst, arith}
-use Rattle.script_text.specs.declared.line.Line.{Line}
-use Rattle.script_text.specs.Tokens.{Token, AreTokens, HasNoTokens}
-use Rattle.script_text.specs.Script.{MayStand, IsNoLine, max_lines}
-use Rattle.script_text.specs.Reading.{IsNumbered, Says}
+use Rattle.std.proofs.Common.{◌≡◌, ◌≢◌, ℕ, ◌<◌, ◌≤◌, List, [], ◌∷◌, Option, Some, refl, sym, ap, subst, ◌∙◌, arith, codes}
+use Rattle.script_text.specs.declared.line.CallLine.{CallLine}
+use Rattle.script_text.specs.declared.line.Statement.{Statement}
+use Rattle.script_text.specs.declared.line.Statement.TheVariants.{Call, Answer}
+use Rattle.script_text.specs.declared.line.WrittenAnswer.{WrittenAnswer}
+use Rattle.script_text.specs.Answers.{IsAnswer}
+use Rattle.script_text.specs.Tokens.{Token, Word, AreTokens, HasNoTokens}
+use Rattle.script_text.specs.Script.{IsCall, IsStatement, MayStand, IsNoLine, with_assigned, max_lines}
+use Rattle.script_text.specs.Reading.{Says, Reads}
+use Rattle.script_text.proofs.OneAnswer.{answer_assigns}
 use Rattle.script_text.proofs.TokenLaws.{one_tokens}
 
 -- no line has a number above the largest
@@ -15,16 +20,33 @@ no_number number names text over (token ∷ tokens) are may = let small = may.1.
 pub no_tokens : (number : ℕ) (names : List (List ℕ)) (text : List ℕ) → HasNoTokens text → IsNoLine number names text
 no_tokens number names text none tokens are may = none tokens are
 
-no_call : (number : ℕ) (names : List (List ℕ)) (tokens : List Token) → tokens ≢ [] → ((line : Line) → ¬ IsNumbered number names tokens line) → ¬ MayStand number names tokens
-no_call number names [] some none may = some refl
-no_call number names (token ∷ tokens) some none may = none may.0 (may.1.1, may.1.2)
+says_none : (number : ℕ) (names : List (List ℕ)) (tokens : List Token) → tokens ≢ [] → ((statement : Statement) → ¬ IsStatement names tokens statement) → ¬ MayStand number names tokens
+says_none number names [] some none may = some refl
+says_none number names (token ∷ tokens) some none may = none may.0.statement may.1.2
 
--- a text whose tokens make no call is no line
-pub no_line : (number : ℕ) (names : List (List ℕ)) (text : List ℕ) (tokens : List Token) → AreTokens text tokens → tokens ≢ [] → ((line : Line) → ¬ IsNumbered number names tokens line) → IsNoLine number names text
+-- a text whose tokens make no call and queue no answer is no line
+pub no_line : (number : ℕ) (names : List (List ℕ)) (text : List ℕ) (tokens : List Token) → AreTokens text tokens → tokens ≢ [] → ((statement : Statement) → ¬ IsStatement names tokens statement) → IsNoLine number names text
 no_line number names text tokens are some none other there may =
-    no_call number names tokens some none (subst (λ (t : List Token). MayStand number names t) (one_tokens text other tokens there are) may)
+    says_none number names tokens some none (subst (λ (t : List Token). MayStand number names t) (one_tokens text other tokens there are) may)
 
--- tokens that make the call of a line say it
-pub says_line : (number : ℕ) (names : List (List ℕ)) (tokens : List Token) (line : Line) → number ≤ max_lines → tokens ≢ [] → IsNumbered number names tokens line → Says number names tokens (Some line)
-says_line number names [] line small some is = absurd (some refl)
-says_line number names (token ∷ tokens) line small some is = (small, is.0, is.1)
+-- tokens that say what a line says
+pub says_line : (number : ℕ) (names : List (List ℕ)) (tokens : List Token) (statement : Statement) → number ≤ max_lines → tokens ≢ [] → IsStatement names tokens statement → Says number names tokens (Some (record { number = number; statement = statement }))
+says_line number names [] statement small some is = absurd (some refl)
+says_line number names (token ∷ tokens) statement small some is = (small, refl, is)
+
+-- tokens that make no call and queue no answer say nothing
+pub no_statement : (names : List (List ℕ)) (tokens : List Token) → ((line : CallLine) → ¬ IsCall names tokens line) → ((line : WrittenAnswer) → ¬ IsAnswer names tokens line) → (statement : Statement) → ¬ IsStatement names tokens statement
+no_statement names tokens call answer (Call line) is = call line is
+no_statement names tokens call answer (Answer line) is = answer line is
+
+-- the tokens of a text that queue an answer say what its line says, and assign no name
+pub reads_answer : (number : ℕ) (names after : List (List ℕ)) (text : List ℕ) (tokens : List Token) (answer : WrittenAnswer) → number ≤ max_lines → AreTokens text tokens → IsAnswer names tokens answer → after ≡ names → Reads number names text (Some (record { number = number; statement = Answer answer })) after
+reads_answer number names after text tokens answer small are is same = record {
+  tokens = tokens;
+  are = are;
+  says = says_line number names tokens (Answer answer) small (λ e. nothing (sym e ∙ is.2)) is;
+  named = same ∙ ap (λ (o : Option (List ℕ)). with_assigned names o) (sym (answer_assigns names tokens answer is));
+}
+  where
+    nothing : [] ≡ Word (codes "gz") ∷ is.0 ∷ is.1 → ⊥
+    nothing e = absurd cc

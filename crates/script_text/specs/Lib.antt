@@ -3,5 +3,7 @@ pub mod Tokens
 pub mod Front
 pub mod Names
 pub mod Operands
+pub mod Calls
+pub mod Answers
 pub mod Script
 pub mod Reading

@@ -4,13 +4,9 @@ use Rattle.script_text.specs.declared.line.Line.{Line}
 use Rattle.script_text.specs.declared.script.Fault.{Fault}
 use Rattle.script_text.specs.declared.script.Fault.TheVariants as fault
 use Rattle.script_text.specs.Tokens.{Token, AreTokens}
-use Rattle.script_text.specs.Script.{max_lines, IsCall, IsLine, IsNoLine, names_after}
+use Rattle.script_text.specs.Script.{max_lines, IsLine, IsNoLine, names_after}
 
--- the tokens make the call of this line, which has this number
-abbrev pub IsNumbered : ℕ → List (List ℕ) → List Token → Line → Type 0
-IsNumbered number names tokens line = (line.number ≡ number) × IsCall names tokens line
-
--- what the tokens of a text say: nothing, or the call of a line
+-- what the tokens of a text say: nothing, or what a line says
 abbrev pub Says : ℕ → List (List ℕ) → List Token → Option Line → Type 0
 Says number names [] None = number ≤ max_lines
 Says number names (token ∷ tokens) (Some line) = IsLine number names (token ∷ tokens) line

@@ -1,11 +1,15 @@
 -- The lines of a script.
 use Rattle.std.specs.Prelude.{◌≡◌, ◌≢◌, ℕ, zero, suc, ◌+◌, ◌^◌, ◌<◌, ◌≤◌, IsTrue, List, [], ◌∷◌, ◌++◌, length, take, Option, None, Some, IfSome, option_map, slice_get}
 use Rattle.std.specs.Str.Lines.{lines}
+use Rattle.script_text.specs.declared.line.CallLine.{CallLine}
 use Rattle.script_text.specs.declared.line.Line.{Line}
+use Rattle.script_text.specs.declared.line.Statement.{Statement}
+use Rattle.script_text.specs.declared.line.Statement.TheVariants.{Call, Answer}
 use Rattle.script_text.specs.declared.script.Fault.{Fault}
 use Rattle.script_text.specs.declared.script.Fault.TheVariants as fault
 use Rattle.script_text.specs.Tokens.{Token, Equals, Word, AreTokens}
 use Rattle.mac_calls.specs.Calls.{signature}
+use Rattle.script_text.specs.Answers.{IsAnswer}
 use Rattle.script_text.specs.Operands.{is_name, AreOperands}
 use Rattle.script_text.specs.Names.{place_for, with_name}
 
@@ -24,7 +28,7 @@ abbrev pub HasNoFirstWord : List Token → Type 0
 HasNoFirstWord tokens = (word : List ℕ) (others : List Token) → tokens ≢ Word word ∷ others
 
 -- [name =] Call operand ..; a variable among the operands was assigned before, and the name takes its own place
-abbrev pub IsCall : List (List ℕ) → List Token → Line → Type 0
+abbrev pub IsCall : List (List ℕ) → List Token → CallLine → Type 0
 IsCall names tokens line =
     let call = signature line.call in
     (name : Option (List ℕ))
@@ -34,24 +38,29 @@ IsCall names tokens line =
     × (line.assigned ≡ option_map (place_for names) name)
     × AreOperands names call.operands operands line.operands
 
+-- the tokens make this call, or queue this answer
+abbrev pub IsStatement : List (List ℕ) → List Token → Statement → Type 0
+IsStatement names tokens (Call line) = IsCall names tokens line
+IsStatement names tokens (Answer line) = IsAnswer names tokens line
+
 -- a script has at most this many lines
 abbrev pub max_lines : ℕ
 max_lines = 65536
 
--- the tokens make the call of this line with this number, where these names have been assigned
+-- the tokens say what this line says, which has this number, where these names have been assigned
 abbrev pub IsLine : ℕ → List (List ℕ) → List Token → Line → Type 0
-IsLine number names tokens line = (number ≤ max_lines) × (line.number ≡ number) × IsCall names tokens line
+IsLine number names tokens line = (number ≤ max_lines) × (line.number ≡ number) × IsStatement names tokens line.statement
 
 -- the names, and the one that this may be
 abbrev pub with_assigned : List (List ℕ) → Option (List ℕ) → List (List ℕ)
 with_assigned names None = names
 with_assigned names (Some name) = with_name names name
 
--- the names that were assigned before, and the one that a line of these tokens assigns
+-- the names that were assigned before, and the one that a line of these tokens assigns; an answer assigns none
 abbrev pub names_after : List (List ℕ) → List Token → List (List ℕ)
 names_after names tokens = with_assigned names (assigned_by tokens)
 
--- The tokens of texts, numbered from this number on, are nothing, or make the call of a line: these lines, in order.
+-- The tokens of texts, numbered from this number on, say nothing, or what a line says: these lines, in order.
 abbrev pub AreLines : ℕ → List (List ℕ) → List (List Token) → List Line → Type 0
 AreLines number names [] [] = Unit {0}
 AreLines number names ([] ∷ texts) script = (number ≤ max_lines) × AreLines (number + 1) names texts script
@@ -68,7 +77,7 @@ AreParted texts parted = ⊥
 abbrev pub max_script : ℕ
 max_script = 2 ^ 20
 
--- the bytes are the script of these lines, which are those that make calls
+-- the bytes are the script of these lines, which are those that say something
 abbrev pub IsScript : List ℕ → List Line → Type 0
 IsScript text script = (length text ≤ max_script) × (parted : List (List Token)) × AreParted (lines text) parted × AreLines 1 [] parted script
 
@@ -77,7 +86,7 @@ abbrev pub names_of : List (List ℕ) → List (List Token) → List (List ℕ)
 names_of names [] = names
 names_of names (tokens ∷ texts) = names_of (names_after names tokens) texts
 
--- these tokens may stand in a line with this number: they are nothing, or make a call
+-- these tokens may stand in a line with this number: they are nothing, or make a call, or queue an answer
 abbrev pub MayStand : ℕ → List (List ℕ) → List Token → Type 0
 MayStand number names [] = number ≤ max_lines
 MayStand number names (token ∷ tokens) = (line : Line) × IsLine number names (token ∷ tokens) line

@@ -1,6 +1,7 @@
 //! The text of a script: from bytes to lines.
 #![tactic(auto)]
 
+mod answer;
 mod line;
 mod names;
 mod operand;
@@ -8,7 +9,10 @@ mod script;
 mod statement;
 mod token;
 
-pub use line::{Line, Name, Operand, OperandBytes, Operands};
+pub use line::{
+    AnswerLine, CallLine, Line, Name, Operand, OperandBytes, Operands, ReleasingName, Statement,
+    WrittenAnswer, WrittenCall, WrittenCalls,
+};
 pub use names::{Names, names_have_places};
 pub use operand::operands;
 pub use script::{Fault, MAX_LINES, MAX_SCRIPT, one_reading, parse_script};

@@ -123,12 +123,135 @@ impl<'a> Operands<'a> {
     }
 }
 
-/// A line of a script that makes a call, and may assign its first result. The first line of a script has the number 1.
-/// What it keeps of its operands lies in the text and in an arena, which all lines share.
+/// A line that makes a call, and may assign its first result. What it keeps of its operands lies in the text and in an
+/// arena, which all lines share.
 #[derive(Drop)]
-pub struct Line<'a> {
-    pub number: u32,
+pub struct CallLine<'a> {
     pub assigned: Option<Name>,
     pub call: CallName,
     pub operands: Operands<'a>,
+}
+
+/// The calls that an answer of the grow-zone procedure may make, by their names.
+#[derive(Clone, Copy, Debug, PartialEq, Eq)]
+pub enum ReleasingName {
+    DisposeHandle,
+    DisposePtr,
+    EmptyHandle,
+}
+
+/// A call of an answer as it is written: its operand is a number or a variable.
+#[derive(Drop)]
+pub struct WrittenCall<'a> {
+    pub call: ReleasingName,
+    pub operand: Operand<'a>,
+}
+
+/// The calls of an answer, first to last. A contract sees the list.
+#[derive(Drop)]
+pub struct WrittenCalls<'a> {
+    calls: &'a [WrittenCall<'a>],
+}
+
+impl<'a> Model for WrittenCalls<'a> {
+    ghost use Rattle.std.specs.Prelude.{List};
+    ghost use Rattle.script_text.specs.declared.line.WrittenCall.{WrittenCall};
+
+    ghost Value = { List WrittenCall };
+
+    ghost view = { λ c. c.calls.now };
+}
+
+impl<'a> WrittenCalls<'a> {
+    ghost use Rattle.std.specs.Prelude.{◌≡◌};
+
+    /// These calls.
+    pub(crate) fn new(calls: &'a [WrittenCall<'a>]) -> WrittenCalls<'a>
+        ensures { result ≡ calls.now }
+    {
+        WrittenCalls { calls }
+    }
+
+    /// The calls, first to last.
+    pub fn as_slice(&self) -> &'a [WrittenCall<'a>]
+        ensures { result.now ≡ self.now }
+    {
+        self.calls
+    }
+}
+
+/// An answer of the grow-zone procedure as it is written: a value, which is a number or a variable, and calls.
+#[derive(Drop)]
+pub struct WrittenAnswer<'a> {
+    pub value: Operand<'a>,
+    pub calls: WrittenCalls<'a>,
+}
+
+/// A line that queues an answer, which has at most eight calls: one word, so that it is no larger than a line that makes
+/// a call. A contract sees the answer as it is written.
+#[derive(Drop)]
+pub struct AnswerLine<'a> {
+    written: &'a WrittenAnswer<'a>,
+}
+
+impl<'a> Model for AnswerLine<'a> {
+    ghost use Rattle.std.specs.Prelude.{◌≤◌, length};
+    ghost use Rattle.script_text.specs.declared.line.WrittenAnswer.{WrittenAnswer};
+    ghost use Rattle.script_text.specs.Calls.{most_calls};
+
+    ghost Value = { WrittenAnswer };
+
+    ghost view = { λ a. a.written.now };
+
+    ghost invariant = { λ a. length a.written.now.calls ≤ most_calls };
+}
+
+impl<'a> AnswerLine<'a> {
+    ghost use Rattle.std.specs.Prelude.{◌≡◌, ◌≤◌, length, IfOk};
+    ghost use Rattle.script_text.specs.Calls.{most_calls};
+
+    /// This answer, which is kept in the arena.
+    pub(crate) fn new(
+        arena: &'a Bump,
+        written: WrittenAnswer<'a>,
+    ) -> Result<AnswerLine<'a>, HostFull>
+        requires { length written.calls ≤ most_calls }
+        ensures { IfOk result (λ kept. kept ≡ written.entry) }
+    {
+        match arena.try_alloc(written) {
+            Ok(written) => Ok(AnswerLine { written }),
+            Err(_) => Err(HostFull),
+        }
+    }
+
+    /// Its value.
+    pub fn value(&self) -> &'a Operand<'a>
+        ensures { result.now ≡ self.now.value }
+    {
+        &self.written.value
+    }
+
+    /// Its calls, first to last.
+    pub fn calls(&self) -> &'a [WrittenCall<'a>]
+        ensures calls { result.now ≡ self.now.calls }
+        ensures few { length result.now ≤ most_calls }
+    {
+        self.written.calls.as_slice()
+    }
+}
+
+/// What a line says.
+#[derive(Drop)]
+pub enum Statement<'a> {
+    /// It makes a call.
+    Call(CallLine<'a>),
+    /// It queues an answer of the grow-zone procedure.
+    Answer(AnswerLine<'a>),
+}
+
+/// A line of a script that says something. The first line of a script has the number 1.
+#[derive(Drop)]
+pub struct Line<'a> {
+    pub number: u32,
+    pub statement: Statement<'a>,
 }

@@ -153,6 +153,19 @@ fn number_operand<'a>(word: &[u8], names: &Names) -> Result<Option<Operand<'a>>,
     }
 }
 
+/// The number or the variable that a token is.
+pub(crate) fn number_or_variable<'a>(
+    token: Token<'_>,
+    names: &Names,
+) -> Result<Option<Operand<'a>>, HostFull>
+    ensures { IfOk result (λ found. Finds found (IsNumberOperand names.now (view token.entry))) }
+{
+    match token {
+        Token::Word(word) => number_operand(word, names),
+        _ => Ok(None),
+    }
+}
+
 /// An id, or the name of a variable that has been assigned.
 fn id_operand<'a>(word: &[u8], names: &Names) -> Result<Option<Operand<'a>>, HostFull>
     ensures { IfOk result (λ found.

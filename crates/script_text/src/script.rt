@@ -5,7 +5,8 @@ ghost use Rattle.std.specs.Str.Lines.{lines, strip_carriage_return};
 ghost use Rattle.script_text.specs.Script as script;
 ghost use Rattle.script_text.specs.Reading.{Reads, Fails};
 
-use crate::line::Line;
+use crate::answer::answer_line;
+use crate::line::{Line, Statement};
 use crate::names::Names;
 use crate::statement::call_line;
 use crate::token::{Token, read_tokens};
@@ -65,8 +66,8 @@ fn first_line(text: &[u8]) -> Option<(&[u8], &[u8])>
     }
 }
 
-/// What the line of this number says, where these names have been assigned: nothing, or a call. The tokens are
-/// memory to be used again.
+/// What the line of this number says, where these names have been assigned: nothing, a call, or an answer. The tokens
+/// are memory to be used again.
 fn read_line<'a>(
     arena: &'a Bump,
     number: u32,
@@ -88,15 +89,27 @@ fn read_line<'a>(
     if tokens.is_empty() {
         return Ok(None);
     }
-    match call_line(arena, number, tokens, names) {
-        Ok(Some(line)) => Ok(Some(line)),
+    match call_line(arena, tokens, names) {
+        Ok(Some(call)) => {
+            let statement = Statement::Call(call);
+            return Ok(Some(Line { number, statement }));
+        }
+        Ok(None) => {}
+        Err(HostFull) => return Err(Fault::HostFull),
+    }
+    match answer_line(arena, tokens, names) {
+        Ok(Some(answer)) => {
+            let statement = Statement::Answer(answer);
+            Ok(Some(Line { number, statement }))
+        }
         Ok(None) => Err(Fault::Line(number)),
         Err(HostFull) => Err(Fault::HostFull),
     }
 }
 
-/// The lines of a script that make calls. The text is a script exactly where each of its lines makes a call or says
-/// nothing; a fault names the first that does neither. What the lines keep lies in the text and in the arena.
+/// The lines of a script that say something. The text is a script exactly where each of its lines makes a call, queues
+/// an answer or says nothing; a fault names the first that does none of them. What the lines keep lies in the text and
+/// in the arena.
 pub fn parse_script<'a>(
     alloc: Global,
     arena: &'a Bump,
@@ -116,7 +129,9 @@ pub fn parse_script<'a>(
     while let Some((line, behind)) = first_line(rest) {
         number += 1;
         if let Some(line) = read_line(arena, number, line, &mut tokens, &mut names)? {
-            lines.push(line).map_err(|_| Fault::HostFull)?;
+            let Ok(()) = lines.push(line) else {
+                return Err(Fault::HostFull);
+            };
         }
         rest = behind;
     }

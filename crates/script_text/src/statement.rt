@@ -7,9 +7,8 @@ ghost use Rattle.script_text.specs.Tokens as tokens;
 ghost use Rattle.script_text.specs.Front.{view};
 ghost use Rattle.script_text.specs.Names.{place_for};
 ghost use Rattle.script_text.specs.Script.{assignment, assigned_by, HasNoFirstWord, IsCall, with_assigned, names_after};
-ghost use Rattle.script_text.specs.Reading.{IsNumbered};
 
-use crate::line::{Line, Name};
+use crate::line::{CallLine, Name};
 use crate::names::Names;
 use crate::operand::{is_name, operands};
 use crate::token::Token;
@@ -30,7 +29,7 @@ fn assigned_name<'a, 'b>(line: &'b [Token<'a>]) -> (Option<&'a [u8]>, &'b [Token
 }
 
 /// The word that the tokens begin with, and those behind it.
-fn first_word<'a, 'b>(line: &'b [Token<'a>]) -> Option<(&'a [u8], &'b [Token<'a>])>
+pub(crate) fn first_word<'a, 'b>(line: &'b [Token<'a>]) -> Option<(&'a [u8], &'b [Token<'a>])>
     ensures found { IfSome result (λ parts.
         map view line.now ≡ tokens.Word parts.0.now ∷ map view parts.1.now) }
     ensures none { IfNone result (HasNoFirstWord (map view line.now)) }
@@ -52,16 +51,16 @@ fn add_assigned(names: &mut Names, word: Option<&[u8]>) -> Result<Option<Name>, 
     }
 }
 
-/// The call that tokens make in a line with this number, where these names have been assigned.
+/// The call that the tokens of a line make, where these names have been assigned.
 pub fn call_line<'a>(
     arena: &'a Bump,
-    number: u32,
     line: &[Token<'a>],
     names: &mut Names,
-) -> Result<Option<Line<'a>>, HostFull>
-    ensures line { IfOk result (λ found. Finds found (IsNumbered number names.old (map view line.now))) }
+) -> Result<Option<CallLine<'a>>, HostFull>
+    ensures line { IfOk result (λ found. Finds found (IsCall names.old (map view line.now))) }
     ensures names { IfOk result (λ found. IfSome found (λ _.
         names.new ≡ names_after names.old (map view line.now))) }
+    ensures kept { IfOk result (λ found. IfNone found (names.new ≡ names.old)) }
 {
     let (assigned, line) = assigned_name(line);
     let Some((word, line)) = first_word(line) else {
@@ -80,8 +79,7 @@ pub fn call_line<'a>(
         return Ok(None);
     };
     let assigned = add_assigned(names, assigned)?;
-    Ok(Some(Line {
-        number,
+    Ok(Some(CallLine {
         assigned,
         call,
         operands,

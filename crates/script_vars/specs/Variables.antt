@@ -4,7 +4,7 @@ use Rattle.mac_calls.specs.declared.table.CallName.{CallName}
 use Rattle.mac_calls.specs.declared.table.CallName.TheVariants as call_name
 use Rattle.script_text.specs.declared.line.Operand.{Operand}
 use Rattle.script_text.specs.declared.line.Operand.TheVariants.{Number, Variable, Bytes}
-use Rattle.script_text.specs.declared.line.Line.{Line}
+use Rattle.script_text.specs.declared.line.CallLine.{CallLine}
 use Rattle.mac_calls.specs.declared.loan_call.LoanCall.TheVariants as loan_call
 use Rattle.mac_calls.specs.declared.memory_call.MemoryCall.TheVariants as memory_call
 use Rattle.mac_calls.specs.declared.call.Call.{Call}
@@ -69,6 +69,15 @@ call_with variables call_name.HClrRBit operands = Memory (memory_call.HClrRBit (
 call_with variables call_name.HGetState operands = Memory (memory_call.HGetState (number_at variables operands 0))
 call_with variables call_name.HSetState operands = Memory (memory_call.HSetState (number_at variables operands 0) (number_at variables operands 1))
 call_with variables call_name.Deref operands = Memory (memory_call.Deref (number_at variables operands 0))
+call_with variables call_name.RecoverHandle operands = Memory (memory_call.RecoverHandle (number_at variables operands 0))
+call_with variables call_name.MoveHHi operands = Memory (memory_call.MoveHHi (number_at variables operands 0))
+call_with variables call_name.HLockHi operands = Memory (memory_call.HLockHi (number_at variables operands 0))
+call_with variables call_name.CompactMem operands = Memory (memory_call.CompactMem (number_at variables operands 0))
+call_with variables call_name.PurgeMem operands = Memory (memory_call.PurgeMem (number_at variables operands 0))
+call_with variables call_name.MaxMem operands = Memory memory_call.MaxMem
+call_with variables call_name.ReserveMem operands = Memory (memory_call.ReserveMem (number_at variables operands 0))
+call_with variables call_name.MoreMasters operands = Memory memory_call.MoreMasters
+call_with variables call_name.MaxApplZone operands = Memory memory_call.MaxApplZone
 call_with variables call_name.Poke operands = Memory (memory_call.Poke (number_at variables operands 0) (number_at variables operands 1) (bytes_at operands 2))
 call_with variables call_name.Peek operands = Memory (memory_call.Peek (number_at variables operands 0) (number_at variables operands 1) (number_at variables operands 2))
 call_with variables call_name.ZoneMap operands = Memory memory_call.ZoneMap
@@ -79,7 +88,7 @@ call_with variables call_name.Return operands = Loan (loan_call.Return (number_a
 call_with variables call_name.MemError operands = MemError
 
 -- the call that a line makes, with the values that its operands have
-abbrev pub call_of : Variables → Line → Call
+abbrev pub call_of : Variables → CallLine → Call
 call_of variables line = call_with variables line.call line.operands
 
 -- A variable has the value that it was given, and any other keeps its own.

@@ -1,8 +1,10 @@
-//! The variables of a script: the values that they take, and the calls that lines make with them.
+//! The variables of a script: the values that they take, and the calls and answers that lines make with them.
 #![tactic(auto)]
 
+mod answer;
 mod taken;
 mod vars;
 
+pub use answer::answer_of;
 pub use taken::first_number;
 pub use vars::{Vars, resolve, values_are_kept};

@@ -7,7 +7,7 @@ ghost use Rattle.mac_calls.specs.Built.{is_built};
 use mac_base::error::HostFull;
 use mac_base::handle::{Handle, Ptr};
 use mac_calls::{Call, CallName, LoanCall, MemoryCall, Span};
-use script_text::{Line, Name, Operand};
+use script_text::{CallLine, Name, Operand};
 use std::alloc::Global;
 use std::marker::Model;
 
@@ -65,7 +65,7 @@ pub fn values_are_kept()
 {}
 
 /// The number of an operand. Bytes, an id, a type and an operand that is missing count as 0.
-fn number_in(operand: &Operand<'_>, vars: &Vars) -> u32
+pub(crate) fn number_in(operand: &Operand<'_>, vars: &Vars) -> u32
     ensures { result ≡ number_in vars.now operand.now }
 {
     match operand {
@@ -96,7 +96,7 @@ fn bytes_at<'a>(operands: &[Operand<'a>], place: usize) -> &'a [u8]
 }
 
 /// The call that a line makes, with the values that its operands have now.
-pub fn resolve<'a>(line: &Line<'a>, vars: &Vars) -> Call<'a>
+pub fn resolve<'a>(line: &CallLine<'a>, vars: &Vars) -> Call<'a>
     ensures call { result ≡ call_of vars.now line.now }
     ensures built { IsTrue (is_built result) }
 {
@@ -125,6 +125,15 @@ pub fn resolve<'a>(line: &Line<'a>, vars: &Vars) -> Call<'a>
         CallName::HGetState => MemoryCall::HGetState(handle),
         CallName::HSetState => MemoryCall::HSetState(handle, second),
         CallName::Deref => MemoryCall::Deref(handle),
+        CallName::RecoverHandle => MemoryCall::RecoverHandle(first),
+        CallName::MoveHHi => MemoryCall::MoveHHi(handle),
+        CallName::HLockHi => MemoryCall::HLockHi(handle),
+        CallName::CompactMem => MemoryCall::CompactMem(first),
+        CallName::PurgeMem => MemoryCall::PurgeMem(first),
+        CallName::MaxMem => MemoryCall::MaxMem,
+        CallName::ReserveMem => MemoryCall::ReserveMem(first),
+        CallName::MoreMasters => MemoryCall::MoreMasters,
+        CallName::MaxApplZone => MemoryCall::MaxApplZone,
         CallName::Poke => MemoryCall::Poke {
             block: first,
             offset: second,

@@ -1,5 +1,6 @@
 pub mod Holding
 pub mod Lent
 pub mod Places
+pub mod Queued
 pub mod Quiet
 pub mod Walk

@@ -13,27 +13,35 @@ use Rattle.mac_base.specs.HandleTable.{HandleTable, Live, bytes_of, has_block, i
 use Rattle.zone_laws.proofs.Tables.{with_live_agrees}
 use Rattle.linked_zone.specs.Loans.{KeepsLoans}
 use Rattle.mac_calls.specs.declared.memory_call.MemoryCall.{MemoryCall}
-use Rattle.mac_calls.specs.declared.memory_call.MemoryCall.TheVariants.{Poke, Peek}
+use Rattle.mac_calls.specs.declared.memory_call.MemoryCall.TheVariants.{Poke, Peek, ZoneMap as WalkZone}
+use Rattle.mac_calls.specs.ExactStep.{step_unless}
+use Rattle.mac_calls.specs.RequestRun.{RequestRun}
 use Rattle.mac_calls.specs.Tests.{refusal}
-use Rattle.mac_calls.specs.declared.reply.Results.TheVariants.{Nothing, Bytes}
-use Rattle.mac_calls.specs.Outcomes.{Outcome}
-use Rattle.mac_base.specs.ZoneState.{ZoneState, overwritten, with_contents}
+use Rattle.mac_calls.specs.declared.reply.Results.TheVariants.{Nothing, Bytes, Blocks}
+use Rattle.mac_base.specs.BlockReport.{reports_from}
+use Rattle.mac_base.specs.declared.block.Block.{Block}
+use Rattle.mac_base.specs.Heap.{with_table}
+use Rattle.mac_base.specs.ZoneMap.{address_behind}
+use Rattle.mac_base.specs.ZoneState.{ZoneState, overwritten, with_contents, with_heap}
+use Rattle.call_laws.proofs.Steps.{step-refused, step-Peek, step-Poke, step-ZoneMap}
 use Rattle.toolbox.specs.Steps.{MemorySteps}
 
 -- a call that is refused
-pub refused_step : (zone : ZoneState) (call : MemoryCall) (code : OsErr) → refusal zone.shape zone.heap call ≡ Some code → MemorySteps zone call (Err code) zone
-refused_step zone call code refused = (rw refused (refl, refl, record { table = refl; map = refl }), refl)
-
--- bytes as an outcome
-shows : List ℕ → Outcome
-shows bytes = Ok (Bytes bytes)
+pub refused_step : (zone : ZoneState) (call : MemoryCall) (code : OsErr) → refusal zone.shape zone.heap call ≡ Some code → MemorySteps zone call [] (Err code) zone
+refused_step zone call code refused = (step-refused RequestRun zone.shape zone.heap call code refused, ap (λ (o : Option OsErr). step_unless zone.shape [] zone.heap call o) refused, refl)
 
 -- a Peek that isn't refused
-pub peek_step : (zone : ZoneState) (x at n : ℕ) (contents bytes : List ℕ) → refusal zone.shape zone.heap (Peek x at n) ≡ None → contents ≡ bytes_of zone.heap.table x → bytes ≡ take (at + n - at) (drop at contents) → MemorySteps zone (Peek x at n) (Ok (Bytes bytes)) zone
-unfolding shows
+pub peek_step : (zone : ZoneState) (x at n : ℕ) (contents bytes : List ℕ) → refusal zone.shape zone.heap (Peek x at n) ≡ None → contents ≡ bytes_of zone.heap.table x → bytes ≡ take (at + n - at) (drop at contents) → MemorySteps zone (Peek x at n) [] (Ok (Bytes bytes)) zone
 peek_step zone x at n contents bytes passed whole is =
     let shown : bytes ≡ take n (drop at (bytes_of zone.heap.table x)) = rw (← whole, ← add-sub_cancel_left at n) is in
-    (rw passed (refl, (record { table = refl; map = refl }, ap shows shown)), refl)
+    let P : List ℕ → Type 0 = λ bs. MemorySteps zone (Peek x at n) [] (Ok (Bytes bs)) zone in
+    subst P (sym shown) (step-Peek RequestRun zone.shape zone.heap x at n passed, ap (λ (o : Option OsErr). step_unless zone.shape [] zone.heap (Peek x at n) o) passed, refl)
+
+-- the walk over the zone
+pub zone_map_step : (zone : ZoneState) (blocks : List Block) → blocks ≡ reports_from zone.heap.table (address_behind zone.shape []) zone.heap.map → MemorySteps zone WalkZone [] (Ok (Blocks blocks)) zone
+zone_map_step zone blocks is =
+    let P : List Block → Type 0 = λ bs. MemorySteps zone WalkZone [] (Ok (Blocks bs)) zone in
+    subst P (sym is) (step-ZoneMap RequestRun zone.shape zone.heap, refl, refl)
 
 -- bytes written over all others
 overwritten-whole : (old new : List ℕ) → length new ≡ length old → overwritten old new ≡ new
@@ -52,11 +60,13 @@ part_written old bytes at within =
 
 -- a Poke that isn't refused
 pub poke_step : (zone : ZoneState) (x at : ℕ) (bytes contents copied : List ℕ) → refusal zone.shape zone.heap (Peek x at (length bytes)) ≡ None → at + length bytes ≤ length (bytes_of zone.heap.table x) → contents ≡ bytes_of zone.heap.table x → copied ≡ bytes
-    → MemorySteps zone (Poke x at bytes) (Ok Nothing) (with_contents zone x (take at contents ++ (copied ++ post_of at (at + length bytes - at) contents)))
+    → MemorySteps zone (Poke x at bytes) [] (Ok Nothing) (with_contents zone x (take at contents ++ (copied ++ post_of at (at + length bytes - at) contents)))
 poke_step zone x at bytes contents copied passed within whole all =
     let same : with_contents zone x (take at contents ++ (copied ++ post_of at (at + length bytes - at) contents)) ≡ with_contents zone x (take at (bytes_of zone.heap.table x) ++ (bytes ++ drop (length bytes) (drop at (bytes_of zone.heap.table x)))) = rw (whole, all, add-sub_cancel_left at (length bytes)) refl in
-    let P : ZoneState → Type 0 = λ new. MemorySteps zone (Poke x at bytes) (Ok Nothing) new in
-    subst P (sym same) (rw passed (refl, (record { table = ap (λ (bs : List ℕ). with_bytes x bs zone.heap.table) (part_written (bytes_of zone.heap.table x) bytes at within); map = refl }, refl)), refl)
+    let P : ZoneState → Type 0 = λ new. MemorySteps zone (Poke x at bytes) [] (Ok Nothing) new in
+    let Q : List ℕ → Type 0 = λ bs. P (with_heap (with_table (with_bytes x bs zone.heap.table) zone.heap) zone) in
+    subst P (sym same) (subst Q (sym (part_written (bytes_of zone.heap.table x) bytes at within))
+    (step-Poke RequestRun zone.shape zone.heap x at bytes passed, ap (λ (o : Option OsErr). step_unless zone.shape [] zone.heap (Poke x at bytes) o) passed, refl))
 
 -- what isn't lent, live and no empty handle is full
 full_not_lent : (t : HandleTable) (x : ℕ) → status_of t x ≡ Full → is_lent t x ≡ false

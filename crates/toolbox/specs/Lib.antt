@@ -1,3 +1,4 @@
 pub mod Holding
 pub mod ToolState
 pub mod Steps
+pub mod Queue

@@ -4,6 +4,8 @@
 mod lending;
 mod loans;
 mod memory;
+mod queue;
 mod toolbox;
 
+pub use queue::AnswerQueue;
 pub use toolbox::Toolbox;

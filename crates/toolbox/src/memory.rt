@@ -1,6 +1,6 @@
 //! The calls of the Memory Manager, each with what it gives.
 
-ghost use Rattle.std.specs.Prelude.{◌≡◌, ◌+◌, ◌≤◌, length, None, IfOk, OnOk, OnErr, IsTrue, []};
+ghost use Rattle.std.specs.Prelude.{◌≡◌, ◌+◌, ◌≤◌, length, None, Ok, IfOk, OnOk, OnErr, IsTrue, []};
 ghost use Rattle.std.specs.Result.{result_err};
 ghost use Rattle.mac_base.specs.BlockReport.{reports_from};
 ghost use Rattle.mac_base.specs.BlockStatus.{status_of};
@@ -9,51 +9,48 @@ ghost use Rattle.mac_base.specs.ZoneMap.{address_behind};
 ghost use Rattle.linked_zone.specs.Loans.{KeepsLoans};
 ghost use Rattle.mac_calls.specs.declared.memory_call.MemoryCall.TheVariants as call;
 ghost use Rattle.mac_calls.specs.Built.{is_built_memory};
+ghost use Rattle.mac_calls.specs.declared.reply.Results.TheVariants.{TwoNumbers};
 ghost use Rattle.mac_calls.specs.Outcomes.{handle_outcome, pointer_outcome, address_outcome, number_outcome, done_outcome};
 ghost use Rattle.mac_calls.specs.Tests.{refusal};
-ghost use Rattle.toolbox.specs.Steps.{MemorySteps, copies};
+ghost use Rattle.toolbox.specs.Steps.{MemorySteps, copies, is_quiet};
 
 use mac_base::block::{Block, Entry, Status};
 use mac_base::bytes::Bytes;
 use mac_base::error::{HostFull, OsErr};
 use mac_base::handle::{Handle, Ptr};
-use mac_calls::{BlockList, MemoryCall, Outcome, Results};
+use mac_calls::{BlockList, GrowZone, MemoryCall, Outcome, Results};
 use mem_calls::MemoryManager;
 use std::alloc::Global;
 
-/// Makes a call that can be made yet.
-pub(crate) fn make(
+/// Makes a call that can be made yet; one that finds no room asks the grow-zone procedure.
+pub(crate) fn make<G: GrowZone>(
     memory: &mut MemoryManager,
     alloc: Global,
     memory_call: &MemoryCall<'_>,
+    procedure: &mut G,
 ) -> Result<Outcome, HostFull>
-    requires { IsTrue (is_built_memory memory_call.now) }
-    ensures step { IfOk result (λ outcome. MemorySteps memory.old memory_call.now outcome memory.new) }
+    requires built { IsTrue (is_built_memory memory_call.now) }
+    requires new_call { G.asks procedure.old ≡ [] }
+    ensures step { IfOk result (λ outcome. MemorySteps memory.old memory_call.now (G.asks procedure.new) outcome memory.new) }
+    ensures source { G.source procedure.new ≡ G.source procedure.old }
     ensures loans { KeepsLoans memory.old memory.new }
     ensures unchanged { OnErr result (memory.new ≡ memory.old) }
+    ensures unasked { OnErr result (G.asks procedure.new ≡ []) }
     ensures full { OnErr result (IsTrue (copies memory_call.now)) }
     ensures late { OnErr result (refusal memory.old.shape memory.old.heap memory_call.now ≡ None) }
 {
     match *memory_call {
-        MemoryCall::NewHandle(size) => Ok(handle(memory.new_handle(size))),
-        MemoryCall::NewEmptyHandle => Ok(handle(memory.new_empty_handle())),
-        MemoryCall::NewPtr(size) => Ok(pointer(memory.new_ptr(size))),
-        MemoryCall::DisposeHandle(handle) => Ok(done(memory.dispose_handle(handle))),
-        MemoryCall::DisposePtr(pointer) => Ok(done(memory.dispose_ptr(pointer))),
-        MemoryCall::EmptyHandle(handle) => Ok(done(memory.empty_handle(handle))),
-        MemoryCall::GetHandleSize(handle) => Ok(number(memory.get_handle_size(handle))),
-        MemoryCall::SetHandleSize(handle, size) => Ok(done(memory.set_handle_size(handle, size))),
-        MemoryCall::GetPtrSize(pointer) => Ok(number(memory.get_ptr_size(pointer))),
-        MemoryCall::SetPtrSize(pointer, size) => Ok(done(memory.set_ptr_size(pointer, size))),
-        MemoryCall::HLock(handle) => Ok(done(memory.hlock(handle))),
-        MemoryCall::HUnlock(handle) => Ok(done(memory.hunlock(handle))),
-        MemoryCall::HPurge(handle) => Ok(done(memory.hpurge(handle))),
-        MemoryCall::HNoPurge(handle) => Ok(done(memory.hno_purge(handle))),
-        MemoryCall::HSetRBit(handle) => Ok(done(memory.hset_rbit(handle))),
-        MemoryCall::HClrRBit(handle) => Ok(done(memory.hclr_rbit(handle))),
-        MemoryCall::HGetState(handle) => Ok(number(memory.hget_state(handle))),
-        MemoryCall::HSetState(handle, state) => Ok(done(memory.hset_state(handle, state))),
-        MemoryCall::Deref(handle) => Ok(address(memory.deref(handle))),
+        MemoryCall::NewHandle(size) => Ok(handle(memory.new_handle(size, procedure))),
+        MemoryCall::NewEmptyHandle => Ok(handle(memory.new_empty_handle(procedure))),
+        MemoryCall::NewPtr(size) => Ok(pointer(memory.new_ptr(size, procedure))),
+        MemoryCall::SetHandleSize(handle, size) => Ok(done(memory.set_handle_size(
+            handle, size, procedure,
+        ))),
+        MemoryCall::SetPtrSize(pointer, size) => Ok(done(memory.set_ptr_size(
+            pointer, size, procedure,
+        ))),
+        MemoryCall::ReserveMem(size) => Ok(done(memory.reserve_mem(size, procedure))),
+        MemoryCall::MoreMasters => Ok(done(memory.more_masters(procedure))),
         MemoryCall::Poke {
             block,
             offset,
@@ -65,13 +62,48 @@ pub(crate) fn make(
             count,
         } => peek(memory, alloc, block, offset, count),
         MemoryCall::ZoneMap => zone_map(memory, alloc),
+        _ => Ok(make_quiet(memory, memory_call)),
+    }
+}
+
+/// Makes a call that needs no more room, neither in the zone nor of the host.
+fn make_quiet(memory: &mut MemoryManager, memory_call: &MemoryCall<'_>) -> Outcome
+    requires { IsTrue (is_quiet memory_call.now) }
+    ensures step { MemorySteps memory.old memory_call.now [] result memory.new }
+    ensures loans { KeepsLoans memory.old memory.new }
+{
+    match *memory_call {
+        MemoryCall::DisposeHandle(handle) => done(memory.dispose_handle(handle)),
+        MemoryCall::DisposePtr(pointer) => done(memory.dispose_ptr(pointer)),
+        MemoryCall::EmptyHandle(handle) => done(memory.empty_handle(handle)),
+        MemoryCall::GetHandleSize(handle) => number(memory.get_handle_size(handle)),
+        MemoryCall::GetPtrSize(pointer) => number(memory.get_ptr_size(pointer)),
+        MemoryCall::HLock(handle) => done(memory.hlock(handle)),
+        MemoryCall::HUnlock(handle) => done(memory.hunlock(handle)),
+        MemoryCall::HPurge(handle) => done(memory.hpurge(handle)),
+        MemoryCall::HNoPurge(handle) => done(memory.hno_purge(handle)),
+        MemoryCall::HSetRBit(handle) => done(memory.hset_rbit(handle)),
+        MemoryCall::HClrRBit(handle) => done(memory.hclr_rbit(handle)),
+        MemoryCall::HGetState(handle) => number(memory.hget_state(handle)),
+        MemoryCall::HSetState(handle, state) => done(memory.hset_state(handle, state)),
+        MemoryCall::CompactMem(size) => number(memory.compact_mem(size)),
+        MemoryCall::PurgeMem(size) => done(memory.purge_mem(size)),
+        MemoryCall::MaxMem => two_numbers(memory.max_mem()),
+        MemoryCall::MaxApplZone => {
+            memory.max_appl_zone();
+            Ok(Results::Nothing)
+        }
+        MemoryCall::MoveHHi(handle) => done(memory.move_hhi(handle)),
+        MemoryCall::HLockHi(handle) => done(memory.hlock_hi(handle)),
+        MemoryCall::RecoverHandle(address) => handle(memory.recover_handle(address)),
+        MemoryCall::Deref(handle) => address(memory.deref(handle)),
         _ => unreachable!(),
     }
 }
 
 /// Poke: writes bytes over those of a block.
 fn poke(memory: &mut MemoryManager, block: u32, offset: u32, bytes: &[u8]) -> Outcome
-    ensures step { MemorySteps memory.old (call.Poke block offset bytes.now) result memory.new }
+    ensures step { MemorySteps memory.old (call.Poke block offset bytes.now) [] result memory.new }
     ensures loans { KeepsLoans memory.old memory.new }
 {
     test_part(memory, block, offset, bytes.len())?;
@@ -89,7 +121,7 @@ fn peek(
     offset: u32,
     count: u32,
 ) -> Result<Outcome, HostFull>
-    ensures step { IfOk result (λ outcome. MemorySteps memory.now (call.Peek block offset count) outcome memory.now) }
+    ensures step { IfOk result (λ outcome. MemorySteps memory.now (call.Peek block offset count) [] outcome memory.now) }
     ensures late { OnErr result (refusal memory.now.shape memory.now.heap (call.Peek block offset count) ≡ None) }
 {
     let count = count as usize;
@@ -104,7 +136,7 @@ fn peek(
 
 /// ZoneMap: the blocks of the zone.
 fn zone_map(memory: &MemoryManager, alloc: Global) -> Result<Outcome, HostFull>
-    ensures { IfOk result (λ outcome. MemorySteps memory.now call.ZoneMap outcome memory.now) }
+    ensures { IfOk result (λ outcome. MemorySteps memory.now call.ZoneMap [] outcome memory.now) }
 {
     let blocks = BlockList::new(blocks(memory, alloc)?);
     Ok(Ok(Results::Blocks(blocks)))
@@ -188,6 +220,13 @@ fn number(given: Result<u32, OsErr>) -> Outcome
     ensures { result ≡ number_outcome given }
 {
     given.map(Results::Number)
+}
+
+/// The outcome of a call that gives two numbers.
+fn two_numbers(given: (u32, u32)) -> Outcome
+    ensures { result ≡ Ok (TwoNumbers given.0 given.1) }
+{
+    Ok(Results::TwoNumbers(given.0, given.1))
 }
 
 /// The outcome of a call that has no result.

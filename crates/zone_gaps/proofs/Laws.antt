@@ -25,7 +25,7 @@ use Rattle.zone_gaps.specs.declared.gap.FoundGap.{FoundGap}
 use Rattle.zone_gaps.specs.Gaps.{Settled, GapAt, IsFoundGap, with_gap, opened_after}
 
 -- what a search finds is in the list
-find-contains : (test : Gap → Bool) (gs : List Gap) (g : Gap) → find test gs ≡ Some g → Contains gs g
+pub find-contains : (test : Gap → Bool) (gs : List Gap) (g : Gap) → find test gs ≡ Some g → Contains gs g
 find-contains test [] g found = absurd (cc found)
 find-contains test (f ∷ gs) g found =
     elim (test f) as (λ c. cond c (Some f) (find test gs) ≡ Some g → Contains (f ∷ gs) g) [

@@ -7,7 +7,6 @@ pub mod Lasts
 pub mod Stepping
 pub mod Lifting
 pub mod Backing
-pub mod Carrying
 pub mod Owning
 pub mod Opening
 pub mod Raising
@@ -15,3 +14,4 @@ pub mod Searching
 pub mod Sweeping
 pub mod Laws
 pub mod LoansKept
+pub mod Rooms

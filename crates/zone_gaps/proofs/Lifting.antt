@@ -14,8 +14,8 @@ use Rattle.zone_laws.proofs.GapAppend.{total_size-append}
 use Rattle.zone_laws.proofs.GapApart.{sizes_possible, free_bytes-possible}
 use Rattle.linked_zone.specs.Changes.{with_map, joined_pair, exchanged}
 use Rattle.linked_zone.specs.Fit.{HasSizes}
-use Rattle.linked_zone.specs.Places.{EntryAt, FreePair, MovablePair}
-use Rattle.zone_gaps.specs.Runs.{RunAt, LastAt, arranged, can_move, all_can_move}
+use Rattle.linked_zone.specs.Places.{EntryAt, FreePair, MovablePair, can_move, all_can_move}
+use Rattle.zone_gaps.specs.Runs.{RunAt, LastAt, arranged}
 use Rattle.zone_gaps.proofs.Lasts.{no_last, Last, some_last, First, some_first, none_behind, previous}
 use Rattle.zone_gaps.proofs.Pressing.{free_entry, some_free, no_free, run_sizes}
 use Rattle.zone_gaps.proofs.Sizes.{all_parts, all_both, first_bytes, no_bytes, total_size-push}

@@ -67,18 +67,18 @@ no_pointer s t m x c other =
     no_length _ (sym (length-addresses_from (address_behind s []) (is_pointer_block x) m) ∙ ap length none)
 
 -- and one that is no handle with a block none as a handle
-no_handle : (s : Shape) (t : HandleTable) (m : ZoneMap) (x : ℕ) → Coherent s t m → is_full t x ≡ false → sizes (is_handle_block x) m ≡ []
+pub no_handle : (s : Shape) (t : HandleTable) (m : ZoneMap) (x : ℕ) → Coherent s t m → is_full t x ≡ false → sizes (is_handle_block x) m ≡ []
 no_handle s t m x c other = no_length _ (sym (length-addresses_from (address_behind s []) (is_handle_block x) m) ∙ c.handles x ∙ ap (λ b. cond b 1 0) other)
 
 -- a pointer is no handle
-pointer-no_full : (o : Option Live) → live_pointer o ≡ true → live_full o ≡ false
+pub pointer-no_full : (o : Option Live) → live_pointer o ≡ true → live_full o ≡ false
 pointer-no_full None h = refl
 pointer-no_full (Some EmptyHandle) h = refl
 pointer-no_full (Some (FullHandle flags bytes)) h = absurd (cc h)
 pointer-no_full (Some (Pointer bytes)) h = refl
 
 -- a locked handle has a block
-locked-full : (o : Option Live) → (live_flags o).lock ≡ true → live_full o ≡ true
+pub locked-full : (o : Option Live) → (live_flags o).lock ≡ true → live_full o ≡ true
 locked-full None h = absurd (cc h)
 locked-full (Some EmptyHandle) h = absurd (cc h)
 locked-full (Some (FullHandle flags bytes)) h = refl

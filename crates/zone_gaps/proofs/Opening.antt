@@ -17,7 +17,8 @@ use Rattle.zone_laws.proofs.NamedPlace.{used_blocks-around, open_at-parts}
 use Rattle.linked_zone.specs.Changes.{with_map}
 use Rattle.linked_zone.specs.Fit.{HasSizes}
 use Rattle.zone_gaps.specs.Gaps.{Settled, opened_after}
-use Rattle.zone_gaps.specs.Runs.{RunAt, arranged, all_can_move, can_move}
+use Rattle.linked_zone.specs.Places.{all_can_move, can_move}
+use Rattle.zone_gaps.specs.Runs.{RunAt, arranged}
 use Rattle.zone_gaps.proofs.Owning.{Owned, here_owned, map_front, parts_owned, can_move_owned}
 use Rattle.zone_gaps.proofs.Sizes.{all_both}
 

@@ -21,14 +21,14 @@ use Rattle.zone_laws.proofs.OpenedGap.{own-At}
 use Rattle.zone_laws.proofs.Owners.{nothing_passes}
 use Rattle.zone_laws.proofs.SuitsNamed.{full-no_pointer}
 use Rattle.gap_laws.proofs.FittingResize.{own_gap-found, one_size}
-use Rattle.linked_zone.specs.Places.{BlockOf, EntryAt}
+use Rattle.linked_zone.specs.Places.{BlockOf, EntryAt, all_can_move}
 use Rattle.zone_gaps.specs.Gaps.{Settled}
-use Rattle.zone_gaps.specs.Runs.{FrontAt, RestAt, none_fixed, all_can_move, has_owner}
+use Rattle.zone_gaps.specs.Runs.{FrontAt, RestAt, none_fixed, has_owner}
 use Rattle.zone_gaps.proofs.Settling.{owners-settled, all_move-unfixed}
 use Rattle.zone_gaps.proofs.Sizes.{all_parts}
 
 -- the blocks of a number are those of its handle and those of its pointer
-length-named : (x : ℕ) (m : ZoneMap) → length (sizes (is_named x) m) ≡ length (sizes (is_handle_block x) m) + length (sizes (is_pointer_block x) m)
+pub length-named : (x : ℕ) (m : ZoneMap) → length (sizes (is_named x) m) ≡ length (sizes (is_handle_block x) m) + length (sizes (is_pointer_block x) m)
 length-named x [] = refl
 length-named x (e ∷ es) = by_kind e.kind (length-named x es)
   where
@@ -40,7 +40,7 @@ length-named x (e ∷ es) = by_kind e.kind (length-named x es)
     by_kind (Rel g) rest = elim (g == x) as (λ c. length (cond c (e.size ∷ []) [] ++ sizes (is_named x) es) ≡ length (cond c (e.size ∷ []) [] ++ sizes (is_handle_block x) es) + length (sizes (is_pointer_block x) es)) [ true ↦ omega arith | false ↦ rest ]
 
 -- a handle with a block names just one
-named_alone : (s : Shape) (t : HandleTable) (m : ZoneMap) (x : ℕ) → Coherent s t m → is_full t x ≡ true → length (sizes (is_named x) m) ≡ 1
+pub named_alone : (s : Shape) (t : HandleTable) (m : ZoneMap) (x : ℕ) → Coherent s t m → is_full t x ≡ true → length (sizes (is_named x) m) ≡ 1
 named_alone s t m x coherent full =
     let all = length-named x m in
     let handles : length (sizes (is_handle_block x) m) ≡ 1 = sym (length-addresses_from (address_behind s []) (is_handle_block x) m) ∙ coherent.handles x ∙ ap (λ c. cond c 1 0) full in
@@ -52,7 +52,7 @@ heads : (d g : Entry) (a b : ZoneMap) → d ∷ a ≡ g ∷ b → (d ≡ g) × (
 heads d g a b h = (cc h, cc h)
 
 -- the first block of a number stands at one place
-same_named : (x : ℕ) (a : ZoneMap) (e : Entry) (b : ZoneMap) (c : ZoneMap) (f : Entry) (d : ZoneMap) → a ++ e ∷ b ≡ c ++ f ∷ d → is_named x e.kind ≡ true → is_named x f.kind ≡ true → sizes (is_named x) a ≡ [] → sizes (is_named x) c ≡ [] → a ≡ c
+pub same_named : (x : ℕ) (a : ZoneMap) (e : Entry) (b : ZoneMap) (c : ZoneMap) (f : Entry) (d : ZoneMap) → a ++ e ∷ b ≡ c ++ f ∷ d → is_named x e.kind ≡ true → is_named x f.kind ≡ true → sizes (is_named x) a ≡ [] → sizes (is_named x) c ≡ [] → a ≡ c
 same_named x [] e b [] f d is here there none_a none_c = refl
 same_named x [] e b (g ∷ c) f d is here there none_a none_c =
     let head = (heads e g b (c ++ f ∷ d) is).0 in

@@ -16,8 +16,8 @@ use Rattle.zone_laws.proofs.Arranging.{free_is, total_size-used, down-IsArrangem
 use Rattle.zone_laws.proofs.GapApart.{sizes_possible}
 use Rattle.zone_laws.proofs.NamedPlace.{used_blocks-around}
 use Rattle.linked_zone.specs.Changes.{with_map, joined_pair, exchanged}
-use Rattle.linked_zone.specs.Places.{EntryAt, FreePair, MovablePair}
-use Rattle.zone_gaps.specs.Runs.{RunAt, arranged, can_move, all_can_move}
+use Rattle.linked_zone.specs.Places.{EntryAt, FreePair, MovablePair, can_move, all_can_move}
+use Rattle.zone_gaps.specs.Runs.{RunAt, arranged}
 use Rattle.zone_gaps.proofs.Sizes.{all_parts, first_bytes, no_bytes, total_size-push}
 
 -- a free block is one of its size

@@ -16,10 +16,11 @@ use Rattle.zone_laws.proofs.Arranging.{named-used, sizes-used}
 use Rattle.zone_laws.proofs.GapAppend.{total_size-append, free_bytes-append}
 use Rattle.zone_laws.proofs.NamedPlace.{At, used_blocks-around}
 use Rattle.zone_laws.proofs.Owners.{nothing_passes}
-use Rattle.linked_zone.specs.Changes.{with_map}
+use Rattle.linked_zone.specs.Changes.{with_map, carried_up}
 use Rattle.linked_zone.specs.Fit.{HasSizes}
 use Rattle.zone_gaps.specs.Gaps.{Settled}
-use Rattle.zone_gaps.specs.Runs.{ParcelAt, RunAt, arranged, carried_up, all_can_move, can_move}
+use Rattle.linked_zone.specs.Places.{ParcelAt, all_can_move, can_move}
+use Rattle.zone_gaps.specs.Runs.{RunAt, arranged}
 use Rattle.zone_gaps.proofs.Owning.{Owned, here_owned, map_owned, parts_owned, can_move_owned}
 use Rattle.zone_gaps.proofs.Sizes.{all_both}
 

@@ -18,7 +18,8 @@ use Rattle.mac_base.specs.ZoneState.{ZoneState}
 use Rattle.zone_laws.proofs.GapAppend.{sizes-append, length-addresses_from}
 use Rattle.zone_laws.proofs.GapParts.{IsGap, gap-IsGap}
 use Rattle.zone_gaps.specs.Gaps.{Settled, GapAt}
-use Rattle.zone_gaps.specs.Runs.{HasOwners, RestAt, RunAt, has_owner, can_move, all_can_move, none_fixed}
+use Rattle.linked_zone.specs.Places.{can_move, all_can_move}
+use Rattle.zone_gaps.specs.Runs.{HasOwners, RestAt, RunAt, has_owner, none_fixed}
 use Rattle.zone_gaps.proofs.Sizes.{all_parts}
 
 -- a sound heap in which what is lent is fixed is settled

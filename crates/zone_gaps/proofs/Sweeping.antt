@@ -16,9 +16,9 @@ use Rattle.zone_laws.proofs.GapApart.{sizes_possible, free_bytes-possible}
 use Rattle.zone_laws.proofs.GapParts.{IsGap, first_gap, first_gap-before, first_gap-IsGap}
 use Rattle.linked_zone.specs.Changes.{with_map}
 use Rattle.linked_zone.specs.Fit.{HasSizes}
-use Rattle.linked_zone.specs.Places.{EntryAt}
+use Rattle.linked_zone.specs.Places.{EntryAt, all_can_move}
 use Rattle.zone_gaps.specs.Gaps.{Settled}
-use Rattle.zone_gaps.specs.Runs.{HasOwners, RestAt, RunAt, has_owner, none_fixed, begins_fixed, all_can_move, arranged}
+use Rattle.zone_gaps.specs.Runs.{HasOwners, RestAt, RunAt, has_owner, none_fixed, begins_fixed, arranged}
 use Rattle.zone_gaps.proofs.Settling.{owners-settled, all_move-unfixed}
 use Rattle.zone_gaps.proofs.Sizes.{all_parts, all_both, first_bytes, no_bytes}
 

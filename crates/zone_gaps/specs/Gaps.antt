@@ -1,5 +1,5 @@
 -- Gaps by their addresses.
-use Rattle.std.specs.Prelude.{◌≡◌, ℕ, ◌+◌, Contains, Some}
+use Rattle.std.specs.Prelude.{◌≡◌, ℕ, ◌+◌, Contains, Option, Some}
 use Rattle.std.specs.Option.{option_map_or}
 use Rattle.mac_base.specs.Arrangement.{open_at}
 use Rattle.mac_base.specs.Gap.{Gap, gaps, filled, lowest_gap, own_gap, room}
@@ -28,6 +28,14 @@ pub record GapAt (z : ZoneState) (start : ℕ) : Type 0 where
 pub record IsFoundGap (z : ZoneState) (k : ℕ) (found : FoundGap) : Type 0 where
   pub gap : Gap
   pub lowest : lowest_gap k (gaps z.heap.table z.heap.map) ≡ Some gap
+  pub start : found.start ≡ address_behind z.shape gap.before
+  pub end : found.end ≡ found.start + total_size gap.blocks
+  pub room : found.room ≡ room gap
+
+-- the gap that a search gives is found
+pub record IsGapOf (z : ZoneState) (searched : Option Gap) (found : FoundGap) : Type 0 where
+  pub gap : Gap
+  pub is : searched ≡ Some gap
   pub start : found.start ≡ address_behind z.shape gap.before
   pub end : found.end ≡ found.start + total_size gap.blocks
   pub room : found.room ≡ room gap

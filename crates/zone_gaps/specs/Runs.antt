@@ -1,16 +1,15 @@
 -- Runs of neighbouring blocks by their addresses.
-use Rattle.std.specs.Prelude.{◌≡◌, ℕ, ◌+◌, Bool, true, not, ◌&&◌, IsTrue, [], ◌∷◌, ◌++◌}
+use Rattle.std.specs.Prelude.{◌≡◌, ℕ, ◌+◌, Bool, true, not, IsTrue, [], ◌∷◌, ◌++◌}
 use Rattle.std.specs.List.{list_all}
 use Rattle.mac_base.specs.declared.block.Entry.{Entry}
 use Rattle.mac_base.specs.declared.block.Kind.{Kind}
 use Rattle.mac_base.specs.declared.block.Kind.TheVariants.{Free, Master, Ptr, Rel}
 use Rattle.mac_base.specs.Gap.{is_fixed}
 use Rattle.mac_base.specs.HandleTable.{HandleTable, is_handle}
-use Rattle.mac_base.specs.Loans.{is_here}
 use Rattle.mac_base.specs.ZoneMap.{ZoneMap, address_behind, total_size}
 use Rattle.mac_base.specs.ZoneState.{ZoneState}
 use Rattle.linked_zone.specs.Changes.{with_map}
-use Rattle.linked_zone.specs.Places.{is_movable}
+use Rattle.linked_zone.specs.Places.{all_can_move}
 
 -- whether the handle whose block a block of this kind is is live
 abbrev pub has_owner : HandleTable → Kind → Bool
@@ -22,14 +21,6 @@ has_owner t (Ptr p) = true
 -- each handle with a block is live
 abbrev pub HasOwners : ZoneState → Type 0
 HasOwners z = IsTrue (list_all (λ (e : Entry). has_owner z.heap.table e.kind) z.heap.map)
-
--- whether a block may be moved now: it may move, and isn't lent
-abbrev pub can_move : HandleTable → Kind → Bool
-can_move t kind = is_movable kind && is_here t kind
-
--- whether all blocks can
-abbrev pub all_can_move : HandleTable → ZoneMap → Bool
-all_can_move t blocks = list_all (λ (e : Entry). can_move t e.kind) blocks
 
 -- whether none is fixed
 abbrev pub none_fixed : HandleTable → ZoneMap → Bool
@@ -63,21 +54,6 @@ arranged z run blocks = with_map (run.before ++ (blocks ++ run.behind)) z
 -- the last of the blocks from an address on, if there is one, stands at an address
 abbrev pub LastAt : ZoneMap → ℕ → ℕ → Type 0
 LastAt blocks start last = (front : ZoneMap) (e : Entry) → blocks ≡ front ++ e ∷ [] → last ≡ start + total_size front
-
--- a block and a run behind it can be moved, and stand between two addresses
-pub record ParcelAt (z : ZoneState) (start end : ℕ) : Type 0 where
-  pub before : ZoneMap
-  pub here : Entry
-  pub blocks : ZoneMap
-  pub behind : ZoneMap
-  pub map : z.heap.map ≡ before ++ (here ∷ blocks ++ behind)
-  pub place : start ≡ address_behind z.shape before
-  pub long : end ≡ start + (here.size + total_size blocks)
-  pub moves : IsTrue (all_can_move z.heap.table (here ∷ blocks))
-
--- the zone with the block behind the run
-abbrev pub carried_up : {start end : ℕ} → (z : ZoneState) → ParcelAt z start end → ZoneState
-carried_up z parcel = with_map (parcel.before ++ (parcel.blocks ++ parcel.here ∷ parcel.behind)) z
 
 -- the blocks from an address on up to the next fixed one, or to the zone's end
 pub record RestAt (z : ZoneState) (start : ℕ) : Type 0 where

@@ -61,7 +61,7 @@ pub fn lowest_gap(zone: &LinkedZone, needed: u32) -> Option<FoundGap>
 }
 
 /// The address behind a zone's last block.
-pub(crate) fn zone_end(zone: &LinkedZone) -> u32
+pub fn zone_end(zone: &LinkedZone) -> u32
     ensures address { result ≡ address_behind zone.now.shape zone.now.heap.map }
     ensures reach { result ≤ 0x100_0000 }
 {
@@ -70,7 +70,7 @@ pub(crate) fn zone_end(zone: &LinkedZone) -> u32
 }
 
 /// Whether a block of this kind stays where it is.
-pub(crate) fn is_fixed(zone: &LinkedZone, kind: Kind) -> bool
+pub fn is_fixed(zone: &LinkedZone, kind: Kind) -> bool
     requires { HasOwner zone.now kind }
     ensures { result ≡ is_fixed zone.now.heap.table kind }
 {
@@ -82,7 +82,7 @@ pub(crate) fn is_fixed(zone: &LinkedZone, kind: Kind) -> bool
 }
 
 /// The address behind the gap that has the blocks from an address on.
-pub(crate) fn gap_end(zone: &LinkedZone, start: u32) -> u32
+pub fn gap_end(zone: &LinkedZone, start: u32) -> u32
     requires rest { RestAt zone.now start }
     requires owners { HasOwners zone.now }
     requires sizes { HasSizes zone.now }

@@ -4,7 +4,9 @@
 
 mod arrange;
 mod gap;
+mod room;
 mod run;
 
 pub use arrange::{open_after, raise, squeeze_all_down, squeeze_down, squeeze_up};
-pub use gap::{FoundGap, lowest_gap};
+pub use gap::{FoundGap, gap_end, is_fixed, lowest_gap, zone_end};
+pub use room::{gap_behind, own_gap};

@@ -4,7 +4,9 @@ ghost use Rattle.std.specs.Prelude.{◌≡◌, ◌+◌};
 ghost use Rattle.mac_base.specs.Arrangement.{down, up, used_blocks};
 ghost use Rattle.mac_base.specs.ZoneMap.{total_size};
 ghost use Rattle.linked_zone.specs.Fit.{HasSizes};
-ghost use Rattle.zone_gaps.specs.Runs.{RunAt, arranged, ParcelAt, LastAt, carried_up};
+ghost use Rattle.linked_zone.specs.Changes.{carried_up};
+ghost use Rattle.linked_zone.specs.Places.{ParcelAt};
+ghost use Rattle.zone_gaps.specs.Runs.{RunAt, arranged, LastAt};
 
 use linked_zone::LinkedZone;
 
@@ -77,7 +79,8 @@ fn last_block(zone: &LinkedZone, start: u32, end: u32) -> u32
     last
 }
 
-/// Moves a block up past the blocks between it and an address. Gives the address at which it stands then.
+/// Moves a block up past the blocks between it and an address. Gives the address at which it stands then. The
+/// bytes turn in one rotation.
 pub(crate) fn carry_up(zone: &mut LinkedZone, start: u32, end: u32) -> u32
     requires parcel { ParcelAt zone.old start end }
     requires sizes { HasSizes zone.old }
@@ -85,11 +88,6 @@ pub(crate) fn carry_up(zone: &mut LinkedZone, start: u32, end: u32) -> u32
     ensures address { (parcel : ParcelAt zone.old start end) → result + parcel.here.size ≡ end }
 {
     let size = zone.entry_at(start).size;
-    let mut at = start;
-    while at + size < end {
-        let passed = zone.entry_at(at + size).size;
-        zone.exchange(at);
-        at += passed;
-    }
-    at
+    zone.carry(start, end);
+    end - size
 }

@@ -11,7 +11,8 @@ use Rattle.mac_base.specs.ZoneMap.{ZoneMap, is_named, joined, released, sizes}
 use Rattle.mac_base.specs.HandleTable.{HandleTable, Live, EmptyHandle, FullHandle, Pointer, live_at, live_full, live_handle, live_pointer, has_block, is_full, is_handle, is_lent, is_pointer, with_live, without}
 use Rattle.mac_base.specs.Suits.{Suits}
 use Rattle.mac_base.specs.Heap.{Heap}
-use Rattle.mac_base.specs.Releasing.{heap_released, DisposesHandle, Empties}
+use Rattle.mac_base.specs.declared.releasing.ReleasingCall.TheVariants.{DisposesHandle, Empties}
+use Rattle.mac_base.specs.Releasing.{heap_released}
 use Rattle.mac_base.specs.Sound.{Sound}
 use Rattle.mac_base.specs.ZoneState.{ZoneState}
 use Rattle.zone_laws.proofs.JoinedBlocks.{joined-apart}

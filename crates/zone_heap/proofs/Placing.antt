@@ -8,7 +8,7 @@ use Rattle.mac_base.specs.HeadKind.{Shape, need}
 use Rattle.mac_base.specs.ZoneMap.{ZoneMap, block, has_free}
 use Rattle.mac_base.specs.HandleTable.{HandleTable, EmptyHandle, FullHandle, no_flags, zeros, live_at, with_live}
 use Rattle.mac_base.specs.Suits.{is_block_size, has_length}
-use Rattle.mac_base.specs.Request.{NewBlock}
+use Rattle.mac_base.specs.declared.request.Request.TheVariants.{NewBlock}
 use Rattle.mac_base.specs.Heap.{Heap, granted, has_none}
 use Rattle.mac_base.specs.Serve.{take_lowest, taken}
 use Rattle.mac_base.specs.Sound.{Sound}

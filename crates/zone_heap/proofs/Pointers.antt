@@ -8,7 +8,7 @@ use Rattle.mac_base.specs.HeadKind.{Shape, need, head_size}
 use Rattle.mac_base.specs.ZoneMap.{ZoneMap, block, has_free, address_behind}
 use Rattle.mac_base.specs.HandleTable.{Pointer, with_live, zeros}
 use Rattle.mac_base.specs.Suits.{is_block_size, has_length}
-use Rattle.mac_base.specs.Request.{NewPointer}
+use Rattle.mac_base.specs.declared.request.Request.TheVariants.{NewPointer}
 use Rattle.mac_base.specs.Heap.{Heap, granted}
 use Rattle.mac_base.specs.Serve.{take_lowest, taken, lowest_before, lowest_contents}
 use Rattle.mac_base.specs.Sound.{Sound}
@@ -61,22 +61,22 @@ module _ (z : ZoneState) (n k at : ℕ) (c : ChosenBlock z n k at) where
       }
 
   -- the zone once it is
-  abbrev cut_block : ZoneState
+  abbrev pub cut_block : ZoneState
   cut_block = with_map (c.low.free.before ++ block Free (front_size z.shape k c.low.free.size) ∷ (front_rest z.shape k c.low.free.size ++ c.low.free.behind)) z
 
   -- there is room for the bytes
-  room-block : IsTrue (has_length z.shape (front_size z.shape k c.low.free.size) n)
+  pub room-block : IsTrue (has_length z.shape (front_size z.shape k c.low.free.size) n)
   room-block = subst (λ k. IsTrue (has_length z.shape (front_size z.shape k c.low.free.size) n)) (sym c.size) (front-has_length z.shape n c.low.free.size (subst (λ k. k ≤ c.low.free.size) c.size c.low.large))
 
   -- in the block that was cut
-  abbrev block_room : RoomFor cut_block at n
+  abbrev pub block_room : RoomFor cut_block at n
   block_room = record {
     free = record { before = c.low.free.before; size = front_size z.shape k c.low.free.size; behind = front_rest z.shape k c.low.free.size ++ c.low.free.behind; map = refl; place = c.low.free.place };
     room = room-block;
   }
 
   -- the map with the block of the pointer
-  abbrev pointer_map : ZoneMap
+  abbrev pub pointer_map : ZoneMap
   pointer_map = c.low.free.before ++ (taken z.shape k (Ptr pointer_at) c.low.free.size ++ c.low.free.behind)
 
   -- and the zone
@@ -90,7 +90,7 @@ module _ (z : ZoneState) (n k at : ℕ) (c : ChosenBlock z n k at) where
       ∙ sym (ap (λ j. lowest_contents z.shape j z.heap.map) (sym c.size) ∙ ap (λ m. address_behind z.shape m + head_size z.shape.heads) (ap (lowest_before k) c.low.free.map ∙ lowest_before-there k c.low.free.before c.low.free.size c.low.free.behind c.low.lowest c.low.large))
 
   -- the map is what it was once the lowest block is taken
-  pointer_taken : take_lowest z.shape (need z.shape.heads n) (Ptr pointer_at) z.heap.map ≡ Some pointer_map
+  pub pointer_taken : take_lowest z.shape (need z.shape.heads n) (Ptr pointer_at) z.heap.map ≡ Some pointer_map
   pointer_taken =
       ap (λ j. take_lowest z.shape j (Ptr pointer_at) z.heap.map) (sym c.size)
       ∙ ap (take_lowest z.shape k (Ptr pointer_at)) c.low.free.map ∙ take_lowest-there z.shape k (Ptr pointer_at) c.low.free.before c.low.free.size c.low.free.behind c.low.lowest c.low.large
@@ -111,7 +111,7 @@ module _ (z : ZoneState) (n k at : ℕ) (c : ChosenBlock z n k at) where
 
   module _ (cut : ZoneState) (front : (take : CanTake z at k) → cut ≡ with_front z take) where
     -- the cut makes it that zone
-    cut-is : cut ≡ cut_block
+    pub cut-is : cut ≡ cut_block
     cut-is = front block_front ∙ ap (λ m. with_map (c.low.free.before ++ m) z) (taken-parts z.shape k Free c.low.free.size c.low.free.behind)
 
     -- in which there is room for the bytes

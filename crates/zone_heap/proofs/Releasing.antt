@@ -38,7 +38,7 @@ freed-At x m e a b at =
     ∙ ap (λ c. a ++ block Free e.size ∷ c) (marked-none x b at.none_back)
 
 -- a map is apart up to a place
-free_apart-front : (before m : ZoneMap) → IsTrue (free_apart (before ++ m)) → IsTrue (free_apart before)
+pub free_apart-front : (before m : ZoneMap) → IsTrue (free_apart (before ++ m)) → IsTrue (free_apart before)
 free_apart-front before m h = subst (λ m. IsTrue (free_apart m)) (append-nil before) (free_apart-replaced before m [] (λ none. absurd (cc none)) refl h)
 
 -- the zone with another table in which the block of x is free

@@ -7,7 +7,7 @@ use Rattle.mac_base.specs.declared.block.Entry.{Entry}
 use Rattle.mac_base.specs.declared.block.Kind.TheVariants.{Free}
 use Rattle.mac_base.specs.HeadKind.{smallest_block}
 use Rattle.mac_base.specs.Heap.{granted}
-use Rattle.mac_base.specs.Request.{Resize}
+use Rattle.mac_base.specs.declared.request.Request.TheVariants.{Resize}
 use Rattle.mac_base.specs.ZoneMap.{ZoneMap, block, free_block, is_free, joined}
 use Rattle.mac_base.specs.Serve.{taken, cut, free_in_front, behind_free}
 use Rattle.mac_base.specs.Suits.{free_apart, starts_free, is_block_size}

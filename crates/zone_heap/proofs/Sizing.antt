@@ -9,7 +9,8 @@ use Rattle.mac_base.specs.HeadKind.{Shape, need, smallest_block}
 use Rattle.mac_base.specs.ZoneMap.{ZoneMap, block, free_block, is_named, sizes, total_size}
 use Rattle.mac_base.specs.HandleTable.{has_block, is_lent}
 use Rattle.mac_base.specs.Heap.{Heap, granted}
-use Rattle.mac_base.specs.Request.{Resize, size_of}
+use Rattle.mac_base.specs.declared.request.Request.TheVariants.{Resize}
+use Rattle.mac_base.specs.Request.{size_of}
 use Rattle.mac_base.specs.Serve.{sized, resized_in_place}
 use Rattle.mac_base.specs.Sound.{Sound}
 use Rattle.mac_base.specs.Suits.{is_block_size, has_length}
@@ -48,7 +49,7 @@ pub record Standing (z : ZoneState) (x n k at : ℕ) : Type 0 where
 
 module _ (z : ZoneState) (x n k at : ℕ) (b : Standing z x n k at) where
   -- x has no other
-  once : sizes (is_named x) z.heap.map ≡ b.named.here.size ∷ []
+  pub once : sizes (is_named x) z.heap.map ≡ b.named.here.size ∷ []
   once =
       let before = sizes (is_named x) b.named.before in
       let behind = sizes (is_named x) b.named.behind in
@@ -57,7 +58,7 @@ module _ (z : ZoneState) (x n k at : ℕ) (b : Standing z x n k at) where
       parts ∙ only before b.named.here.size behind (ap length (sym parts) ∙ named_once z.shape z.heap.table z.heap.map x b.sound.suits b.block)
 
   -- so it is the one that x names
-  there : At x z.heap.map b.named.here.size b.named.before b.named.here.kind b.named.behind
+  pub there : At x z.heap.map b.named.here.size b.named.before b.named.here.kind b.named.behind
   there = At-from x z.heap.map b.named.here.size b.named.before b.named.here b.named.behind once b.named.map b.named.named
 
   -- its size is possible

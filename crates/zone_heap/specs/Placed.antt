@@ -3,7 +3,7 @@ use Rattle.std.specs.Prelude.{ℕ, Option, None, Some, if◌then◌else◌, opti
 use Rattle.mac_base.specs.declared.block.Kind.TheVariants.{Ptr, Rel}
 use Rattle.mac_base.specs.HeadKind.{Shape, need}
 use Rattle.mac_base.specs.Heap.{Heap, front_slot, granted, has_none}
-use Rattle.mac_base.specs.Request.{NewBlock, NewEmpty, NewPointer, Resize}
+use Rattle.mac_base.specs.declared.request.Request.TheVariants.{NewBlock, NewEmpty, NewPointer, Resize}
 use Rattle.mac_base.specs.Serve.{take_lowest, lowest_contents, resized_in_place}
 
 -- the front free slot as a new handle with n bytes in the lowest free block that has room, if both are there

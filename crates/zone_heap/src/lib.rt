@@ -1,7 +1,16 @@
 //! A heap zone: one attempt to place, size, flag, release or show a block.
 #![tactic(auto)]
 
+mod attempt;
+mod compact;
+mod growth;
+mod place;
+mod purge;
+mod replace;
+mod shortage;
+mod size;
 mod zone;
 
 pub use block_bytes::check;
-pub use zone::{NoRoom, Zone};
+pub use shortage::Shortage;
+pub use zone::Zone;

@@ -1,25 +1,19 @@
 //! The zone.
 
 use linked_zone::LinkedZone;
-use mac_base::block::{Block, Flags, Status};
+use mac_base::block::{Block, Flags, HeadKind, Status};
 use mac_base::error::HostFull;
 use mac_base::handle::{Handle, Ptr};
 use mac_base::size::{MASTER_LENGTH, ZONE_HEADER, need_for};
-use mac_base::zone_spec::{ADDRESS_END, LARGEST_LIMIT, ZoneSpec};
+use mac_base::zone_spec::{ADDRESS_END, ZoneSpec};
 use raw_region::Lent;
 use std::alloc::Global;
 use std::marker::Model;
-use thiserror::Error;
-
-/// The zone has no room for the attempt: no free block has it, or no slot is free. Nothing has changed.
-#[derive(Clone, Copy, Debug, PartialEq, Eq, Error)]
-#[error("the zone has no room")]
-pub struct NoRoom;
 
 /// A heap zone in raw bytes. Contracts see its shape and its heap: the handle table, the zone map and the free slots.
 /// All host memory is taken by `create`.
 pub struct Zone {
-    pointers: LinkedZone,
+    pub(crate) pointers: LinkedZone,
 }
 
 impl Model for Zone {
@@ -58,7 +52,8 @@ impl Zone {
     ghost use Rattle.mac_base.specs.Heap.{new_heap, with_table};
     ghost use Rattle.mac_base.specs.HeadKind.{max_size};
     ghost use Rattle.mac_base.specs.Sound.{Sound};
-    ghost use Rattle.mac_base.specs.Releasing.{heap_released, DisposesHandle, DisposesPtr, Empties};
+    ghost use Rattle.mac_base.specs.declared.releasing.ReleasingCall.TheVariants.{DisposesHandle, DisposesPtr, Empties};
+    ghost use Rattle.mac_base.specs.Releasing.{heap_released};
     ghost use Rattle.mac_base.specs.ZoneSizes.{shape_of};
     ghost use Rattle.zone_heap.specs.Placed.{placed_lowest, placed_empty, placed_pointer, resized_there};
     ghost use Rattle.mac_base.specs.BlockReport.{report_at};
@@ -138,57 +133,6 @@ impl Zone {
         self.pointers.give_back(block, loan);
     }
 
-    /// A new handle with `length` bytes of zero and no flags, in the lowest free block that has room. There is none
-    /// exactly where no free block has room or no slot is free, and then nothing has changed.
-    pub fn place_rel(&mut self, length: u32) -> Result<Handle, NoRoom>
-        requires { length ≤ max_size }
-        ensures sound { Sound self.old.shape self.old.heap }
-        ensures placed { MatchResult result
-            (λ handle. (placed_lowest self.old.shape length self.old.heap ≡ Some (handle, self.new.heap)) × (self.new.shape ≡ self.old.shape))
-            (λ _. (placed_lowest self.old.shape length self.old.heap ≡ None) × (self.new ≡ self.old)) }
-        ensures loans { KeepsLoans self.old self.new }
-    {
-        let needed = need_for(self.pointers.spec().heads(), length);
-        let Some(at) = self.pointers.lowest_free(needed) else {
-            return Err(NoRoom);
-        };
-        let Some(handle) = self.pointers.take() else {
-            return Err(NoRoom);
-        };
-        cut(&mut self.pointers, at, needed);
-        self.pointers.point(handle, at, length);
-        Ok(handle)
-    }
-
-    /// A new empty handle. There is none exactly where no slot is free, and then nothing has changed.
-    pub fn place_empty(&mut self) -> Result<Handle, NoRoom>
-        ensures sound { Sound self.old.shape self.old.heap }
-        ensures placed { MatchResult result
-            (λ handle. (placed_empty self.old.heap ≡ Some (handle, self.new.heap)) × (self.new.shape ≡ self.old.shape))
-            (λ _. (placed_empty self.old.heap ≡ None) × (self.new ≡ self.old)) }
-        ensures loans { KeepsLoans self.old self.new }
-    {
-        self.pointers.take().ok_or(NoRoom)
-    }
-
-    /// A new pointer to `length` bytes of zero, in the lowest free block that has room. There is none exactly where no
-    /// free block has room, and then nothing has changed.
-    pub fn place_fix(&mut self, length: u32) -> Result<Ptr, NoRoom>
-        requires { length ≤ max_size }
-        ensures sound { Sound self.old.shape self.old.heap }
-        ensures placed { MatchResult result
-            (λ pointer. (placed_pointer self.old.shape length self.old.heap ≡ Some (pointer, self.new.heap)) × (self.new.shape ≡ self.old.shape))
-            (λ _. (placed_pointer self.old.shape length self.old.heap ≡ None) × (self.new ≡ self.old)) }
-        ensures loans { KeepsLoans self.old self.new }
-    {
-        let size = need_for(self.pointers.spec().heads(), length);
-        let Some(at) = self.pointers.lowest_free(size) else {
-            return Err(NoRoom);
-        };
-        cut(&mut self.pointers, at, size);
-        Ok(self.pointers.fix(at, length))
-    }
-
     /// Disposes of a live handle: its block, if it has one, is free and joined to its free neighbours, and its slot is
     /// the next to be given.
     pub fn release(&mut self, handle: Handle)
@@ -224,41 +168,7 @@ impl Zone {
         ensures shape { self.new.shape ≡ self.old.shape }
         ensures loans { KeepsLoans self.old self.new }
     {
-        if self.pointers.has_block(handle.number()) {
-            let at = self.pointers.block_of(handle);
-            self.pointers.empty(handle);
-            join(&mut self.pointers, at);
-        }
-    }
-
-    /// Gives a handle that has a block `length` bytes where the block is: its own bytes, or with them those of the free
-    /// block right behind it. What is over is free where it makes a block. Bytes that the handle had stay, as far as
-    /// they go, and those that are added are zero. Where there is no room, nothing has changed.
-    pub fn resize_rel(&mut self, handle: Handle, length: u32) -> Result<(), NoRoom>
-        requires full { IsTrue (is_full self.old.heap.table handle) }
-        requires here { IsFalse (is_lent self.old.heap.table handle) }
-        requires size { length ≤ max_size }
-        ensures sound { Sound self.old.shape self.old.heap }
-        ensures resized { MatchResult result
-            (λ _. (resized_there self.old.shape handle length self.old.heap ≡ Some self.new.heap) × (self.new.shape ≡ self.old.shape))
-            (λ _. (resized_there self.old.shape handle length self.old.heap ≡ None) × (self.new ≡ self.old)) }
-        ensures loans { KeepsLoans self.old self.new }
-    {
-        self.resize(handle.number(), length)
-    }
-
-    /// Gives a pointer `length` bytes where its block is, as `resize_rel` does for a handle.
-    pub fn resize_fix(&mut self, pointer: Ptr, length: u32) -> Result<(), NoRoom>
-        requires live { IsTrue (is_pointer self.old.heap.table pointer) }
-        requires here { IsFalse (is_lent self.old.heap.table pointer) }
-        requires size { length ≤ max_size }
-        ensures sound { Sound self.old.shape self.old.heap }
-        ensures resized { MatchResult result
-            (λ _. (resized_there self.old.shape pointer length self.old.heap ≡ Some self.new.heap) × (self.new.shape ≡ self.old.shape))
-            (λ _. (resized_there self.old.shape pointer length self.old.heap ≡ None) × (self.new ≡ self.old)) }
-        ensures loans { KeepsLoans self.old self.new }
-    {
-        self.resize(pointer.number(), length)
+        empty(&mut self.pointers, handle);
     }
 
     /// The flags of a live handle; an empty one has none.
@@ -326,6 +236,13 @@ impl Zone {
         self.pointers.spec().base() + ZONE_HEADER
     }
 
+    /// How the zone's blocks are headed.
+    pub fn heads(&self) -> HeadKind
+        ensures { result ≡ self.now.shape.heads }
+    {
+        self.pointers.spec().heads()
+    }
+
     /// The block whose header stands at this address, if one does.
     pub fn entry(&self, at: u32) -> Option<Block>
         ensures { result ≡ report_at self.now.shape self.now.heap at }
@@ -342,49 +259,24 @@ impl Zone {
     {
         self.pointers.image()
     }
-
-    /// Gives a handle or a pointer that has a block `length` bytes where the block is.
-    fn resize(&mut self, block: u32, length: u32) -> Result<(), NoRoom>
-        requires block { IsTrue (has_block self.old.heap.table block) }
-        requires here { IsFalse (is_lent self.old.heap.table block) }
-        requires size { length ≤ max_size }
-        ensures sound { Sound self.old.shape self.old.heap }
-        ensures resized { MatchResult result
-            (λ _. (resized_there self.old.shape block length self.old.heap ≡ Some self.new.heap) × (self.new.shape ≡ self.old.shape))
-            (λ _. (resized_there self.old.shape block length self.old.heap ≡ None) × (self.new ≡ self.old)) }
-        ensures loans { KeepsLoans self.old self.new }
-    {
-        let needed = need_for(self.pointers.spec().heads(), length);
-        let at = self.pointers.place_of(block);
-        let size = self.pointers.entry_at(at).size;
-        if needed <= size {
-            shrink(&mut self.pointers, block, needed, length);
-            return Ok(());
-        }
-        let spec = self.pointers.spec();
-        prove!(spec.limit() <= LARGEST_LIMIT);
-        let whole = size + free_behind(&self.pointers, at);
-        if whole < needed {
-            return Err(NoRoom);
-        }
-        let taken = front(&self.pointers, whole, needed);
-        self.pointers.grow(block, taken, length);
-        Ok(())
-    }
 }
 
 ghost use Rattle.std.specs.Prelude.{◌≡◌, ◌-◌, ◌≤◌, IsTrue, IsFalse, Some, if◌then◌else◌, nat_lt};
-ghost use Rattle.mac_base.specs.HandleTable.{has_block, is_lent};
+ghost use Rattle.mac_base.specs.HandleTable.{has_block, is_handle, is_lent};
 ghost use Rattle.mac_base.specs.HeadKind.{need, smallest_block};
+ghost use Rattle.mac_base.specs.Heap.{with_emptied};
 ghost use Rattle.mac_base.specs.Request.{size_of};
 ghost use Rattle.mac_base.specs.Serve.{free_in_front};
 ghost use Rattle.mac_base.specs.Sound.{Sound};
+ghost use Rattle.mac_base.specs.ZoneState.{with_heap};
+ghost use Rattle.linked_zone.specs.Loans.{KeepsLoans};
 ghost use Rattle.linked_zone.specs.Places.{EntryAt};
+ghost use Rattle.zone_heap.specs.Attempts.{SoundZone};
 ghost use Rattle.zone_heap.specs.Placed.{resized_there};
 ghost use Rattle.zone_heap.specs.Joins.{CanTake, NewlyFree, with_front, all_joined};
 
 /// Cuts a free block to its first `size` bytes, unless fewer bytes than a block has would be left.
-fn cut(pointers: &mut LinkedZone, at: u32, size: u32)
+pub(crate) fn cut(pointers: &mut LinkedZone, at: u32, size: u32)
     requires { CanTake pointers.old at size }
     ensures { (take : CanTake pointers.old at size) → pointers.new ≡ with_front pointers.old take }
 {
@@ -396,7 +288,7 @@ fn cut(pointers: &mut LinkedZone, at: u32, size: u32)
 }
 
 /// Joins a free block to its free neighbours, where no two other free blocks are neighbours.
-fn join(pointers: &mut LinkedZone, at: u32)
+pub(crate) fn join(pointers: &mut LinkedZone, at: u32)
     requires { NewlyFree pointers.old at }
     ensures { pointers.new ≡ all_joined pointers.old }
 {
@@ -412,8 +304,24 @@ fn join(pointers: &mut LinkedZone, at: u32)
     }
 }
 
+/// Empties a live handle: its block, if it has one, is free and joined to its free neighbours, and its slot stays its own.
+pub(crate) fn empty(pointers: &mut LinkedZone, handle: Handle)
+    requires sound { SoundZone pointers.old }
+    requires live { IsTrue (is_handle pointers.old.heap.table handle) }
+    requires here { IsFalse (is_lent pointers.old.heap.table handle) }
+    ensures zone { pointers.new ≡ with_heap (with_emptied pointers.old.heap handle) pointers.old }
+    ensures loans { KeepsLoans pointers.old pointers.new }
+    ensures sound { SoundZone pointers.new }
+{
+    if pointers.has_block(handle.number()) {
+        let at = pointers.block_of(handle);
+        pointers.empty(handle);
+        join(pointers, at);
+    }
+}
+
 /// The size of the free block right behind the one at an address, and 0 where none stands there.
-fn free_behind(pointers: &LinkedZone, at: u32) -> u32
+pub(crate) fn free_behind(pointers: &LinkedZone, at: u32) -> u32
     requires sound { Sound pointers.now.shape pointers.now.heap }
     requires there { EntryAt pointers.now at }
     ensures { (e : EntryAt pointers.now at) → result ≡ free_in_front e.behind }
@@ -429,7 +337,7 @@ fn free_behind(pointers: &LinkedZone, at: u32) -> u32
 
 /// How many of `whole` bytes a block takes that needs `needed` of them: so many, unless fewer bytes than a block has
 /// would be left.
-fn front(pointers: &LinkedZone, whole: u32, needed: u32) -> u32
+pub(crate) fn front(pointers: &LinkedZone, whole: u32, needed: u32) -> u32
     requires { needed ≤ whole }
     ensures { result ≡ (if nat_lt (whole - needed) (smallest_block pointers.now.shape.heads) then whole else needed) }
 {
@@ -442,7 +350,7 @@ fn front(pointers: &LinkedZone, whole: u32, needed: u32) -> u32
 
 /// Gives the owner of a block `length` bytes, which need `needed` bytes of the block. What is over is free where it makes
 /// a block, and joined to the free block behind it.
-fn shrink(pointers: &mut LinkedZone, block: u32, needed: u32, length: u32)
+pub(crate) fn shrink(pointers: &mut LinkedZone, block: u32, needed: u32, length: u32)
     requires sound { Sound pointers.old.shape pointers.old.heap }
     requires block { IsTrue (has_block pointers.old.heap.table block) }
     requires here { IsFalse (is_lent pointers.old.heap.table block) }

@@ -14,7 +14,9 @@ use Rattle.mac_base.specs.ZoneMap.{ZoneMap, block, free_block, has_free, free_by
 use Rattle.mac_base.specs.HandleTable.{HandleTable}
 use Rattle.mac_base.specs.Gap.{Gap, gaps, filled, room, lowest_gap, some_gap_has}
 use Rattle.mac_base.specs.Arrangement.{used_blocks, down, up}
-use Rattle.mac_base.specs.Request.{Request, NewBlock, NewEmpty, NewPointer, NewMaster, Reserve, Replace, size_needed, length_asked, fits}
+use Rattle.mac_base.specs.declared.request.Request.{Request}
+use Rattle.mac_base.specs.declared.request.Request.TheVariants.{NewBlock, NewEmpty, NewPointer, NewMaster, Reserve, Replace}
+use Rattle.mac_base.specs.Request.{size_needed, length_asked, fits}
 use Rattle.mac_base.specs.Serve.{taken, take_lowest, placed_relocatable, placed_fixed, reserved, begins_free, cleared, contents_at_gap, gives, serve}
 use Rattle.zone_laws.proofs.GapParts.{lowest_gap-is}
 use Rattle.zone_laws.proofs.GapRoom.{is_some-find, some_gap_has-free}

@@ -9,8 +9,10 @@ use Rattle.mac_base.specs.ZoneMap.{ZoneMap, is_named, address_behind}
 use Rattle.mac_base.specs.HandleTable.{EmptyHandle, FullHandle, Pointer, live_at, live_bytes, live_flags, live_full, live_pointer, bytes_of, is_lent, is_locked, is_pointer, no_flags, refilled, resized, with_bytes, with_flags, zeros}
 use Rattle.mac_base.specs.Heap.{Heap, granted, with_table}
 use Rattle.mac_base.specs.Loans.{LoansAreFixed, lent_out, owners, returned, with_lent}
-use Rattle.mac_base.specs.Releasing.{ReleasingCall, DisposesHandle, DisposesPtr, Empties, heap_released, operand_of}
-use Rattle.mac_base.specs.Request.{NewBlock, NewEmpty, NewPointer, Resize}
+use Rattle.mac_base.specs.declared.releasing.ReleasingCall.{ReleasingCall}
+use Rattle.mac_base.specs.declared.releasing.ReleasingCall.TheVariants.{DisposesHandle, DisposesPtr, Empties}
+use Rattle.mac_base.specs.Releasing.{heap_released, operand_of}
+use Rattle.mac_base.specs.declared.request.Request.TheVariants.{NewBlock, NewEmpty, NewPointer, Resize}
 use Rattle.mac_base.specs.Serve.{take_lowest, lowest_contents, resized_in_place}
 use Rattle.mac_base.specs.Sound.{Sound}
 use Rattle.zone_laws.proofs.Lent.{KeepsLent, keeps-others, no_block-here, lent-block, block-owner, lent-filtered, other_named}

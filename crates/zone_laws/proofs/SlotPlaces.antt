@@ -35,7 +35,7 @@ first_or_rest false a rest x c = inr c
 first_or_rest true a rest x c = elim (Contains-cons_cases a rest x c) [ inl h ↦ inl (refl, h) | inr h ↦ inr h ]
 
 -- a slot lies at or behind the first, and its four bytes are among those of n slots
-slots_from-bounds : (n at h : ℕ) → Contains (slots_from n at) h → (at ≤ h) × (h + 4 ≤ at + 4 * n)
+pub slots_from-bounds : (n at h : ℕ) → Contains (slots_from n at) h → (at ≤ h) × (h + 4 ≤ at + 4 * n)
 slots_from-bounds zero at h c = absurd (Contains-none h c)
 slots_from-bounds (suc n) at h c = elim (Contains-cons_cases at (slots_from n (at + 4)) h c) [
   | inl is ↦ (omega arith, omega arith)

@@ -12,7 +12,7 @@ use Rattle.mac_base.specs.HeadKind.{Shape, need, zone_header}
 use Rattle.mac_base.specs.ZoneMap.{ZoneMap, total_size, is_master}
 use Rattle.mac_base.specs.HandleTable.{HandleTable, FullHandle, live_at, live_full, live_handle, is_full, is_handle, is_pointer, with_live, no_flags, zeros}
 use Rattle.mac_base.specs.Suits.{Suits, slots}
-use Rattle.mac_base.specs.Request.{NewBlock}
+use Rattle.mac_base.specs.declared.request.Request.TheVariants.{NewBlock}
 use Rattle.mac_base.specs.Serve.{take_lowest}
 use Rattle.mac_base.specs.Heap.{Heap, granted}
 use Rattle.mac_base.specs.Sound.{Sound, is_growth}

@@ -10,7 +10,7 @@ use Rattle.mac_base.specs.HeadKind.{Shape, need, head_size, zone_header}
 use Rattle.mac_base.specs.ZoneMap.{ZoneMap, block, has_free, is_master, address_behind}
 use Rattle.mac_base.specs.HandleTable.{Pointer, live_at, live_full, live_handle, is_handle, is_pointer, with_live, zeros}
 use Rattle.mac_base.specs.Suits.{Suits}
-use Rattle.mac_base.specs.Request.{NewPointer}
+use Rattle.mac_base.specs.declared.request.Request.TheVariants.{NewPointer}
 use Rattle.mac_base.specs.Serve.{taken, take_lowest, lowest_before, lowest_contents}
 use Rattle.mac_base.specs.Heap.{Heap, granted}
 use Rattle.mac_base.specs.Sound.{Sound, is_growth}

@@ -7,7 +7,8 @@ use Rattle.mac_base.specs.ZoneMap.{total_size, released}
 use Rattle.mac_base.specs.HandleTable.{HandleTable, EmptyHandle, live_full, live_handle, live_pointer, is_handle, is_pointer, with_live, without}
 use Rattle.mac_base.specs.Suits.{Suits, slots}
 use Rattle.mac_base.specs.Heap.{Heap}
-use Rattle.mac_base.specs.Releasing.{heap_released, DisposesHandle, DisposesPtr, Empties}
+use Rattle.mac_base.specs.declared.releasing.ReleasingCall.TheVariants.{DisposesHandle, DisposesPtr, Empties}
+use Rattle.mac_base.specs.Releasing.{heap_released}
 use Rattle.mac_base.specs.Sound.{Sound, is_growth}
 use Rattle.zone_laws.proofs.Tables.{AgreeBut, live_at-with_live_same, live_at-without_same, with_live_agrees, without_agrees, in_order-with_live, in_order-without, by_number, eqb-true-is, eqb_same, pointer_no_handle}
 use Rattle.zone_laws.proofs.SlotPlaces.{Contains-cons_cases, Contains-here, Contains-later}

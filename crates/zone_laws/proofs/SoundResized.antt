@@ -4,7 +4,7 @@ use Rattle.std.proofs.lemmas.List.{length-replicate}
 use Rattle.mac_base.specs.HeadKind.{Shape, need, zone_header}
 use Rattle.mac_base.specs.ZoneMap.{ZoneMap, is_master, address_behind}
 use Rattle.mac_base.specs.HandleTable.{live_at, live_bytes, live_full, live_handle, live_pointer, is_full, is_handle, is_pointer, bytes_of, with_live, with_bytes, refilled, resized, zeros}
-use Rattle.mac_base.specs.Request.{Resize}
+use Rattle.mac_base.specs.declared.request.Request.TheVariants.{Resize}
 use Rattle.mac_base.specs.Serve.{resized_in_place}
 use Rattle.mac_base.specs.Heap.{Heap, granted}
 use Rattle.mac_base.specs.Sound.{Sound, is_growth}

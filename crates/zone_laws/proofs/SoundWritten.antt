@@ -10,7 +10,7 @@ use Rattle.mac_base.specs.HeadKind.{Shape}
 use Rattle.mac_base.specs.ZoneMap.{ZoneMap, is_free}
 use Rattle.mac_base.specs.HandleTable.{HandleTable, Live, EmptyHandle, FullHandle, Pointer, live_at, live_bytes, live_full, live_handle, live_pointer, is_full, is_handle, is_pointer, bytes_of, with_live, with_bytes, with_flags, refilled}
 use Rattle.mac_base.specs.Suits.{Suits, has_length, has_owners_length, wanted_length, slots}
-use Rattle.mac_base.specs.Request.{NewEmpty}
+use Rattle.mac_base.specs.declared.request.Request.TheVariants.{NewEmpty}
 use Rattle.mac_base.specs.Heap.{Heap, granted, with_table}
 use Rattle.mac_base.specs.Sound.{Sound}
 use Rattle.zone_laws.proofs.Maps.{both_true, true_both}

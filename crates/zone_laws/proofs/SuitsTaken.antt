@@ -47,7 +47,7 @@ module _ (s : Shape) (k : ℕ) (kind : Kind) (old new : ZoneMap) (t : TakenAt s 
       ∙ ap (λ found. found ++ []) (addresses_from-taken s k kind t.size (address_behind s [] + total_size t.before) test free ∙ ap (λ b. cond b ((address_behind s [] + total_size t.before) ∷ []) []) passes)
 
   -- no two neighbours are free
-  free_apart-kept : is_free kind ≡ false → IsTrue (free_apart old) → IsTrue (free_apart new)
+  pub free_apart-kept : is_free kind ≡ false → IsTrue (free_apart old) → IsTrue (free_apart new)
   free_apart-kept used h =
       let apart : IsTrue (free_apart (t.before ++ (block Free t.size ∷ t.behind))) = sym (ap free_apart t.was) ∙ h in
       let here = free_apart-behind t.before (block Free t.size ∷ t.behind) apart in
@@ -60,7 +60,7 @@ module _ (s : Shape) (k : ℕ) (kind : Kind) (old new : ZoneMap) (t : TakenAt s 
       tail m h = (both_true (not (starts_free m)) (free_apart m) h).1
 
   -- each size is possible
-  sizes-kept : is_block_size s k ≡ true → IsTrue (list_all (λ (e : Entry). is_block_size s e.size) old) → IsTrue (list_all (λ (e : Entry). is_block_size s e.size) new)
+  pub sizes-kept : is_block_size s k ≡ true → IsTrue (list_all (λ (e : Entry). is_block_size s e.size) old) → IsTrue (list_all (λ (e : Entry). is_block_size s e.size) new)
   sizes-kept size h = list_all-exchanged old new (taken_exchange s k kind old new t) (λ (e : Entry). is_block_size s e.size) (sizes-taken s k kind t.size size (here old h t.was) t.fits) h
     where
       here : (m : ZoneMap) → IsTrue (list_all (λ (e : Entry). is_block_size s e.size) m) → m ≡ t.before ++ block Free t.size ∷ t.behind → is_block_size s t.size ≡ true

@@ -37,11 +37,11 @@ pub sound-one : (l : Layout) (xs : List RawBlock) (b : RawBlock) (ys : List RawB
 sound-one l xs b ys sound is = (both_true _ _ (sound-two l xs (b ∷ ys) sound is).1).0
 
 -- what holds of all blocks holds of the first, and of those behind
-words-first : (heads : HeadKind) (xs ys : List RawBlock) → All (HasWords heads) (xs ++ ys) → All (HasWords heads) xs
+pub words-first : (heads : HeadKind) (xs ys : List RawBlock) → All (HasWords heads) (xs ++ ys) → All (HasWords heads) xs
 words-first heads [] ys all = All-nil (HasWords heads)
 words-first heads (x ∷ xs) ys all = All-cons (HasWords heads) x xs (All-head (HasWords heads) x (xs ++ ys) all) (words-first heads xs ys (All-tail (HasWords heads) x (xs ++ ys) all))
 
-words-rest : (heads : HeadKind) (xs ys : List RawBlock) → All (HasWords heads) (xs ++ ys) → All (HasWords heads) ys
+pub words-rest : (heads : HeadKind) (xs ys : List RawBlock) → All (HasWords heads) (xs ++ ys) → All (HasWords heads) ys
 words-rest heads [] ys all = all
 words-rest heads (x ∷ xs) ys all = words-rest heads xs ys (All-tail (HasWords heads) x (xs ++ ys) all)
 

@@ -37,7 +37,7 @@ sound-same heads base b contents long sound =
     && (nat_le (length b.slack) (most_over heads) && (can_be_told heads b.role (length b.slack) && (not b.lent || raw.has_owner b.role))))) && has_use base b.role n) long ∙ sound
 
 -- there are as many bytes as before
-length-overwritten : (old others : List ℕ) → length (overwritten old others) ≡ length old
+pub length-overwritten : (old others : List ℕ) → length (overwritten old others) ≡ length old
 length-overwritten old others = length-append (take (length old) others) (drop (length others) old) ∙ omega (arith, length-take (length old) others, length-drop (length others) old)
 
 -- and none of the old ones is left where as many are written

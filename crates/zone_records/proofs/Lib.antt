@@ -15,6 +15,9 @@ mod Fitting
 mod Fitted
 mod Growing
 mod Exchanging
+mod Carrying
 mod Flagging
 mod Lending
+mod Copied
 mod Chaining
+pub mod Extending

@@ -9,7 +9,7 @@ use Rattle.raw_region.specs.State.{Loan}
 use Rattle.zone_records.specs.declared.slot.Slot.{Slot}
 use Rattle.zone_records.specs.declared.slot.Slot.TheVariants as slot
 use Rattle.zone_records.specs.Records.{Content, Free, Master, BlockRecord, block_record, lent_record, handle_record, ZoneRecords, with_blocks, with_bytes, bytes_of, total_of}
-use Rattle.zone_records.specs.Places.{FreeAt, HeldAt, HandleBlockAt, SlotAt, FreePair, CanHold, CanGrow, PairAt, IsLoanOf}
+use Rattle.zone_records.specs.Places.{FreeAt, HeldAt, HandleBlockAt, SlotAt, FreePair, CanHold, CanGrow, PairAt, ParcelAt, IsLoanOf}
 
 -- a new zone: one free block, and no slot
 abbrev pub new_records : Memory → ZoneSizes → ZoneRecords
@@ -22,6 +22,10 @@ with_front h z = record z { front = h }
 -- a free block of n bytes, and none where n is 0
 abbrev pub free_record : ℕ → List BlockRecord
 free_record n = if n == 0 then [] else block_record Free n ∷ []
+
+-- the zone grown to its limit: the bytes up to there are a free block behind the others
+abbrev pub extended : ZoneRecords → ZoneRecords
+extended z = with_blocks (z.blocks ++ free_record (z.shape.limit - (zone_header + total_of z.blocks))) z
 
 -- the free block at an address has this in it
 abbrev pub filled : Content → {at : ℕ} → (z : ZoneRecords) → FreeAt z at → ZoneRecords
@@ -70,6 +74,10 @@ enlarged {size = size} {n = n} z can =
 -- two neighbours have changed places
 abbrev pub exchanged : {at : ℕ} → (z : ZoneRecords) → PairAt z at → ZoneRecords
 exchanged z pair = with_blocks (pair.before ++ pair.second ∷ pair.first ∷ pair.behind) z
+
+-- the block stands behind the others
+abbrev pub carried : {at end : ℕ} → (z : ZoneRecords) → ParcelAt z at end → ZoneRecords
+carried z parcel = with_blocks (parcel.before ++ (parcel.others ++ parcel.here ∷ parcel.behind)) z
 
 -- the block at an address is lent
 abbrev pub lent_out : {at : ℕ} → (z : ZoneRecords) → HeldAt z at → ZoneRecords

@@ -6,3 +6,4 @@ pub mod Word
 pub mod Reading
 pub mod Image
 pub mod WritingBack
+pub mod Copying

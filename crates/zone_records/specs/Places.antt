@@ -9,7 +9,7 @@ use Rattle.mac_base.specs.Suits.{is_block_size}
 use Rattle.raw_region.specs.State.{Loan}
 use Rattle.zone_records.specs.declared.slot.Slot.{Slot}
 use Rattle.zone_records.specs.declared.slot.Slot.TheVariants as slot
-use Rattle.zone_records.specs.Records.{Content, Free, Fixed, Master, Relocatable, BlockRecord, block_record, lent_record, handle_record, ZoneRecords, bytes_of, address_behind}
+use Rattle.zone_records.specs.Records.{Content, Free, Fixed, Master, Relocatable, BlockRecord, block_record, lent_record, handle_record, ZoneRecords, bytes_of, total_of, address_behind}
 
 -- a block's header stands at this address
 pub record RecordAt (z : ZoneRecords) (at : ℕ) : Type 0 where
@@ -143,6 +143,21 @@ pub record PairAt (z : ZoneRecords) (at : ℕ) : Type 0 where
   pub place : at ≡ address_behind z.shape before
   pub here_first : first.lent ≡ false
   pub here_second : second.lent ≡ false
+
+-- whether none of these is lent
+abbrev pub none_lent : List BlockRecord → Bool
+none_lent bs = list_all (λ (b : BlockRecord). not b.lent) bs
+
+-- a block and the others behind it stand between two addresses, none of them lent
+pub record ParcelAt (z : ZoneRecords) (at end : ℕ) : Type 0 where
+  pub before : List BlockRecord
+  pub here : BlockRecord
+  pub others : List BlockRecord
+  pub behind : List BlockRecord
+  pub blocks : z.blocks ≡ before ++ (here ∷ others ++ behind)
+  pub place : at ≡ address_behind z.shape before
+  pub long : end ≡ at + total_of (here ∷ others)
+  pub unlent : IsTrue (none_lent (here ∷ others))
 
 -- whether no flag is set
 abbrev pub is_unmarked : Flags → Bool

@@ -51,9 +51,10 @@ impl Records {
     ghost use Rattle.mac_base.specs.ZoneMap.{block};
     ghost use Rattle.zone_records.specs.Records.{ZoneRecords, Fixed, Master, Relocatable, sizes_of, kind_of, length_of, bytes_of, lent_count, NothingLent};
     ghost use Rattle.mac_base.specs.Loans.{most_loans};
-    ghost use Rattle.zone_records.specs.Places.{RecordAt, FreeAt, HeldAt, HandleBlockAt, SlotAt, RoomFor, CanCut, FreePair, CanHold, CanGrow, PairAt, IsLoanOf, LowestAt, has_free, can_say, can_flag};
-    ghost use Rattle.zone_records.specs.Changes.{new_records, with_front, filled, chained, emptied, flagged, with_slot, cut_in_two, joined_pair, held_there, enlarged, exchanged, lent_out, loan_of, taken_back};
+    ghost use Rattle.zone_records.specs.Places.{RecordAt, FreeAt, HeldAt, HandleBlockAt, SlotAt, RoomFor, CanCut, FreePair, CanHold, CanGrow, PairAt, ParcelAt, IsLoanOf, LowestAt, has_free, can_say, can_flag};
+    ghost use Rattle.zone_records.specs.Changes.{new_records, with_front, extended, filled, chained, emptied, flagged, with_slot, cut_in_two, joined_pair, held_there, enlarged, exchanged, carried, lent_out, loan_of, taken_back};
     ghost use Rattle.zone_records.specs.Fitting.{fitted, CanKeep};
+    ghost use Rattle.zone_records.specs.Copying.{CanCopy, copied};
     ghost use Rattle.zone_records.specs.Image.{HasBytes};
     ghost use Rattle.zone_records.specs.WritingBack.{WritesBackContents};
     ghost use Rattle.block_bytes.specs.Walk.{Walks};
@@ -288,6 +289,15 @@ impl Records {
         self.blocks.merge(at, length);
     }
 
+    /// Grows the zone to its limit: the bytes up to there are a free block behind the last. Where the zone is as large as its
+    /// limit nothing changes.
+    pub fn extend(&mut self)
+        ensures { self.new ≡ extended self.old }
+    {
+        let _size = self.blocks.spec().size();
+        self.blocks.extend();
+    }
+
     /// Gives the block of a handle or a pointer `length` bytes in its first `size` bytes; the others are free. Bytes that
     /// it had stay as far as they go, and those that are added are zero.
     pub fn hold(&mut self, at: u32, size: u32, length: u32)
@@ -318,6 +328,24 @@ impl Records {
         ensures { (pair : PairAt self.old at) → self.new ≡ exchanged self.old pair }
     {
         self.blocks.exchange(at);
+    }
+
+    /// The block at an address changes places with those behind it up to an address, each with its bytes. A master pointer
+    /// that names one of them stays as it is.
+    pub fn carry(&mut self, at: u32, end: u32)
+        requires { ParcelAt self.old at end }
+        ensures { (parcel : ParcelAt self.old at end) → self.new ≡ carried self.old parcel }
+    {
+        self.blocks.carry(at, end);
+    }
+
+    /// Copies the first `count` bytes of the block of a handle or a pointer over the first of another such block, which
+    /// stands below it or above.
+    pub fn copy(&mut self, from: u32, to: u32, count: u32)
+        requires { CanCopy self.old from to count }
+        ensures { (can : CanCopy self.old from to count) → self.new ≡ copied self.old can }
+    {
+        self.blocks.copy(from, to, count);
     }
 
     /// The bytes of the block of a handle or a pointer.

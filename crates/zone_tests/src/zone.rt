@@ -106,7 +106,7 @@ const LOCKED: Flags = Flags {
 };
 
 /// Nothing of a zone is lent.
-fn assert_nothing_lent(rt: &impl Abort, zone: &Zone)
+pub(crate) fn assert_nothing_lent(rt: &impl Abort, zone: &Zone)
     ensures { zone.now.heap.table.lent ≡ [] }
 {
     assert_eq!(rt; zone.lent_count(), 0);
@@ -123,7 +123,7 @@ fn compare(
 ) {
     let spec = ZoneSpec::with_kind(0x10_0000, 4096, 4096, heads).expect(rt, "there is such a zone");
     let mut zone = Zone::create(alloc, spec).expect(rt, "the host has memory");
-    let handle = zone.place_rel(100).expect(rt, "the zone has room");
+    let handle = zone.new_block(100).expect(rt, "the zone has room");
     assert_eq!(rt; handle.number(), number);
     assert_nothing_lent(rt, &zone);
     assert_eq!(rt; zone.image(), &image[..]);
@@ -158,7 +158,7 @@ fn a_new_handle_leaves_the_bytes_of_the_format(rt: HostRuntime) {
 }
 
 /// Writes over the first two bytes of a block, if the number has one that isn't lent.
-fn write_front(zone: &mut Zone, block: u32) {
+pub(crate) fn write_front(zone: &mut Zone, block: u32) {
     if zone.has_block(block) && !zone.is_lent(block) {
         if let Some(bytes) = zone.bytes_mut(block).get_mut(..2) {
             bytes.copy_from_slice(b"BB");
@@ -170,9 +170,9 @@ fn write_front(zone: &mut Zone, block: u32) {
 fn a_handle_that_is_disposed_of_leaves_the_lowest_free_block(rt: HostRuntime) {
     let spec = ZoneSpec::new(0x10_0000, 4096, 4096).expect(&rt, "there is such a zone");
     let mut zone = Zone::create(rt.alloc(), spec).expect(&rt, "the host has memory");
-    let first = zone.place_rel(1000).expect(&rt, "the zone has room");
-    let second = zone.place_rel(1000).expect(&rt, "the zone has room");
-    zone.place_rel(1000).expect(&rt, "the zone has room");
+    let first = zone.new_block(1000).expect(&rt, "the zone has room");
+    let second = zone.new_block(1000).expect(&rt, "the zone has room");
+    zone.new_block(1000).expect(&rt, "the zone has room");
     write_front(&mut zone, second.number());
     assert!(rt; zone.is_live(first), "it is live");
     assert_nothing_lent(&rt, &zone);

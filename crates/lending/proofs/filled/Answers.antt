@@ -1,6 +1,9 @@
-use Rattle.std.proofs.Common.{replicate, length, subst, ℕ, ◌∙◌, sym}
+use Rattle.std.proofs.Common.{replicate, length, subst, ℕ, ◌∙◌, sym, ap}
 use Rattle.linked_zone.specs.Loans.{IsLoanOf}
-use Rattle.lending.proofs.Loaning.{CameBack, nothing_lent, device_bytes, still_loan}
+use Rattle.mac_base.specs.ZoneState.{ZoneState}
+use Rattle.mac_calls.specs.declared.memory_call.MemoryCall.TheVariants as call
+use Rattle.call_laws.proofs.LentSteps.{step_keeps_lent}
+use Rattle.lending.proofs.Loaning.{CameBack, nothing_lent, none_lent_yet, device_bytes, still_loan}
 use Rattle.lending.proofs.filled.Goals as goal
 
 pub give_back-requires : goal.give_back-requires
@@ -8,6 +11,7 @@ give_back-requires c = still_loan c.lend.new.self c.in_ok-pointer.pointer c.numb
 
 came_back : (c : goal.After-give_back) → CameBack c.args.memory.now.shape c.args.memory.now.heap c.new_ptr.new.self c.lend.new.self c.give_back.new.self c.in_ok-pointer.pointer c.number.result c.number-2.result c.in_ok-loan.loan c.device.new.loan
 came_back c = record {
+  asks = c.new_ptr.new.procedure.asks;
   step = c.in_ok-pointer.ensures.step;
   none = c.requires.nothing_lent;
   x_is = c.number.ensures;
@@ -23,3 +27,11 @@ returns-clause-nothing_lent c = nothing_lent _ _ _ _ _ _ _ _ _ _ (came_back c)
 
 pub returns-clause-filled : goal.returns-clause-filled
 returns-clause-filled c = device_bytes _ _ _ _ _ _ _ _ _ _ (came_back c)
+
+pub returns-in_err-pointer-clause-nothing_lent : goal.returns-in_err-pointer-clause-nothing_lent
+returns-in_err-pointer-clause-nothing_lent c = step_keeps_lent c.args.memory.now.shape c.args.memory.now.heap (call.NewPtr 4) c.new_ptr.new.procedure.asks _ c.new_ptr.new.self.heap c.in_err-pointer.ensures.step ∙ c.requires.nothing_lent
+
+pub returns-in_err-loan-clause-nothing_lent : goal.returns-in_err-loan-clause-nothing_lent
+returns-in_err-loan-clause-nothing_lent c =
+    ap (λ (z : ZoneState). z.heap.table.lent) c.in_err-loan.ensures.unchanged
+    ∙ none_lent_yet c.args.memory.now.shape c.args.memory.now.heap c.new_ptr.new.self.heap c.new_ptr.new.procedure.asks c.in_ok-pointer.pointer c.in_ok-pointer.ensures.step c.requires.nothing_lent

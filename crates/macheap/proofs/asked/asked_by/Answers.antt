@@ -1,6 +1,6 @@
 use Rattle.std.proofs.Common.{◌≡◌, map, codes, refl, sym, subst, ap, ◌∙◌, Option, Some, None, List, ℕ}
 use Rattle.mac_base.specs.ZoneSizes.{ArePossible}
-use Rattle.macheap.specs.Asking.{GivesNumbers, of_zone, of_base, of_mode}
+use Rattle.macheap.specs.Asking.{GivesNumbers, of_zone, of_limit, of_base, of_mode}
 use Rattle.macheap.specs.Options.{IsNoNumber, IsNumberOf}
 use Rattle.macheap.proofs.Found.{number_found, no_number_found, matched, unmatched, error_kind, full_asks, no_number_error}
 use Rattle.macheap.proofs.asked.asked_by.Goals as goal
@@ -19,14 +19,24 @@ returns-in_err-zone g c =
     let zone = no_number_found command words c.in-Ok.matches (codes "zone") _ c.in_ok-command.ensures c.in-Ok.ensures.matches c.get_str.ensures c.in_err-zone.ensures.none in
     no_number_error words _ c.in_err-zone.field-0.0 (codes "zone") c.from_residual-in_err-zone.ensures.1 c.in_err-zone.ensures.error (of_zone refl none zone)
 
+pub returns-in_err-limit : goal.returns-in_err-limit
+returns-in_err-limit g c =
+    let command = c.in_ok-command.field-0 in
+    let words = map g.S.AsStr.text c.args.words.now in
+    let none = matched command words c.in_ok-command.ensures c.in-Ok.ensures.kinds in
+    let size = number_found command words c.in-Ok.matches (codes "zone") _ 4096 c.in_ok-zone.zone c.in_ok-command.ensures c.in-Ok.ensures.matches c.get_str.ensures c.in_ok-zone.ensures.number in
+    let limit = no_number_found command words c.in-Ok.matches (codes "limit") _ c.in_ok-command.ensures c.in-Ok.ensures.matches c.get_str-2.ensures c.in_err-limit.ensures.none in
+    no_number_error words _ c.in_err-limit.field-0.0 (codes "limit") c.from_residual-in_err-limit.ensures.1 c.in_err-limit.ensures.error (of_limit refl none c.in_ok-zone.zone size limit)
+
 pub returns-in_err-base : goal.returns-in_err-base
 returns-in_err-base g c =
     let command = c.in_ok-command.field-0 in
     let words = map g.S.AsStr.text c.args.words.now in
     let none = matched command words c.in_ok-command.ensures c.in-Ok.ensures.kinds in
     let size = number_found command words c.in-Ok.matches (codes "zone") _ 4096 c.in_ok-zone.zone c.in_ok-command.ensures c.in-Ok.ensures.matches c.get_str.ensures c.in_ok-zone.ensures.number in
-    let base = no_number_found command words c.in-Ok.matches (codes "base") _ c.in_ok-command.ensures c.in-Ok.ensures.matches c.get_str-2.ensures c.in_err-base.ensures.none in
-    no_number_error words _ c.in_err-base.field-0.0 (codes "base") c.from_residual-in_err-base.ensures.1 c.in_err-base.ensures.error (of_base refl none c.in_ok-zone.zone size base)
+    let limit = number_found command words c.in-Ok.matches (codes "limit") _ c.in_ok-zone.zone c.in_ok-limit.limit c.in_ok-command.ensures c.in-Ok.ensures.matches c.get_str-2.ensures c.in_ok-limit.ensures.number in
+    let base = no_number_found command words c.in-Ok.matches (codes "base") _ c.in_ok-command.ensures c.in-Ok.ensures.matches c.get_str-3.ensures c.in_err-base.ensures.none in
+    no_number_error words _ c.in_err-base.field-0.0 (codes "base") c.from_residual-in_err-base.ensures.1 c.in_err-base.ensures.error (of_base refl none c.in_ok-zone.zone c.in_ok-limit.limit size limit base)
 
 pub returns-in_err-mode : goal.returns-in_err-mode
 returns-in_err-mode g c =
@@ -34,35 +44,39 @@ returns-in_err-mode g c =
     let words = map g.S.AsStr.text c.args.words.now in
     let none = matched command words c.in_ok-command.ensures c.in-Ok.ensures.kinds in
     let size = number_found command words c.in-Ok.matches (codes "zone") _ 4096 c.in_ok-zone.zone c.in_ok-command.ensures c.in-Ok.ensures.matches c.get_str.ensures c.in_ok-zone.ensures.number in
-    let base = number_found command words c.in-Ok.matches (codes "base") _ 0x10_0000 c.in_ok-base.base c.in_ok-command.ensures c.in-Ok.ensures.matches c.get_str-2.ensures c.in_ok-base.ensures.number in
-    let mode = no_number_found command words c.in-Ok.matches (codes "mode") _ c.in_ok-command.ensures c.in-Ok.ensures.matches c.get_str-3.ensures c.in_err-mode.ensures.none in
-    no_number_error words _ c.in_err-mode.field-0.0 (codes "mode") c.from_residual-in_err-mode.ensures.1 c.in_err-mode.ensures.error (of_mode refl none c.in_ok-zone.zone c.in_ok-base.base size base mode)
+    let limit = number_found command words c.in-Ok.matches (codes "limit") _ c.in_ok-zone.zone c.in_ok-limit.limit c.in_ok-command.ensures c.in-Ok.ensures.matches c.get_str-2.ensures c.in_ok-limit.ensures.number in
+    let base = number_found command words c.in-Ok.matches (codes "base") _ 0x10_0000 c.in_ok-base.base c.in_ok-command.ensures c.in-Ok.ensures.matches c.get_str-3.ensures c.in_ok-base.ensures.number in
+    let mode = no_number_found command words c.in-Ok.matches (codes "mode") _ c.in_ok-command.ensures c.in-Ok.ensures.matches c.get_str-4.ensures c.in_err-mode.ensures.none in
+    no_number_error words _ c.in_err-mode.field-0.0 (codes "mode") c.from_residual-in_err-mode.ensures.1 c.in_err-mode.ensures.error (of_mode refl none c.in_ok-zone.zone c.in_ok-limit.limit c.in_ok-base.base size limit base mode)
 
 pub returns-in_default : goal.returns-in_default
 returns-in_default g c =
     let command = c.in_ok-command.field-0 in
     let words = map g.S.AsStr.text c.args.words.now in
-    let numbers : GivesNumbers words c.in_ok-base.base c.in_ok-zone.zone c.in_ok-mode.mode = record {
+    let numbers : GivesNumbers words c.in_ok-base.base c.in_ok-zone.zone c.in_ok-limit.limit c.in_ok-mode.mode = record {
       matched = matched command words c.in_ok-command.ensures c.in-Ok.ensures.kinds;
       size_given = number_found command words c.in-Ok.matches (codes "zone") _ 4096 c.in_ok-zone.zone c.in_ok-command.ensures c.in-Ok.ensures.matches c.get_str.ensures c.in_ok-zone.ensures.number;
-      base_given = number_found command words c.in-Ok.matches (codes "base") _ 0x10_0000 c.in_ok-base.base c.in_ok-command.ensures c.in-Ok.ensures.matches c.get_str-2.ensures c.in_ok-base.ensures.number;
-      mode_given = number_found command words c.in-Ok.matches (codes "mode") _ 24 c.in_ok-mode.mode c.in_ok-command.ensures c.in-Ok.ensures.matches c.get_str-3.ensures c.in_ok-mode.ensures.number;
+      limit_given = number_found command words c.in-Ok.matches (codes "limit") _ c.in_ok-zone.zone c.in_ok-limit.limit c.in_ok-command.ensures c.in-Ok.ensures.matches c.get_str-2.ensures c.in_ok-limit.ensures.number;
+      base_given = number_found command words c.in-Ok.matches (codes "base") _ 0x10_0000 c.in_ok-base.base c.in_ok-command.ensures c.in-Ok.ensures.matches c.get_str-3.ensures c.in_ok-base.ensures.number;
+      mode_given = number_found command words c.in-Ok.matches (codes "mode") _ 24 c.in_ok-mode.mode c.in_ok-command.ensures c.in-Ok.ensures.matches c.get_str-4.ensures c.in_ok-mode.ensures.number;
     } in
-    (c.in_ok-base.base, c.in_ok-zone.zone, numbers, sym c.heads_of.ensures ∙ c.in_default.is)
+    (c.in_ok-base.base, c.in_ok-zone.zone, c.in_ok-limit.limit, numbers, sym c.heads_of.ensures ∙ c.in_default.is)
 
 pub returns-in-Ok-with_kind : goal.returns-in-Ok-with_kind
 returns-in-Ok-with_kind g c =
     let command = c.in_ok-command.field-0 in
     let words = map g.S.AsStr.text c.args.words.now in
-    let numbers : GivesNumbers words c.in_ok-base.base c.in_ok-zone.zone c.in_ok-mode.mode = record {
+    let numbers : GivesNumbers words c.in_ok-base.base c.in_ok-zone.zone c.in_ok-limit.limit c.in_ok-mode.mode = record {
       matched = matched command words c.in_ok-command.ensures c.in-Ok.ensures.kinds;
       size_given = number_found command words c.in-Ok.matches (codes "zone") _ 4096 c.in_ok-zone.zone c.in_ok-command.ensures c.in-Ok.ensures.matches c.get_str.ensures c.in_ok-zone.ensures.number;
-      base_given = number_found command words c.in-Ok.matches (codes "base") _ 0x10_0000 c.in_ok-base.base c.in_ok-command.ensures c.in-Ok.ensures.matches c.get_str-2.ensures c.in_ok-base.ensures.number;
-      mode_given = number_found command words c.in-Ok.matches (codes "mode") _ 24 c.in_ok-mode.mode c.in_ok-command.ensures c.in-Ok.ensures.matches c.get_str-3.ensures c.in_ok-mode.ensures.number;
+      limit_given = number_found command words c.in-Ok.matches (codes "limit") _ c.in_ok-zone.zone c.in_ok-limit.limit c.in_ok-command.ensures c.in-Ok.ensures.matches c.get_str-2.ensures c.in_ok-limit.ensures.number;
+      base_given = number_found command words c.in-Ok.matches (codes "base") _ 0x10_0000 c.in_ok-base.base c.in_ok-command.ensures c.in-Ok.ensures.matches c.get_str-3.ensures c.in_ok-base.ensures.number;
+      mode_given = number_found command words c.in-Ok.matches (codes "mode") _ 24 c.in_ok-mode.mode c.in_ok-command.ensures c.in-Ok.ensures.matches c.get_str-4.ensures c.in_ok-mode.ensures.number;
     } in
     record {
       base = c.in_ok-base.base;
       size = c.in_ok-zone.zone;
+      limit = c.in_ok-limit.limit;
       mode = c.in_ok-mode.mode;
       heads = c.in-Some.heads;
       numbers = numbers;
@@ -75,14 +89,16 @@ pub returns : goal.returns
 returns g c =
     let command = c.in_ok-command.field-0 in
     let words = map g.S.AsStr.text c.args.words.now in
-    let numbers : GivesNumbers words c.in_ok-base.base c.in_ok-zone.zone c.in_ok-mode.mode = record {
+    let numbers : GivesNumbers words c.in_ok-base.base c.in_ok-zone.zone c.in_ok-limit.limit c.in_ok-mode.mode = record {
       matched = matched command words c.in_ok-command.ensures c.in-Ok.ensures.kinds;
       size_given = number_found command words c.in-Ok.matches (codes "zone") _ 4096 c.in_ok-zone.zone c.in_ok-command.ensures c.in-Ok.ensures.matches c.get_str.ensures c.in_ok-zone.ensures.number;
-      base_given = number_found command words c.in-Ok.matches (codes "base") _ 0x10_0000 c.in_ok-base.base c.in_ok-command.ensures c.in-Ok.ensures.matches c.get_str-2.ensures c.in_ok-base.ensures.number;
-      mode_given = number_found command words c.in-Ok.matches (codes "mode") _ 24 c.in_ok-mode.mode c.in_ok-command.ensures c.in-Ok.ensures.matches c.get_str-3.ensures c.in_ok-mode.ensures.number;
+      limit_given = number_found command words c.in-Ok.matches (codes "limit") _ c.in_ok-zone.zone c.in_ok-limit.limit c.in_ok-command.ensures c.in-Ok.ensures.matches c.get_str-2.ensures c.in_ok-limit.ensures.number;
+      base_given = number_found command words c.in-Ok.matches (codes "base") _ 0x10_0000 c.in_ok-base.base c.in_ok-command.ensures c.in-Ok.ensures.matches c.get_str-3.ensures c.in_ok-base.ensures.number;
+      mode_given = number_found command words c.in-Ok.matches (codes "mode") _ 24 c.in_ok-mode.mode c.in_ok-command.ensures c.in-Ok.ensures.matches c.get_str-4.ensures c.in_ok-mode.ensures.number;
     } in (
       c.in_ok-base.base,
       c.in_ok-zone.zone,
+      c.in_ok-limit.limit,
       c.in_ok-mode.mode,
       c.in-Some.heads,
       numbers,

@@ -1,10 +1,9 @@
-use Rattle.std.proofs.Common.{◌≡◌, ◌∙◌, ◌+◌, sym, ap, subst, append-nil, true, List, Some, None}
-use Rattle.std.specs.Result.{is_ok}
+use Rattle.std.proofs.Common.{◌+◌, subst, append-nil, List, Some, None}
 use Rattle.std.proofs.lemmas.Result.{err_from_is_err_and}
 use Rattle.script_text.specs.declared.line.Line.{Line}
 use Rattle.script_text.proofs.ScriptLaws.{Parsing, parsing_more, parsing_fails}
 use Rattle.script_text.proofs.script.parse_script.Goals as goal
-use Rattle.script_text.proofs.script.parse_script.Goals.{in-Some-2+in_ok-map_err, in_default-2}
+use Rattle.script_text.proofs.script.parse_script.Goals.{in-Some-2+in-Ok, in_default-2}
 
 pub returns-in_err-line-clause-fault : goal.returns-in_err-line-clause-fault
 returns-in_err-line-clause-fault c =
@@ -20,9 +19,8 @@ loop-line-preserved c =
     let number = c.loop-line.number in
     let script = c.loop-line.lines.items in
     elim c.match-branch-2.branch [
-      | in-Some-2+in_ok-map_err w ↦
-          let pushed : is_ok w.push.result ≡ true = sym w.map_err.ensures.variant ∙ ap is_ok w.in_ok-map_err.was in
-          let items = rw pushed at w.push.ensures.items in
+      | in-Some-2+in-Ok w ↦
+          let items = w.in-Ok.ensures.items in
           let reads = rw w.in-Some-2.is at c.in_ok-line.ensures.line in
           rw (w.lines-is, items) (parsing_more text rest behind here number c.loop-line.names c.read_line.new.names script (Some w.in-Some-2.line) c.loop-line.invariant c.in-Some.ensures.lines reads)
       | in_default-2 w ↦

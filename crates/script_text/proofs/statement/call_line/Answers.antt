@@ -11,14 +11,14 @@ use Rattle.script_text.proofs.statement.call_line.Goals as goal
 pub returns-in_default-clause-line : goal.returns-in_default-clause-line
 returns-in_default-clause-line c =
     let parted : Parted (map view c.args.line.now) (option_copied c.assigned_name.result.0) (map view c.assigned_name.result.1.now) = record { parts = c.assigned_name.ensures.parts; by = c.assigned_name.ensures.name } in
-    λ x h. no_word c.args.names.now _ _ _ parted c.in_default.ensures.none x h.1
+    λ x h. no_word c.args.names.now _ _ _ parted c.in_default.ensures.none x h
 
 pub returns-in_default-named-clause-line : goal.returns-in_default-named-clause-line
 returns-in_default-named-clause-line c =
     let parted : Parted (map view c.args.line.now) (option_copied c.assigned_name.result.0) (Word c.in-Some.word.now ∷ map view c.in-Some.line.now) =
     record { parts = rw (← c.in-Some.ensures.found) c.assigned_name.ensures.parts; by = c.assigned_name.ensures.name }
     in
-    λ x h. no_name c.args.names.now _ _ _ _ parted c.in_default-named.ensures.none x h.1
+    λ x h. no_name c.args.names.now _ _ _ _ parted c.in_default-named.ensures.none x h
 
 pub returns-in_default-2-clause-line : goal.returns-in_default-2-clause-line
 returns-in_default-2-clause-line c =
@@ -28,4 +28,4 @@ returns-in_default-2-clause-line c =
     in
     let none = rw c.in_default-2.is at c.in_ok-operands.ensures in
     λ x h. no_operands c.args.names.now _ _ call _ parted
-    (λ xs are. none xs (subst (λ (kinds : List OperandKind). AreOperands c.args.names.now kinds (map view c.in-Some.line.now) xs) (sym c.signature-signature.ensures.operands) are)) x h.1
+    (λ xs are. none xs (subst (λ (kinds : List OperandKind). AreOperands c.args.names.now kinds (map view c.in-Some.line.now) xs) (sym c.signature-signature.ensures.operands) are)) x h

@@ -1,7 +1,8 @@
 use Rattle.std.proofs.Common.{◌≡◌, ◌∙◌, sym, ap, subst, refl}
 use Rattle.std.proofs.lemmas.Bool.{or_right}
 use Rattle.mac_base.specs.HandleTable.{is_full, is_lent, is_pointer, without}
-use Rattle.mac_base.specs.Releasing.{heap_released, DisposesPtr}
+use Rattle.mac_base.specs.declared.releasing.ReleasingCall.TheVariants.{DisposesPtr}
+use Rattle.mac_base.specs.Releasing.{heap_released}
 use Rattle.mac_base.specs.Sound.{Sound}
 use Rattle.mac_base.specs.ZoneState.{ZoneState, with_heap}
 use Rattle.zone_laws.proofs.Lent.{KeepsLent}

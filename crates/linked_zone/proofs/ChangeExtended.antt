@@ -1,0 +1,77 @@
+-- What a zone is once it has grown to its limit.
+use Rattle.std.proofs.Common.{◌≡◌, ℕ, ◌+◌, ◌-◌, ◌<◌, ◌≤◌, Bool, true, false, cond, eqb, [], ◌∷◌, ◌++◌, map, refl, ap, sym, ◌∙◌, arith, append-nil}
+use Rattle.std.specs.Prelude.{slice_index}
+use Rattle.std.specs.List.{filter, list_all}
+use Rattle.std.proofs.lemmas.Bool.Decides.{nat_tests}
+use Rattle.std.proofs.lemmas.List.Folds.{list_all-append}
+use Rattle.mac_base.specs.declared.block.Entry.{Entry}
+use Rattle.mac_base.specs.declared.block.Kind.{Kind}
+use Rattle.mac_base.specs.declared.block.Kind.TheVariants.{Free}
+use Rattle.mac_base.specs.HeadKind.{Shape, head_size, zone_header}
+use Rattle.mac_base.specs.HandleTable.{is_lent}
+use Rattle.mac_base.specs.Loans.{owners}
+use Rattle.mac_base.specs.ZoneMap.{ZoneMap, block, free_block, is_named, total_size, address_behind, addresses, addresses_from, contents_of}
+use Rattle.mac_base.specs.ZoneState.{ZoneState}
+use Rattle.zone_laws.proofs.Arranging.{total_size-free_block}
+use Rattle.zone_laws.proofs.Maps.{addresses_from-append, addresses_from-skip, total_size-append, true_both}
+use Rattle.linked_zone.specs.Changes.{extended}
+use Rattle.linked_zone.specs.Fit.{Fits}
+use Rattle.linked_zone.specs.Loans.{KeepsLoans}
+use Rattle.linked_zone.specs.Owned.{slot_of}
+use Rattle.linked_zone.proofs.ChangeCut.{free_changed-fits, free_changed-pointers}
+use Rattle.linked_zone.proofs.Lent.{owners-append, loans-kept}
+
+-- what holds of no block and, where n is above 0, of a free one of n bytes
+pub by_free : (P : ZoneMap → Type 0) (n : ℕ) → (n ≡ 0 → P []) → (0 < n → P (block Free n ∷ [])) → P (free_block n)
+by_free P n none some = elim (eqb n 0) as (λ b. eqb n 0 ≡ b → P (cond b [] (block Free n ∷ []))) [
+  | true ↦ λ h. none (is_zero h)
+  | false ↦ λ h. some (is_some h)
+] refl
+  where
+    is_zero : eqb n 0 ≡ true → n ≡ 0
+    is_zero h = grind (arith, nat_tests)
+
+    is_some : eqb n 0 ≡ false → 0 < n
+    is_some h = grind (arith, nat_tests)
+
+-- with a free block behind it a map has what passes and isn't free
+addresses-behind : (s : Shape) (test : Kind → Bool) (m : ZoneMap) (n : ℕ) → test Free ≡ false → addresses s test (m ++ free_block n) ≡ addresses s test m
+addresses-behind s test m n free =
+    addresses_from-append (address_behind s []) test m (free_block n)
+    ∙ ap (λ found. addresses s test m ++ found)
+    (by_free (λ bs. addresses_from (address_behind s [] + total_size m) test bs ≡ []) n (λ is. refl) (λ some. addresses_from-skip (address_behind s [] + total_size m) test (block Free n) [] free))
+    ∙ append-nil (addresses s test m)
+
+-- so each number has its contents where they were
+contents-behind : (s : Shape) (x : ℕ) (m : ZoneMap) (n : ℕ) → contents_of s x (m ++ free_block n) ≡ contents_of s x m
+contents-behind s x m n = ap (λ found. slice_index (map (λ a. a + head_size s.heads) found) 0) (addresses-behind s (is_named x) m n refl)
+
+-- and the owners are the same
+owners-behind : (m : ZoneMap) (n : ℕ) → owners (m ++ free_block n) ≡ owners m
+owners-behind m n = owners-append m (free_block n) ∙ ap (λ os. owners m ++ os) (by_free (λ bs. owners bs ≡ []) n (λ is. refl) (λ some. refl)) ∙ append-nil (owners m)
+
+-- what all blocks pass, and the free one
+pub passes-behind : (p : Entry → Bool) (m : ZoneMap) (n : ℕ) → list_all p m ≡ true → (0 < n → p (block Free n) ≡ true) → list_all p (m ++ free_block n) ≡ true
+passes-behind p m n all free = list_all-append p m (free_block n) ∙ true_both (list_all p m) _ all
+    (by_free (λ bs. list_all p bs ≡ true) n (λ is. refl) (λ some. true_both (p (block Free n)) true (free some) refl))
+
+module _ (z : ZoneState) where
+  abbrev left : ℕ
+  left = z.shape.limit - (zone_header + total_size z.heap.map)
+
+  -- the zone is as large as its limit
+  pub extended-total : zone_header + total_size z.heap.map ≤ z.shape.limit → zone_header + total_size (extended z).heap.map ≡ z.shape.limit
+  extended-total within = let sum = total_size-append z.heap.map (free_block left) in let size = total_size-free_block left in omega arith
+
+  -- it still fits
+  pub extended-fits : Fits z → Fits (extended z)
+  extended-fits fits = free_changed-fits z (extended z).heap.map (λ test free. addresses-behind z.shape test z.heap.map left free) fits
+      (loans-kept z.heap (extended z).heap fits.loans refl (ap (filter (is_lent z.heap.table)) (owners-behind z.heap.map left)))
+
+  -- all master pointers stay
+  pub extended-pointers : (x : ℕ) → slot_of (extended z) x ≡ slot_of z x
+  extended-pointers x = free_changed-pointers z (extended z).heap.map (λ test free. addresses-behind z.shape test z.heap.map left free) x
+
+  -- and so do all loans
+  pub keeps_loans-extended : KeepsLoans z (extended z)
+  keeps_loans-extended x loan is = record { lent = is.lent; memory = is.memory; contents = is.contents ∙ sym (contents-behind z.shape x z.heap.map left); long = is.long }

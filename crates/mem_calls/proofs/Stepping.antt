@@ -1,0 +1,89 @@
+-- The steps of calls: what a call does exactly, and that it may.
+use Rattle.std.proofs.Common.{◌≡◌, ℕ, Bool, true, false, List, [], ◌++◌, Option, Some, None, Result, Ok, Err, refl, ap, sym, ◌∙◌, subst}
+use Rattle.std.specs.Result.{IsErrAnd}
+use Rattle.mac_base.specs.declared.error.OsErr.{OsErr}
+use Rattle.mac_base.specs.HeadKind.{Shape}
+use Rattle.mac_base.specs.HandleTable.{HandleTable}
+use Rattle.mac_base.specs.Heap.{Heap, with_table}
+use Rattle.mac_base.specs.Sound.{Sound}
+use Rattle.mac_base.specs.ZoneState.{ZoneState}
+use Rattle.mac_base.specs.declared.request.Request.{Request}
+use Rattle.mac_base.specs.declared.request.Request.TheVariants.{NewMaster}
+use Rattle.mac_calls.specs.declared.memory_call.MemoryCall.{MemoryCall}
+use Rattle.mac_calls.specs.Tests.{refusal, protected_by}
+use Rattle.mac_calls.specs.GrowZone.{Answer, Ask, answers_in, most_answers}
+use Rattle.mac_calls.specs.ExactRequest.{Ending, request_run}
+use Rattle.mac_calls.specs.ExactStep.{StepEnd, rearranged, quiet_outcome, request_end, behind_master, request_step, step_asking, step_unless, IsExactStep}
+use Rattle.mac_calls.specs.Effect.{request_of, table_copied, effect_of}
+use Rattle.mac_calls.specs.Outcomes.{Outcome, given_results}
+use Rattle.mac_calls.specs.MemoryStep.{MemoryStep}
+use Rattle.call_laws.proofs.StepPermitted.{exact-permitted}
+use Rattle.zone_heap.specs.Attempts.{lacks_slot}
+use Rattle.mem_calls.specs.Requesting.{IsCallRun, call_run, given_or_full}
+
+-- what a call does exactly, it may do
+pub permitted : (s : Shape) (old new : Heap) (call : MemoryCall) (asks : List Ask) (outcome : Outcome) → Sound s old → IsExactStep s old call asks outcome new → MemoryStep s old call asks outcome new
+permitted s old new call asks outcome sound exact = subst (λ (e : StepEnd). MemoryStep s old call e.asks e.outcome e.heap) exact (exact-permitted s (answers_in asks) old call sound)
+
+-- a call that isn't refused and makes no request
+pub exact-quiet : (s : Shape) (old : Heap) (call : MemoryCall) → refusal s old call ≡ None → request_of old.table call ≡ None
+    → let new = effect_of s call (rearranged call old) in IsExactStep s old call [] (quiet_outcome s new call) new
+exact-quiet s old call passed none = ap (step_unless s [] old call) passed ∙ ap (step_asking s [] old call) none
+
+-- the end of a call whose request ran so
+abbrev request_ended : MemoryCall → HandleTable → Ending → StepEnd
+request_ended call entry e = request_end call entry [] e e.given
+
+behind_asks : (call : MemoryCall) (entry : HandleTable) (asks : List Ask) (e : Ending) (o : Option ℕ) → request_end call entry asks e o ≡ request_end call entry [] (record e { asks = asks ++ e.asks }) o
+behind_asks call entry asks e None = refl
+behind_asks call entry asks e (Some x) = refl
+
+by_request : (s : Shape) (answers : List Answer) (old : Heap) (call : MemoryCall) (r : Request) (b : Bool) → request_step s answers old call b r ≡ request_ended call old.table (call_run s (protected_by call) r answers old b)
+by_request s answers old call r false = refl
+by_request s answers old call r true =
+    let master = request_run s (protected_by call) NewMaster most_answers answers old in
+    let e = behind_master s (protected_by call) r master master.given in
+    behind_asks call old.table master.asks e e.given
+
+-- the outcome of a call by what its request gave
+abbrev pub request_outcome : MemoryCall → Result ℕ OsErr → Outcome
+request_outcome call (Ok x) = Ok (given_results call x)
+request_outcome call (Err code) = Err code
+
+-- a call that isn't refused and makes a request
+pub exact-request : (s : Shape) (old new : Heap) (call : MemoryCall) (r : Request) (asks : List Ask) (tried : Result ℕ OsErr) → refusal s old call ≡ None → request_of old.table call ≡ Some r
+    → ((x : ℕ) (t : HandleTable) → table_copied call x old.table t ≡ t) → IsCallRun s (protected_by call) r asks old tried new → IsExactStep s old call asks (request_outcome call tried) new
+exact-request s old new call r asks tried passed requests same run =
+    ap (step_unless s (answers_in asks) old call) passed ∙ ap (step_asking s (answers_in asks) old call) requests ∙ by_request s (answers_in asks) old call r (lacks_slot r old)
+    ∙ ap (request_ended call old.table) run.run ∙ by_given run.given ∙ ap (λ (result : Result ℕ OsErr). record { outcome = request_outcome call result; heap = new; asks = asks; left = [] }) (sym run.result_is)
+  where
+    by_given : (o : Option ℕ) → request_ended call old.table (record { given = o; heap = new; asks = asks; left = [] }) ≡ record { outcome = request_outcome call (given_or_full o); heap = new; asks = asks; left = [] }
+    by_given None = refl
+    by_given (Some x) = ap (λ (t : HandleTable). record { outcome = Ok (given_results call x); heap = with_table t new; asks = asks; left = [] }) (same x new.table)
+
+-- the outcome of a refused call
+pub refused_outcome : {A : Type 0} (outcome : Result A OsErr → Outcome) → ((code : OsErr) → outcome (Err code) ≡ Err code) → (result : Result A OsErr) (code : OsErr) → IsErrAnd result (λ e. e ≡ code) → outcome result ≡ Err code
+refused_outcome outcome gives (Ok x) code h = absurd h
+refused_outcome outcome gives (Err e) code h = gives e ∙ ap Err h
+
+module _ (old zone new : ZoneState) (is : zone ≡ old) (sound : Sound zone.shape zone.heap) (call : MemoryCall) (passed : refusal zone.shape zone.heap call ≡ None) where
+  passes : refusal old.shape old.heap call ≡ None
+  passes = subst (λ (z : ZoneState). refusal z.shape z.heap call ≡ None) is passed
+
+  -- a call that makes a request
+  pub exact-requested : (r : Request) (asks : List Ask) (tried : Result ℕ OsErr) (outcome : Outcome) → request_of old.heap.table call ≡ Some r → ((x : ℕ) (t : HandleTable) → table_copied call x old.heap.table t ≡ t)
+      → IsCallRun zone.shape (protected_by call) r asks zone.heap tried new.heap → outcome ≡ request_outcome call tried → IsExactStep old.shape old.heap call asks outcome new.heap
+  exact-requested r asks tried outcome requests same run ends = subst (λ o. IsExactStep old.shape old.heap call asks o new.heap) (sym ends)
+      (exact-request old.shape old.heap new.heap call r asks tried passes requests same (subst (λ (z : ZoneState). IsCallRun z.shape (protected_by call) r asks z.heap tried new.heap) is run))
+
+  -- it may
+  pub step-exact : (asks : List Ask) (outcome : Outcome) → IsExactStep old.shape old.heap call asks outcome new.heap → MemoryStep old.shape old.heap call asks outcome new.heap
+  step-exact asks outcome exact = permitted old.shape old.heap new.heap call asks outcome (subst (λ (z : ZoneState). Sound z.shape z.heap) is sound) exact
+
+  -- a call that makes none
+  pub exact-done : (outcome : Outcome) → request_of old.heap.table call ≡ None → new.heap ≡ effect_of zone.shape call (rearranged call zone.heap) → outcome ≡ quiet_outcome zone.shape new.heap call
+      → IsExactStep old.shape old.heap call [] outcome new.heap
+  exact-done outcome none effect ends =
+      exact-quiet old.shape old.heap call passes none
+      ∙ ap (λ (heap : Heap). record { outcome = quiet_outcome old.shape heap call; heap = heap; asks = []; left = [] }) (sym (effect ∙ ap (λ (z : ZoneState). effect_of z.shape call (rearranged call z.heap)) is))
+      ∙ ap (λ (o : Outcome). record { outcome = o; heap = new.heap; asks = []; left = [] }) (sym (ends ∙ ap (λ (z : ZoneState). quiet_outcome z.shape new.heap call) is))

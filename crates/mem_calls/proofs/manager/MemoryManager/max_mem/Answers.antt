@@ -1,0 +1,31 @@
+use Rattle.std.proofs.Common.{[], ◌+◌, ◌-◌, Ok, refl, ap, ◌∙◌}
+use Rattle.mac_base.specs.HeadKind.{Shape, zone_header}
+use Rattle.mac_base.specs.ZoneMap.{ZoneMap, total_size, largest_free}
+use Rattle.mac_base.specs.Compaction.{all_down}
+use Rattle.mac_base.specs.Heap.{all_purged, with_map}
+use Rattle.mac_base.specs.ZoneState.{ZoneState}
+use Rattle.mac_calls.specs.declared.memory_call.MemoryCall.TheVariants.{MaxMem}
+use Rattle.mac_calls.specs.declared.reply.Results.TheVariants.{TwoNumbers}
+use Rattle.mem_calls.proofs.KeptLoans.{kept}
+use Rattle.mem_calls.proofs.Purged.{all_down-purged}
+use Rattle.mem_calls.proofs.Stepping.{exact-done, step-exact}
+use Rattle.mem_calls.proofs.manager.MemoryManager.max_mem.Goals as goal
+
+pub returns-clause-exact : goal.returns-clause-exact
+returns-clause-exact c =
+    let old = c.self.inside.zone.heap in
+    let new = c.compact_all.new.self in
+    let shape = ap (λ (z : ZoneState). z.shape) c.compact_all.ensures.zone ∙ ap (λ (z : ZoneState). z.shape) c.purge_all.ensures.zone in
+    exact-done c.args.self.now c.self.inside.zone new c.self.view_is c.first_block.ensures.sound MaxMem refl
+    (Ok (TwoNumbers c.largest_free.result c.growth_left.result)) refl
+    (ap (λ (z : ZoneState). z.heap) c.compact_all.ensures.zone ∙ ap (λ (z : ZoneState). with_map (all_down z.heap.table z.heap.map) z.heap) c.purge_all.ensures.zone
+    ∙ ap (λ (m : ZoneMap). with_map m (all_purged old)) (all_down-purged old))
+    (ap (λ n. Ok (TwoNumbers n c.growth_left.result)) c.largest_free.ensures
+    ∙ ap (λ n. Ok (TwoNumbers (largest_free new.heap.map) n)) (c.growth_left.ensures ∙ ap (λ (s : Shape). s.limit - (zone_header + total_size new.heap.map)) shape))
+
+pub returns-clause-step : goal.returns-clause-step
+returns-clause-step c =
+    step-exact c.args.self.now c.self.inside.zone c.compact_all.new.self c.self.view_is c.first_block.ensures.sound MaxMem refl [] (Ok (TwoNumbers c.largest_free.result c.growth_left.result)) (returns-clause-exact c)
+
+pub returns-clause-loans : goal.returns-clause-loans
+returns-clause-loans c = kept (λ x loan lent. c.compact_all.ensures.loans x loan (c.purge_all.ensures.loans x loan lent)) c.self.view_is

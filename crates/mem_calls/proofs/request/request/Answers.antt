@@ -1,0 +1,41 @@
+use Rattle.std.proofs.Common.{ℕ, Result, sym, subst}
+use Rattle.mac_base.specs.declared.error.OsErr.{OsErr}
+use Rattle.mac_base.specs.HeadKind.{Shape}
+use Rattle.mem_calls.specs.Requesting.{IsRun, IsCallRun}
+use Rattle.mem_calls.proofs.Masters.{given_master, call-behind_master, slot-behind_master, more-behind_master}
+use Rattle.mem_calls.proofs.request.request.Goals as goal
+
+pub run-requires-3-clause-slot : goal.run-requires-3-clause-slot
+run-requires-3-clause-slot g c =
+    let s = c.args.zone.now.shape in
+    let before = g.G.GrowZone.asks c.args.procedure.now in
+    let between = g.G.GrowZone.asks c.run-2.new.procedure in
+    let mid = c.run-2.new.zone.heap in
+    let first = given_master s c.args.protected.now c.args.request.now before c.requires.unasked c.args.zone.now.heap c.run-2.new.allowed between mid c.run-2.result c.if-is_none.ensures c.run-2.ensures.run in
+    slot-behind_master s c.args.protected.now c.args.request.now before c.requires.unasked c.args.zone.now.heap c.run-2.new.allowed first.0 between mid first.1
+
+pub run-requires-3-clause-may : goal.run-requires-3-clause-may
+run-requires-3-clause-may g c =
+    let s = c.args.zone.now.shape in
+    let before = g.G.GrowZone.asks c.args.procedure.now in
+    let between = g.G.GrowZone.asks c.run-2.new.procedure in
+    let mid = c.run-2.new.zone.heap in
+    let first = given_master s c.args.protected.now c.args.request.now before c.requires.unasked c.args.zone.now.heap c.run-2.new.allowed between mid c.run-2.result c.if-is_none.ensures c.run-2.ensures.run in
+    more-behind_master s c.args.protected.now c.args.request.now before c.requires.unasked c.args.zone.now.heap c.run-2.new.allowed first.0 between mid first.1
+
+pub returns-clause-run : goal.returns-clause-run
+returns-clause-run g c =
+    let s = c.args.zone.now.shape in
+    let before = g.G.GrowZone.asks c.args.procedure.now in
+    let between = g.G.GrowZone.asks c.run-2.new.procedure in
+    let after = g.G.GrowZone.asks c.run-3.new.procedure in
+    let mid = c.run-2.new.zone.heap in
+    let new = c.run-3.new.zone.heap in
+    let first = given_master s c.args.protected.now c.args.request.now before c.requires.unasked c.args.zone.now.heap c.run-2.new.allowed between mid c.run-2.result c.if-is_none.ensures c.run-2.ensures.run in
+    let run = subst (λ (s : Shape). IsRun s c.args.protected.now c.args.request.now c.run-2.new.allowed c.run-3.new.allowed between after mid c.run-3.result new) c.run-2.ensures.shape c.run-3.ensures.run in
+    subst (λ (result : Result ℕ OsErr). IsCallRun s c.args.protected.now c.args.request.now after c.args.zone.now.heap result new) (sym c.given_or_full-2.ensures)
+    (call-behind_master s c.args.protected.now c.args.request.now before c.requires.unasked c.args.zone.now.heap c.run-2.new.allowed c.run-3.new.allowed first.0 between after c.run-3.result mid new
+    (sym c.if-not-lacks_slot.ensures) first.1 run)
+
+pub returns-clause-loans : goal.returns-clause-loans
+returns-clause-loans g c x loan lent = c.run-3.ensures.loans x loan (c.run-2.ensures.loans x loan lent)

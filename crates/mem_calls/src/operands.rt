@@ -1,0 +1,134 @@
+//! The tests of calls' operands.
+
+ghost use Rattle.std.specs.Prelude.{◌≡◌, ◌∷◌, [], ◌||◌, not, IfOk, OnOk, IsTrue};
+ghost use Rattle.mac_base.specs.HandleTable.{flags_of, is_handle, is_lent, is_locked};
+ghost use Rattle.mac_calls.specs.Tests.{IsHandle, IsPointer, NotEmpty, NotLent, NotLocked, IsSize};
+ghost use Rattle.mac_base.specs.declared.error.OsErr.TheVariants.{MemLockedErr, MemPurErr};
+ghost use Rattle.mem_calls.specs.Testing.{Tests, TestsSize};
+
+use mac_base::block::Flags;
+use mac_base::error::OsErr;
+use mac_base::handle::{Handle, Ptr};
+use mac_base::size::MAX_SIZE;
+use zone_heap::Zone;
+
+/// The most blocks that may be lent at a time.
+pub(crate) const MOST_LOANS: u32 = 8;
+
+/// Tests that a handle is live: nilHandleErr where it is 0, memWZErr where it is another number that isn't live.
+pub(crate) fn test_handle(zone: &Zone, handle: Handle) -> Result<(), OsErr>
+    ensures { Tests zone.now (IsHandle handle ∷ []) result }
+{
+    if handle.number() == 0 {
+        return Err(OsErr::NilHandleErr);
+    }
+    if !zone.is_live(handle) {
+        return Err(OsErr::MemWzErr);
+    }
+    Ok(())
+}
+
+/// Tests that a handle is live and has a block: nilHandleErr where it is 0 or empty, memWZErr where it is another number
+/// that isn't live.
+pub(crate) fn test_full(zone: &Zone, handle: Handle) -> Result<(), OsErr>
+    ensures { Tests zone.now (IsHandle handle ∷ NotEmpty handle ∷ []) result }
+{
+    test_handle(zone, handle)?;
+    if !zone.has_block(handle.number()) {
+        return Err(OsErr::NilHandleErr);
+    }
+    Ok(())
+}
+
+/// Tests that a pointer is live: memWZErr where it isn't.
+pub(crate) fn test_pointer(zone: &Zone, pointer: Ptr) -> Result<(), OsErr>
+    ensures { Tests zone.now (IsPointer pointer ∷ []) result }
+{
+    if !zone.is_pointer(pointer) {
+        return Err(OsErr::MemWzErr);
+    }
+    Ok(())
+}
+
+/// The flags of a handle that is live and has a block; one that is lent is locked. nilHandleErr where it is 0 or empty,
+/// memWZErr where it is another number that isn't live.
+pub(crate) fn handle_flags(zone: &Zone, handle: Handle) -> Result<Flags, OsErr>
+    ensures refusal { Tests zone.now (IsHandle handle ∷ NotEmpty handle ∷ []) result }
+    ensures value { IfOk result (λ flags. flags ≡ flags_of zone.now.heap.table handle) }
+    ensures fixed { OnOk result (IsTrue (is_locked zone.now.heap.table handle || not (is_lent zone.now.heap.table handle))) }
+{
+    test_full(zone, handle)?;
+    // The zone's count of loans says that each is a pointer's or a locked handle's.
+    prove!(zone.lent_count() <= MOST_LOANS);
+    Ok(zone.flags(handle))
+}
+
+/// Whether a number is lent. Only a pointer or a locked handle is, so what has no block isn't.
+pub(crate) fn is_lent(zone: &Zone, block: u32) -> bool
+    ensures { result ≡ is_lent zone.now.heap.table block }
+{
+    // The zone's count of loans says so.
+    prove!(zone.lent_count() <= MOST_LOANS);
+    zone.has_block(block) && zone.is_lent(block)
+}
+
+/// Tests that a number isn't lent: memLockedErr where it is.
+pub(crate) fn test_here(zone: &Zone, block: u32) -> Result<(), OsErr>
+    ensures { Tests zone.now (NotLent block ∷ []) result }
+{
+    if is_lent(zone, block) {
+        return Err(OsErr::MemLockedErr);
+    }
+    Ok(())
+}
+
+/// Tests that a handle is live and not lent: nilHandleErr where it is 0, memWZErr where it is another number that isn't
+/// live, memLockedErr where it is lent.
+pub(crate) fn test_handle_here(zone: &Zone, handle: Handle) -> Result<(), OsErr>
+    ensures { Tests zone.now (IsHandle handle ∷ NotLent handle ∷ []) result }
+{
+    test_handle(zone, handle)?;
+    test_here(zone, handle.number())
+}
+
+/// Tests that a live handle isn't locked: memPurErr where it is.
+pub(crate) fn test_unlocked(zone: &Zone, handle: Handle) -> Result<(), OsErr>
+    requires { IsTrue (is_handle zone.now.heap.table handle) }
+    ensures { Tests zone.now (NotLocked MemPurErr handle ∷ []) result }
+{
+    if zone.flags(handle).lock {
+        return Err(OsErr::MemPurErr);
+    }
+    Ok(())
+}
+
+/// The flags of a handle whose block may move: nilHandleErr where it is 0 or empty, memWZErr where it is another number that
+/// isn't live, memLockedErr where it is locked.
+pub(crate) fn test_movable(zone: &Zone, handle: Handle) -> Result<Flags, OsErr>
+    ensures refusal { Tests zone.now (IsHandle handle ∷ NotEmpty handle ∷ NotLocked MemLockedErr handle ∷ []) result }
+    ensures value { IfOk result (λ flags. flags ≡ flags_of zone.now.heap.table handle) }
+{
+    let flags = handle_flags(zone, handle)?;
+    if flags.lock {
+        return Err(OsErr::MemLockedErr);
+    }
+    Ok(flags)
+}
+
+/// Tests that a block may get a size: memLockedErr where it is lent, paramErr where `size` is over 8,388,608.
+pub(crate) fn test_new_size(zone: &Zone, block: u32, size: u32) -> Result<(), OsErr>
+    ensures { Tests zone.now (NotLent block ∷ IsSize size ∷ []) result }
+{
+    test_here(zone, block)?;
+    test_size(size)
+}
+
+/// Tests a size: paramErr where it is over 8,388,608.
+pub(crate) fn test_size(size: u32) -> Result<(), OsErr>
+    ensures { TestsSize size result }
+{
+    if size > MAX_SIZE {
+        return Err(OsErr::ParamErr);
+    }
+    Ok(())
+}

@@ -1,0 +1,163 @@
+-- Calls of an answer that are read one by one.
+use Rattle.std.proofs.Common.{◌≡◌, ◌≢◌, ℕ, ◌<◌, ◌≤◌, ◌-◌, min, map, take, Bool, true, false, List, [], ◌∷◌, ◌++◌, length, drop, refl, sym, ap, subst, ◌∙◌, append_assoc, append-nil, arith, codes}
+use Rattle.std.specs.Prelude.{not}
+use Rattle.std.specs.Str.{bytes_eq}
+use Rattle.std.proofs.lemmas.List.{take_rest}
+use Rattle.std.proofs.lemmas.Slice.Eq.{bytes_eq-Decides}
+use Rattle.script_text.specs.declared.line.Operand.{Operand}
+use Rattle.script_text.specs.declared.line.ReleasingName.{ReleasingName}
+use Rattle.script_text.specs.declared.line.ReleasingName.TheVariants.{DisposeHandle, DisposePtr, EmptyHandle}
+use Rattle.script_text.specs.declared.line.WrittenAnswer.{WrittenAnswer}
+use Rattle.script_text.specs.declared.line.WrittenCall.{WrittenCall}
+use Rattle.script_text.specs.Tokens.{Token, Word}
+use Rattle.script_text.specs.Answers.{releasing_text, IsWrittenCall, AreCalls, IsAnswer, MayFollow}
+use Rattle.script_text.specs.Calls.{most_calls}
+use Rattle.script_text.specs.Operands.{IsNumberOperand}
+use Rattle.script_text.specs.Script.{HasNoFirstWord}
+use Rattle.script_text.proofs.OneAnswer.{one_written, one_calls}
+
+-- a word that is none of the names
+pub no_releasing : (word : List ℕ) → codes "DisposeHandle" ≢ word → codes "DisposePtr" ≢ word → codes "EmptyHandle" ≢ word → (name : ReleasingName) → releasing_text name ≢ word
+no_releasing word one two three DisposeHandle e = one e
+no_releasing word one two three DisposePtr e = two e
+no_releasing word one two three EmptyHandle e = three e
+
+-- the tokens in front of `rest` are these calls: what is left decides on the whole
+pub record Calling (names : List (List ℕ)) (tokens rest : List Token) (calls : List WrittenCall) : Type 0 where
+  pub there : (more : List WrittenCall) → AreCalls names rest more → AreCalls names tokens (calls ++ more)
+  pub back : (all : List WrittenCall) → AreCalls names tokens all → (more : List WrittenCall) × (all ≡ calls ++ more) × AreCalls names rest more
+
+-- at the start
+pub calling_none : (names : List (List ℕ)) (tokens : List Token) → Calling names tokens tokens []
+calling_none names tokens = record { there = λ more h. h; back = λ all h. (all, refl, h) }
+
+one_more : (names : List (List ℕ)) (name operand : Token) (behind : List Token) (written : WrittenCall) (more : List WrittenCall) → IsWrittenCall names name operand written → MayFollow behind → AreCalls names (drop 1 behind) more → AreCalls names (name ∷ operand ∷ behind) (written ∷ more)
+one_more names name operand [] written [] is may h = is
+one_more names name operand [] written (other ∷ more) is may h = absurd h
+one_more names name operand (mark ∷ []) written more is may h = absurd (may.1 refl)
+one_more names name operand (mark ∷ token ∷ tokens) written more is may h = (is, may.0, h)
+
+one_less : (names : List (List ℕ)) (name operand : Token) (behind : List Token) (written : WrittenCall) (all : List WrittenCall) → IsWrittenCall names name operand written → AreCalls names (name ∷ operand ∷ behind) all → (others : List WrittenCall) × (all ≡ written ∷ others) × AreCalls names (drop 1 behind) others
+one_less names name operand [] written [] is h = absurd h
+one_less names name operand [] written (first ∷ second ∷ others) is h = absurd h
+one_less names name operand [] written (first ∷ []) is h = ([], ap (λ (w : WrittenCall). w ∷ []) (one_written names name operand first written h is), tt)
+one_less names name operand (mark ∷ []) written all is h = absurd h
+one_less names name operand (mark ∷ token ∷ tokens) written [] is h = absurd h
+one_less names name operand (mark ∷ token ∷ tokens) written (first ∷ others) is h = (others, ap (λ (w : WrittenCall). w ∷ others) (one_written names name operand first written h.0 is), h.2)
+
+-- one call more
+pub calling_more : (names : List (List ℕ)) (tokens : List Token) (calls : List WrittenCall) (name operand : Token) (behind : List Token) (written : WrittenCall) → Calling names tokens (name ∷ operand ∷ behind) calls → IsWrittenCall names name operand written → MayFollow behind → Calling names tokens (drop 1 behind) (calls ++ written ∷ [])
+calling_more names tokens calls name operand behind written c is may = record { there = there; back = back }
+  where
+    there : (more : List WrittenCall) → AreCalls names (drop 1 behind) more → AreCalls names tokens ((calls ++ written ∷ []) ++ more)
+    there more h =
+        subst (λ (t : List WrittenCall). AreCalls names tokens t) (sym (append_assoc calls (written ∷ []) more)) (c.there (written ∷ more) (one_more names name operand behind written more is may h))
+
+    back : (all : List WrittenCall) → AreCalls names tokens all → (more : List WrittenCall) × (all ≡ (calls ++ written ∷ []) ++ more) × AreCalls names (drop 1 behind) more
+    back all h =
+        let found = c.back all h in
+        let split = one_less names name operand behind written found.0 is found.2 in
+        (split.0, found.1 ∙ ap (λ (t : List WrittenCall). calls ++ t) split.1 ∙ sym (append_assoc calls (written ∷ []) split.0), split.2)
+
+-- two tokens that are no call
+pub calling_fails : (names : List (List ℕ)) (tokens : List Token) (calls : List WrittenCall) (name operand : Token) (behind : List Token) → Calling names tokens (name ∷ operand ∷ behind) calls → ((written : WrittenCall) → ¬ IsWrittenCall names name operand written) → (all : List WrittenCall) → ¬ AreCalls names tokens all
+calling_fails names tokens calls name operand behind c none all h = no_more behind (c.back all h).0 (c.back all h).2
+  where
+    no_more : (behind : List Token) (more : List WrittenCall) → ¬ AreCalls names (name ∷ operand ∷ behind) more
+    no_more [] [] h = absurd h
+    no_more [] (written ∷ other ∷ more) h = absurd h
+    no_more [] (written ∷ []) h = none written h
+    no_more (mark ∷ []) more h = absurd h
+    no_more (mark ∷ token ∷ tokens) [] h = absurd h
+    no_more (mark ∷ token ∷ tokens) (written ∷ more) h = none written h.0
+
+-- what may not stand behind a call
+pub calling_halts : (names : List (List ℕ)) (tokens : List Token) (calls : List WrittenCall) (name operand : Token) (behind : List Token) → Calling names tokens (name ∷ operand ∷ behind) calls → ¬ MayFollow behind → (all : List WrittenCall) → ¬ AreCalls names tokens all
+calling_halts names tokens calls name operand behind c none all h = no_more behind (c.back all h).0 none (c.back all h).2
+  where
+    no_more : (behind : List Token) (more : List WrittenCall) → ¬ MayFollow behind → ¬ AreCalls names (name ∷ operand ∷ behind) more
+    no_more [] more none h = none tt
+    no_more (mark ∷ []) more none h = absurd h
+    no_more (mark ∷ token ∷ tokens) [] none h = absurd h
+    no_more (mark ∷ token ∷ tokens) (written ∷ more) none h = none (h.1, λ e. absurd cc)
+
+-- no token is left
+pub calling_all : (names : List (List ℕ)) (tokens rest : List Token) (calls : List WrittenCall) → Calling names tokens rest calls → rest ≡ [] → AreCalls names tokens calls
+calling_all names tokens rest calls c e =
+    subst (λ (t : List WrittenCall). AreCalls names tokens t) (append-nil calls) (c.there [] (subst (λ (t : List Token). AreCalls names t []) (sym e) tt))
+
+-- one token is left
+pub calling_odd : (names : List (List ℕ)) (tokens rest : List Token) (calls : List WrittenCall) → Calling names tokens rest calls → length rest < 2 → rest ≢ [] → (all : List WrittenCall) → ¬ AreCalls names tokens all
+calling_odd names tokens rest calls c short some all h = odd rest short some (c.back all h).0 (c.back all h).2
+  where
+    odd : (rest : List Token) → length rest < 2 → rest ≢ [] → (more : List WrittenCall) → ¬ AreCalls names rest more
+    odd [] short some more h = some refl
+    odd (token ∷ []) short some more h = absurd h
+    odd (token ∷ other ∷ rest) short some more h = absurd (omega arith)
+
+-- tokens that begin with no word queue no answer
+pub no_first : (names : List (List ℕ)) (tokens : List Token) → HasNoFirstWord tokens → (answer : WrittenAnswer) → ¬ IsAnswer names tokens answer
+no_first names tokens none answer is = none (codes "gz") (is.0 ∷ is.1) is.2
+
+-- tokens that begin with another word queue no answer
+pub no_keyword : (names : List (List ℕ)) (tokens : List Token) (word : List ℕ) (rest : List Token) → tokens ≡ Word word ∷ rest → word ≢ codes "gz" → (answer : WrittenAnswer) → ¬ IsAnswer names tokens answer
+no_keyword names tokens word rest begins other answer is =
+    let same : Word word ∷ rest ≡ Word (codes "gz") ∷ is.0 ∷ is.1 = sym begins ∙ is.2 in
+    let this : word ≡ codes "gz" = cc in
+    other this
+
+-- what stands behind the keyword is a value and the calls
+behind : (names : List (List ℕ)) (tokens : List Token) (word : List ℕ) (rest : List Token) (answer : WrittenAnswer) → tokens ≡ Word word ∷ rest → (is : IsAnswer names tokens answer) → rest ≡ is.0 ∷ is.1
+behind names tokens word rest answer begins is = let same : Word word ∷ rest ≡ Word (codes "gz") ∷ is.0 ∷ is.1 = sym begins ∙ is.2 in cc
+
+-- the keyword by itself queues no answer
+pub no_value : (names : List (List ℕ)) (tokens : List Token) (word : List ℕ) → tokens ≡ Word word ∷ [] → (answer : WrittenAnswer) → ¬ IsAnswer names tokens answer
+no_value names tokens word begins answer is = let bad : [] ≡ is.0 ∷ is.1 = behind names tokens word [] answer begins is in absurd cc
+
+-- a token that is no value
+pub not_a_value : (names : List (List ℕ)) (tokens : List Token) (word : List ℕ) (value : Token) (calls : List Token) → tokens ≡ Word word ∷ value ∷ calls → ((x : Operand) → ¬ IsNumberOperand names value x) → (answer : WrittenAnswer) → ¬ IsAnswer names tokens answer
+not_a_value names tokens word value calls begins none answer is =
+    let same : value ∷ calls ≡ is.0 ∷ is.1 = behind names tokens word (value ∷ calls) answer begins is in
+    let this : is.0 ≡ value = cc in
+    none answer.value (subst (λ (t : Token). IsNumberOperand names t answer.value) this is.3)
+
+calls_are : (names : List (List ℕ)) (tokens : List Token) (word : List ℕ) (value : Token) (calls : List Token) (answer : WrittenAnswer) → tokens ≡ Word word ∷ value ∷ calls → IsAnswer names tokens answer → AreCalls names calls answer.calls
+calls_are names tokens word value calls answer begins is =
+    let same : value ∷ calls ≡ is.0 ∷ is.1 = behind names tokens word (value ∷ calls) answer begins is in
+    let these : is.1 ≡ calls = cc in
+    subst (λ (t : List Token). AreCalls names t answer.calls) these is.4
+
+-- tokens behind the value that are no calls
+pub not_calls : (names : List (List ℕ)) (tokens : List Token) (word : List ℕ) (value : Token) (calls : List Token) → tokens ≡ Word word ∷ value ∷ calls → ((xs : List WrittenCall) → ¬ AreCalls names calls xs) → (answer : WrittenAnswer) → ¬ IsAnswer names tokens answer
+not_calls names tokens word value calls begins none answer is = none answer.calls (calls_are names tokens word value calls answer begins is)
+
+-- more calls than an answer may have
+pub too_many : (names : List (List ℕ)) (tokens : List Token) (word : List ℕ) (value : Token) (calls : List Token) (xs : List WrittenCall) → tokens ≡ Word word ∷ value ∷ calls → AreCalls names calls xs → most_calls < length xs → (answer : WrittenAnswer) → ¬ IsAnswer names tokens answer
+too_many names tokens word value calls xs begins are many answer is =
+    let same = ap length (one_calls names calls xs answer.calls are (calls_are names tokens word value calls answer begins is)) in
+    let few = is.5 in
+    absurd (omega (arith, same, few, many))
+
+next_drop : {X : Type 0} (behind : List X) (n : ℕ) → n ≡ min (length behind) 1 → drop n behind ≡ drop 1 behind
+next_drop [] n e = ap (λ (k : ℕ). drop k []) e
+next_drop (x ∷ xs) n e = let one : n ≡ 1 = omega arith in ap (λ (k : ℕ). drop k (x ∷ xs)) one
+
+map-drop : {X Y : Type 0} (f : X → Y) (xs : List X) → map f (drop 1 xs) ≡ drop 1 (map f xs)
+map-drop f [] = refl
+map-drop f (x ∷ xs) = refl
+
+-- what is left behind a call and its semicolon, if there is one
+pub next_tokens : {X Y : Type 0} (f : X → Y) (behind : List X) (n : ℕ) → n ≡ min (length behind) 1 → drop 1 (map f behind) ≡ map f (take (length behind - n) (drop n behind))
+next_tokens f behind n e = sym (ap (λ (t : List _). map f t) (take_rest behind n ∙ next_drop behind n e) ∙ map-drop f behind)
+
+-- two words of which a test says that they don't differ
+pub same_word : (a b : List ℕ) (differs : Bool) → differs ≡ not (bytes_eq a b) → differs ≡ false → a ≡ b
+same_word a b differs is none = (bytes_eq-Decides a b).0 (same (bytes_eq a b) (sym is ∙ none))
+  where
+    same : (test : Bool) → not test ≡ false → test ≡ true
+    same true e = refl
+    same false e = absurd cc
+
+-- the word, the value and the calls of an answer
+pub is_answer : (names : List (List ℕ)) (tokens : List Token) (word : List ℕ) (value : Token) (calls : List Token) (answer : WrittenAnswer) → tokens ≡ Word word ∷ value ∷ calls → word ≡ codes "gz" → IsNumberOperand names value answer.value → AreCalls names calls answer.calls → length answer.calls ≤ most_calls → IsAnswer names tokens answer
+is_answer names tokens word value calls answer begins same number are few = (value, calls, begins ∙ ap (λ (w : List ℕ). Word w ∷ value ∷ calls) same, number, are, few)

@@ -1,0 +1,223 @@
+-- A queue of answers, as it is filled and asked.
+use Rattle.std.proofs.Common.{◌≡◌, ℕ, suc, ◌+◌, ◌<◌, ◌≤◌, length, drop, Bool, true, ◌&&◌, nat_lt, List, [], ◌∷◌, ◌++◌, Option, Some, None, Ok, Err, refl, sym, ap, ◌∙◌, subst, append_assoc, length-append, arith, inl, inr}
+use Rattle.std.specs.Prelude.{IfOk, IfSome, OnSome, Result, is_some, filter_map, option_map}
+use Rattle.std.specs.List.{cons_option}
+use Rattle.std.proofs.lemmas.Bool.{and_parts}
+use Rattle.std.proofs.lemmas.Bool.Decides.{nat_tests}
+use Rattle.std.proofs.lemmas.List.{append-nil, drop-append-le}
+use Rattle.std.proofs.lemmas.List.Elements.{filter_map-append}
+use Rattle.std.proofs.lemmas.List.Folds.{list_all-append}
+use Rattle.mac_base.specs.declared.error.HostFull.{HostFull}
+use Rattle.mac_base.specs.declared.error.OsErr.{OsErr}
+use Rattle.mac_base.specs.declared.releasing.ReleasingCall.{ReleasingCall}
+use Rattle.mac_calls.specs.declared.call.Call.{Call}
+use Rattle.mac_calls.specs.declared.call.Call.TheVariants.{Memory, Loan, MemError}
+use Rattle.mac_calls.specs.declared.grow_zone.Asked.{Asked}
+use Rattle.mac_calls.specs.declared.memory_call.MemoryCall.{MemoryCall}
+use Rattle.mac_calls.specs.declared.reply.Reply.{Reply}
+use Rattle.mac_calls.specs.ExactStep.{IsExactStep, StepEnd, exact_step}
+use Rattle.mac_calls.specs.Outcomes.{Outcome}
+use Rattle.mac_base.specs.HeadKind.{Shape}
+use Rattle.mac_base.specs.Heap.{Heap}
+use Rattle.mac_calls.specs.GrowZone.{Answer, Ask, answered, answers_in, may_ask, may_note, most_answers, new_ask, noted}
+use Rattle.toolbox.specs.Queue.{IsInOrder, Queue, TookAnswers}
+use Rattle.toolbox.specs.Steps.{LeavesAnswers, Steps}
+use Rattle.toolbox.specs.ToolState.{ToolState}
+use Rattle.call_laws.proofs.RunAnswers.{all_answered}
+use Rattle.call_laws.proofs.StepAnswers.{exact-framed_all, step_left}
+
+-- an answer is queued between two calls
+pub pushed : (answers : List Answer) (begun taken : ℕ) (asks : List Ask) (printed : List Asked) (answer : Answer) → IsInOrder answers begun taken asks printed → asks ≡ [] → IsInOrder (answers ++ answer ∷ []) begun taken asks printed
+pushed answers begun taken asks printed answer queue none =
+    let order = queue.order in
+    let within = queue.within in
+    let front : drop begun (answers ++ answer ∷ []) ≡ drop begun answers ++ answer ∷ [] = drop-append-le begun answers (answer ∷ []) (omega arith) in
+    let back : drop taken (answers ++ answer ∷ []) ≡ drop taken answers ++ answer ∷ [] = drop-append-le taken answers (answer ∷ []) within in
+    record {
+      order = order;
+      within = (simp length-append (omega arith));
+      few = queue.few;
+      took = record {
+        taken = front ∙ ap (λ (rest : List Answer). rest ++ answer ∷ []) queue.took.taken ∙ append_assoc (answers_in asks) (drop taken answers) (answer ∷ []) ∙ ap (λ (rest : List Answer). answers_in asks ++ rest) (sym back);
+        out = inl (ap all_answered none);
+      };
+      printed_is = queue.printed_is;
+    }
+
+may_ask-parts : (asks : List Ask) → may_ask asks ≡ true → (length asks < most_answers) × (all_answered asks ≡ true)
+may_ask-parts asks may =
+    let parts = and_parts (nat_lt (length asks) most_answers) (all_answered asks) may in
+    (less (length asks) most_answers parts.0, parts.1)
+  where
+    less : (a b : ℕ) → nat_lt a b ≡ true → a < b
+    less a b is = grind (arith, nat_tests)
+
+length-filter_map : (f : Ask → Option Asked) (asks : List Ask) → length (filter_map f asks) ≤ length asks
+length-filter_map f [] = omega arith
+length-filter_map f (a ∷ asks) = elim (f a) as (λ (o : Option Asked). length (cons_option o (filter_map f asks)) ≤ length (a ∷ asks)) [
+  | Some x ↦ let le = length-filter_map f asks in omega arith
+  | None ↦ let le = length-filter_map f asks in omega arith
+]
+
+length-answered : (asks : List Ask) → length (answered asks) ≤ length asks
+length-answered asks = length-filter_map (λ (a : Ask). option_map (λ (answer : Answer). record { needed = a.needed; value = answer.value }) a.answer) asks
+
+-- there is room to print one more ask
+pub room_to_print : (answers : List Answer) (begun taken : ℕ) (asks : List Ask) (printed : List Asked) → IsInOrder answers begun taken asks printed → may_ask asks ≡ true → length printed < 16
+room_to_print answers begun taken asks printed queue may =
+    let printed_is : length printed ≡ length (answered asks) = ap length queue.printed_is in
+    let le = length-answered asks in
+    let less = (may_ask-parts asks may).0 in
+    omega arith
+
+-- the front answer is given
+pub answer_given : (answers : List Answer) (begun taken next needed : ℕ) (asks : List Ask) (printed : List Asked) (answer : Answer) → IsInOrder answers begun taken asks printed → may_ask asks ≡ true → drop taken answers ≡ answer ∷ drop next answers → next ≡ taken + 1 → taken < length answers
+    → IsInOrder answers begun next (asks ++ new_ask needed (Some answer) ∷ []) (printed ++ record { needed = needed; value = answer.value } ∷ [])
+answer_given answers begun taken next needed asks printed answer queue may is one less =
+    let order = queue.order in
+    let parts = may_ask-parts asks may in
+    let few = parts.0 in
+    let ask : Ask = new_ask needed (Some answer) in
+    record {
+      order = omega arith;
+      within = omega arith;
+      few = simp length-append (omega arith);
+      took = record {
+        taken = queue.took.taken
+            ∙ ap (λ (rest : List Answer). answers_in asks ++ rest) is
+            ∙ sym (append_assoc (answers_in asks) (answer ∷ []) (drop next answers))
+            ∙ ap (λ (front : List Answer). front ++ drop next answers) (sym (filter_map-append (λ (a : Ask). a.answer) asks (ask ∷ [])));
+        out = inl (list_all-append (λ (a : Ask). is_some a.answer) asks (ask ∷ []) ∙ ap (λ (b : Bool). b && true) parts.1);
+      };
+      printed_is = ap (λ (front : List Asked). front ++ record { needed = needed; value = answer.value } ∷ []) queue.printed_is
+          ∙ sym (filter_map-append (λ (a : Ask). option_map (λ (x : Answer). record { needed = a.needed; value = x.value }) a.answer) asks (ask ∷ []));
+    }
+
+-- the same, as it comes from the answers that are left
+pub front_given : (answers shown : List Answer) (begun taken next needed : ℕ) (asks : List Ask) (printed : List Asked) (o : Option Answer) (answer : Answer) → IsInOrder answers begun taken asks printed → may_ask asks ≡ true → shown ≡ answers → o ≡ Some answer
+    → IfSome o (λ a. drop taken shown ≡ a ∷ drop next shown) → OnSome o (next ≡ taken + 1) → OnSome o (taken < length shown)
+    → IsInOrder answers begun next (asks ++ new_ask needed (Some answer) ∷ []) (printed ++ record { needed = needed; value = answer.value } ∷ [])
+front_given answers shown begun taken next needed asks printed o answer queue may same is some one less =
+    let front : drop taken shown ≡ answer ∷ drop next shown = subst (λ (p : Option Answer). IfSome p (λ a. drop taken shown ≡ a ∷ drop next shown)) is some in
+    let step : next ≡ taken + 1 = subst (λ (p : Option Answer). OnSome p (next ≡ taken + 1)) is one in
+    let within : taken < length shown = subst (λ (p : Option Answer). OnSome p (taken < length shown)) is less in
+    answer_given answers begun taken next needed asks printed answer queue may
+    (subst (λ (xs : List Answer). drop taken xs ≡ answer ∷ drop next xs) same front) step (subst (λ (xs : List Answer). taken < length xs) same within)
+
+-- none is left
+pub none_given : (answers : List Answer) (begun taken next needed : ℕ) (asks : List Ask) (printed : List Asked) → IsInOrder answers begun taken asks printed → may_ask asks ≡ true → drop taken answers ≡ [] → next ≡ taken
+    → IsInOrder answers begun next (asks ++ new_ask needed None ∷ []) printed
+none_given answers begun taken next needed asks printed queue may none same =
+    let order = queue.order in
+    let within = queue.within in
+    let few = (may_ask-parts asks may).0 in
+    let ask : Ask = new_ask needed None in
+    let left : drop next answers ≡ drop taken answers = ap (λ n. drop n answers) same in
+    record {
+      order = omega arith;
+      within = omega arith;
+      few = simp length-append (omega arith);
+      took = record {
+        taken = queue.took.taken
+            ∙ ap (λ (front : List Answer). front ++ drop taken answers) (sym (filter_map-append (λ (a : Ask). a.answer) asks (ask ∷ []) ∙ append-nil (answers_in asks)))
+            ∙ ap (λ (rest : List Answer). answers_in (asks ++ ask ∷ []) ++ rest) (sym left);
+        out = inr (left ∙ none);
+      };
+      printed_is = queue.printed_is
+          ∙ sym (filter_map-append (λ (a : Ask). option_map (λ (x : Answer). record { needed = a.needed; value = x.value }) a.answer) asks (ask ∷ []) ∙ append-nil (answered asks));
+    }
+
+-- a call that may be noted belongs to the last ask
+pub may_note-last : (asks : List Ask) (a : Ask) → may_note (asks ++ a ∷ []) ≡ may_note (a ∷ [])
+may_note-last [] a = refl
+may_note-last (x ∷ []) a = refl
+may_note-last (x ∷ y ∷ asks) a = may_note-last (y ∷ asks) a
+
+-- and is noted there
+pub noted-last : (call : ReleasingCall) (code : Option OsErr) (asks : List Ask) (a : Ask) → noted call code (asks ++ a ∷ []) ≡ asks ++ noted call code (a ∷ [])
+noted-last call code [] a = refl
+noted-last call code (x ∷ []) a = refl
+noted-last call code (x ∷ y ∷ asks) a = ap (λ (xs : List Ask). x ∷ xs) (noted-last call code (y ∷ asks) a)
+
+noted-answers : (call : ReleasingCall) (code : Option OsErr) (asks : List Ask) → answers_in (noted call code asks) ≡ answers_in asks
+noted-answers call code [] = refl
+noted-answers call code (a ∷ []) = refl
+noted-answers call code (a ∷ b ∷ asks) = behind a.answer (noted-answers call code (b ∷ asks))
+  where
+    behind : (o : Option Answer) → answers_in (noted call code (b ∷ asks)) ≡ answers_in (b ∷ asks) → answers_in (record a { answer = o } ∷ noted call code (b ∷ asks)) ≡ answers_in (record a { answer = o } ∷ b ∷ asks)
+    behind (Some x) same = ap (λ (xs : List Answer). x ∷ xs) same
+    behind None same = same
+
+noted-all_answered : (call : ReleasingCall) (code : Option OsErr) (asks : List Ask) → all_answered (noted call code asks) ≡ all_answered asks
+noted-all_answered call code [] = refl
+noted-all_answered call code (a ∷ []) = refl
+noted-all_answered call code (a ∷ b ∷ asks) = ap (λ (rest : Bool). is_some a.answer && rest) (noted-all_answered call code (b ∷ asks))
+
+noted-printed : (call : ReleasingCall) (code : Option OsErr) (asks : List Ask) → answered (noted call code asks) ≡ answered asks
+noted-printed call code [] = refl
+noted-printed call code (a ∷ []) = refl
+noted-printed call code (a ∷ b ∷ asks) = behind a.answer (noted-printed call code (b ∷ asks))
+  where
+    behind : (o : Option Answer) → answered (noted call code (b ∷ asks)) ≡ answered (b ∷ asks) → answered (record a { answer = o } ∷ noted call code (b ∷ asks)) ≡ answered (record a { answer = o } ∷ b ∷ asks)
+    behind (Some x) same = ap (λ (xs : List Asked). record { needed = a.needed; value = x.value } ∷ xs) same
+    behind None same = same
+
+noted-length : (call : ReleasingCall) (code : Option OsErr) (asks : List Ask) → length (noted call code asks) ≡ length asks
+noted-length call code [] = refl
+noted-length call code (a ∷ []) = refl
+noted-length call code (a ∷ b ∷ asks) = ap suc (noted-length call code (b ∷ asks))
+
+-- the last ask is taken out, and may have one more call noted
+pub may_note-out : (asks now front : List Ask) (ask : Ask) → asks ≡ now → asks ≡ front ++ ask ∷ [] → may_note now ≡ true → may_note (ask ∷ []) ≡ true
+may_note-out asks now front ask same parts may = sym (may_note-last front ask) ∙ ap may_note (sym parts ∙ same) ∙ may
+
+-- there is room for it then
+pub room_behind : (answers : List Answer) (begun taken : ℕ) (asks front : List Ask) (ask : Ask) (printed : List Asked) → IsInOrder answers begun taken asks printed → asks ≡ front ++ ask ∷ [] → length front < 16
+room_behind answers begun taken asks front ask printed queue parts =
+    let few = queue.few in
+    let same : length asks ≡ length front + 1 = ap length parts ∙ length-append front (ask ∷ []) in
+    omega arith
+
+-- and the asks with it, once it is noted, are those with one more call noted
+pub noted-back : (call : ReleasingCall) (code : Option OsErr) (asks front : List Ask) (ask new : Ask) → asks ≡ front ++ ask ∷ [] → new ∷ [] ≡ noted call code (ask ∷ []) → front ++ new ∷ [] ≡ noted call code asks
+noted-back call code asks front ask new parts is = ap (λ (back : List Ask). front ++ back) is ∙ sym (noted-last call code front ask) ∙ ap (λ (xs : List Ask). noted call code xs) (sym parts)
+
+-- a call is noted for the last ask
+pub call_noted : (answers : List Answer) (begun taken : ℕ) (asks : List Ask) (printed : List Asked) (call : ReleasingCall) (code : Option OsErr) → IsInOrder answers begun taken asks printed → IsInOrder answers begun taken (noted call code asks) printed
+call_noted answers begun taken asks printed call code queue =
+    let few = queue.few in
+    let same : length (noted call code asks) ≡ length asks = noted-length call code asks in
+    record {
+      order = queue.order;
+      within = queue.within;
+      few = omega arith;
+      took = record {
+        taken = queue.took.taken ∙ ap (λ (front : List Answer). front ++ drop taken answers) (sym (noted-answers call code asks));
+        out = elim queue.took.out [ inl all ↦ inl (noted-all_answered call code asks ∙ all) | inr none ↦ inr none ];
+      };
+      printed_is = queue.printed_is ∙ sym (noted-printed call code asks);
+    }
+
+-- from a queue, the call does just what it does with the answers that it took, and leaves the others
+exact_from_queue : (s : Shape) (old : Heap) (call : MemoryCall) (outcome : Outcome) (new : Heap) (q : Queue) → IsExactStep s old call q.asks outcome new → TookAnswers q → exact_step s q.source old call ≡ record { outcome = outcome; heap = new; asks = q.asks; left = q.left }
+exact_from_queue s old call outcome new q exact took = ap (λ (answers : List Answer). exact_step s answers old call) took.taken ∙ elim took.out [
+  | inl all ↦
+      exact-framed_all s (answers_in q.asks) q.left old call (ap (λ (e : StepEnd). e.left) exact) (ap (λ (e : StepEnd). all_answered e.asks) exact ∙ all)
+      ∙ ap (λ (e : StepEnd). step_left q.left e) exact
+  | inr none ↦
+      ap (λ (rest : List Answer). exact_step s (answers_in q.asks ++ rest) old call) none
+      ∙ ap (λ (answers : List Answer). exact_step s answers old call) (append-nil (answers_in q.asks))
+      ∙ exact
+      ∙ ap (λ (rest : List Answer). record { outcome = outcome; heap = new; asks = q.asks; left = rest }) (sym none)
+]
+
+left_by_call : (old new : ToolState) (call : Call) (q : Queue) (reply : Reply) → Steps old call q.asks reply.outcome new → TookAnswers q → LeavesAnswers old q.source call q.asks reply.outcome new q.left
+left_by_call old new (Memory call) q reply step took = exact_from_queue old.shape old.heap call reply.outcome new.heap q step.0.1 took
+left_by_call old new (Loan call) q reply step took = sym (took.taken ∙ ap (λ (asks : List Ask). answers_in asks ++ q.left) step.0.0)
+left_by_call old new MemError q reply step took = sym (took.taken ∙ ap (λ (asks : List Ask). answers_in asks ++ q.left) step.0.0)
+
+-- a call leaves those answers of a queue that it does not take
+pub leaves_answers : (old new : ToolState) (call : Call) (q : Queue) (answers : List Answer) (result : Result Reply HostFull) → IfOk result (λ reply. Steps old call q.asks reply.outcome new) → q.source ≡ answers → TookAnswers q
+    → IfOk result (λ reply. LeavesAnswers old answers call q.asks reply.outcome new q.left)
+leaves_answers old new call q answers (Ok reply) step source took = subst (λ (front : List Answer). LeavesAnswers old front call q.asks reply.outcome new q.left) source (left_by_call old new call q reply step took)
+leaves_answers old new call q answers (Err full) step source took = tt

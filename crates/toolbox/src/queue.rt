@@ -1,0 +1,211 @@
+//! The answers of the grow-zone procedure that a script has queued.
+
+ghost use Rattle.std.specs.Prelude.{◌≡◌, ◌+◌, ◌<◌, [], ◌∷◌, ◌++◌, drop, length, IsTrue, IfSome, IfNone, OnSome};
+ghost use Rattle.mac_calls.specs.GrowZone.{answered, may_note, new_ask, noted};
+
+use arrayvec::ArrayVec;
+use mac_base::error::{HostFull, OsErr};
+use mac_base::handle::Handle;
+use mac_base::releasing::ReleasingCall;
+use mac_calls::{Answer, Asked, GrowZone};
+use std::alloc::Global;
+use std::marker::Model;
+
+/// A call of an answer that was carried out, and the code of its refusal, if it was refused. A contract sees the two.
+#[derive(Drop)]
+struct Carried {
+    call: ReleasingCall,
+    code: Option<OsErr>,
+}
+
+impl Model for Carried {
+    ghost use Rattle.std.specs.Prelude.{Option};
+    ghost use Rattle.mac_base.specs.declared.error.OsErr.{OsErr};
+    ghost use Rattle.mac_base.specs.declared.releasing.ReleasingCall.{ReleasingCall};
+
+    ghost Value = { ReleasingCall × Option OsErr };
+
+    ghost view = { λ c. (c.call, c.code) };
+}
+
+/// What fills a place that isn't used.
+impl Default for Carried {
+    fn default() -> Carried {
+        Carried {
+            call: ReleasingCall::Empties(Handle::new(0)),
+            code: None,
+        }
+    }
+}
+
+/// One ask of the running call: what was needed, the answer, and its calls that were carried out.
+#[derive(Drop)]
+struct MadeAsk {
+    needed: u32,
+    answer: Option<Answer>,
+    carried: ArrayVec<Carried, 8>,
+}
+
+impl Model for MadeAsk {
+    ghost use Rattle.mac_calls.specs.GrowZone.{Ask};
+    ghost use Rattle.toolbox.specs.Queue.{HasFewCalls};
+
+    ghost Value = { Ask };
+
+    ghost view = { λ a. record { needed = a.needed; answer = a.answer; carried = a.carried.items } };
+
+    ghost invariant = { λ a. HasFewCalls a.answer };
+}
+
+/// What fills a place that isn't used.
+impl Default for MadeAsk {
+    fn default() -> MadeAsk {
+        MadeAsk {
+            needed: 0,
+            answer: None,
+            carried: ArrayVec::new(),
+        }
+    }
+}
+
+impl MadeAsk {
+    /// An ask and its answer, of which no call has been carried out.
+    fn new(needed: u32, answer: &Option<Answer>) -> MadeAsk
+        ensures { result ≡ new_ask needed answer.now }
+    {
+        let answer = match answer {
+            Some(answer) => Some(answer.again()),
+            None => None,
+        };
+        MadeAsk {
+            needed,
+            answer,
+            carried: ArrayVec::new(),
+        }
+    }
+
+    /// One more call of the answer was carried out.
+    fn note(&mut self, call: ReleasingCall, code: Option<OsErr>)
+        requires { IsTrue (may_note (self.old ∷ [])) }
+        ensures { self.new ∷ [] ≡ noted call code (self.old ∷ []) }
+    {
+        self.carried.push(Carried { call, code });
+    }
+}
+
+/// Answers of the grow-zone procedure, which are given first in, first out, and what the running call asked. Contracts see the
+/// answers that are left, those that were there when the running call began, and its asks.
+#[derive(Drop)]
+pub struct AnswerQueue {
+    /// All that were queued: those that were taken stand in front.
+    answers: Vec<Answer>,
+    /// How many were taken before the running call began.
+    begun: usize,
+    /// How many were taken.
+    taken: usize,
+    /// What the running call asked, in order.
+    asks: ArrayVec<MadeAsk, 16>,
+    /// Those of them that had an answer, as they are printed.
+    answered: ArrayVec<Asked, 16>,
+}
+
+impl Model for AnswerQueue {
+    ghost use Rattle.std.specs.Prelude.{drop};
+    ghost use Rattle.toolbox.specs.Queue.{Queue, IsInOrder};
+
+    ghost Value = { Queue };
+
+    ghost view = { λ q. record { source = drop q.begun q.answers.items; left = drop q.taken q.answers.items; asks = q.asks.items } };
+
+    ghost invariant = { λ q. IsInOrder q.answers.items q.begun q.taken q.asks.items q.answered.items };
+}
+
+impl AnswerQueue {
+    ghost use Rattle.std.specs.Prelude.{OnOk, OnErr};
+    ghost use Rattle.toolbox.specs.Queue.{TookAnswers, no_answers};
+
+    /// No answers.
+    pub fn new(alloc: Global) -> AnswerQueue
+        ensures { result ≡ no_answers }
+    {
+        AnswerQueue {
+            answers: Vec::new(alloc),
+            begun: 0,
+            taken: 0,
+            asks: ArrayVec::new(),
+            answered: ArrayVec::new(),
+        }
+    }
+
+    /// Queues an answer behind the others, for the calls to come: nothing is asked then.
+    pub fn push(&mut self, answer: Answer) -> Result<(), HostFull>
+        ensures left { OnOk result (self.new.left ≡ self.old.left ++ answer ∷ []) }
+        ensures unchanged { OnErr result (self.new.left ≡ self.old.left) }
+        ensures asks { self.new.asks ≡ [] }
+    {
+        self.begin();
+        self.answers.push(answer)?;
+        Ok(())
+    }
+
+    /// What the last call asked that had an answer, in order.
+    pub fn asked(&self) -> &[Asked]
+        ensures { result.now ≡ answered self.now.asks }
+    {
+        self.answered.as_slice()
+    }
+
+    /// A call begins: nothing is asked yet.
+    pub(crate) fn begin(&mut self)
+        ensures { self.new ≡ record { source = self.old.left; left = self.old.left; asks = [] } }
+    {
+        self.begun = self.taken;
+        self.asks.clear();
+        self.answered.clear();
+    }
+
+    /// A call ends: what it asked took its answers from the front.
+    pub(crate) fn end(&self)
+        ensures { TookAnswers self.now }
+    {
+        let _ = &self.answers;
+    }
+}
+
+impl GrowZone for AnswerQueue {
+    ghost asks = { λ q. q.asks };
+
+    ghost source = { λ q. q.source };
+
+    fn ask(&mut self, needed: u32) -> Option<Answer> {
+        let answer = take_front(&self.answers, &mut self.taken);
+        self.asks.push(MadeAsk::new(needed, &answer));
+        if let Some(answer) = &answer {
+            self.answered.push(Asked {
+                needed,
+                value: answer.value(),
+            });
+        }
+        answer
+    }
+
+    fn did(&mut self, call: ReleasingCall, code: Option<OsErr>) {
+        if let Some(mut ask) = self.asks.pop() {
+            ask.note(call, code);
+            self.asks.push(ask);
+        }
+    }
+}
+
+/// Takes the front one of the answers behind those that were taken, if one is left.
+fn take_front(answers: &[Answer], taken: &mut usize) -> Option<Answer>
+    ensures some { IfSome result (λ answer. drop taken.old answers.now ≡ answer ∷ drop taken.new answers.now) }
+    ensures next { OnSome result (taken.new ≡ taken.old + 1) }
+    ensures within { OnSome result (taken.old < length answers.now) }
+    ensures none { IfNone result (drop taken.old answers.now ≡ []) }
+    ensures stays { IfNone result (taken.new ≡ taken.old) }
+{
+    let answer = answers.get(*taken)?.again();
+    *taken += 1;
+    Some(answer)
+}

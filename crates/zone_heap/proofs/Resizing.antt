@@ -1,0 +1,127 @@
+-- What a block that gets another size leaves, and what makes way for it.
+use Rattle.std.proofs.Common.{◌≡◌, ℕ, ◌+◌, ◌≤◌, ◌∷◌, ◌++◌, arith, true, false, cond, refl, ap, sym, ◌∙◌, subst, Option, Some, None}
+use Rattle.std.specs.Prelude.{nat_le, is_some, option_and_then}
+use Rattle.std.specs.Option.{option_map_or}
+use Rattle.mac_base.specs.Arrangement.{open_at, up}
+use Rattle.mac_base.specs.Gap.{Gap, gaps, filled, gap_behind, ends_with, own_gap}
+use Rattle.mac_base.specs.HandleTable.{HandleTable, has_block, is_lent}
+use Rattle.mac_base.specs.HeadKind.{Shape, need}
+use Rattle.mac_base.specs.Heap.{Heap}
+use Rattle.mac_base.specs.Request.{gap_to_grow, room_of, size_of, stays}
+use Rattle.mac_base.specs.Serve.{free_in_front, opened_for, resized_in_gap, resized_in_place}
+use Rattle.mac_base.specs.Sound.{Sound}
+use Rattle.mac_base.specs.ZoneMap.{ZoneMap, total_size}
+use Rattle.mac_base.specs.ZoneState.{ZoneState}
+use Rattle.zone_laws.proofs.Arranging.{total_size-used, up-IsArrangement}
+use Rattle.zone_laws.proofs.GapAppend.{total_size-append}
+use Rattle.zone_laws.proofs.ArrangingNamed.{open_at-IsArrangement}
+use Rattle.zone_laws.proofs.GapParts.{IsGap, gap_behind-is, own_gap-is}
+use Rattle.zone_laws.proofs.Lent.{fixed-kept}
+use Rattle.zone_laws.proofs.OpenedGap.{is_some-resized_in_place}
+use Rattle.zone_laws.proofs.SuitsNamed.{named_once}
+use Rattle.gap_laws.proofs.FittingResize.{is_some-resized_in_gap}
+use Rattle.gap_laws.proofs.RearrangedSuits.{Sound-arranged}
+use Rattle.linked_zone.specs.Changes.{with_map}
+use Rattle.linked_zone.specs.Loans.{KeepsLoans}
+use Rattle.linked_zone.specs.Places.{EntryAt}
+use Rattle.zone_gaps.specs.declared.gap.FoundGap.{FoundGap}
+use Rattle.zone_gaps.specs.Gaps.{GapAt, IsGapOf, opened_after}
+use Rattle.zone_gaps.proofs.Laws.{find-contains}
+use Rattle.zone_heap.specs.Attempts.{SoundZone}
+use Rattle.zone_heap.specs.Placed.{resized_there}
+use Rattle.zone_heap.specs.Resized.{way_made}
+use Rattle.zone_heap.proofs.Loans.{keeps-loans}
+use Rattle.zone_heap.proofs.Sizing.{Standing, there, size-there, sound-there, keeps-there}
+
+-- a block can have the bytes where it is, if it and the free bytes right behind it have them
+pub fits-there : (z : ZoneState) (x n k at : ℕ) (b : Standing z x n k at) → is_some (resized_in_place z.shape (need z.shape.heads n) x z.heap.map) ≡ nat_le k (b.named.here.size + free_in_front b.named.behind)
+fits-there z x n k at b =
+    is_some-resized_in_place z.shape (need z.shape.heads n) x z.heap.map b.named.here.size b.named.before b.named.here.kind b.named.behind (there z x n k at b)
+    ∙ ap (λ j. nat_le j (b.named.here.size + free_in_front b.named.behind)) (sym b.size)
+
+-- it can have them in its gap, if it and the gap have them
+pub fits-gap : (z : ZoneState) (x n k at : ℕ) (b : Standing z x n k at) (found : FoundGap) → IsGapOf z (gap_to_grow z.heap.table x z.heap.map) found
+    → is_some (resized_in_gap z.shape z.heap.table (need z.shape.heads n) x z.heap.map) ≡ nat_le k (b.named.here.size + found.room)
+fits-gap z x n k at b found is =
+    is_some-resized_in_gap z.shape z.heap.table (need z.shape.heads n) x z.heap.map b.sound.suits (named_once z.shape z.heap.table z.heap.map x b.sound.suits b.block)
+    ∙ ap (λ j. nat_le j (size_of x z.heap.map + room_of (gap_to_grow z.heap.table x z.heap.map))) (sym b.size)
+    ∙ ap (λ m. nat_le k (m + room_of (gap_to_grow z.heap.table x z.heap.map))) (sym (size-there z x n k at b))
+    ∙ ap (λ o. nat_le k (b.named.here.size + room_of o)) is.is ∙ ap (λ m. nat_le k (b.named.here.size + m)) (sym is.room)
+
+-- where it has them where it is, the zone stays sound
+pub there-sound : (z new : ZoneState) (x n : ℕ) → SoundZone z → has_block z.heap.table x ≡ true → is_lent z.heap.table x ≡ false → resized_there z.shape x n z.heap ≡ Some new.heap → new.shape ≡ z.shape → SoundZone new
+there-sound z new x n sound block here is shape = record {
+  sound = subst (λ s. Sound s new.heap) (sym shape) (sound-there z.shape z.heap new.heap x n sound.sound block is);
+  fixed = fixed-kept z.shape z.heap new.heap (keeps-there z.shape z.heap new.heap x n sound.sound here is) sound.fixed;
+}
+
+-- and what is lent is kept
+pub there-loans : (z new : ZoneState) (x n : ℕ) → SoundZone z → is_lent z.heap.table x ≡ false → resized_there z.shape x n z.heap ≡ Some new.heap → new.shape ≡ z.shape → new.memory ≡ z.memory → KeepsLoans z new
+there-loans z new x n sound here is shape memory = keeps-loans z new memory shape (keeps-there z.shape z.heap new.heap x n sound.sound here is)
+
+-- the gap behind a block that stays begins at an address
+abbrev pub gap-behind-at : (z : ZoneState) (x : ℕ) (found : FoundGap) → stays z.heap.table x ≡ true → IsGapOf z (gap_to_grow z.heap.table x z.heap.map) found → GapAt z found.start
+gap-behind-at z x found fixed is = record {
+  gap = is.gap;
+  among = find-contains (λ g. ends_with x g.before) (gaps z.heap.table z.heap.map) is.gap (ap (λ c. cond c (gap_behind x (gaps z.heap.table z.heap.map)) (own_gap x (gaps z.heap.table z.heap.map))) (sym fixed) ∙ is.is);
+  place = is.start;
+}
+
+-- arranged up, it has made way
+pub way-behind : (z : ZoneState) (x : ℕ) (found : FoundGap) → stays z.heap.table x ≡ true → (is : IsGapOf z (gap_to_grow z.heap.table x z.heap.map) found) → filled is.gap (up is.gap.blocks) ≡ way_made z.heap.table x z.heap.map
+way-behind z x found fixed is =
+    ap (λ c. filled is.gap (cond c (up is.gap.blocks) (open_at x is.gap.blocks))) (sym fixed) ∙ ap (λ o. option_map_or (opened_for z.heap.table x) o z.heap.map) (sym is.is)
+
+-- the map in which way is made leaves the heap sound
+way-Sound : (s : Shape) (heap : Heap) (x : ℕ) → Sound s heap → Sound s (record heap { map = way_made heap.table x heap.map })
+way-Sound s heap x sound =
+    elim (stays heap.table x) as (λ c. Sound s (record heap { map = option_map_or (λ (g : Gap). filled g (cond c (up g.blocks) (open_at x g.blocks))) (cond c (gap_behind x (gaps heap.table heap.map)) (own_gap x (gaps heap.table heap.map))) heap.map })) [
+      | true ↦ behind (gap_behind x (gaps heap.table heap.map)) refl
+      | false ↦ own (own_gap x (gaps heap.table heap.map)) refl
+    ]
+  where
+    behind : (o : Option Gap) → gap_behind x (gaps heap.table heap.map) ≡ o → Sound s (record heap { map = option_map_or (λ (g : Gap). filled g (up g.blocks)) o heap.map })
+    behind None none = sound
+    behind (Some g) found = Sound-arranged s heap.table heap g (up g.blocks) (gap_behind-is heap.table heap.map x g found).0 (up-IsArrangement g.blocks) sound
+
+    own : (o : Option Gap) → own_gap x (gaps heap.table heap.map) ≡ o → Sound s (record heap { map = option_map_or (λ (g : Gap). filled g (open_at x g.blocks)) o heap.map })
+    own None none = sound
+    own (Some g) found = let is = own_gap-is heap.table heap.map x g found in Sound-arranged s heap.table heap g (open_at x g.blocks) is.0 (open_at-IsArrangement x g.blocks is.1) sound
+
+-- the zone in which way is made is sound
+pub way-sound : (z new : ZoneState) (x : ℕ) → SoundZone z → new ≡ with_map (way_made z.heap.table x z.heap.map) z → SoundZone new
+way-sound z new x sound is = subst SoundZone (sym is) (record { sound = way-Sound z.shape z.heap x sound.sound; fixed = sound.fixed })
+
+-- a block that fits in its gap fits where it is once way is made
+pub way-fits : (s : Shape) (t : HandleTable) (k x : ℕ) (m : ZoneMap) → is_some (resized_in_gap s t k x m) ≡ true → resized_in_gap s t k x m ≡ resized_in_place s k x (way_made t x m)
+way-fits s t k x m fits = by_gap (gap_to_grow t x m) fits
+  where
+    by_gap : (o : Option Gap) → is_some (option_and_then (λ g. resized_in_place s k x (opened_for t x g)) o) ≡ true
+        → option_and_then (λ g. resized_in_place s k x (opened_for t x g)) o ≡ resized_in_place s k x (option_map_or (opened_for t x) o m)
+    by_gap None fits = absurd (cc fits)
+    by_gap (Some g) fits = refl
+
+-- the gap in which a block can grow is one
+to_grow-is : (t : HandleTable) (m : ZoneMap) (x : ℕ) (g : Gap) → gap_to_grow t x m ≡ Some g → IsGap t m g
+to_grow-is t m x g = elim (stays t x) as (λ c. cond c (gap_behind x (gaps t m)) (own_gap x (gaps t m)) ≡ Some g → IsGap t m g) [
+  | true ↦ λ found. (gap_behind-is t m x g found).0
+  | false ↦ λ found. (own_gap-is t m x g found).0
+]
+
+-- its room lies within the zone
+pub room-within : (z : ZoneState) (x : ℕ) → SoundZone z → (found : FoundGap) → IsGapOf z (gap_to_grow z.heap.table x z.heap.map) found → found.room ≤ z.shape.limit
+room-within z x sound found is =
+    let g : Gap = is.gap in
+    let i = to_grow-is z.heap.table z.heap.map x g is.is in
+    let all : total_size z.heap.map ≡ total_size (g.before ++ g.blocks) + total_size g.behind = ap total_size i.parts ∙ total_size-append (g.before ++ g.blocks) g.behind in
+    omega (arith, all, total_size-append g.before g.blocks, total_size-used g.blocks, is.room, sound.sound.within)
+
+-- so does a block
+pub here-within : (z : ZoneState) (at : ℕ) (e : EntryAt z at) → Sound z.shape z.heap → e.here.size ≤ z.shape.limit
+here-within z at e sound =
+    let all : total_size z.heap.map ≡ total_size e.before + (e.here.size + total_size e.behind) = ap total_size e.map ∙ total_size-append e.before (e.here ∷ e.behind) in
+    omega (arith, all, sound.within)
+
+-- a gap opened at a block that may move has made way
+pub way-own : (t : HandleTable) (x : ℕ) (m : ZoneMap) → stays t x ≡ false → opened_after t x m ≡ way_made t x m
+way-own t x m moves = ap (λ c. option_map_or (λ (g : Gap). filled g (cond c (up g.blocks) (open_at x g.blocks))) (cond c (gap_behind x (gaps t m)) (own_gap x (gaps t m))) m) (sym moves)

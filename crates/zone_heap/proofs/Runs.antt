@@ -1,0 +1,154 @@
+-- Bytes that count between blocks that bound them, and how they grow where blocks become free.
+use Rattle.std.proofs.Common.{◌≡◌, ℕ, ◌+◌, ◌≤◌, Bool, true, false, not, cond, List, [], ◌∷◌, ◌++◌, refl, ap, sym, ◌∙◌, arith, append_assoc, append-nil, subst, IsTrue, inl, inr, length}
+use Rattle.std.specs.Prelude.{◌&&◌, ◌||◌, ◌⊎◌, nat_le, Option, Some, None}
+use Rattle.std.proofs.lemmas.Bool.{or_parts}
+use Rattle.std.proofs.lemmas.List.{map-append}
+use Rattle.mac_base.specs.declared.block.Entry.{Entry}
+use Rattle.mac_base.specs.declared.block.Kind.{Kind}
+use Rattle.mac_base.specs.declared.block.Kind.TheVariants.{Free, Master, Ptr, Rel}
+use Rattle.mac_base.specs.ZoneMap.{ZoneMap, block, total_size}
+use Rattle.zone_gaps.proofs.Sizes.{total_size-push}
+use Rattle.zone_heap.specs.Purge.{IsLimit, bytes_before, freed_where, run_has, size_if}
+use Rattle.zone_heap.specs.declared.purge.Limit.{Limit}
+
+-- a list that ends with an element, in two parts: what holds where the second begins with it, and where it begins before, holds
+split_push : (P : ZoneMap → Entry → ZoneMap → Type 0) (done : ZoneMap) (e : Entry) (a : ZoneMap) (f : Entry) (b : ZoneMap) → done ++ e ∷ [] ≡ a ++ f ∷ b
+    → P done e [] → ((c : ZoneMap) → done ≡ a ++ f ∷ c → P a f (c ++ e ∷ [])) → P a f b
+split_push P [] e [] f b is last before = let first : e ≡ f = cc is in let none : [] ≡ b = cc is in subst (λ b. P [] f b) none (subst (λ f. P [] f []) first last)
+split_push P [] e (g ∷ a) f b is last before = absurd (nothing a (let none : [] ≡ a ++ f ∷ b = cc is in none))
+  where
+    nothing : (a : ZoneMap) → [] ≡ a ++ f ∷ b → ⊥
+    nothing [] is = cc is
+    nothing (g ∷ a) is = cc is
+split_push P (d ∷ ds) e [] f b is last before =
+    let first : d ≡ f = cc is in
+    let rest : ds ++ e ∷ [] ≡ b = cc is in
+    subst (λ b. P [] f b) rest (before ds (ap (λ f. f ∷ ds) first))
+split_push P (d ∷ ds) e (g ∷ a) f b is last before =
+    let first : d ≡ g = cc is in
+    let rest : ds ++ e ∷ [] ≡ a ++ f ∷ b = cc is in
+    subst (λ g. P (g ∷ a) f b) first (split_push (λ a f b. P (d ∷ a) f b) ds e a f b rest last (λ c was. subst (λ g. P (g ∷ a) f (c ++ e ∷ [])) (sym first) (before c (ap (λ ds. d ∷ ds) was ∙ ap (λ g. g ∷ (a ++ f ∷ c)) first))))
+
+no_more : (k n : ℕ) → nat_le k n ≡ nat_le k (n + 0)
+no_more k n = ap (nat_le k) (let e : n ≡ n + 0 = omega arith in e)
+
+or_none : (a b : Bool) → b ≡ false → (a || b) ≡ a
+or_none true b h = refl
+or_none false b h = h
+
+module _ (bounds counted : Kind → Bool) (k : ℕ) where
+  -- where k bytes count nowhere with r more before the first block, they count where the first bytes and s more are so many
+  pub more-run : (r s : ℕ) (es : ZoneMap) → run_has bounds counted k r es ≡ false → run_has bounds counted k s es ≡ nat_le k (s + bytes_before bounds counted es)
+  more-run r s [] none = no_more k s
+  more-run r s (e ∷ es) none =
+      let rest = more-run (r + size_if counted e) (s + size_if counted e) es in
+      elim (bounds e.kind) as (λ c. cond c (nat_le k r || run_has bounds counted k 0 es) (run_has bounds counted k (r + size_if counted e) es) ≡ false
+      → cond c (nat_le k s || run_has bounds counted k 0 es) (run_has bounds counted k (s + size_if counted e) es) ≡ nat_le k (s + cond c 0 (size_if counted e + bytes_before bounds counted es))) [
+        | true ↦ λ none. or_none (nat_le k s) _ (or_parts (nat_le k r) (run_has bounds counted k 0 es) none).1 ∙ no_more k s
+        | false ↦ λ none. rest none ∙ ap (nat_le k) (let e : s + size_if counted e + bytes_before bounds counted es ≡ s + (size_if counted e + bytes_before bounds counted es) = omega arith in e)
+      ] none
+
+  -- the bytes that count are among all
+  pub bytes-within : (es : ZoneMap) → bytes_before bounds counted es ≤ total_size es
+  bytes-within [] = omega arith
+  bytes-within (e ∷ es) =
+      let rest = bytes-within es in
+      elim (bounds e.kind) as (λ c. cond c 0 (size_if counted e + bytes_before bounds counted es) ≤ e.size + total_size es) [
+        | true ↦ omega arith
+        | false ↦ elim (counted e.kind) as (λ c. cond c e.size 0 + bytes_before bounds counted es ≤ e.size + total_size es) [ true ↦ omega arith | false ↦ omega arith ]
+      ]
+
+  module _ (purged : Kind → Bool) (free_counts : counted Free ≡ true) (free_moves : bounds Free ≡ false) where
+    -- The blocks passed are purged, and fewer don't do: some bytes run on from them, and k bytes count nowhere.
+    pub record Swept (done rest : ZoneMap) (run : ℕ) : Type 0 where
+      pub swept : (es : ZoneMap) → run_has bounds counted k 0 (freed_where purged done ++ es) ≡ run_has bounds counted k run es
+      pub none : run_has bounds counted k run rest ≡ false
+      pub least : (a : ZoneMap) (e : Entry) (b : ZoneMap) → done ≡ a ++ e ∷ b → purged e.kind ≡ true → run_has bounds counted k 0 (freed_where purged a ++ e ∷ (b ++ rest)) ≡ false
+      pub few : run ≤ total_size done
+
+    -- at first none is passed
+    pub none_swept : (rest : ZoneMap) → run_has bounds counted k 0 rest ≡ false → Swept [] rest 0
+    none_swept rest none = record { swept = λ es. refl; none = none; least = λ a e b is passes. absurd (nothing a e b is); few = omega arith }
+      where
+        nothing : (a : ZoneMap) (e : Entry) (b : ZoneMap) → [] ≡ a ++ e ∷ b → ⊥
+        nothing [] e b is = cc is
+        nothing (g ∷ a) e b is = cc is
+
+    module _ (done : ZoneMap) (e : Entry) (es : ZoneMap) (run : ℕ) (s : Swept done (e ∷ es) run) where
+      -- one more block is passed
+      push_swept : (rest : ZoneMap) → freed_where purged (done ++ e ∷ []) ++ rest ≡ freed_where purged done ++ cond (purged e.kind) (block Free e.size) e ∷ rest
+      push_swept rest = ap (λ m. m ++ rest) (map-append _ done (e ∷ [])) ∙ append_assoc (freed_where purged done) (cond (purged e.kind) (block Free e.size) e ∷ []) rest
+
+      -- fewer don't do
+      pub least_on : (a : ZoneMap) (f : Entry) (b : ZoneMap) → done ++ e ∷ [] ≡ a ++ f ∷ b → purged f.kind ≡ true → run_has bounds counted k 0 (freed_where purged a ++ f ∷ (b ++ es)) ≡ false
+      least_on a f b is = split_push (λ a f b. purged f.kind ≡ true → run_has bounds counted k 0 (freed_where purged a ++ f ∷ (b ++ es)) ≡ false) done e a f b is
+          (λ passes. s.swept (e ∷ es) ∙ s.none)
+          (λ c was passes. ap (λ m. run_has bounds counted k 0 (freed_where purged a ++ f ∷ m)) (append_assoc c (e ∷ []) es) ∙ s.least a f c was passes)
+
+      -- a block that stays and bounds
+      pub bound_swept : purged e.kind ≡ false → bounds e.kind ≡ true → Swept (done ++ e ∷ []) es 0
+      bound_swept stays bounding =
+          let parts = or_parts (nat_le k run) (run_has bounds counted k 0 es) (sym (ap (λ c. cond c (nat_le k run || run_has bounds counted k 0 es) (run_has bounds counted k (run + size_if counted e) es)) bounding) ∙ s.none) in
+          record {
+            swept = λ rest. ap (run_has bounds counted k 0) (push_swept rest ∙ ap (λ c. freed_where purged done ++ cond c (block Free e.size) e ∷ rest) stays) ∙ s.swept (e ∷ rest)
+                ∙ ap (λ c. cond c (nat_le k run || run_has bounds counted k 0 rest) (run_has bounds counted k (run + size_if counted e) rest)) bounding ∙ ap (λ c. c || run_has bounds counted k 0 rest) parts.0;
+            none = parts.1;
+            least = least_on;
+            few = omega arith;
+          }
+
+      -- one that stays and doesn't
+      pub pass_swept : purged e.kind ≡ false → bounds e.kind ≡ false → Swept (done ++ e ∷ []) es (run + size_if counted e)
+      pass_swept stays open_here = record {
+        swept = λ rest. ap (run_has bounds counted k 0) (push_swept rest ∙ ap (λ c. freed_where purged done ++ cond c (block Free e.size) e ∷ rest) stays) ∙ s.swept (e ∷ rest)
+            ∙ ap (λ c. cond c (nat_le k run || run_has bounds counted k 0 rest) (run_has bounds counted k (run + size_if counted e) rest)) open_here;
+        none = sym (ap (λ c. cond c (nat_le k run || run_has bounds counted k 0 es) (run_has bounds counted k (run + size_if counted e) es)) open_here) ∙ s.none;
+        least = least_on;
+        few = (let was = s.few in let all = total_size-push done e in let size = size_most (counted e.kind) e.size in omega arith);
+      }
+        where
+          size_most : (c : Bool) (n : ℕ) → cond c n 0 ≤ n
+          size_most true n = omega arith
+          size_most false n = omega arith
+
+      -- one that is purged
+      pub purge_eq : purged e.kind ≡ true → (rest : ZoneMap) → run_has bounds counted k 0 (freed_where purged (done ++ e ∷ []) ++ rest) ≡ run_has bounds counted k (run + e.size) rest
+      purge_eq goes rest =
+          ap (run_has bounds counted k 0) (push_swept rest ∙ ap (λ c. freed_where purged done ++ cond c (block Free e.size) e ∷ rest) goes) ∙ s.swept (block Free e.size ∷ rest)
+          ∙ ap (λ c. cond c (nat_le k run || run_has bounds counted k 0 rest) (run_has bounds counted k (run + size_if counted (block Free e.size)) rest)) free_moves
+          ∙ ap (λ c. run_has bounds counted k (run + cond c e.size 0) rest) free_counts
+
+      pub purge_swept : purged e.kind ≡ true → run_has bounds counted k (run + e.size) es ≡ false → Swept (done ++ e ∷ []) es (run + e.size)
+      purge_swept goes none = record { swept = purge_eq goes; none = none; least = least_on; few = (let was = s.few in let all = total_size-push done e in omega arith) }
+
+      -- purging ends with it where it is enough
+      pub limit_here : (from at : ℕ) → purged e.kind ≡ true → run_has bounds counted k (run + e.size) es ≡ true → (blocks : ZoneMap) → blocks ≡ (done ++ e ∷ []) ++ es → at ≡ from + total_size (done ++ e ∷ [])
+          → IsLimit bounds counted purged k blocks from (record { start = from; end = at; enough = true })
+      limit_here from at goes enough blocks parts place = record {
+        below = done ++ e ∷ [];
+        above = es;
+        parts = parts;
+        start = refl;
+        end = place;
+        least = least_on;
+        enough = sym (purge_eq goes es ∙ enough);
+        last = inl refl;
+      }
+
+      -- k bytes count nowhere behind it
+      pub none_behind : (stays : Bool) → bounds e.kind ≡ stays → run_has bounds counted k (cond stays 0 (run + size_if counted e)) es ≡ false
+      none_behind true bounding = (or_parts (nat_le k run) (run_has bounds counted k 0 es) (sym (ap (λ c. cond c (nat_le k run || run_has bounds counted k 0 es) (run_has bounds counted k (run + size_if counted e) es)) bounding) ∙ s.none)).1
+      none_behind false open_here = sym (ap (λ c. cond c (nat_le k run || run_has bounds counted k 0 es) (run_has bounds counted k (run + size_if counted e) es)) open_here) ∙ s.none
+
+    -- or with the last block
+    pub limit_last : (done : ZoneMap) (run from at : ℕ) → Swept done [] run → (blocks : ZoneMap) → blocks ≡ done ++ [] → at ≡ from + total_size done → IsLimit bounds counted purged k blocks from (record { start = from; end = at; enough = false })
+    limit_last done run from at s blocks parts place = record {
+      below = done;
+      above = [];
+      parts = parts;
+      start = refl;
+      end = place;
+      least = s.least;
+      enough = sym (s.swept [] ∙ s.none);
+      last = inr refl;
+    }

@@ -1,0 +1,61 @@
+use Rattle.std.proofs.Common.{◌≡◌, ◌∙◌, sym, ap, subst}
+use Rattle.mac_base.specs.HeadKind.{need}
+use Rattle.mac_base.specs.ZoneSizes.{ZoneSizes}
+use Rattle.zone_heap.specs.Room.{IsOpened}
+use Rattle.zone_heap.proofs.Replacing.{emptied_zone, replace-refused, replace-room, replace-cuts, replace-empty, replace-point, replace-done, replaced_zone, replace-served, replace-sound, replace-loans}
+use Rattle.zone_heap.proofs.replace.replace.Goals as goal
+use Rattle.zone_heap.proofs.replace.replace.Goals.{After-need_for-needed, After-has_room, In-Some, After-point}
+
+-- how many bytes are needed
+size : (c : After-need_for-needed) → c.need_for-needed.result ≡ need c.args.zone.now.shape.heads c.args.length
+size c = c.need_for-needed.ensures ∙ ap (λ heads. need heads c.args.length) (c.heads.ensures ∙ ap (λ (s : ZoneSizes). s.heads) c.spec.ensures.sizes)
+
+-- a free block is opened for them in the zone without the old block
+opened : (c : In-Some) → IsOpened (emptied_zone c.args.handle c.args.zone.now) c.need_for-needed.result c.in-Some.at c.open_lowest.new.zone
+opened c = subst (λ w. IsOpened w c.need_for-needed.result c.in-Some.at c.open_lowest.new.zone) c.empty.ensures.zone c.in-Some.ensures.room
+
+-- the handle has it then
+after : (c : After-point) → c.point.new.self
+    ≡ replaced_zone c.args.zone.now c.args.handle c.args.length c.requires.ready c.need_for-needed.result (size (goal.at.After-point c).After-need_for-needed) c.open_lowest.new.zone c.in-Some.at (opened (goal.at.After-point c).In-Some) c.in-Some.ensures.sound
+after c =
+    replace-done c.args.zone.now c.args.handle c.args.length c.requires.ready c.need_for-needed.result (size (goal.at.After-point c).After-need_for-needed) c.open_lowest.new.zone c.in-Some.at (opened (goal.at.After-point c).In-Some) c.in-Some.ensures.sound
+    c.cut.new.pointers c.cut.ensures c.point.new.self c.point.ensures
+
+pub returns-then-not-has_room-clause-attempt : goal.returns-then-not-has_room-clause-attempt
+returns-then-not-has_room-clause-attempt c =
+    replace-refused c.args.zone.now c.args.handle c.args.length c.requires.ready c.need_for-needed.result (size (goal.at.returns-then-not-has_room-clause-attempt c).After-need_for-needed) (sym c.has_room.ensures ∙ c.if-not-has_room.true)
+
+pub unreachable-requires : goal.unreachable-requires
+unreachable-requires c =
+    replace-room c.args.zone.now c.args.handle c.args.length c.requires.ready c.need_for-needed.result (size (goal.at.unreachable-requires c).After-need_for-needed) (sym c.has_room.ensures ∙ c.if-not-has_room.false)
+    c.empty.new.pointers c.open_lowest.new.zone c.empty.ensures.zone c.in_default.ensures.room
+
+pub cut-requires : goal.cut-requires
+cut-requires c =
+    replace-cuts c.args.zone.now c.args.handle c.args.length c.requires.ready c.need_for-needed.result (size (goal.at.cut-requires c).After-need_for-needed) c.open_lowest.new.zone c.in-Some.at (opened (goal.at.cut-requires c).In-Some) c.in-Some.ensures.sound
+
+pub point-requires-clause-empty : goal.point-requires-clause-empty
+point-requires-clause-empty c =
+    let w = goal.at.point-requires-clause-empty c in
+    replace-empty c.args.zone.now c.args.handle c.args.length c.requires.ready c.need_for-needed.result (size w.After-need_for-needed) c.open_lowest.new.zone c.in-Some.at (opened w.In-Some) c.in-Some.ensures.sound c.cut.new.pointers c.cut.ensures
+
+pub point-requires-clause-room : goal.point-requires-clause-room
+point-requires-clause-room c =
+    let w = goal.at.point-requires-clause-room c in
+    replace-point c.args.zone.now c.args.handle c.args.length c.requires.ready c.need_for-needed.result (size w.After-need_for-needed) c.open_lowest.new.zone c.in-Some.at (opened w.In-Some) c.in-Some.ensures.sound c.cut.new.pointers c.cut.ensures
+
+pub returns-clause-attempt : goal.returns-clause-attempt
+returns-clause-attempt c =
+    let w = goal.at.returns-clause-attempt c in
+    replace-served c.args.zone.now c.args.handle c.args.length c.requires.ready c.need_for-needed.result (size w.After-need_for-needed) c.open_lowest.new.zone c.in-Some.at (opened w.In-Some) c.in-Some.ensures.sound c.point.new.self (after w.After-point)
+
+pub returns-clause-loans : goal.returns-clause-loans
+returns-clause-loans c =
+    let w = goal.at.returns-clause-loans c in
+    replace-loans c.args.zone.now c.args.handle c.args.length c.requires.ready c.need_for-needed.result (size w.After-need_for-needed) c.open_lowest.new.zone c.in-Some.at (opened w.In-Some) c.in-Some.ensures.sound c.point.new.self (after w.After-point)
+    c.empty.new.pointers c.empty.ensures.loans c.in-Some.ensures.loans
+
+pub returns-clause-sound : goal.returns-clause-sound
+returns-clause-sound c =
+    let w = goal.at.returns-clause-sound c in
+    replace-sound c.args.zone.now c.args.handle c.args.length c.requires.ready c.need_for-needed.result (size w.After-need_for-needed) c.open_lowest.new.zone c.in-Some.at (opened w.In-Some) c.in-Some.ensures.sound c.point.new.self (after w.After-point) c.requires.sound

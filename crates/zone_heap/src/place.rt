@@ -1,0 +1,195 @@
+//! New blocks, each where its definition places it.
+
+use crate::shortage::Shortage;
+use crate::zone::{Zone, cut};
+use linked_zone::LinkedZone;
+use mac_base::handle::{Handle, Ptr};
+use mac_base::size::{MASTER_LENGTH, need_for};
+use mac_base::zone_spec::ADDRESS_END;
+use zone_gaps::{lowest_gap, squeeze_down, squeeze_up};
+
+impl Zone {
+    ghost use Rattle.std.specs.Prelude.{◌≤◌, MatchResult};
+    ghost use Rattle.mac_base.specs.HeadKind.{max_size};
+    ghost use Rattle.mac_base.specs.Sound.{Sound};
+    ghost use Rattle.mac_base.specs.declared.request.Request.TheVariants.{NewBlock, NewEmpty, NewPointer, NewMaster, Reserve};
+    ghost use Rattle.linked_zone.specs.Loans.{KeepsLoans};
+    ghost use Rattle.zone_heap.specs.Attempts.{Attempts, IsServed, IsRefused};
+
+    /// Allocates a relocatable block of `length` bytes, all of them zero, and gives a handle to it. The block takes the
+    /// lowest free block that is large enough, or else the lowest gap with room, whose blocks are moved down to create it.
+    pub fn new_block(&mut self, length: u32) -> Result<Handle, Shortage>
+        requires size { length ≤ max_size }
+        ensures sound { Sound self.old.shape self.old.heap }
+        ensures attempt { Attempts (NewBlock length) self.old result self.new }
+        ensures loans { KeepsLoans self.old self.new }
+    {
+        new_block(&mut self.pointers, length)
+    }
+
+    /// Allocates a master pointer, and gives it as an empty handle. There is none only where no master pointer is free.
+    pub fn new_empty(&mut self) -> Result<Handle, Shortage>
+        ensures sound { Sound self.old.shape self.old.heap }
+        ensures attempt { Attempts NewEmpty self.old result self.new }
+        ensures loans { KeepsLoans self.old self.new }
+    {
+        new_empty(&mut self.pointers)
+    }
+
+    /// Allocates a nonrelocatable block of `length` bytes, all of them zero, and gives a pointer to it. The block is as low
+    /// as possible: at the start of the lowest gap with room, whose blocks are moved up out of its way.
+    pub fn new_pointer(&mut self, length: u32) -> Result<Ptr, Shortage>
+        requires size { length ≤ max_size }
+        ensures sound { Sound self.old.shape self.old.heap }
+        ensures attempt { Attempts (NewPointer length) self.old result self.new }
+        ensures loans { KeepsLoans self.old self.new }
+    {
+        new_pointer(&mut self.pointers, length)
+    }
+
+    /// Allocates a block of 64 additional master pointers, and gives the address of the first. They are the next to be
+    /// used, and their block is nonrelocatable, placed as `new_pointer` places one.
+    pub fn new_master(&mut self) -> Result<u32, Shortage>
+        ensures sound { Sound self.old.shape self.old.heap }
+        ensures attempt { Attempts NewMaster self.old result self.new }
+        ensures loans { KeepsLoans self.old self.new }
+    {
+        new_master(&mut self.pointers)
+    }
+
+    /// Creates free space for a block of `length` bytes as low as possible: at the start of the lowest gap with room, whose
+    /// blocks are moved up. The space isn't allocated: it stays free.
+    pub fn reserve(&mut self, length: u32) -> Result<(), Shortage>
+        requires size { length ≤ max_size }
+        ensures sound { Sound self.old.shape self.old.heap }
+        ensures attempt { MatchResult result (λ _. IsServed (Reserve length) self.old 0 self.new) (λ why. IsRefused (Reserve length) self.old why self.new) }
+        ensures loans { KeepsLoans self.old self.new }
+    {
+        reserve(&mut self.pointers, length)
+    }
+}
+
+ghost use Rattle.std.specs.Prelude.{◌<◌, ◌≤◌, MatchOption, MatchResult};
+ghost use Rattle.mac_base.specs.HeadKind.{max_size};
+ghost use Rattle.mac_base.specs.declared.request.Request.TheVariants.{NewBlock, NewEmpty, NewPointer, NewMaster, Reserve};
+ghost use Rattle.linked_zone.specs.Loans.{KeepsLoans};
+ghost use Rattle.zone_heap.specs.Attempts.{Attempts, IsServed, IsRefused, SoundZone};
+ghost use Rattle.zone_heap.specs.Room.{IsCleared, IsOpened, LacksRoom};
+
+/// A new handle with `length` bytes of zero: in the lowest free block that has room, or else in the lowest gap with room,
+/// arranged down.
+pub(crate) fn new_block(zone: &mut LinkedZone, length: u32) -> Result<Handle, Shortage>
+    requires size { length ≤ max_size }
+    requires sound { SoundZone zone.old }
+    ensures attempt { Attempts (NewBlock length) zone.old result zone.new }
+    ensures loans { KeepsLoans zone.old zone.new }
+    ensures sound { SoundZone zone.new }
+{
+    if !zone.has_slot() {
+        return Err(Shortage::NoSlot);
+    }
+    let needed = need_for(zone.spec().heads(), length);
+    let Some(at) = open_lowest(zone, needed) else {
+        return Err(Shortage::NoRoom);
+    };
+    let Some(handle) = zone.take() else {
+        unreachable!();
+    };
+    cut(zone, at, needed);
+    zone.point(handle, at, length);
+    Ok(handle)
+}
+
+/// A new empty handle. There is none exactly where no slot is free.
+pub(crate) fn new_empty(zone: &mut LinkedZone) -> Result<Handle, Shortage>
+    requires sound { SoundZone zone.old }
+    ensures attempt { Attempts NewEmpty zone.old result zone.new }
+    ensures loans { KeepsLoans zone.old zone.new }
+    ensures sound { SoundZone zone.new }
+{
+    zone.take().ok_or(Shortage::NoSlot)
+}
+
+/// A new pointer to `length` bytes of zero, at the start of the lowest gap with room.
+pub(crate) fn new_pointer(zone: &mut LinkedZone, length: u32) -> Result<Ptr, Shortage>
+    requires size { length ≤ max_size }
+    requires sound { SoundZone zone.old }
+    ensures attempt { Attempts (NewPointer length) zone.old result zone.new }
+    ensures loans { KeepsLoans zone.old zone.new }
+    ensures sound { SoundZone zone.new }
+{
+    let needed = need_for(zone.spec().heads(), length);
+    let Some(at) = clear_lowest(zone, needed) else {
+        return Err(Shortage::NoRoom);
+    };
+    cut(zone, at, needed);
+    Ok(zone.fix(at, length))
+}
+
+/// A new master block, at the start of the lowest gap with room. Gives the address of its first slot.
+pub(crate) fn new_master(zone: &mut LinkedZone) -> Result<u32, Shortage>
+    requires sound { SoundZone zone.old }
+    ensures attempt { Attempts NewMaster zone.old result zone.new }
+    ensures loans { KeepsLoans zone.old zone.new }
+    ensures sound { SoundZone zone.new }
+{
+    let spec = zone.spec();
+    prove!(spec.base() + spec.limit() <= ADDRESS_END);
+    let heads = spec.heads();
+    let needed = need_for(heads, MASTER_LENGTH);
+    let Some(at) = clear_lowest(zone, needed) else {
+        return Err(Shortage::NoRoom);
+    };
+    cut(zone, at, needed);
+    zone.build_master(at);
+    Ok(at + heads.head_size())
+}
+
+/// Room for a pointer to `length` bytes, at the start of the lowest gap with room. It stays free.
+pub(crate) fn reserve(zone: &mut LinkedZone, length: u32) -> Result<(), Shortage>
+    requires size { length ≤ max_size }
+    requires sound { SoundZone zone.old }
+    ensures attempt { MatchResult result (λ _. IsServed (Reserve length) zone.old 0 zone.new) (λ why. IsRefused (Reserve length) zone.old why zone.new) }
+    ensures loans { KeepsLoans zone.old zone.new }
+    ensures sound { SoundZone zone.new }
+{
+    let needed = need_for(zone.spec().heads(), length);
+    match clear_lowest(zone, needed) {
+        Some(_) => Ok(()),
+        None => Err(Shortage::NoRoom),
+    }
+}
+
+/// The address of a free block of at least `needed` bytes for a relocatable block: the lowest, or where there is none that
+/// of the lowest gap with room, arranged down.
+pub(crate) fn open_lowest(zone: &mut LinkedZone, needed: u32) -> Option<u32>
+    requires some { 0 < needed }
+    requires sound { SoundZone zone.old }
+    ensures room { MatchOption result (LacksRoom needed zone.old zone.new) (λ at. IsOpened zone.old needed at zone.new) }
+    ensures loans { KeepsLoans zone.old zone.new }
+    ensures sound { SoundZone zone.new }
+{
+    if let Some(at) = zone.lowest_free(needed) {
+        return Some(at);
+    }
+    let found = lowest_gap(zone, needed)?;
+    squeeze_down(zone, found.start);
+    Some(found.end - found.room)
+}
+
+/// The start of the lowest gap with room for `needed` bytes. The gap begins with so many free bytes: it is arranged up
+/// where it doesn't yet.
+fn clear_lowest(zone: &mut LinkedZone, needed: u32) -> Option<u32>
+    requires some { 0 < needed }
+    requires sound { SoundZone zone.old }
+    ensures room { MatchOption result (LacksRoom needed zone.old zone.new) (λ at. IsCleared zone.old needed at zone.new) }
+    ensures loans { KeepsLoans zone.old zone.new }
+    ensures sound { SoundZone zone.new }
+{
+    let found = lowest_gap(zone, needed)?;
+    let first = zone.entry_at(found.start);
+    if !first.kind.is_free() || first.size < needed {
+        squeeze_up(zone, found.start);
+    }
+    Some(found.start)
+}

@@ -1,0 +1,468 @@
+//! Purging: handles that may be purged become empty, in order of address, until it is enough.
+
+impl Zone {
+    ghost use Rattle.std.specs.Prelude.{◌≡◌, nat_le, IsTrue, IsFalse, MatchResult};
+    ghost use Rattle.mac_base.specs.declared.request.Request.TheVariants.{Replace};
+    ghost use Rattle.mac_base.specs.Heap.{all_purged};
+    ghost use Rattle.mac_base.specs.Purging.{purged, purged_for};
+    ghost use Rattle.mac_base.specs.Request.{fits};
+    ghost use Rattle.mac_base.specs.Sound.{Sound};
+    ghost use Rattle.mac_base.specs.ZoneMap.{largest_free};
+    ghost use Rattle.mac_base.specs.ZoneState.{with_heap};
+    ghost use Rattle.linked_zone.specs.Loans.{KeepsLoans};
+    ghost use Rattle.zone_heap.specs.Attempts.{CanAsk, IsServed, IsRefused};
+    ghost use Rattle.zone_heap.specs.Purge.{is_protected};
+
+    /// Purges for a request that doesn't fit: relocatable blocks that are unlocked, purgeable and not protected are purged, in
+    /// order of address, until it does. No more are purged than that takes, and all where it never does; a purged block's
+    /// handle is empty. Gives whether the request fits then (Inside Macintosh: Memory, "Freeing Memory").
+    pub fn purge_for(&mut self, request: Request, protected: &[u32]) -> bool
+        requires ready { CanAsk self.old request }
+        requires protects { IsTrue (is_protected protected.now request) }
+        requires no_room { IsFalse (fits self.old.shape self.old.heap.table request self.old.heap.map) }
+        ensures sound { Sound self.old.shape self.old.heap }
+        ensures zone { self.new ≡ with_heap (purged self.old.shape protected.now request self.old.heap) self.old }
+        ensures fits { result ≡ fits self.new.shape self.new.heap.table request self.new.heap.map }
+        ensures loans { KeepsLoans self.old self.new }
+    {
+        purge_for(&mut self.pointers, request, protected)
+    }
+
+    /// Purges relocatable blocks that are unlocked and purgeable, in order of address, until `needed` bytes are free in one
+    /// block, and no more than that takes. Gives whether so many are (Inside Macintosh: Memory, "PurgeMem").
+    pub fn purge_to(&mut self, needed: u32) -> bool
+        ensures sound { Sound self.old.shape self.old.heap }
+        ensures zone { self.new ≡ with_heap (purged_for needed self.old.heap) self.old }
+        ensures enough { result ≡ nat_le needed (largest_free self.new.heap.map) }
+        ensures loans { KeepsLoans self.old self.new }
+    {
+        purge_to(&mut self.pointers, needed)
+    }
+
+    /// Purges all relocatable blocks that are unlocked and purgeable (Inside Macintosh: Memory, "MaxMem").
+    pub fn purge_all(&mut self)
+        ensures sound { Sound self.old.shape self.old.heap }
+        ensures zone { self.new ≡ with_heap (all_purged self.old.heap) self.old }
+        ensures loans { KeepsLoans self.old self.new }
+    {
+        purge_all(&mut self.pointers);
+    }
+}
+
+ghost use Rattle.std.specs.Prelude.{◌≡◌, ◌&&◌, ◌≤◌, nat_le, IsTrue, IsFalse, [], Some, None};
+ghost use Rattle.mac_base.specs.Gap.{gaps, some_gap_has};
+ghost use Rattle.mac_base.specs.HandleTable.{has_block, is_handle, is_locked};
+ghost use Rattle.mac_base.specs.Heap.{all_purged, with_all_emptied};
+ghost use Rattle.mac_base.specs.Purging.{purged, purged_for};
+ghost use Rattle.mac_base.specs.Request.{can_grow, candidates_in, fits, stays};
+ghost use Rattle.mac_base.specs.Suits.{starts_free};
+ghost use Rattle.mac_base.specs.ZoneMap.{address_behind, is_free, largest_free, released};
+ghost use Rattle.mac_base.specs.ZoneState.{with_heap};
+ghost use Rattle.linked_zone.specs.Loans.{KeepsLoans};
+ghost use Rattle.linked_zone.specs.Fit.{HasSizes};
+ghost use Rattle.linked_zone.specs.Places.{EntryAt, HasOwner};
+ghost use Rattle.zone_heap.specs.Attempts.{CanAsk, SoundZone};
+ghost use Rattle.zone_heap.specs.Joins.{all_joined};
+ghost use Rattle.zone_heap.specs.Purge.{BlocksAt, IsLimit, ShortBlocks, ShortGaps, Purges, PurgesFor, PurgesTo, blocks_behind, bounds_gap, bounds_free, bytes_before, counts, handle_to_purge, is_kept, is_protected, may_purge, purged_between, released_if, staying_block, CanCount, HasBlockIf};
+
+use crate::zone::Zone;
+use linked_zone::LinkedZone;
+use mac_base::block::Kind;
+use mac_base::handle::{Handle, Ptr};
+use mac_base::request::Request;
+use mac_base::size::{MASTER_LENGTH, ZONE_HEADER, need_for};
+use mac_base::zone_spec::ADDRESS_END;
+use zone_gaps::{gap_end, is_fixed, zone_end};
+
+/// Which blocks are purged: those between two addresses that may be.
+#[derive(Clone, Copy, Debug, PartialEq, Eq)]
+pub(crate) struct Limit {
+    pub(crate) start: u32,
+    pub(crate) end: u32,
+    /// Whether it is enough to purge them.
+    pub(crate) enough: bool,
+}
+
+/// The handle of a block that may be purged: it is purgeable, not locked and not protected.
+fn handle_to_purge(zone: &LinkedZone, kind: Kind, protected: &[u32]) -> Option<Handle>
+    requires { HasOwner zone.now kind }
+    ensures { result ≡ handle_to_purge zone.now.heap.table protected.now kind }
+{
+    let Kind::Rel(handle) = kind else {
+        return None;
+    };
+    let flags = zone.flags(handle);
+    if flags.purge && !flags.lock && !protected.contains(&handle.number()) {
+        Some(handle)
+    } else {
+        None
+    }
+}
+
+/// Whether a block counts as free: it is, or it is that of the handle of this number.
+fn counts(counted: Option<u32>, kind: Kind) -> bool
+    ensures { result ≡ counts counted kind }
+{
+    if kind.is_free() {
+        return true;
+    }
+    counted.is_some_and(|number| kind.is_named(number))
+}
+
+/// Empties the handles that may be purged and have their blocks between two addresses. The blocks are free, and not joined.
+fn empty_between(zone: &mut LinkedZone, start: u32, end: u32, protected: &[u32])
+    requires blocks { BlocksAt zone.old start end }
+    requires sound { SoundZone zone.old }
+    ensures { (blocks : BlocksAt zone.old start end) → zone.new ≡ purged_between zone.old blocks protected.now }
+{
+    let mut at = start;
+    while at < end {
+        let here = zone.entry_at(at);
+        if let Some(handle) = handle_to_purge(zone, here.kind, protected) {
+            zone.empty(handle);
+        }
+        at += here.size;
+    }
+}
+
+/// Joins all free neighbours.
+fn join_all(zone: &mut LinkedZone)
+    requires { HasSizes zone.old }
+    ensures { zone.new ≡ all_joined zone.old }
+{
+    let end = zone_end(zone);
+    let mut at = zone.spec().base() + ZONE_HEADER;
+    while at < end {
+        if is_free_pair(zone, at) {
+            zone.merge(at);
+        } else {
+            at += zone.entry_at(at).size;
+        }
+    }
+}
+
+/// Whether the block at an address is free, and the one right behind it.
+fn is_free_pair(zone: &LinkedZone, at: u32) -> bool
+    requires there { EntryAt zone.now at }
+    requires sizes { HasSizes zone.now }
+    ensures { (e : EntryAt zone.now at) → result ≡ (is_free e.here.kind && starts_free e.behind) }
+{
+    match zone.behind(at) {
+        Some(next) => zone.entry_at(at).kind.is_free() && zone.entry_at(next).kind.is_free(),
+        None => false,
+    }
+}
+
+/// Purges the blocks between two addresses that may be purged: their handles become empty, and free neighbours are joined.
+fn purge_between(zone: &mut LinkedZone, start: u32, end: u32, protected: &[u32])
+    requires blocks { BlocksAt zone.old start end }
+    requires sound { SoundZone zone.old }
+    ensures zone { (blocks : BlocksAt zone.old start end) → zone.new ≡ with_heap (with_all_emptied (candidates_in zone.old.heap.table protected.now blocks.blocks) zone.old.heap) zone.old }
+    ensures loans { KeepsLoans zone.old zone.new }
+    ensures sound { SoundZone zone.new }
+{
+    empty_between(zone, start, end, protected);
+    join_all(zone);
+}
+
+/// The bytes that count between an address and the first block that stays where it is, or the end.
+fn gap_room(zone: &LinkedZone, start: u32, end: u32, counted: Option<u32>) -> u32
+    requires blocks { BlocksAt zone.now start end }
+    requires sound { SoundZone zone.now }
+    ensures { (blocks : BlocksAt zone.now start end) → result ≡ bytes_before (bounds_gap zone.now.heap.table counted) (counts counted) blocks.blocks }
+{
+    let mut at = start;
+    let mut room = 0;
+    while at < end {
+        let here = zone.entry_at(at);
+        if counts(counted, here.kind) {
+            room += here.size;
+        } else if is_fixed(zone, here.kind) {
+            return room;
+        }
+        at += here.size;
+    }
+    room
+}
+
+/// How far to purge between two addresses so that a gap has room for `needed` bytes: as few blocks as serve, and all where
+/// none do. Each gap is read twice at most.
+fn gap_limit(
+    zone: &LinkedZone,
+    start: u32,
+    end: u32,
+    needed: u32,
+    counted: Option<u32>,
+    protected: &[u32],
+) -> Limit
+    requires gaps { ShortGaps zone.now start end counted needed }
+    requires sound { SoundZone zone.now }
+    requires kept { IsTrue (is_kept protected.now counted) }
+    ensures { (gaps : ShortGaps zone.now start end counted needed) → IsLimit (bounds_gap zone.now.heap.table counted) (counts counted) (may_purge zone.now.heap.table protected.now) needed gaps.at.blocks start result }
+{
+    let mut at = start;
+    let mut room = gap_room(zone, start, end, counted);
+    while at < end {
+        let here = zone.entry_at(at);
+        at += here.size;
+        if handle_to_purge(zone, here.kind, protected).is_some() {
+            room += here.size;
+            if needed <= room {
+                return Limit {
+                    start,
+                    end: at,
+                    enough: true,
+                };
+            }
+        } else if !counts(counted, here.kind) && is_fixed(zone, here.kind) {
+            room = gap_room(zone, at, end, counted);
+        }
+    }
+    Limit {
+        start,
+        end: at,
+        enough: false,
+    }
+}
+
+/// Whether some gap has room for `needed` bytes, where the block of an unlocked handle counts as free.
+pub(crate) fn has_room(zone: &LinkedZone, needed: u32, counted: Option<Handle>) -> bool
+    requires sound { SoundZone zone.now }
+    requires handle { CanCount zone.now counted }
+    ensures { result ≡ some_gap_has needed (gaps zone.now.heap.table (released_if counted zone.now.heap.map)) }
+{
+    match counted {
+        Some(handle) => some_gap_has(zone, needed, Some(handle.number())),
+        None => some_gap_has(zone, needed, None),
+    }
+}
+
+/// The address of a zone's first block.
+fn zone_start(zone: &LinkedZone) -> u32
+    ensures { result ≡ address_behind zone.now.shape [] }
+{
+    zone.spec().base() + ZONE_HEADER
+}
+
+/// Whether some gap has room for `needed` bytes, where the block that this number names counts as free.
+fn some_gap_has(zone: &LinkedZone, needed: u32, counted: Option<u32>) -> bool
+    requires { SoundZone zone.now }
+    ensures { result ≡ some_gap_has needed (gaps zone.now.heap.table (released_if counted zone.now.heap.map)) }
+{
+    let start = zone_start(zone);
+    let end = zone_end(zone);
+    let mut at = start;
+    let mut room = 0;
+    while at < end {
+        let here = zone.entry_at(at);
+        if counts(counted, here.kind) {
+            room += here.size;
+        } else if is_fixed(zone, here.kind) {
+            if needed <= room {
+                return true;
+            }
+            room = 0;
+        }
+        at += here.size;
+    }
+    needed <= room
+}
+
+/// Purges all blocks that may be purged.
+pub(crate) fn purge_all(zone: &mut LinkedZone)
+    requires sound { SoundZone zone.old }
+    ensures zone { zone.new ≡ with_heap (all_purged zone.old.heap) zone.old }
+    ensures loans { KeepsLoans zone.old zone.new }
+    ensures sound { SoundZone zone.new }
+{
+    let start = zone.spec().base() + ZONE_HEADER;
+    let end = zone_end(zone);
+    purge_between(zone, start, end, &[]);
+}
+
+/// What a request asks for.
+#[derive(Clone, Copy, Debug, PartialEq, Eq)]
+pub(crate) struct Asked {
+    /// The bytes of contents.
+    pub(crate) length: u32,
+    /// The number whose block counts as free while the request looks for room: that which gets another size, or is replaced.
+    pub(crate) counted: Option<u32>,
+    /// The number whose block gets another size.
+    pub(crate) resized: Option<u32>,
+}
+
+impl Asked {
+    ghost use Rattle.std.specs.Prelude.{◌≡◌};
+    ghost use Rattle.mac_base.specs.Request.{length_asked};
+    ghost use Rattle.zone_heap.specs.Purge.{operand, resized};
+
+    /// What this request asks for.
+    fn of(request: Request) -> Asked
+        ensures length { result.length ≡ length_asked request }
+        ensures counted { result.counted ≡ operand request }
+        ensures resized { result.resized ≡ resized request }
+    {
+        let (length, counted, resized) = match request {
+            Request::Resize(block, length) => (length, Some(block), Some(block)),
+            Request::Replace(handle, length) => (length, Some(handle.number()), None),
+            Request::NewBlock(length) | Request::NewPointer(length) => (length, None, None),
+            Request::Reserve(length) => (length, None, None),
+            Request::NewEmpty => (0, None, None),
+            Request::NewMaster => (MASTER_LENGTH, None, None),
+        };
+        Asked {
+            length,
+            counted,
+            resized,
+        }
+    }
+}
+
+/// Whether the block of a number stays where it is: that of a pointer, or of a locked handle.
+fn stays(zone: &LinkedZone, block: u32) -> bool
+    requires { IsTrue (has_block zone.now.heap.table block) }
+    ensures { result ≡ stays zone.now.heap.table block }
+{
+    zone.is_pointer(Ptr::new(block)) || zone.flags(Handle::new(block)).lock
+}
+
+/// The block of this number, if it stays where it is.
+fn staying(zone: &LinkedZone, block: Option<u32>) -> Option<u32>
+    requires { HasBlockIf zone.now.heap.table block }
+    ensures { result ≡ staying_block zone.now.heap.table block }
+{
+    let number = block?;
+    if stays(zone, number) {
+        Some(number)
+    } else {
+        None
+    }
+}
+
+/// How far to purge for a request: as few blocks as serve, and all where none do. A block that stays can use only the gap
+/// right behind it.
+fn limit_for(zone: &LinkedZone, request: Request, protected: &[u32]) -> Limit
+    requires sound { SoundZone zone.now }
+    requires ready { CanAsk zone.now request }
+    requires protects { IsTrue (is_protected protected.now request) }
+    requires no_room { IsFalse (fits zone.now.shape zone.now.heap.table request zone.now.heap.map) }
+    ensures { PurgesFor zone.now protected.now request result }
+{
+    let asked = Asked::of(request);
+    let needed = need_for(zone.spec().heads(), asked.length);
+    if let Some(block) = staying(zone, asked.resized) {
+        return limit_behind(zone, block, needed, protected);
+    }
+    let start = zone_start(zone);
+    let end = zone_end(zone);
+    gap_limit(zone, start, end, needed, asked.counted, protected)
+}
+
+/// How far to purge in the gap right behind a block that stays, so that the block can be made `needed` bytes long.
+fn limit_behind(zone: &LinkedZone, block: u32, needed: u32, protected: &[u32]) -> Limit
+    requires sound { SoundZone zone.now }
+    requires block { IsTrue (has_block zone.now.heap.table block) }
+    requires stays { IsTrue (stays zone.now.heap.table block) }
+    requires no_room { IsFalse (can_grow zone.now.heap.table block needed zone.now.heap.map) }
+    ensures { Purges zone.now protected.now (can_grow zone.now.heap.table block needed) (candidates_in zone.now.heap.table protected.now (blocks_behind zone.now.heap.table block zone.now.heap.map)) result }
+{
+    let top = zone_end(zone);
+    prove!(top <= ADDRESS_END);
+    let at = zone.place_of(block);
+    let size = zone.entry_at(at).size;
+    let start = at + size;
+    let end = gap_end(zone, start);
+    gap_limit(zone, start, end, needed - size, None, protected)
+}
+
+/// Empties as few handles that may be purged as serve a request, in order of address, and all where none do. Gives whether
+/// the request fits then.
+pub(crate) fn purge_for(zone: &mut LinkedZone, request: Request, protected: &[u32]) -> bool
+    requires sound { SoundZone zone.old }
+    requires ready { CanAsk zone.old request }
+    requires protects { IsTrue (is_protected protected.now request) }
+    requires no_room { IsFalse (fits zone.old.shape zone.old.heap.table request zone.old.heap.map) }
+    ensures zone { zone.new ≡ with_heap (purged zone.old.shape protected.now request zone.old.heap) zone.old }
+    ensures fits { result ≡ fits zone.new.shape zone.new.heap.table request zone.new.heap.map }
+    ensures loans { KeepsLoans zone.old zone.new }
+    ensures sound { SoundZone zone.new }
+{
+    let limit = limit_for(zone, request, protected);
+    purge_between(zone, limit.start, limit.end, protected);
+    limit.enough
+}
+
+/// The size of the free block at an address below the end, and 0 where none stands there.
+fn free_at(zone: &LinkedZone, start: u32, end: u32) -> u32
+    requires blocks { BlocksAt zone.now start end }
+    requires sound { SoundZone zone.now }
+    ensures { (blocks : BlocksAt zone.now start end) → result ≡ bytes_before bounds_free (counts None) blocks.blocks }
+{
+    if start < end {
+        let here = zone.entry_at(start);
+        if here.kind.is_free() {
+            return here.size;
+        }
+    }
+    0
+}
+
+/// How far to purge between two addresses so that `needed` bytes are free in one block: as few blocks as leave them, and all
+/// where none do.
+fn block_limit(zone: &LinkedZone, start: u32, end: u32, needed: u32, protected: &[u32]) -> Limit
+    requires blocks { ShortBlocks zone.now start end needed }
+    requires sound { SoundZone zone.now }
+    ensures { (blocks : ShortBlocks zone.now start end needed) → IsLimit bounds_free (counts None) (may_purge zone.now.heap.table protected.now) needed blocks.at.blocks start result }
+{
+    let mut at = start;
+    let mut run = 0;
+    while at < end {
+        let here = zone.entry_at(at);
+        at += here.size;
+        if here.kind.is_free() {
+            run += here.size;
+        } else if handle_to_purge(zone, here.kind, protected).is_some() {
+            run += here.size;
+            if needed <= run + free_at(zone, at, end) {
+                return Limit {
+                    start,
+                    end: at,
+                    enough: true,
+                };
+            }
+        } else {
+            run = 0;
+        }
+    }
+    Limit {
+        start,
+        end: at,
+        enough: false,
+    }
+}
+
+/// Empties as few handles that may be purged as leave `needed` free bytes in one block, in order of address, and all where
+/// none do. Gives whether there is such a block then.
+pub(crate) fn purge_to(zone: &mut LinkedZone, needed: u32) -> bool
+    requires sound { SoundZone zone.old }
+    ensures zone { zone.new ≡ with_heap (purged_for needed zone.old.heap) zone.old }
+    ensures enough { result ≡ nat_le needed (largest_free zone.new.heap.map) }
+    ensures loans { KeepsLoans zone.old zone.new }
+    ensures sound { SoundZone zone.new }
+{
+    if has_free(zone, needed) {
+        return true;
+    }
+    let start = zone_start(zone);
+    let end = zone_end(zone);
+    let limit = block_limit(zone, start, end, needed, &[]);
+    purge_between(zone, limit.start, limit.end, &[]);
+    limit.enough
+}
+
+/// Whether `needed` bytes are free in one block.
+fn has_free(zone: &LinkedZone, needed: u32) -> bool
+    ensures { result ≡ nat_le needed (largest_free zone.now.heap.map) }
+{
+    needed == 0 || zone.lowest_free(needed).is_some()
+}

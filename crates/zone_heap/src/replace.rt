@@ -1,0 +1,55 @@
+//! A new block for a handle, in place of the one that it has.
+
+ghost use Rattle.std.specs.Prelude.{MatchResult};
+ghost use Rattle.mac_base.specs.declared.request.Request.TheVariants.{Replace};
+ghost use Rattle.linked_zone.specs.Loans.{KeepsLoans};
+ghost use Rattle.zone_heap.specs.Attempts.{CanAsk, IsRefused, IsServed, SoundZone};
+
+use crate::place::open_lowest;
+use crate::purge::has_room;
+use crate::shortage::Shortage;
+use crate::zone::{Zone, cut, empty};
+use linked_zone::LinkedZone;
+use mac_base::handle::Handle;
+use mac_base::size::need_for;
+
+/// Gives a handle a new block of `length` bytes, all of them zero. The old block, if there is one, counts as free while
+/// room is looked for. Where there is none, nothing has changed: so the old block is released only once room is sure.
+pub(crate) fn replace(zone: &mut LinkedZone, handle: Handle, length: u32) -> Result<(), Shortage>
+    requires ready { CanAsk zone.old (Replace handle length) }
+    requires sound { SoundZone zone.old }
+    ensures attempt { MatchResult result (λ _. IsServed (Replace handle length) zone.old handle zone.new) (λ why. IsRefused (Replace handle length) zone.old why zone.new) }
+    ensures loans { KeepsLoans zone.old zone.new }
+    ensures sound { SoundZone zone.new }
+{
+    let needed = need_for(zone.spec().heads(), length);
+    if !has_room(zone, needed, Some(handle)) {
+        return Err(Shortage::NoRoom);
+    }
+    empty(zone, handle);
+    let Some(at) = open_lowest(zone, needed) else {
+        unreachable!();
+    };
+    cut(zone, at, needed);
+    zone.point(handle, at, length);
+    Ok(())
+}
+
+impl Zone {
+    ghost use Rattle.std.specs.Prelude.{MatchResult};
+    ghost use Rattle.mac_base.specs.declared.request.Request.TheVariants.{Replace};
+    ghost use Rattle.linked_zone.specs.Loans.{KeepsLoans};
+    ghost use Rattle.zone_heap.specs.Attempts.{CanAsk, IsRefused, IsServed};
+
+    /// Gives an unlocked handle a new block of `length` bytes, all of them zero, in place of the block that it has, if it
+    /// has one (ReallocateHandle; Inside Macintosh: Memory, Managing Relocatable Blocks). The old block counts as free, so
+    /// that the new one may take its bytes: the new block takes the lowest free block that is large enough, or else the
+    /// lowest gap with room, whose blocks are moved down. Its flags are clear. Where it doesn't fit, nothing has changed.
+    pub fn replace(&mut self, handle: Handle, length: u32) -> Result<(), Shortage>
+        requires ready { CanAsk self.old (Replace handle length) }
+        ensures attempt { MatchResult result (λ _. IsServed (Replace handle length) self.old handle self.new) (λ why. IsRefused (Replace handle length) self.old why self.new) }
+        ensures loans { KeepsLoans self.old self.new }
+    {
+        replace(&mut self.pointers, handle, length)
+    }
+}

@@ -1,0 +1,176 @@
+//! Another size for a block: where it is, or where others make way for it.
+
+ghost use Rattle.std.specs.Prelude.{◌≡◌, ◌<◌, ◌≤◌, IsTrue, IsFalse, MatchResult, Some, None, if◌then◌else◌, is_some};
+ghost use Rattle.mac_base.specs.declared.request.Request.TheVariants.{Resize};
+ghost use Rattle.mac_base.specs.HandleTable.{has_block, is_full, is_lent, is_locked};
+ghost use Rattle.mac_base.specs.HeadKind.{max_size, need};
+ghost use Rattle.mac_base.specs.Request.{gap_to_grow, stays};
+ghost use Rattle.mac_base.specs.Serve.{resized_in_gap, resized_in_place};
+ghost use Rattle.linked_zone.specs.Changes.{with_map};
+ghost use Rattle.linked_zone.specs.Loans.{KeepsLoans};
+ghost use Rattle.zone_gaps.specs.Gaps.{IsGapOf};
+ghost use Rattle.zone_heap.specs.Attempts.{CanAsk, IsRefused, IsServed, SoundZone};
+ghost use Rattle.zone_heap.specs.Placed.{resized_there};
+ghost use Rattle.zone_heap.specs.Resized.{resized_away, way_made};
+ghost use Rattle.zone_heap.specs.declared.shortage.Shortage.TheVariants.{NoRoom};
+
+use crate::place::open_lowest;
+use crate::shortage::Shortage;
+use crate::zone::{Zone, cut, free_behind, front, join, shrink};
+use linked_zone::LinkedZone;
+use mac_base::handle::{Handle, Ptr};
+use mac_base::size::need_for;
+use mac_base::zone_spec::{ADDRESS_END, LARGEST_LIMIT};
+use zone_gaps::{FoundGap, gap_behind, open_after, own_gap, squeeze_up};
+
+/// Gives the block of a handle or a pointer `length` bytes: where it is; or else once the other blocks of the gap in which
+/// it can grow have made way for it; or else, if it may move, in a new place. Bytes that were in it stay, as far as they
+/// go, and those that are added are zero. Where it doesn't fit, nothing has changed.
+pub(crate) fn resize_block(zone: &mut LinkedZone, block: u32, length: u32) -> Result<(), Shortage>
+    requires ready { CanAsk zone.old (Resize block length) }
+    requires sound { SoundZone zone.old }
+    ensures attempt { MatchResult result (λ _. IsServed (Resize block length) zone.old block zone.new) (λ why. IsRefused (Resize block length) zone.old why zone.new) }
+    ensures loans { KeepsLoans zone.old zone.new }
+    ensures sound { SoundZone zone.new }
+{
+    if fits_there(zone, block, length) || make_way(zone, block, length) {
+        resize_there(zone, block, length);
+        return Ok(());
+    }
+    if stays(zone, block) {
+        return Err(Shortage::NoRoom);
+    }
+    resize_elsewhere(zone, Handle::new(block), length)
+}
+
+/// Whether a block stays where it is: that of a pointer or of a locked handle.
+fn stays(zone: &LinkedZone, block: u32) -> bool
+    requires { IsTrue (has_block zone.now.heap.table block) }
+    ensures { result ≡ stays zone.now.heap.table block }
+{
+    zone.is_pointer(Ptr::new(block)) || zone.flags(Handle::new(block)).lock
+}
+
+/// Whether a block can have `length` bytes where it is, with those of the free block right behind it.
+fn fits_there(zone: &LinkedZone, block: u32, length: u32) -> bool
+    requires sound { SoundZone zone.now }
+    requires block { IsTrue (has_block zone.now.heap.table block) }
+    requires size { length ≤ max_size }
+    ensures { result ≡ is_some (resized_in_place zone.now.shape (need zone.now.shape.heads length) block zone.now.heap.map) }
+{
+    let spec = zone.spec();
+    prove!(spec.base() + spec.limit() <= ADDRESS_END);
+    let at = zone.place_of(block);
+    need_for(spec.heads(), length) <= zone.entry_at(at).size + free_behind(zone, at)
+}
+
+/// Gives a block `length` bytes where it is: its own, or with them those of the free block right behind it. What is over
+/// is free where it makes a block. Bytes that were in it stay, as far as they go, and those that are added are zero.
+fn resize_there(zone: &mut LinkedZone, block: u32, length: u32)
+    requires sound { SoundZone zone.old }
+    requires block { IsTrue (has_block zone.old.heap.table block) }
+    requires here { IsFalse (is_lent zone.old.heap.table block) }
+    requires size { length ≤ max_size }
+    requires fits { IsTrue (is_some (resized_in_place zone.old.shape (need zone.old.shape.heads length) block zone.old.heap.map)) }
+    ensures heap { resized_there zone.old.shape block length zone.old.heap ≡ Some zone.new.heap }
+    ensures shape { zone.new.shape ≡ zone.old.shape }
+    ensures loans { KeepsLoans zone.old zone.new }
+    ensures sound { SoundZone zone.new }
+{
+    let needed = need_for(zone.spec().heads(), length);
+    let at = zone.place_of(block);
+    let size = zone.entry_at(at).size;
+    if needed <= size {
+        shrink(zone, block, needed, length);
+    } else {
+        let spec = zone.spec();
+        prove!(spec.limit() <= LARGEST_LIMIT);
+        let whole = size + free_behind(zone, at);
+        let taken = front(zone, whole, needed);
+        zone.grow(block, taken, length);
+    }
+}
+
+/// The gap in which a block can grow without a new place.
+fn gap_to_grow(zone: &LinkedZone, block: u32) -> FoundGap
+    requires sound { SoundZone zone.now }
+    requires block { IsTrue (has_block zone.now.heap.table block) }
+    ensures { IsGapOf zone.now (gap_to_grow zone.now.heap.table block zone.now.heap.map) result }
+{
+    if stays(zone, block) {
+        gap_behind(zone, block)
+    } else {
+        own_gap(zone, Handle::new(block))
+    }
+}
+
+/// Lets the other blocks of its gap make way for a block, so that the free bytes of the gap stand right behind it, where
+/// it can then have `length` bytes. Else nothing has changed.
+fn make_way(zone: &mut LinkedZone, block: u32, length: u32) -> bool
+    requires sound { SoundZone zone.old }
+    requires block { IsTrue (has_block zone.old.heap.table block) }
+    requires size { length ≤ max_size }
+    ensures fits { result ≡ is_some (resized_in_gap zone.old.shape zone.old.heap.table (need zone.old.shape.heads length) block zone.old.heap.map) }
+    ensures zone { zone.new ≡ (if result then with_map (way_made zone.old.heap.table block zone.old.heap.map) zone.old else zone.old) }
+    ensures loans { KeepsLoans zone.old zone.new }
+    ensures sound { SoundZone zone.new }
+{
+    let spec = zone.spec();
+    prove!(spec.base() + spec.limit() <= ADDRESS_END);
+    let gap = gap_to_grow(zone, block);
+    let size = zone.entry_at(zone.place_of(block)).size;
+    if size + gap.room < need_for(spec.heads(), length) {
+        return false;
+    }
+    if stays(zone, block) {
+        squeeze_up(zone, gap.start);
+    } else {
+        open_after(zone, Handle::new(block));
+    }
+    true
+}
+
+/// Gives an unlocked handle's block `length` bytes in a new place. The old block is free then, and joined to its free
+/// neighbours. Where there is no place, nothing has changed.
+fn resize_elsewhere(zone: &mut LinkedZone, handle: Handle, length: u32) -> Result<(), Shortage>
+    requires sound { SoundZone zone.old }
+    requires full { IsTrue (is_full zone.old.heap.table handle) }
+    requires unlocked { IsFalse (is_locked zone.old.heap.table handle) }
+    requires here { IsFalse (is_lent zone.old.heap.table handle) }
+    requires size { length ≤ max_size }
+    ensures resized { MatchResult result
+        (λ _. (resized_away zone.old.shape handle length zone.old.heap ≡ Some zone.new.heap) × (zone.new.shape ≡ zone.old.shape))
+        (λ why. (why ≡ NoRoom) × (resized_away zone.old.shape handle length zone.old.heap ≡ None) × (zone.new ≡ zone.old)) }
+    ensures loans { KeepsLoans zone.old zone.new }
+    ensures sound { SoundZone zone.new }
+{
+    let needed = need_for(zone.spec().heads(), length);
+    let Some(at) = open_lowest(zone, needed) else {
+        return Err(Shortage::NoRoom);
+    };
+    cut(zone, at, needed);
+    let old = zone.block_of(handle);
+    zone.relocate(handle, at, length);
+    join(zone, old);
+    Ok(())
+}
+
+impl Zone {
+    ghost use Rattle.std.specs.Prelude.{MatchResult};
+    ghost use Rattle.mac_base.specs.declared.request.Request.TheVariants.{Resize};
+    ghost use Rattle.linked_zone.specs.Loans.{KeepsLoans};
+    ghost use Rattle.zone_heap.specs.Attempts.{CanAsk, IsRefused, IsServed};
+
+    /// Gives the block of a handle or a pointer another size, `length` bytes (SetHandleSize, SetPtrSize; Inside Macintosh:
+    /// Memory, Changing the Sizes of Relocatable and Nonrelocatable Blocks). Where it fits in its place it stays there.
+    /// Else the other blocks of its gap make way for it: those of its own gap for a block that may move, and those of the
+    /// gap right behind for one that stays. Else a block that may move gets a new place. Bytes that were in it stay, as far
+    /// as they go, and those that are added are zero. Where it doesn't fit, nothing has changed.
+    pub fn resize_block(&mut self, block: u32, length: u32) -> Result<(), Shortage>
+        requires ready { CanAsk self.old (Resize block length) }
+        ensures attempt { MatchResult result (λ _. IsServed (Resize block length) self.old block self.new) (λ why. IsRefused (Resize block length) self.old why self.new) }
+        ensures loans { KeepsLoans self.old self.new }
+    {
+        resize_block(&mut self.pointers, block, length)
+    }
+}
