@@ -9,7 +9,7 @@ use Rattle.mac_calls.specs.Tests.{Test, IsHandle, IsBlock, NotEmpty, NotLent, Is
 use Rattle.mac_calls.specs.declared.memory_call.MemoryCall.TheVariants.{DisposeHandle, DisposePtr, EmptyHandle, Poke, BlockMove}
 use Rattle.mac_base.specs.declared.releasing.ReleasingCall.TheVariants.{DisposesHandle, DisposesPtr, Empties}
 use Rattle.mac_base.specs.Releasing.{heap_released}
-use Rattle.mac_calls.specs.Effect.{written}
+use Rattle.mac_base.specs.ZoneState.{written}
 use Rattle.zone_laws.proofs.SoundReleased.{sound-disposed}
 use Rattle.call_laws.proofs.SoundCarried.{sound-carried}
 use Rattle.zone_laws.proofs.SoundWritten.{sound-written, sound-flags}

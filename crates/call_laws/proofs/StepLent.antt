@@ -21,7 +21,8 @@ use Rattle.mac_calls.specs.declared.memory_call.MemoryCall.{MemoryCall}
 use Rattle.mac_calls.specs.declared.memory_call.MemoryCall.TheVariants as memory_call
 use Rattle.mac_calls.specs.Tests.{Test, IsHandle, IsPointer, IsBlock, NotEmpty, NotLent, NotLocked, IsSize, IsState, IsWithin, KeepsLent as KeepsState, first_refusal, refused_by, refusal, unless_passed, protected_by}
 use Rattle.mac_calls.specs.GrowZone.{Answer, Ask, most_answers}
-use Rattle.mac_calls.specs.Effect.{request_of, table_copied, effect_of, written}
+use Rattle.mac_calls.specs.Effect.{request_of, table_copied, effect_of}
+use Rattle.mac_base.specs.ZoneState.{written}
 use Rattle.mac_calls.specs.ExactRequest.{Ending, request_run}
 use Rattle.mac_calls.specs.ExactStep.{request_end, behind_master, request_step, step_asking, step_unless, rearranged, exact_step}
 use Rattle.zone_laws.proofs.Lent.{KeepsLent, fixed-kept}

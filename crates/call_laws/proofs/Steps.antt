@@ -16,7 +16,8 @@ use Rattle.mac_calls.specs.Tests.{refusal}
 use Rattle.mac_calls.specs.GrowZone.{most_answers}
 use Rattle.mac_base.specs.declared.releasing.ReleasingCall.TheVariants.{DisposesHandle}
 use Rattle.mac_base.specs.Releasing.{heap_released}
-use Rattle.mac_calls.specs.Effect.{request_of, written}
+use Rattle.mac_calls.specs.Effect.{request_of}
+use Rattle.mac_base.specs.ZoneState.{written}
 use Rattle.mac_calls.specs.declared.reply.Results.TheVariants.{Nothing, Handle, Bytes, Blocks}
 use Rattle.mac_calls.specs.Outcomes.{Outcome}
 use Rattle.mac_base.specs.BlockReport.{reports_from}

@@ -20,3 +20,4 @@ pub mod Releasing
 pub mod Trial
 pub mod Attempt
 pub mod Purging
+pub mod Reports

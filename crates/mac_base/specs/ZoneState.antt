@@ -1,5 +1,5 @@
 -- A zone, as the layers above it see it.
-use Rattle.std.specs.Prelude.{ℕ, List, ◌++◌, length, take, drop}
+use Rattle.std.specs.Prelude.{ℕ, ◌+◌, List, ◌++◌, length, take, drop}
 use Rattle.mac_base.specs.HeadKind.{Shape}
 use Rattle.mac_base.specs.HandleTable.{with_bytes, bytes_of}
 use Rattle.mac_base.specs.Heap.{Heap, with_table}
@@ -22,6 +22,10 @@ with_heap heap z = record z { heap = heap }
 -- bytes with others written over the first of them. There are as many as before
 abbrev pub overwritten : List ℕ → List ℕ → List ℕ
 overwritten old others = take (length old) others ++ drop (length others) old
+
+-- bytes written over others from an offset on
+abbrev pub written : ℕ → List ℕ → List ℕ → List ℕ
+written at bytes old = take at old ++ bytes ++ drop (at + length bytes) old
 
 -- the zone in which bytes are written over those of x, from the first on
 abbrev pub with_contents : ZoneState → ℕ → List ℕ → ZoneState

@@ -5,6 +5,7 @@ use Rattle.mac_base.specs.HandleTable.{HandleTable, bytes_of, flags_of, with_byt
 use Rattle.mac_base.specs.declared.request.Request.{Request}
 use Rattle.mac_base.specs.declared.request.Request.TheVariants.{NewBlock, NewEmpty, NewPointer, NewMaster, Reserve, Resize, Replace}
 use Rattle.mac_base.specs.Heap.{Heap, with_table, grown}
+use Rattle.mac_base.specs.ZoneState.{written}
 use Rattle.mac_calls.specs.declared.memory_call.MemoryCall.{MemoryCall}
 use Rattle.mac_calls.specs.declared.memory_call.MemoryCall.TheVariants as memory_call
 use Rattle.mac_base.specs.FlagState.{flags_from}
@@ -36,10 +37,6 @@ table_copied (memory_call.PtrToXHand p h n) x entry t = with_bytes h (take n (by
 table_copied (memory_call.PtrAndHand p h n) x entry t = with_bytes h (bytes_of entry h ++ take n (bytes_of entry p)) t
 table_copied (memory_call.HandAndHand a b) x entry t = with_bytes b (bytes_of entry b ++ bytes_of entry a) t
 table_copied _ x entry t = t
-
--- bytes written over others from an offset on
-abbrev pub written : ℕ → List ℕ → List ℕ → List ℕ
-written at bytes old = take at old ++ bytes ++ drop (at + length bytes) old
 
 -- The heap after a call that makes no request. What compacts or purges stands elsewhere.
 abbrev pub effect_of : Shape → MemoryCall → Heap → Heap

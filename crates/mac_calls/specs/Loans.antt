@@ -9,7 +9,7 @@ use Rattle.mac_calls.specs.declared.loan_call.LoanCall.{LoanCall}
 use Rattle.mac_calls.specs.declared.loan_call.LoanCall.TheVariants as loan_call
 use Rattle.mac_calls.specs.declared.reply.Results.{Results}
 use Rattle.mac_calls.specs.declared.reply.Results.TheVariants.{Nothing, Bytes}
-use Rattle.mac_calls.specs.Effect.{written}
+use Rattle.mac_base.specs.ZoneState.{written}
 use Rattle.mac_calls.specs.Outcomes.{Outcome}
 use Rattle.mac_calls.specs.Tests.{Test, IsBlock, NotEmpty, NotLent, MayBeLent, IsLent, IsWithin, first_refusal}
 

@@ -1,11 +1,10 @@
 -- What calls give, read off the heap as the call leaves it.
-use Rattle.std.specs.Prelude.{Result, Ok, Err, ℕ, ◌+◌, ◌-◌, max, List, [], length, map, fold, sum_by, take, drop, unwrap_or}
+use Rattle.std.specs.Prelude.{Result, Ok, Err, ℕ, ◌+◌, ◌-◌, length, take, drop, unwrap_or}
 use Rattle.mac_base.specs.declared.error.OsErr.{OsErr}
 use Rattle.mac_base.specs.HeadKind.{Shape, zone_header}
 use Rattle.mac_base.specs.ZoneMap.{ZoneMap, address_behind, total_size, free_bytes, largest_free, contents_of, handle_at}
 use Rattle.mac_base.specs.HandleTable.{HandleTable, bytes_of, flags_of}
-use Rattle.mac_base.specs.Gap.{Gap, gaps, room}
-use Rattle.mac_base.specs.Request.{candidates_in, size_of}
+use Rattle.mac_base.specs.Reports.{largest_room, purge_space, largest_purge_space}
 use Rattle.mac_base.specs.Heap.{Heap}
 use Rattle.mac_base.specs.FlagState.{state_of}
 use Rattle.mac_base.specs.BlockReport.{reports_from}
@@ -22,14 +21,6 @@ Outcome = Result Results OsErr
 abbrev pub growth_left : Shape → ZoneMap → ℕ
 growth_left s m = s.limit - (zone_header + total_size m)
 
--- the largest of some numbers, and 0 of none
-abbrev pub largest : List ℕ → ℕ
-largest ns = fold max 0 ns
-
--- the free bytes of these blocks together with those of the handles among them that may be purged
-abbrev pub purge_space : HandleTable → ZoneMap → ℕ
-purge_space t m = free_bytes m + sum_by (λ h. size_of h m) (candidates_in t [] m)
-
 -- The outcome of a call that is not refused and makes no request.
 abbrev pub outcome_of : Shape → Heap → MemoryCall → Outcome
 outcome_of s heap (memory_call.GetHandleSize h) = Ok (Number (length (bytes_of heap.table h)))
@@ -40,8 +31,8 @@ outcome_of s heap (memory_call.Deref h) = Ok (Address (contents_of s h heap.map)
 outcome_of s heap (memory_call.Peek x at n) = Ok (Bytes (take n (drop at (bytes_of heap.table x))))
 outcome_of s heap (memory_call.CompactMem n) = Ok (Number (largest_free heap.map))
 outcome_of s heap memory_call.MaxMem = Ok (TwoNumbers (largest_free heap.map) (growth_left s heap.map))
-outcome_of s heap memory_call.PurgeSpace = Ok (TwoNumbers (purge_space heap.table heap.map) (largest (map (λ (g : Gap). purge_space heap.table g.blocks) (gaps heap.table heap.map))))
-outcome_of s heap memory_call.MaxBlock = Ok (Number (largest (map room (gaps heap.table heap.map))))
+outcome_of s heap memory_call.PurgeSpace = Ok (TwoNumbers (purge_space heap.table heap.map) (largest_purge_space heap.table heap.map))
+outcome_of s heap memory_call.MaxBlock = Ok (Number (largest_room heap.table heap.map))
 outcome_of s heap memory_call.FreeMem = Ok (Number (free_bytes heap.map))
 outcome_of s heap memory_call.ZoneMap = Ok (Blocks (reports_from heap.table (address_behind s []) heap.map))
 outcome_of s heap _ = Ok Nothing

@@ -19,9 +19,8 @@ use Rattle.mac_base.specs.HandleTable.{is_lent, is_locked, is_pointer, bytes_of}
 use Rattle.mac_base.specs.HeadKind.{Shape}
 use Rattle.mac_base.specs.Heap.{Heap}
 use Rattle.mac_base.specs.Loans.{lent_out, may_be_lent, most_loans, owners, returned}
-use Rattle.mac_base.specs.ZoneState.{ZoneState, with_heap}
+use Rattle.mac_base.specs.ZoneState.{ZoneState, with_heap, written}
 use Rattle.linked_zone.specs.Loans.{IsLoanOf, KeepsLoans, KeepsOtherLoans}
-use Rattle.mac_calls.specs.Effect.{written}
 use Rattle.mac_calls.specs.declared.loan_call.LoanCall.TheVariants.{Lend, LentPeek, LentPoke, Return}
 use Rattle.mac_calls.specs.declared.reply.Results.TheVariants.{Nothing}
 use Rattle.mac_calls.specs.Loans.{Loans, held_bytes, loan_refusal, with_held, without_loan}

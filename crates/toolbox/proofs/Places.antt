@@ -7,7 +7,7 @@ use Rattle.std.proofs.Math.Seq.{drop-append_seam, get_or-append_seam, set-append
 use Rattle.std.proofs.lemmas.Grind.{flat_map-append}
 use Rattle.std.proofs.lemmas.List.{append-nil, drop-drop, length-take-le, take-append-drop, take_more}
 use borrow.Rule.Slice.PartMut.{post_of, put_mid}
-use Rattle.mac_calls.specs.Effect.{written}
+use Rattle.mac_base.specs.ZoneState.{written}
 use Rattle.mac_calls.specs.Loans.{held_bytes}
 use Rattle.raw_region.specs.Bytes.{written as raw_written}
 use Rattle.raw_region.specs.State.{Loan, with_loan}

@@ -6,7 +6,6 @@ use Rattle.std.proofs.lemmas.Bool.{ne_eqb}
 use Rattle.std.proofs.lemmas.List.{append-nil, drop-drop}
 use borrow.Rule.Slice.PartMut.{post_of}
 use Rattle.mac_base.specs.declared.error.OsErr.{OsErr}
-use Rattle.mac_calls.specs.Effect.{written}
 use Rattle.mac_base.specs.BlockStatus.{status_of}
 use Rattle.mac_base.specs.declared.block.Status.TheVariants.{NotLive, Empty, Lent, Full}
 use Rattle.mac_base.specs.HandleTable.{HandleTable, Live, bytes_of, has_block, is_handle, is_lent, is_pointer, live_at, live_bytes, refilled, with_bytes}
@@ -22,7 +21,7 @@ use Rattle.mac_base.specs.BlockReport.{reports_from}
 use Rattle.mac_base.specs.declared.block.Block.{Block}
 use Rattle.mac_base.specs.Heap.{with_table}
 use Rattle.mac_base.specs.ZoneMap.{address_behind}
-use Rattle.mac_base.specs.ZoneState.{ZoneState, overwritten, with_contents, with_heap}
+use Rattle.mac_base.specs.ZoneState.{ZoneState, overwritten, with_contents, with_heap, written}
 use Rattle.call_laws.proofs.Steps.{step-refused, step-Peek, step-Poke, step-ZoneMap}
 use Rattle.toolbox.specs.Steps.{MemorySteps}
 

@@ -3,9 +3,8 @@ use Rattle.std.specs.Prelude.{◌≡◌, ℕ, ◌==◌, Bool, if◌then◌else�
 use Rattle.std.specs.List.{list_any, flat_map}
 use Rattle.std.specs.Option.{option_to_list}
 use Rattle.mac_base.specs.HandleTable.{is_lent}
-use Rattle.mac_base.specs.ZoneState.{ZoneState}
+use Rattle.mac_base.specs.ZoneState.{ZoneState, written}
 use Rattle.linked_zone.specs.Loans.{IsLoanOf}
-use Rattle.mac_calls.specs.Effect.{written}
 use Rattle.mac_calls.specs.declared.loan_call.LoanCall.{LoanCall}
 use Rattle.mac_calls.specs.Loans.{Loans, LoanStep}
 use Rattle.mac_calls.specs.Outcomes.{Outcome}
