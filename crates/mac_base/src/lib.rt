@@ -6,6 +6,7 @@ pub mod block;
 pub mod bytes;
 pub mod error;
 pub mod handle;
+pub mod purge_space;
 pub mod releasing;
 pub mod request;
 pub mod size;
