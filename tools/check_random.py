@@ -288,6 +288,13 @@ class Zone:
             if value == 0:
                 raise Refused(FULL)
 
+    def request_growth(self, number, length, protected):
+        """As request_size, for a call that copies: it protects both operands, and no length is refused as such."""
+        needed = self.needed(length)
+        stays = self.is_fixed(number)
+        behind = (lambda: self.candidates(protected, self.blocks[slice(*self.gap_behind(number))])) if stays else None
+        self.request(needed, lambda: self.resize(number, needed), protected, behind)
+
     def slot(self, protected=()):
         """The slot that the next new handle takes; where there is none, a master block is built first."""
         if not self.slots:
@@ -295,23 +302,23 @@ class Zone:
 
     def request_size(self, number, length):
         self.test(length > MAX_SIZE, PARAM)
-        needed = self.needed(length)
-        stays = self.is_fixed(number)
-        behind = (lambda: self.candidates([number], self.blocks[slice(*self.gap_behind(number))])) if stays else None
-        self.request(needed, lambda: self.resize(number, needed), [number], behind)
+        self.request_growth(number, length, [number])
         owner = self.live[number]
         owner.contents = owner.contents[:length] + bytes(max(0, length - len(owner.contents)))
+
+    def make_handle(self, contents, protected=()):
+        self.slot(protected)
+        needed = self.needed(len(contents))
+        self.request(needed, lambda: self.place_relocatable(needed, self.slots[0]), protected)
+        number = self.slots.pop(0)
+        self.live[number] = Owner(True, bytearray(contents))
+        return address(number)
 
     # the calls: each gives its results, as they are printed
 
     def new_handle(self, length):
         self.test(length > MAX_SIZE, PARAM)
-        self.slot()
-        needed = self.needed(length)
-        self.request(needed, lambda: self.place_relocatable(needed, self.slots[0]))
-        number = self.slots.pop(0)
-        self.live[number] = Owner(True, bytearray(length))
-        return address(number)
+        return self.make_handle(bytes(length))
 
     def new_empty_handle(self):
         self.slot()
@@ -378,6 +385,95 @@ class Zone:
                 return address(block.owner)
         raise Refused(NO_BLOCK)
 
+    def reallocate_handle(self, number, length):
+        owner = self.handle(number)
+        self.not_lent(number)
+        self.test(owner.flags & LOCK, LOCKED)
+        self.test(length > MAX_SIZE, PARAM)
+        needed = self.needed(length)
+
+        def attempt():
+            before = [Block(it.size, it.owner) for it in self.blocks]
+            for block in self.blocks:
+                if block.owner == number:
+                    block.owner = "free"
+            self.join()
+            try:
+                self.place_relocatable(needed, number)
+            except NoRoom:
+                self.blocks = before
+                raise
+
+        self.request(needed, attempt, [number])
+        self.live[number] = Owner(True, bytearray(length))
+
+    def readable(self, number):
+        """The owner of a block whose bytes a call reads or writes."""
+        owner = self.either(number)
+        self.test(owner.contents is None, NIL)
+        self.not_lent(number)
+        return owner
+
+    def full_and_here(self, number):
+        owner = self.full_handle(number)
+        self.not_lent(number)
+        return owner
+
+    def source(self, pointer):
+        owner = self.pointer(pointer)
+        self.not_lent(pointer)
+        return owner
+
+    def hand_to_hand(self, number):
+        contents = self.full_and_here(number).contents
+        return self.make_handle(contents, [number])
+
+    def ptr_to_hand(self, pointer, count):
+        owner = self.source(pointer)
+        self.within(owner, 0, count)
+        return self.make_handle(owner.contents[:count], [pointer])
+
+    def give_bytes(self, number, contents, protected):
+        self.request_growth(number, len(contents), protected)
+        self.live[number].contents = bytearray(contents)
+
+    def ptr_to_xhand(self, pointer, number, count):
+        owner = self.source(pointer)
+        self.full_and_here(number)
+        self.within(owner, 0, count)
+        self.give_bytes(number, owner.contents[:count], [pointer, number])
+
+    def ptr_and_hand(self, pointer, number, count):
+        owner = self.source(pointer)
+        target = self.full_and_here(number)
+        self.within(owner, 0, count)
+        self.give_bytes(number, target.contents + owner.contents[:count], [pointer, number])
+
+    def hand_and_hand(self, number, other):
+        owner = self.full_and_here(number)
+        target = self.full_and_here(other)
+        self.give_bytes(other, target.contents + owner.contents, [number, other])
+
+    def block_move(self, number, start, other, offset, count):
+        owner, target = self.readable(number), self.readable(other)
+        self.within(owner, start, count)
+        self.within(target, offset, count)
+        moved = owner.contents[start : start + count]
+        target.contents[offset : offset + count] = moved
+
+    def free_mem(self):
+        return str(sum(it.size for it in self.blocks if it.owner == "free"))
+
+    def max_block(self):
+        return str(max(self.room(gap) for gap in self.gaps()))
+
+    def purge_space(self):
+        def space(blocks):
+            purged = self.candidates([], blocks)
+            return sum(it.size for it in blocks if it.owner == "free" or it.owner in purged)
+
+        return f"{space(self.blocks)} {max(space(self.blocks[slice(*gap)]) for gap in self.gaps())}"
+
     def dispose_handle(self, number):
         owner = self.handle(number)
         self.not_lent(number)
@@ -437,9 +533,7 @@ class Zone:
         return address(self.place_of(number) + self.head)
 
     def part(self, number, at, count):
-        owner = self.either(number)
-        self.test(owner.contents is None, NIL)
-        self.not_lent(number)
+        owner = self.readable(number)
         self.within(owner, at, count)
         return owner
 
@@ -533,6 +627,16 @@ CALLS = {
     "MoveHHi": Zone.move_hhi,
     "HLockHi": Zone.hlock_hi,
     "RecoverHandle": Zone.recover_handle,
+    "ReallocateHandle": Zone.reallocate_handle,
+    "HandToHand": Zone.hand_to_hand,
+    "PtrToHand": Zone.ptr_to_hand,
+    "PtrToXHand": Zone.ptr_to_xhand,
+    "PtrAndHand": Zone.ptr_and_hand,
+    "HandAndHand": Zone.hand_and_hand,
+    "BlockMove": Zone.block_move,
+    "FreeMem": Zone.free_mem,
+    "MaxBlock": Zone.max_block,
+    "PurgeSpace": Zone.purge_space,
 }
 
 # how often each call is made
@@ -591,8 +695,10 @@ class Chooser:
         zone, live = self.zone, self.zone.live
         if name in ("NewHandle", "NewPtr", "ReserveMem", "CompactMem", "PurgeMem"):
             return [self.length()]
-        if name in ("NewEmptyHandle", "ZoneMap", "MemError", "MoreMasters", "MaxMem", "MaxApplZone"):
+        if name in ("NewEmptyHandle", "ZoneMap", "MemError", "MoreMasters", "MaxMem", "MaxApplZone", "FreeMem", "MaxBlock", "PurgeSpace"):
             return []
+        if name == "BlockMove":
+            return self.move()
         if name == "RecoverHandle":
             places = [at + zone.head for at, block in zone.placed() if block.owner in live]
             return [self.number(places)]
@@ -600,15 +706,21 @@ class Chooser:
             among = list(zone.lent)
         elif name == "Lend":
             among = [it for it in live if not live[it].is_handle or live[it].flags & LOCK]
-        elif name in ("DisposePtr", "SetPtrSize", "GetPtrSize"):
+        elif name in ("DisposePtr", "SetPtrSize", "GetPtrSize", "PtrToHand", "PtrToXHand", "PtrAndHand"):
             among = [it for it in live if not live[it].is_handle]
         elif name in ("Peek", "Poke"):
             among = list(live)
         else:
             among = [it for it in live if live[it].is_handle]
         number = self.number(among)
-        if name in ("SetHandleSize", "SetPtrSize"):
+        if name in ("SetHandleSize", "SetPtrSize", "ReallocateHandle"):
             return [number, self.length()]
+        if name == "PtrToHand":
+            return [number, self.offset(number)]
+        if name in ("PtrToXHand", "PtrAndHand"):
+            return [number, self.number([it for it in live if live[it].is_handle]), self.offset(number)]
+        if name == "HandAndHand":
+            return [number, self.number(among) if self.random.random() < 0.8 else number]
         if name == "HSetState":
             return [number, self.random.choice([0, 31, 64, 128, 160, 224, 255, 256])]
         if name in ("Peek", "LentPeek"):
@@ -616,6 +728,12 @@ class Chooser:
         if name in ("Poke", "LentPoke"):
             return [number, self.offset(number), self.data()]
         return [number]
+
+    def move(self):
+        """The operands of a BlockMove, often within one block."""
+        number = self.number(list(self.zone.live))
+        other = self.number(list(self.zone.live)) if self.random.random() < 0.6 else number
+        return [number, self.offset(number), other, self.offset(other), self.random.randrange(40)]
 
     def answer(self):
         """An answer of the grow-zone procedure: its calls, and its value."""
