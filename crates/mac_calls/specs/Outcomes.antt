@@ -1,5 +1,5 @@
 -- What calls give, read off the heap as the call leaves it.
-use Rattle.std.specs.Prelude.{Result, Ok, Err, ℕ, ◌+◌, ◌-◌, length, take, drop, unwrap_or}
+use Rattle.std.specs.Prelude.{Result, Ok, Err, ℕ, ◌+◌, ◌-◌, [], length, take, drop, unwrap_or}
 use Rattle.mac_base.specs.declared.error.OsErr.{OsErr}
 use Rattle.mac_base.specs.HeadKind.{Shape, zone_header}
 use Rattle.mac_base.specs.ZoneMap.{ZoneMap, address_behind, total_size, free_bytes, largest_free, contents_of, handle_at}
