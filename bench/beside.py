@@ -1,7 +1,7 @@
 #!/usr/bin/env python3
 """Times programs side by side: beside.py [--zone] PROGRAM [PEER..].
 
-The scripts are those on the way from text to call and from reply to text; with --zone, those whose calls search, cut and join
+The scripts are those on the way from text to call and from reply to text; with --zone, those whose calls search, cut, join, move, purge and copy
 blocks in a zone of 1,048,576 bytes, each without the time of the script that only makes what is needed before.
 
 Each program reads a script and takes `--zone N`, as macheap does. On each script they run in turn, nine times, and the least
@@ -40,6 +40,18 @@ ZONE_MIXES = [
     ("behind 500 KB free", "freed 500000 20000", "pointers 20000 0"),
     ("900,000 to 450,000 and back", "sizes 900000 2000", "sizes 900000 0"),
     ("a number inside 500 KB", "inside 500000 40000", "inside 500000 0"),
+    ("1 MB slides, of 20 blocks", "slid 20 1000", "slid 20 0"),
+    ("of 2,000 blocks", "slid 2000 1000", "slid 2000 0"),
+    ("of 20,000 blocks", "slid 20000 1000", "slid 20000 0"),
+    ("one gap of 20,000 arranged", "gathered 20000 6000", "gathered 20000 0"),
+    ("3,300 gaps arranged", "parted 20000 3000", "parted 20000 0"),
+    ("20,000 purged for one", "purged 20000 1", "purged 20000 0"),
+    ("nearly full of 2,000", "crowded 2000 60000", "crowded 2000 0"),
+    ("nearly full of 20,000", "crowded 20000 38000", "crowded 20000 0"),
+    ("HandAndHand of 100", "appended 100 40000", "appended 100 0"),
+    ("HandAndHand of 100,000", "appended 100000 4000", "appended 100000 0"),
+    ("PtrToHand of 100", "copied 100 40000", "copied 100 0"),
+    ("PtrToHand of 100,000", "copied 100000 4000", "copied 100000 0"),
 ]
 
 

@@ -26,6 +26,16 @@ These are for a zone of 1,048,576 bytes, and the last CALLS lines are what is to
   freed COUNT CALLS    CALLS pointers behind COUNT free bytes, of which each is disposed of, the last one first
   sizes COUNT CALLS    a handle of COUNT bytes gets half of them and all of them in turn
   inside COUNT CALLS   GetHandleSize of a number inside a pointer's COUNT bytes
+  slid COUNT CALLS     so many handles nearly fill the zone, and their one gap slides up and down in turn
+  gathered COUNT CALLS so many handles in one gap; then turns of two DisposeHandle and a NewHandle that needs both their blocks, so that
+                       the gap is arranged (three lines in a turn)
+  parted COUNT CALLS   so many handles, every sixth locked and every third of the others disposed of, and then a NewHandle for each gap
+                       that needs both of its free blocks
+  purged COUNT CALLS   so many purgeable handles, and then a NewHandle that needs the blocks of all but the last
+  crowded COUNT CALLS  so many handles and pointers nearly fill the zone; then calls that keep it so: they make, dispose of, resize,
+                       lock, unlock and mark as purgeable
+  appended COUNT CALLS HandAndHand of so many bytes to a handle that has none, and SetHandleSize to 0 in turn
+  copied COUNT CALLS   PtrToHand of so many bytes, and DisposeHandle in turn
 """
 import random
 import string
@@ -108,7 +118,84 @@ def inside(count, calls):
     return [f"b = NewPtr {count}"] + [f"GetHandleSize ${0x100400 + 4 * (i % 1000) + count // 2:x}" for i in range(calls)]
 
 
+ZONE, MASTER_BLOCK = 1_048_576 - 52, 264
+
+
+def room_beside(handles):
+    """What so many handles leave of the zone for blocks."""
+    return ZONE - MASTER_BLOCK * (handles // 64 + 1)
+
+
+def slid(count, calls):
+    """One gap that slides up and down."""
+    size = room_beside(count) // count // 4 * 4 - 8
+    made = [f"{name_of(i)} = NewHandle {size - 20 * (i == 0)}" for i in range(count)]
+    return made + ["ReserveMem 0", "CompactMem 8388608"] * (calls // 2)
+
+
+def in_one_gap(count):
+    """So many handles of 36 bytes, and one behind them that leaves no free byte."""
+    made = [f"{name_of(i)} = NewHandle 36" for i in range(count)]
+    return made + [f"NewHandle {room_beside(count + 1) - 44 * count - 8}"]
+
+
+def gathered(count, calls):
+    """Blocks that are brought together for a larger one."""
+    random.seed(count)
+    lines, left = in_one_gap(count), list(range(count))
+    random.shuffle(left)
+    for _ in range(calls // 3):
+        lines += [f"DisposeHandle {name_of(left.pop())}", f"DisposeHandle {name_of(left.pop())}", "NewHandle 80"]
+    return lines
+
+
+def parted(count, calls):
+    """Small gaps, each with two holes."""
+    lines = in_one_gap(count)
+    lines += [f"HLock {name_of(i)}" for i in range(5, count, 6)] + [f"DisposeHandle {name_of(i)}" for i in range(0, count, 3)]
+    return lines + ["NewHandle 80"] * calls
+
+
+def purged(count, calls):
+    """Many blocks that make way for one."""
+    random.seed(count)
+    made = [f"{name_of(i)} = NewHandle {random.randrange(8, 41)}" for i in range(count)]
+    return made + [f"HPurge {name_of(i)}" for i in range(count)] + [f"NewHandle {room_beside(count + 1) - 120}"] * calls
+
+
+def crowded(count, calls):
+    """A zone that stays nearly full of blocks of all kinds."""
+    random.seed(count)
+    mean = ZONE // count - 16
+    size = lambda: random.randrange(mean // 2, mean * 3 // 2)
+    pointers = set(random.sample(range(count), count // 5))
+    make = lambda i: f"{name_of(i)} = {'NewPtr' if i in pointers else 'NewHandle'} {size()}"
+    lines, handles, gone = [make(i) for i in range(count)], [i for i in range(count) if i not in pointers], []
+    for _ in range(calls):
+        call = random.choice(["make", "make", "dispose", "dispose", "SetHandleSize", "HLock", "HUnlock", "HUnlock", "HPurge"])
+        i = random.choice(handles if call[0] in "HS" else range(count))
+        if call == "make" and gone:
+            lines.append(make(gone.pop(random.randrange(len(gone)))))
+        elif call in ("make", "dispose"):
+            lines.append(f"{'DisposePtr' if i in pointers else 'DisposeHandle'} {name_of(i)}")
+            gone.append(i)
+        else:
+            lines.append(f"{call} {name_of(i)}" + (f" {size()}" if call[0] == "S" else ""))
+    return lines
+
+
+def appended(count, calls):
+    """Bytes that are appended to none."""
+    return [f"a = NewHandle {count}", "b = NewHandle 0"] + ["HandAndHand a b", "SetHandleSize b 0"] * (calls // 2)
+
+
+def copied(count, calls):
+    """Copies of a pointer's bytes."""
+    return [f"p = NewPtr {count}"] + [f"h = PtrToHand p {count}", "DisposeHandle h"] * (calls // 2)
+
+
 TWO = {"pointers": pointers, "names": names, "holes": holes, "behind": behind, "freed": freed, "sizes": sizes, "inside": inside}
+TWO |= {it.__name__: it for it in (slid, gathered, parted, purged, crowded, appended, copied)}
 
 
 def main():
