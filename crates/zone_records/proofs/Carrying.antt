@@ -1,18 +1,15 @@
--- A block that is carried past those behind it.
-use Rattle.std.proofs.Common.{◌≡◌, ◌+◌, ℕ, Bool, true, not, ◌&&◌, List, [], ◌∷◌, ◌++◌, refl, ap, sym, ◌∙◌, subst, arith, append_assoc}
-use Rattle.std.proofs.lemmas.List.Elements.{All-append, All-same}
-use Rattle.std.proofs.lemmas.List.Folds.{list_all-append}
+-- A block that is carried past those behind it, or sunk below those before it.
+use Rattle.std.proofs.Common.{◌≡◌, ◌+◌, ℕ, Bool, not, ◌&&◌, List, [], ◌∷◌, ◌++◌, refl, ap, sym, ◌∙◌, subst, append_assoc}
 use Rattle.mac_base.specs.declared.block.HeadKind.{HeadKind}
-use Rattle.zone_laws.proofs.Maps.{both_true, true_both}
 use Rattle.block_bytes.specs.Layout as raw
-use Rattle.block_bytes.specs.Layout.{RawBlock, Layout}
+use Rattle.block_bytes.specs.Layout.{RawBlock, Layout, Carried, Sunk}
 use Rattle.zone_records.specs.Records as records
 use Rattle.zone_records.specs.Records.{BlockRecord, ZoneRecords}
-use Rattle.zone_records.specs.Places.{ParcelAt, none_lent}
-use Rattle.zone_records.specs.Changes.{carried}
-use Rattle.zone_records.specs.Reading.{is_sound, HasWords}
-use Rattle.zone_records.proofs.Apart.{read, total-read, total-append, read-append, One, InTwo, in-two}
-use Rattle.zone_records.proofs.Held.{Held, one, address-is, sound-two, words-at, words-first, words-rest, words-one, changed}
+use Rattle.zone_records.specs.Places.{ParcelAt, ParcelUpTo, none_lent}
+use Rattle.zone_records.specs.Changes.{carried, sunk}
+use Rattle.zone_records.proofs.Apart.{read, total-read, read-append, One, InTwo, in-two}
+use Rattle.zone_records.proofs.Held.{Held, address-is, one}
+use Rattle.zone_records.proofs.Turning.{kept-same, kept-moved, turned}
 
 -- blocks of bytes of which none is lent
 pub lent-read : (heads : HeadKind) (base : ℕ) (bs : List RawBlock) → raw.none_lent bs ≡ none_lent (read heads base bs)
@@ -47,19 +44,44 @@ module _ (l : Layout) (z : ZoneRecords) (held : Held l z) (at end : ℕ) (parcel
     unlent = lent-read l.heads l.base (first_one.block ∷ others_two.first) ∙ ap none_lent run_read ∙ parcel.unlent;
   }
 
-  pub carry-ends : (m : Layout) → m ≡ raw.carried l raw-parcel → Held m (carried z parcel)
+  pub carry-ends : (m : Layout) → Carried l raw-parcel m → Held m (carried z parcel)
   carry-ends m ends =
       let o = first_one in let t = others_two in
-      let sound = both_true _ _ (sym (list_all-append (is_sound l.heads l.base) (o.block ∷ t.first) t.rest) ∙ (sound-two l o.first (o.block ∷ t.first ++ t.rest) held.sound run_blocks).1) in
-      let parts = both_true _ _ sound.0 in
-      let words = words-first l.heads t.first t.rest (words-rest l.heads (o.block ∷ []) (t.first ++ t.rest) (words-rest l.heads o.first (o.block ∷ t.first ++ t.rest) (All-same (HasWords l.heads) (o.first ++ (o.block ∷ t.first ++ t.rest)) l.blocks (sym run_blocks) held.sound.words))) in
-      let word = words-at l o.first o.block (t.first ++ t.rest) held.sound run_blocks in
-      let total = total-append l.heads t.first (o.block ∷ []) in
-      let here : read l.heads l.base (t.first ++ o.block ∷ []) ≡ parcel.others ++ parcel.here ∷ [] = read-append l.heads l.base t.first (o.block ∷ []) ∙ (λ i. t.lower i ++ o.same i ∷ []) in
-      let now : Held (raw.with_blocks (o.first ++ ((t.first ++ o.block ∷ []) ++ t.rest)) l) (records.with_blocks (parcel.before ++ ((parcel.others ++ parcel.here ∷ []) ++ parcel.behind)) z) =
-      changed l z held o.first (o.block ∷ t.first) (t.first ++ o.block ∷ []) t.rest parcel.before (parcel.others ++ parcel.here ∷ []) parcel.behind run_blocks o.lower t.upper here (omega arith)
-      (list_all-append (is_sound l.heads l.base) t.first (o.block ∷ []) ∙ true_both _ _ parts.1 (true_both _ true parts.0 refl))
-      (All-append (HasWords l.heads) t.first (o.block ∷ []) words (words-one l.heads o.block word)) in
-      subst (λ m. Held m (carried z parcel)) (sym ends)
-      (subst (λ (bs : List BlockRecord). Held (raw.carried l raw-parcel) (records.with_blocks bs z)) (ap (λ (bs : List BlockRecord). parcel.before ++ bs) (append_assoc parcel.others (parcel.here ∷ []) parcel.behind))
-      (subst (λ (bs : List RawBlock). Held (raw.with_blocks bs l) (records.with_blocks (parcel.before ++ ((parcel.others ++ parcel.here ∷ []) ++ parcel.behind)) z)) (ap (λ (bs : List RawBlock). o.first ++ bs) (append_assoc t.first (o.block ∷ []) t.rest)) now))
+      subst (λ m. Held m (carried z parcel)) (sym ends.blocks)
+      (turned l z held o.first (o.block ∷ []) t.first (ends.moved ∷ []) t.first t.rest parcel.before (parcel.here ∷ []) parcel.others parcel.behind run_blocks o.lower
+      (ap (λ r. r ∷ []) o.same) t.lower t.upper (kept-moved l.heads l.base o.block ends.moved ends.same) (kept-same l.heads l.base t.first))
+
+module _ (l : Layout) (z : ZoneRecords) (held : Held l z) (start at : ℕ) (parcel : ParcelUpTo z start at) where
+  -- the block among the blocks of bytes, and the others before it
+  abbrev pub last_one : One l (parcel.before ++ parcel.others) parcel.here parcel.behind
+  last_one = one l z held (parcel.before ++ parcel.others) parcel.here parcel.behind (parcel.blocks ∙ sym (append_assoc parcel.before parcel.others (parcel.here ∷ parcel.behind)))
+
+  abbrev pub before_two : InTwo l.heads l.base last_one.first parcel.before parcel.others
+  before_two = in-two l.heads l.base last_one.first parcel.before parcel.others last_one.lower
+
+  pub sink_blocks : l.blocks ≡ before_two.first ++ (before_two.rest ++ last_one.block ∷ last_one.rest)
+  sink_blocks = last_one.blocks ∙ ap (λ (bs : List RawBlock). bs ++ last_one.block ∷ last_one.rest) before_two.blocks ∙ append_assoc before_two.first before_two.rest (last_one.block ∷ last_one.rest)
+
+  -- they are read as the run
+  pub sink_read : read l.heads l.base (before_two.rest ++ last_one.block ∷ []) ≡ parcel.others ++ parcel.here ∷ []
+  sink_read = read-append l.heads l.base before_two.rest (last_one.block ∷ []) ∙ (λ i. before_two.upper i ++ last_one.same i ∷ [])
+
+  -- the parcel of blocks of bytes
+  abbrev pub raw-parcel_up : raw.ParcelUpTo l start at
+  raw-parcel_up = record {
+    before = before_two.first;
+    others = before_two.rest;
+    here = last_one.block;
+    behind = last_one.rest;
+    blocks = sink_blocks;
+    place = parcel.place ∙ address-is l z held before_two.first parcel.before before_two.lower;
+    long = parcel.long ∙ ap (λ n. start + n) (sym (ap records.total_of before_two.upper) ∙ total-read l.heads l.base before_two.rest);
+    unlent = lent-read l.heads l.base (before_two.rest ++ last_one.block ∷ []) ∙ ap none_lent sink_read ∙ parcel.unlent;
+  }
+
+  pub sink-ends : (m : Layout) → Sunk l raw-parcel_up m → Held m (sunk z parcel)
+  sink-ends m ends =
+      let o = last_one in let t = before_two in
+      subst (λ m. Held m (sunk z parcel)) (sym ends.blocks)
+      (turned l z held t.first t.rest (o.block ∷ []) t.rest (ends.moved ∷ []) o.rest parcel.before parcel.others (parcel.here ∷ []) parcel.behind sink_blocks t.lower
+      t.upper (ap (λ r. r ∷ []) o.same) o.upper (kept-same l.heads l.base t.rest) (kept-moved l.heads l.base o.block ends.moved ends.same))

@@ -5,6 +5,7 @@ mod Apart
 mod Held
 mod Ranked
 mod Looking
+mod FirstFree
 mod Headers
 mod Holding
 mod Slots
@@ -14,6 +15,7 @@ mod Freeing
 mod Fitting
 mod Fitted
 mod Growing
+mod Turning
 mod Exchanging
 mod Carrying
 mod Flagging

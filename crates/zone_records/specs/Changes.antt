@@ -9,7 +9,7 @@ use Rattle.raw_region.specs.State.{Loan}
 use Rattle.zone_records.specs.declared.slot.Slot.{Slot}
 use Rattle.zone_records.specs.declared.slot.Slot.TheVariants as slot
 use Rattle.zone_records.specs.Records.{Content, Free, Master, BlockRecord, block_record, lent_record, handle_record, ZoneRecords, with_blocks, with_bytes, bytes_of, total_of}
-use Rattle.zone_records.specs.Places.{FreeAt, HeldAt, HandleBlockAt, SlotAt, FreePair, CanHold, CanGrow, PairAt, ParcelAt, IsLoanOf}
+use Rattle.zone_records.specs.Places.{FreeAt, HeldAt, HandleBlockAt, SlotAt, FreePair, CanHold, CanGrow, PairAt, ParcelAt, ParcelUpTo, IsLoanOf}
 
 -- a new zone: one free block, and no slot
 abbrev pub new_records : Memory → ZoneSizes → ZoneRecords
@@ -78,6 +78,10 @@ exchanged z pair = with_blocks (pair.before ++ pair.second ∷ pair.first ∷ pa
 -- the block stands behind the others
 abbrev pub carried : {at end : ℕ} → (z : ZoneRecords) → ParcelAt z at end → ZoneRecords
 carried z parcel = with_blocks (parcel.before ++ (parcel.others ++ parcel.here ∷ parcel.behind)) z
+
+-- the block stands before the others
+abbrev pub sunk : {start at : ℕ} → (z : ZoneRecords) → ParcelUpTo z start at → ZoneRecords
+sunk z parcel = with_blocks (parcel.before ++ (parcel.here ∷ parcel.others ++ parcel.behind)) z
 
 -- the block at an address is lent
 abbrev pub lent_out : {at : ℕ} → (z : ZoneRecords) → HeldAt z at → ZoneRecords

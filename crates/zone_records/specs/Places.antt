@@ -1,5 +1,5 @@
 -- Places in a zone's list of blocks, by address, and what can be done there.
-use Rattle.std.specs.Prelude.{◌≡◌, ℕ, ◌+◌, ◌-◌, ◌*◌, ◌≤◌, ◌⊎◌, ◌^◌, ◌%◌, Bool, true, false, not, ◌&&◌, ◌==◌, nat_le, nat_lt, IsTrue, List, ◌∷◌, ◌++◌, length}
+use Rattle.std.specs.Prelude.{◌≡◌, ℕ, ◌+◌, ◌-◌, ◌*◌, ◌≤◌, ◌⊎◌, ◌^◌, ◌%◌, Bool, true, false, not, ◌&&◌, ◌==◌, nat_le, nat_lt, if◌then◌else◌, IsTrue, List, [], ◌∷◌, ◌++◌, length}
 use Rattle.std.specs.List.{list_all}
 use Rattle.mac_base.specs.declared.block.HeadKind.{HeadKind}
 use Rattle.mac_base.specs.declared.block.HeadKind.TheVariants.{Bits24, Bits32}
@@ -159,6 +159,17 @@ pub record ParcelAt (z : ZoneRecords) (at end : ℕ) : Type 0 where
   pub long : end ≡ at + total_of (here ∷ others)
   pub unlent : IsTrue (none_lent (here ∷ others))
 
+-- some blocks stand from an address on, and a block behind them at another, none of them lent
+pub record ParcelUpTo (z : ZoneRecords) (start at : ℕ) : Type 0 where
+  pub before : List BlockRecord
+  pub others : List BlockRecord
+  pub here : BlockRecord
+  pub behind : List BlockRecord
+  pub blocks : z.blocks ≡ before ++ (others ++ here ∷ behind)
+  pub place : start ≡ address_behind z.shape before
+  pub long : at ≡ start + total_of others
+  pub unlent : IsTrue (none_lent (others ++ here ∷ []))
+
 -- whether no flag is set
 abbrev pub is_unmarked : Flags → Bool
 is_unmarked flags = not flags.lock && (not flags.purge && not flags.resource)
@@ -194,3 +205,28 @@ pub record LowestAt (z : ZoneRecords) (k at : ℕ) : Type 0 where
   pub free : FreeAt z at
   pub large : k ≤ free.size
   pub lowest : IsTrue (list_all (λ b. not (has_free k b)) free.before)
+
+-- the blocks from an address on, which is that of a block or of the end of the last
+pub record SplitAt (z : ZoneRecords) (at : ℕ) : Type 0 where
+  pub before : List BlockRecord
+  pub behind : List BlockRecord
+  pub blocks : z.blocks ≡ before ++ behind
+  pub place : at ≡ address_behind z.shape before
+
+-- whether none of these is free
+abbrev pub none_free : List BlockRecord → Bool
+none_free bs = list_all (λ (b : BlockRecord). not (is_free b.content)) bs
+
+-- the first free one of these blocks, which begin at an address, stands at another
+pub record FirstFree (bs : List BlockRecord) (from at : ℕ) : Type 0 where
+  pub passed : List BlockRecord
+  pub size : ℕ
+  pub behind : List BlockRecord
+  pub blocks : bs ≡ passed ++ block_record Free size ∷ behind
+  pub used : IsTrue (none_free passed)
+  pub place : at ≡ from + total_of passed
+
+-- the sum of the sizes of the free blocks
+abbrev pub free_total : List BlockRecord → ℕ
+free_total [] = 0
+free_total (b ∷ bs) = (if is_free b.content then b.size else 0) + free_total bs

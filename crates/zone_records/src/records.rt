@@ -51,8 +51,8 @@ impl Records {
     ghost use Rattle.mac_base.specs.ZoneMap.{block};
     ghost use Rattle.zone_records.specs.Records.{ZoneRecords, Fixed, Master, Relocatable, sizes_of, kind_of, length_of, bytes_of, lent_count, NothingLent};
     ghost use Rattle.mac_base.specs.Loans.{most_loans};
-    ghost use Rattle.zone_records.specs.Places.{RecordAt, FreeAt, HeldAt, HandleBlockAt, SlotAt, RoomFor, CanCut, FreePair, CanHold, CanGrow, PairAt, ParcelAt, IsLoanOf, LowestAt, has_free, can_say, can_flag};
-    ghost use Rattle.zone_records.specs.Changes.{new_records, with_front, extended, filled, chained, emptied, flagged, with_slot, cut_in_two, joined_pair, held_there, enlarged, exchanged, carried, lent_out, loan_of, taken_back};
+    ghost use Rattle.zone_records.specs.Places.{RecordAt, FreeAt, HeldAt, HandleBlockAt, SlotAt, RoomFor, CanCut, FreePair, CanHold, CanGrow, PairAt, ParcelAt, IsLoanOf, LowestAt, has_free, can_say, can_flag, ParcelUpTo, SplitAt, FirstFree, none_free, free_total};
+    ghost use Rattle.zone_records.specs.Changes.{new_records, with_front, extended, filled, chained, emptied, flagged, with_slot, cut_in_two, joined_pair, held_there, enlarged, exchanged, carried, sunk, lent_out, loan_of, taken_back};
     ghost use Rattle.zone_records.specs.Fitting.{fitted, CanKeep};
     ghost use Rattle.zone_records.specs.Copying.{CanCopy, copied};
     ghost use Rattle.zone_records.specs.Image.{HasBytes};
@@ -339,13 +339,38 @@ impl Records {
         self.blocks.carry(at, end);
     }
 
-    /// Copies the first `count` bytes of the block of a handle or a pointer over the first of another such block, which
-    /// stands below it or above.
-    pub fn copy(&mut self, from: u32, to: u32, count: u32)
-        requires { CanCopy self.old from to count }
-        ensures { (can : CanCopy self.old from to count) → self.new ≡ copied self.old can }
+    /// The block at an address changes places with those before it, which begin at `start`, each with its bytes. A master pointer
+    /// that names one of them stays as it is.
+    pub fn sink(&mut self, start: u32, at: u32)
+        requires { ParcelUpTo self.old start at }
+        ensures { (parcel : ParcelUpTo self.old start at) → self.new ≡ sunk self.old parcel }
     {
-        self.blocks.copy(from, to, count);
+        self.blocks.sink(start, at);
+    }
+
+    /// The address of the first free block from an address on, if there is one.
+    pub fn next_free(&self, from: u32) -> Option<u32>
+        requires { SplitAt self.now from }
+        ensures next { IfSome result (λ at. (split : SplitAt self.now from) → FirstFree split.behind from at) }
+        ensures none { IfNone result ((split : SplitAt self.now from) → IsTrue (none_free split.behind)) }
+    {
+        self.blocks.next_free(from)
+    }
+
+    /// The sum of the sizes of the free blocks.
+    pub fn free_bytes(&self) -> u32
+        ensures { result ≡ free_total self.now.blocks }
+    {
+        self.blocks.free_bytes()
+    }
+
+    /// Copies `count` bytes, from `start` on, of the block of a handle or a pointer over those from `offset` on of such a block. It may
+    /// be the same block, whose bytes are then those before the call.
+    pub fn copy(&mut self, from: u32, start: u32, to: u32, offset: u32, count: u32)
+        requires { CanCopy self.old from start to offset count }
+        ensures { (can : CanCopy self.old from start to offset count) → self.new ≡ copied self.old can }
+    {
+        self.blocks.copy(from, start, to, offset, count);
     }
 
     /// The bytes of the block of a handle or a pointer.
