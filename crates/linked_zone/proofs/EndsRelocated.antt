@@ -2,7 +2,7 @@
 use Rattle.std.proofs.Common.{◌≡◌, ℕ, ◌+◌, ◌-◌, ◌≤◌, min, true, false, eqb, List, ◌∷◌, ◌++◌, length, take, drop, refl, ap, sym, ◌∙◌, subst, arith, Contains, length-take-le}
 use Rattle.std.specs.List.{list_all}
 use Rattle.std.proofs.Math.Nat.{min-le_left, min-le_right, min_comm}
-use Rattle.std.proofs.lemmas.List.{take_all, take_min, drop-replicate, length-replicate}
+use Rattle.std.proofs.lemmas.List.{take_min, drop-replicate, length-replicate}
 use Rattle.mac_base.specs.declared.block.Entry.{Entry}
 use Rattle.mac_base.specs.declared.block.Flags.{Flags}
 use Rattle.mac_base.specs.declared.block.Kind.TheVariants as kind
@@ -11,7 +11,7 @@ use Rattle.mac_base.specs.HandleTable.{live_bytes, live_flags, flags_of, bytes_o
 use Rattle.mac_base.specs.Heap.{front_slot}
 use Rattle.mac_base.specs.Suits.{is_block_size}
 use Rattle.mac_base.specs.ZoneMap.{block, total_size}
-use Rattle.mac_base.specs.ZoneState.{ZoneState, overwritten}
+use Rattle.mac_base.specs.ZoneState.{ZoneState, written}
 use Rattle.zone_laws.proofs.Maps.{Exchanged, list_all-exchanged, total_size-exchanged, true_both}
 use Rattle.zone_laws.proofs.Tables.{eqb_same}
 use Rattle.zone_records.specs.Changes as records
@@ -40,16 +40,17 @@ use Rattle.linked_zone.proofs.ChangeRelocated.{still_free, relocated-live, reloc
 use Rattle.linked_zone.proofs.RelocatedPlaces.{Moving, moving}
 use Rattle.linked_zone.proofs.TwoPlaces.{TwoPlaces}
 
+-- as many zeros as are left behind the first bytes of some
+zeros_left : (n all some : ℕ) → some ≡ min all n → n - (0 + some) ≡ n - all
+zeros_left n all some is = omega arith
+
 -- the first bytes of some, as far as they go, over n bytes of zero
-pub over-zeros : (n kept : ℕ) (bytes : List ℕ) → kept ≡ min (length bytes) n → overwritten (zeros n) (take kept bytes) ≡ resized n bytes
+over-zeros : (n kept : ℕ) (bytes : List ℕ) → kept ≡ min (length bytes) n → written 0 (take kept bytes) (zeros n) ≡ resized n bytes
 over-zeros n kept bytes is =
     let low = min-le_left (length bytes) n in
-    let high = min-le_right (length bytes) n in
     let long : length (take kept bytes) ≡ kept = length-take-le kept bytes (omega arith) in
-    let all : length (zeros n) ≡ n = length-replicate {A = ℕ} n 0 in
-    let left : n - length (take kept bytes) ≡ n - length bytes = omega arith in
-    ap (λ xs. xs ++ drop (length (take kept bytes)) (zeros n)) (take_all (length (zeros n)) (take kept bytes) (omega arith) ∙ ap (λ k. take k bytes) (is ∙ min_comm (length bytes) n) ∙ take_min n bytes)
-    ∙ ap (λ xs. take n bytes ++ xs) (drop-replicate (length (take kept bytes)) n 0 ∙ ap zeros left)
+    ap (λ xs. xs ++ drop (0 + length (take kept bytes)) (zeros n)) (ap (λ k. take k bytes) (is ∙ min_comm (length bytes) n) ∙ take_min n bytes)
+    ∙ ap (λ xs. take n bytes ++ xs) (drop-replicate (0 + length (take kept bytes)) n 0 ∙ ap zeros (zeros_left n (length bytes) (length (take kept bytes)) (long ∙ is)))
 
 module _ (r : ZoneRecords) (z : ZoneState) (held : Stands r z) (h n from at : ℕ) (full : is_full z.heap.table h ≡ true) (unlent : is_lent z.heap.table h ≡ false) (b : BlockOf z h from) (room : RoomFor z at n) where
   abbrev now : ZoneState
@@ -163,7 +164,7 @@ module _ (r : ZoneRecords) (z : ZoneState) (held : Stands r z) (h n from at : �
         marked = (subst (λ (m : ZoneRecords). (w : places.HandleBlockAt m at) → m2 ≡ records.flagged f m w) zeroed is2) flag_there ∙ in_new old (new f (zeros n)) ∙ ap (λ g. both old (new g (zeros n))) flags_are
 
         module _ (kept_bytes : ℕ) (few : kept_bytes ≡ min (length bytes) n) where
-          abbrev copy_there : copying.CanCopy (both old (new flags (zeros n))) from at kept_bytes
+          abbrev copy_there : copying.CanCopy (both old (new flags (zeros n))) from 0 at 0 kept_bytes
           copy_there = record {
             source = record {
               before = p.before_from (new flags (zeros n));
@@ -188,14 +189,14 @@ module _ (r : ZoneRecords) (z : ZoneState) (held : Stands r z) (h n from at : �
           }
 
           -- the bytes can be copied
-          pub relocate-can_copy : copying.CanCopy m2 from at kept_bytes
-          relocate-can_copy = subst (λ m. copying.CanCopy m from at kept_bytes) (sym marked) copy_there
+          pub relocate-can_copy : copying.CanCopy m2 from 0 at 0 kept_bytes
+          relocate-can_copy = subst (λ m. copying.CanCopy m from 0 at 0 kept_bytes) (sym marked) copy_there
 
-          module _ (m3 : ZoneRecords) (is3 : (w : copying.CanCopy m2 from at kept_bytes) → m3 ≡ copying.copied m2 w) where
+          module _ (m3 : ZoneRecords) (is3 : (w : copying.CanCopy m2 from 0 at 0 kept_bytes) → m3 ≡ copying.copied m2 w) where
             -- it has them
             filled : m3 ≡ both old (new flags (resized n bytes))
-            filled = (subst (λ (m : ZoneRecords). (w : copying.CanCopy m from at kept_bytes) → m3 ≡ copying.copied m w) marked is3) copy_there
-                ∙ in_new old (new flags (overwritten (zeros n) (take kept_bytes bytes))) ∙ ap (λ bs. both old (new flags bs)) (over-zeros n kept_bytes bytes few)
+            filled = (subst (λ (m : ZoneRecords). (w : copying.CanCopy m from 0 at 0 kept_bytes) → m3 ≡ copying.copied m w) marked is3) copy_there
+                ∙ in_new old (new flags (written 0 (take kept_bytes bytes) (zeros n))) ∙ ap (λ bs. both old (new flags bs)) (over-zeros n kept_bytes bytes few)
 
             abbrev old_there : places.HeldAt (both old (new flags (resized n bytes))) from
             old_there = record {

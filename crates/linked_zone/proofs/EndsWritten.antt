@@ -22,7 +22,7 @@ use Rattle.linked_zone.proofs.Owning.{SameOf, same_but}
 use Rattle.linked_zone.proofs.Ends.{lower, upper, parts-after, ended-same}
 use Rattle.linked_zone.proofs.EndsSized.{flags-stay, content-named}
 use Rattle.linked_zone.proofs.ChangeSized.{names-one}
-use Rattle.linked_zone.proofs.ChangeWritten.{written-fits, written-pointers, written-bytes, written-other_bytes}
+use Rattle.linked_zone.proofs.ChangeWritten.{rewritten, written-fits, written-pointers, written-bytes, written-other_bytes}
 use Rattle.linked_zone.proofs.Found.{named-held}
 use Rattle.linked_zone.proofs.ReadNumbers.{room_some}
 
@@ -52,31 +52,47 @@ overwritten-there o s start at ws (f ∷ low) e high rooms place =
     differs : (a b size more : ℕ) → 0 < size → b ≡ a + (size + more) → eqb a b ≡ false
     differs a b size more some is = grind (arith, nat_tests)
 
-module _ (r : ZoneRecords) (z : ZoneState) (held : Stands r z) (x at : ℕ) (has : has_block z.heap.table x ≡ true) (place : NamedAt z x at) (ws : List ℕ) where
-  -- what is left stands for the zone with these bytes written over the old ones
-  pub lent-kept : Kept (with_contents_at r at ws) (with_contents z x ws)
-  lent-kept =
-      let w = with_contents z x ws in
+module _ (r : ZoneRecords) (z : ZoneState) (held : Stands r z) (x at : ℕ) (has : has_block z.heap.table x ≡ true) (place : NamedAt z x at) where
+  abbrev start : ℕ
+  start = address_behind z.shape []
+
+  abbrev there : ℕ
+  there = (start + total_size place.before) + head_size z.shape.heads
+
+  -- the blocks with other bytes in that of x
+  abbrev pub refilled_there : List ℕ → List BlockRecord
+  refilled_there bytes = lower (owners_of z) z.shape place.before
+      ++ record { size = place.here.size; content = with_bytes bytes (content_of (owners_of z) there place.here.kind); lent = lent_of (owners_of z) place.here.kind } ∷ upper (owners_of z) z.shape place.before (place.here ∷ []) place.behind
+
+  -- they stand for the zone in which x has these
+  pub rewritten-kept : (bytes : List ℕ) (m : ZoneRecords) → m ≡ record { memory = z.memory; shape = z.shape; front = front_slot z.heap; blocks = refilled_there bytes } → Kept m (rewritten z x bytes)
+  rewritten-kept bytes m is =
+      let w = rewritten z x bytes in
       let o = owners_of z in
       let q = owners_of w in
-      let start = address_behind z.shape [] in
-      let there = (start + total_size place.before) + head_size z.shape.heads in
       let one = names-one z x place.before place.here place.behind held.fits place.map place.named in
       let same : (y : ℕ) → eqb y x ≡ false → SameOf o q y = λ y apart.
-      (ap (header_flags z.shape.heads) (flags-stay x (overwritten (bytes_of z.heap.table x) ws) z.heap.table y), written-other_bytes z x (overwritten (bytes_of z.heap.table x) ws) held.fits has y (λ is. absurd (cc (apart, is, eqb_same x))), refl) in
-      let content : content_of q there place.here.kind ≡ with_bytes (overwritten (records.bytes_of (content_of o there place.here.kind)) ws) (content_of o there place.here.kind) =
-      content-named o q there x place.here.kind place.named (ap (header_flags z.shape.heads) (flags-stay x (overwritten (bytes_of z.heap.table x) ws) z.heap.table x))
-      ∙ ap (λ bytes. with_bytes bytes (content_of o there place.here.kind)) (written-bytes z x (overwritten (bytes_of z.heap.table x) ws) held.fits has ∙ ap (λ old. overwritten old ws) (sym (named-held o there x place.here.kind place.named).1)) in
+      (ap (header_flags z.shape.heads) (flags-stay x bytes z.heap.table y), written-other_bytes z x bytes held.fits has y (λ is. absurd (cc (apart, is, eqb_same x))), refl) in
+      let content : content_of q there place.here.kind ≡ with_bytes bytes (content_of o there place.here.kind) =
+      content-named o q there x place.here.kind place.named (ap (header_flags z.shape.heads) (flags-stay x bytes z.heap.table x))
+      ∙ ap (λ bytes. with_bytes bytes (content_of o there place.here.kind)) (written-bytes z x bytes held.fits has) in
       let whole : Exchanged z.heap.map w.heap.map = record { before = place.before; left = place.here ∷ []; right = place.here ∷ []; behind = place.behind; was = place.map; is = place.map; as_large = refl } in
+      ended-same r m z w.heap held refl (written-fits z x bytes held.fits has)
+      (parts-after z w.heap whole m (front_slot z.heap) q (λ y c. written-pointers z x bytes held.fits has y) (λ y c. written-pointers z x bytes held.fits has y)
+      (same_but o q x place.before one.none_before same) (same_but o q x place.behind one.none_behind same)
+      (is ∙ ap (λ c. record { memory = z.memory; shape = z.shape; front = front_slot z.heap; blocks = lower o z.shape place.before ++ (record { size = place.here.size; content = c; lent = lent_of o place.here.kind } ∷ upper o z.shape place.before (place.here ∷ []) place.behind) }) (sym content)))
+
+  -- what is left behind a slice stands for the zone with these bytes written over the old ones
+  pub lent-kept : (ws : List ℕ) → Kept (with_contents_at r at ws) (with_contents z x ws)
+  lent-kept ws =
+      let o = owners_of z in
       let rooms = (both_true (list_all (has_room z.shape) place.before) _ (sym (ap (list_all (has_room z.shape)) place.map ∙ list_all-append (has_room z.shape) place.before (place.here ∷ place.behind)) ∙ held.rooms)).0 in
       let address = place.place in
       let end : (start + total_size place.before) + place.here.size ≡ (start + total_size place.before) + total_size (place.here ∷ []) = omega arith in
-      ended-same r (with_contents_at r at ws) z w.heap held refl (written-fits z x (overwritten (bytes_of z.heap.table x) ws) held.fits has)
-      (parts-after z w.heap whole (with_contents_at r at ws) (front_slot z.heap) q (λ y c. written-pointers z x (overwritten (bytes_of z.heap.table x) ws) held.fits has y) (λ y c. written-pointers z x (overwritten (bytes_of z.heap.table x) ws) held.fits has y)
-      (same_but o q x place.before one.none_before same) (same_but o q x place.behind one.none_behind same)
+      rewritten-kept (overwritten (bytes_of z.heap.table x) ws) (with_contents_at r at ws)
       (ap (λ r. with_contents_at r at ws) held.blocks
       ∙ ap (λ bs. record { memory = z.memory; shape = z.shape; front = front_slot z.heap; blocks = bs })
       (ap (λ m. overwritten_at start at ws (records_from o z.shape start m)) place.map
       ∙ overwritten-there o z.shape start at ws place.before place.here place.behind rooms (omega arith)
       ∙ ap (λ a. lower o z.shape place.before ++ (written_over ws (record_of o z.shape (start + total_size place.before) place.here) ∷ records_from o z.shape a place.behind)) end
-      ∙ ap (λ c. lower o z.shape place.before ++ (record { size = place.here.size; content = c; lent = lent_of o place.here.kind } ∷ upper o z.shape place.before (place.here ∷ []) place.behind)) (sym content))))
+      ∙ ap (λ old. refilled_there (overwritten old ws)) (named-held o there x place.here.kind place.named).1))

@@ -1,6 +1,5 @@
 mod Bare
 mod ChangeBlock
-pub mod ChangeCarried
 mod ChangeCut
 mod ChangeEmptied
 mod ChangeExchanged
@@ -14,10 +13,11 @@ mod ChangePointed
 mod ChangeRelocated
 mod ChangeSized
 mod ChangeTaken
+mod ChangeTurned
 mod ChangeUnfixed
 mod ChangeWritten
 mod Ends
-mod EndsCarried
+mod EndsCopied
 mod EndsCut
 mod EndsExchange
 mod EndsExtended
@@ -27,10 +27,12 @@ mod EndsGiven
 mod EndsLoans
 mod EndsMaster
 mod EndsRelocated
+mod EndsRun
 mod EndsSaid
 mod EndsSized
 mod EndsSlots
 mod EndsSwapped
+mod EndsTurned
 mod EndsWritten
 mod Found
 mod Lent

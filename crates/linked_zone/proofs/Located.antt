@@ -18,7 +18,7 @@ use Rattle.zone_records.specs.Records.{BlockRecord, ZoneRecords, block_record, F
 use Rattle.zone_records.specs.Places.{RecordAt, SlotAt}
 use Rattle.zone_records.specs.Places as records
 use Rattle.linked_zone.specs.Owned.{Owners, owners_of, content_of, record_of, records_from, records_of}
-use Rattle.linked_zone.specs.Places.{EntryAt, LowestAt}
+use Rattle.linked_zone.specs.Places.{EntryAt, LowestAt, SplitAt, FirstFree, none_free}
 use Rattle.linked_zone.specs.Fit.{Fits, HasRooms}
 use Rattle.linked_zone.proofs.Owning.{records_from-append, records-total}
 use Rattle.linked_zone.proofs.ReadNumbers.{slots_at-first}
@@ -186,6 +186,57 @@ lowest-at r z is k at low =
       large = omega arith;
       lowest = sym (ap (list_all (λ b. not (records.has_free k b))) mine.lower ∙ rooms-same (owners_of z) z.shape (address_behind z.shape []) k e.before) ∙ low.lowest;
     }
+
+-- none of the blocks is free where none of the entries is
+pub none_free-same : (o : Owners) (s : Shape) (at : ℕ) (m : ZoneMap) → records.none_free (records_from o s at m) ≡ none_free m
+none_free-same o s at [] = refl
+none_free-same o s at (e ∷ es) =
+    ap (λ t. not t && records.none_free (records_from o s (at + e.size) es)) (free-content o (at + head_size s.heads) e.kind)
+    ∙ ap (λ t. not (map.is_free e.kind) && t) (none_free-same o s (at + e.size) es)
+
+-- as many bytes of both are free
+pub free_bytes-same : (o : Owners) (s : Shape) (at : ℕ) (m : ZoneMap) → records.free_total (records_from o s at m) ≡ map.free_bytes m
+free_bytes-same o s at [] = refl
+free_bytes-same o s at (e ∷ es) =
+    ap (λ t. cond t e.size 0 + records.free_total (records_from o s (at + e.size) es)) (free-content o (at + head_size s.heads) e.kind)
+    ∙ ap (λ n. map.free_size e + n) (free_bytes-same o s (at + e.size) es)
+
+module _ (r : ZoneRecords) (z : ZoneState) (is : r ≡ records_of z) (from : ℕ) (split : SplitAt z from) where
+  -- the blocks from an address on
+  abbrev upper_part : List BlockRecord
+  upper_part = records_from (owners_of z) z.shape (address_behind z.shape [] + total_size split.before) split.behind
+
+  abbrev split_there : records.SplitAt (records_of z) from
+  split_there = record {
+    before = records_from (owners_of z) z.shape (address_behind z.shape []) split.before;
+    behind = upper_part;
+    blocks = ap (records_from (owners_of z) z.shape (address_behind z.shape [])) split.map ∙ records_from-append (owners_of z) z.shape (address_behind z.shape []) split.before split.behind;
+    place = (let total = records-total (owners_of z) z.shape (address_behind z.shape []) split.before in let place = split.place in omega arith);
+  }
+
+  pub split-at : records.SplitAt r from
+  split-at = subst (λ r. records.SplitAt r from) (sym is) split_there
+
+  -- the first free one of them is that of the map
+  pub first-free : (at : ℕ) → ((s : records.SplitAt r from) → records.FirstFree s.behind from at) → FirstFree split.behind from at
+  first-free at finds =
+      let f = (subst (λ (r : ZoneRecords). (s : records.SplitAt r from) → records.FirstFree s.behind from at) is finds) split_there in
+      let start = address_behind z.shape [] + total_size split.before in
+      let a = apart (owners_of z) z.shape start split.behind f.passed (block_record Free f.size) f.behind f.blocks in
+      let free : a.e.kind ≡ kind.Free = free-kind (owners_of z) _ a.e.kind (ap (λ (b : BlockRecord). b.content) a.there) in
+      record {
+        passed = a.low;
+        size = a.e.size;
+        behind = a.high;
+        splits = a.is ∙ ap (λ k. a.low ++ block k a.e.size ∷ a.high) free;
+        used = sym (ap records.none_free a.lower ∙ none_free-same (owners_of z) z.shape start a.low) ∙ f.used;
+        place = f.place ∙ ap (λ n. from + n) (ap total_of a.lower ∙ records-total (owners_of z) z.shape start a.low);
+      }
+
+  -- none of the map's is free where none of them is
+  pub no-free : ((s : records.SplitAt r from) → records.none_free s.behind ≡ true) → none_free split.behind ≡ true
+  no-free none = sym (none_free-same (owners_of z) z.shape (address_behind z.shape [] + total_size split.before) split.behind)
+      ∙ (subst (λ (r : ZoneRecords). (s : records.SplitAt r from) → records.none_free s.behind ≡ true) is none) split_there
 
 -- ---- slots
 

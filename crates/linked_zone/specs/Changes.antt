@@ -9,7 +9,7 @@ use Rattle.mac_base.specs.ZoneSizes.{ZoneSizes, shape_of}
 use Rattle.mac_base.specs.HandleTable.{HandleTable, EmptyHandle, FullHandle, Pointer, new_table, no_flags, zeros, bytes_of, resized, with_live, with_bytes, with_flags, without, emptied}
 use Rattle.mac_base.specs.Suits.{slots_from}
 use Rattle.mac_base.specs.ZoneState.{Memory, ZoneState, with_heap}
-use Rattle.linked_zone.specs.Places.{FreeAt, FreePair, CanHold, CanGrow, MovablePair, ParcelAt}
+use Rattle.linked_zone.specs.Places.{FreeAt, FreePair, CanHold, CanGrow, MovablePair, ParcelAt, ParcelUpTo}
 
 -- the zone with another map
 abbrev pub with_map : ZoneMap → ZoneState → ZoneState
@@ -106,6 +106,10 @@ exchanged z pair = with_map (pair.before ++ pair.second ∷ pair.first ∷ pair.
 -- the zone with the block behind the run
 abbrev pub carried_up : {start end : ℕ} → (z : ZoneState) → ParcelAt z start end → ZoneState
 carried_up z parcel = with_map (parcel.before ++ (parcel.blocks ++ parcel.here ∷ parcel.behind)) z
+
+-- the zone with the block before the run
+abbrev pub sunk : {start at : ℕ} → (z : ZoneState) → ParcelUpTo z start at → ZoneState
+sunk z parcel = with_map (parcel.before ++ (parcel.here ∷ parcel.blocks ++ parcel.behind)) z
 
 -- the block of the handle h is the free one, with n bytes, and its old block is free
 abbrev pub relocated : ℕ → ℕ → {at : ℕ} → (z : ZoneState) → FreeAt z at → ZoneState

@@ -9,3 +9,4 @@ pub mod Following
 pub mod Flags
 pub mod Image
 pub mod Loans
+pub mod Copying

@@ -1,12 +1,12 @@
 -- Places of blocks in a zone map, by the address of the header.
-use Rattle.std.specs.Prelude.{◌≡◌, ℕ, ◌+◌, ◌-◌, ◌<◌, ◌≤◌, ◌⊎◌, Bool, true, false, not, ◌&&◌, IsTrue, ◌∷◌, ◌++◌, ⊤}
+use Rattle.std.specs.Prelude.{◌≡◌, ℕ, ◌+◌, ◌-◌, ◌<◌, ◌≤◌, ◌⊎◌, Bool, true, false, not, ◌&&◌, IsTrue, [], ◌∷◌, ◌++◌, ⊤}
 use Rattle.std.specs.List.{list_all}
 use Rattle.mac_base.specs.declared.block.Entry.{Entry}
 use Rattle.mac_base.specs.declared.block.Kind.TheVariants.{Free, Master, Ptr, Rel}
 use Rattle.mac_base.specs.declared.block.Kind.{Kind}
 use Rattle.mac_base.specs.HandleTable.{HandleTable, is_handle}
 use Rattle.mac_base.specs.Loans.{is_here}
-use Rattle.mac_base.specs.ZoneMap.{ZoneMap, block, has_free, is_named, address_behind, total_size}
+use Rattle.mac_base.specs.ZoneMap.{ZoneMap, block, has_free, is_free, is_named, address_behind, total_size}
 use Rattle.mac_base.specs.Suits.{is_block_size, has_length}
 use Rattle.mac_base.specs.HeadKind.{Shape}
 use Rattle.mac_base.specs.ZoneState.{ZoneState}
@@ -143,3 +143,34 @@ pub record ParcelAt (z : ZoneState) (start end : ℕ) : Type 0 where
   pub place : start ≡ address_behind z.shape before
   pub long : end ≡ start + (here.size + total_size blocks)
   pub moves : IsTrue (all_can_move z.heap.table (here ∷ blocks))
+
+-- a run that can be moved stands from an address on, and a block behind it, which can be moved too, at another
+pub record ParcelUpTo (z : ZoneState) (start at : ℕ) : Type 0 where
+  pub before : ZoneMap
+  pub blocks : ZoneMap
+  pub here : Entry
+  pub behind : ZoneMap
+  pub map : z.heap.map ≡ before ++ (blocks ++ here ∷ behind)
+  pub place : start ≡ address_behind z.shape before
+  pub long : at ≡ start + total_size blocks
+  pub moves : IsTrue (all_can_move z.heap.table (blocks ++ here ∷ []))
+
+-- the blocks from an address on, which is that of a block or of the end of the last
+pub record SplitAt (z : ZoneState) (at : ℕ) : Type 0 where
+  pub before : ZoneMap
+  pub behind : ZoneMap
+  pub map : z.heap.map ≡ before ++ behind
+  pub place : at ≡ address_behind z.shape before
+
+-- whether none of these blocks is free
+abbrev pub none_free : ZoneMap → Bool
+none_free blocks = list_all (λ (e : Entry). not (is_free e.kind)) blocks
+
+-- the first free one of these blocks, which begin at an address, stands at another
+pub record FirstFree (blocks : ZoneMap) (from at : ℕ) : Type 0 where
+  pub passed : ZoneMap
+  pub size : ℕ
+  pub behind : ZoneMap
+  pub splits : blocks ≡ passed ++ block Free size ∷ behind
+  pub used : IsTrue (none_free passed)
+  pub place : at ≡ from + total_size passed

@@ -9,8 +9,8 @@ impl LinkedZone {
     ghost use Rattle.std.specs.Prelude.{◌≡◌, ◌+◌, IsTrue, IsFalse, MatchOption, Some, ◌∷◌, [], drop};
     ghost use Rattle.mac_base.specs.HandleTable.{EmptyHandle, is_full, is_lent, is_pointer, live_at};
     ghost use Rattle.mac_base.specs.HeadKind.{master_length, head_size};
-    ghost use Rattle.linked_zone.specs.Changes.{extended, taken, given_back, pointed, without_block, fixed, unfixed, cut_in_two, joined_pair, with_master, exchanged, carried_up};
-    ghost use Rattle.linked_zone.specs.Places.{RoomFor, CanCut, FreePair, MovablePair, ParcelAt};
+    ghost use Rattle.linked_zone.specs.Changes.{extended, taken, given_back, pointed, without_block, fixed, unfixed, cut_in_two, joined_pair, with_master, exchanged, carried_up, sunk};
+    ghost use Rattle.linked_zone.specs.Places.{RoomFor, CanCut, FreePair, MovablePair, ParcelAt, ParcelUpTo};
 
     /// Makes the next slot to be given an empty handle. There is none exactly where no slot is free, and then nothing
     /// has changed.
@@ -85,14 +85,19 @@ impl LinkedZone {
         requires { ParcelAt self.old at end }
         ensures { (parcel : ParcelAt self.old at end) → self.new ≡ carried_up self.old parcel }
     {
-        let head_size = self.records.spec().heads().head_size();
         self.records.carry(at, end);
-        let mut next = at;
-        while next < end {
-            let here = self.records.entry_at(next);
-            follow(&mut self.records, here.kind, next + head_size);
-            next += here.size;
-        }
+        follow_run(&mut self.records, at, end);
+    }
+
+    /// The block at an address changes places with those before it, which begin at `start`, each of a handle or free. Every handle
+    /// has the same bytes and flags.
+    pub fn sink(&mut self, start: u32, at: u32)
+        requires { ParcelUpTo self.old start at }
+        ensures { (parcel : ParcelUpTo self.old start at) → self.new ≡ sunk self.old parcel }
+    {
+        let end = at + self.records.entry_at(at).size;
+        self.records.sink(start, at);
+        follow_run(&mut self.records, start, end);
     }
 
     /// Gives an empty handle a free block, with `length` bytes of zero and no flags.
@@ -152,7 +157,8 @@ impl LinkedZone {
 }
 
 ghost use Rattle.std.specs.Prelude.{◌≡◌};
-ghost use Rattle.linked_zone.specs.Following.{CanFollow, followed};
+ghost use Rattle.linked_zone.specs.Following.{CanFollow, followed, Misplaced};
+ghost use Rattle.linked_zone.specs.Owned.{records_of};
 
 /// Makes the slot of a handle, if the block is one's, say where the block's contents begin now.
 pub(crate) fn follow(records: &mut Records, kind: Kind, contents: u32)
@@ -166,4 +172,18 @@ pub(crate) fn follow(records: &mut Records, kind: Kind, contents: u32)
         return;
     };
     records.set_slot(handle.number(), Slot::Full(flags, contents));
+}
+
+/// Makes the slots of the handles whose blocks stand from an address up to another say where these stand.
+fn follow_run(records: &mut Records, start: u32, end: u32)
+    requires { Misplaced records.old start end }
+    ensures { (run : Misplaced records.old start end) → records.new ≡ records_of run.zone }
+{
+    let head_size = records.spec().heads().head_size();
+    let mut next = start;
+    while next < end {
+        let here = records.entry_at(next);
+        follow(records, here.kind, next + head_size);
+        next += here.size;
+    }
 }

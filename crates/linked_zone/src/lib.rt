@@ -2,6 +2,7 @@
 #![tactic(auto)]
 
 mod changes;
+mod copying;
 mod flags;
 mod loans;
 mod relocating;

@@ -25,7 +25,7 @@ impl LinkedZone {
         let kept = self.records.length_at(from).min(length);
         self.records.place_handle(at, handle, length);
         self.records.set_header_flags(at, flags);
-        self.records.copy(from, at, kept);
+        self.records.copy(from, 0, at, 0, kept);
         self.records.set_free(from);
         follow(&mut self.records, Kind::Rel(handle), contents);
     }

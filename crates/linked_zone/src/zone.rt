@@ -49,10 +49,10 @@ impl LinkedZone {
     ghost use Rattle.mac_base.specs.Loans.{most_loans, LoansFit};
     ghost use Rattle.mac_base.specs.Suits.{slots, wanted_length};
     ghost use Rattle.mac_base.specs.BlockReport.{report_at, block_flags};
-    ghost use Rattle.mac_base.specs.ZoneMap.{has_free, contents_of};
+    ghost use Rattle.mac_base.specs.ZoneMap.{free_bytes, has_free, contents_of};
     ghost use Rattle.linked_zone.specs.Changes.{bare_zone, taken, given_back, pointed, without_block, fixed, unfixed, held_there, enlarged, cut_in_two, joined_pair, with_master, flagged};
     ghost use Rattle.linked_zone.specs.WritingBack.{WritesBackBytes};
-    ghost use Rattle.linked_zone.specs.Places.{EntryAt, HasOwner, FreeAt, BlockOf, NamedAt, LowestAt, RoomFor, CanCut, CanHold, CanGrow, FreePair};
+    ghost use Rattle.linked_zone.specs.Places.{EntryAt, HasOwner, FreeAt, BlockOf, NamedAt, LowestAt, RoomFor, CanCut, CanHold, CanGrow, FreePair, SplitAt, FirstFree, none_free};
     ghost use Rattle.linked_zone.specs.Sizes.{sizes_of};
     ghost use Rattle.linked_zone.specs.Image.{IsImage};
     ghost use Rattle.block_bytes.specs.Walk.{Walks};
@@ -196,6 +196,22 @@ impl LinkedZone {
         ensures none { IfNone result (IsTrue (list_all (λ e. not (has_free needed e)) self.now.heap.map)) }
     {
         self.records.lowest_free(needed)
+    }
+
+    /// The address of the first free block from an address on, if there is one.
+    pub fn next_free(&self, from: u32) -> Option<u32>
+        requires { SplitAt self.now from }
+        ensures next { IfSome result (λ at. (split : SplitAt self.now from) → FirstFree split.behind from at) }
+        ensures none { IfNone result ((split : SplitAt self.now from) → IsTrue (none_free split.behind)) }
+    {
+        self.records.next_free(from)
+    }
+
+    /// The sum of the sizes of the free blocks.
+    pub fn free_bytes(&self) -> u32
+        ensures { result ≡ free_bytes self.now.heap.map }
+    {
+        self.records.free_bytes()
     }
 
     /// The size of the block at an address, and what it is for.

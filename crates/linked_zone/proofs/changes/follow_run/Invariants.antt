@@ -1,11 +1,11 @@
 use Rattle.std.proofs.Common.{◌-◌}
-use Rattle.linked_zone.specs.Places.{ParcelAt}
-use Rattle.linked_zone.proofs.EndsCarried.{Telling}
-use Rattle.linked_zone.proofs.zone.LinkedZone.carry.Given as goal
+use Rattle.linked_zone.specs.Following.{Misplaced}
+use Rattle.linked_zone.proofs.EndsRun.{Telling}
+use Rattle.linked_zone.proofs.changes.follow_run.Given as goal
 
 -- the slots of the handles whose blocks stand below the next say where these stand
 abbrev pub invariant-loop-next : goal.invariant-loop-next
-invariant-loop-next l = (parcel : ParcelAt l.fn.self l.at l.end) → Telling l.fn.self parcel l.self-inside.records l.next
+invariant-loop-next l = (run : Misplaced l.fn.records l.start l.end) → Telling run l.records l.next
 
 -- the bytes that are left
 abbrev pub decreases-loop-next : goal.decreases-loop-next
