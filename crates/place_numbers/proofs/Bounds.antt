@@ -1,41 +1,76 @@
 -- What bounds say of the numbers under them.
-use Rattle.std.proofs.Common.{◌≡◌, ◌≢◌, ℕ, zero, suc, [], ◌∷◌, ◌++◌, replicate, refl, sym, ap, ◌∙◌, append_assoc, length-append, ◌+◌, ◌-◌, ◌*◌, ◌/◌, ◌<◌, ◌≤◌, inl, inr, List, length, get_or, take, drop, subst, arith, get_or-set_same, get_or-set_other, get_or-take, get_or-drop, length-set, ◌⊎◌}
+use Rattle.std.proofs.Common.{◌≡◌, ◌≢◌, ℕ, zero, suc, [], ◌∷◌, ◌++◌, replicate, refl, sym, ap, ◌∙◌, append_assoc, length-append, ◌+◌, ◌-◌, ◌*◌, ◌/◌, ◌<◌, ◌≤◌, inl, inr, List, length, get_or, take, drop, subst, arith, get_or-set_same, get_or-set_other, get_or-take, get_or-drop, length-set}
 use Rattle.std.proofs.Math.ListN.{set}
 use Rattle.std.proofs.lemmas.Bool.{cases_eq, cases_lt}
 use Rattle.std.proofs.lemmas.List.{get_or_default, get_or_past, length-replicate, replicate-append-replicate, set-append_left}
-use Rattle.place_numbers.specs.Bounds.{AreBounds, AreBoundsBut}
+use Rattle.place_numbers.specs.Bounds.{AreBounds, AreBoundsBut, AreBoundsOutside}
 use Rattle.place_numbers.specs.Levels.{numbers_of, IsBounded}
 use Rattle.place_numbers.specs.declared.Numbers.TheInside.{Inside}
 
+-- what no number read from a chunk on is above is above all of the chunk, if none of these is left out
+pub under-chunk : (xs : List ℕ) (c end r : ℕ)
+    → ((i : ℕ) → c * 32 + i < length xs → i < 32 → c * 32 + i < end)
+    → ((i : ℕ) → get_or (take (end - c * 32) (drop (c * 32) xs)) i 0 ≤ r)
+    → (j : ℕ) → j / 32 ≡ c → get_or xs j 0 ≤ r
+under-chunk xs c end r far most j same = elim (cases_lt j (length xs)) [
+  | inl within ↦
+      let at : c * 32 + (j - c * 32) ≡ j = omega arith in
+      let reached = far (j - c * 32) (omega arith) (omega arith) in
+      let near : j - c * 32 < end - c * 32 = omega arith in
+      rw (get_or-take, get_or-drop, at) at (most (j - c * 32))
+  | inr behind ↦ let none = get_or_past xs j 0 behind in omega arith
+]
+
 -- a bound that is written anew, over numbers of which it is one
-pub covered : (bs xs : List ℕ) (p end r : ℕ)
-    → p < length xs
-    → AreBoundsBut bs xs p
-    → ((i : ℕ) → p / 32 * 32 + i < length xs → i < 32 → p / 32 * 32 + i < end)
-    → ((i : ℕ) → get_or (take (end - p / 32 * 32) (drop (p / 32 * 32) xs)) i 0 ≤ r)
-    → AreBounds (set bs (p / 32) r) xs
-covered bs xs p end r inside others far most = record {
+pub covered : (bs xs : List ℕ) (p r : ℕ) → p < length xs → AreBoundsBut bs xs p → ((j : ℕ) → j / 32 ≡ p / 32 → get_or xs j 0 ≤ r) → AreBounds (set bs (p / 32) r) xs
+covered bs xs p r inside others most = record {
   count = let count = others.count in rw length-set (omega arith);
   above = λ j. elim (cases_eq (j / 32) (p / 32)) [
-    | inl same ↦ let count = others.count in let bound : p / 32 < length bs = omega arith in rw (same, get_or-set_same) (here j same (cases_lt j (length xs)))
+    | inl same ↦ let count = others.count in let bound : p / 32 < length bs = omega arith in rw (same, get_or-set_same) (most j same)
     | inr other ↦
         let apart : j ≢ p = omega arith in
         rw get_or-set_other (others.above j apart)
   ];
 }
+
+-- one more bound that is written anew
+pub renewed : (bs xs : List ℕ) (c end r : ℕ) → c * 32 < length xs → AreBoundsOutside bs xs (c * 32) end → ((j : ℕ) → j / 32 ≡ c → get_or xs j 0 ≤ r)
+    → AreBoundsOutside (set bs c r) xs ((c + 1) * 32) end
+renewed bs xs c end r inside others most = record {
+  count = let count = others.count in rw length-set (omega arith);
+  before = λ j low. at j (λ other. others.before j (omega arith));
+  behind = λ j past. at j (λ other. others.behind j past);
+}
   where
-    here : (j : ℕ) → j / 32 ≡ p / 32 → (j < length xs) ⊎ (length xs ≤ j) → get_or xs j 0 ≤ r
-    here j same place = elim place [
-      | inl within ↦
-          let at : p / 32 * 32 + (j - p / 32 * 32) ≡ j = omega arith in
-          let reached = far (j - p / 32 * 32) (omega arith) (omega arith) in
-          let near : j - p / 32 * 32 < end - p / 32 * 32 = omega arith in
-          rw (get_or-take, get_or-drop, at) at (most (j - p / 32 * 32))
-      | inr behind ↦ let none = get_or_past xs j 0 behind in omega arith
+    at : (j : ℕ) → (j / 32 ≢ c → get_or xs j 0 ≤ get_or bs (j / 32) 0) → get_or xs j 0 ≤ get_or (set bs c r) (j / 32) 0
+    at j elsewhere = elim (cases_eq (j / 32) c) [
+      | inl same ↦ let count = others.count in let bound : c < length bs = omega arith in rw (same, get_or-set_same) (most j same)
+      | inr other ↦ rw get_or-set_other (elsewhere other)
     ]
 
+-- when all are
+pub all-renewed : (bs xs : List ℕ) (k : ℕ) → AreBoundsOutside bs xs k k → AreBounds bs xs
+all-renewed bs xs k outside = record {
+  count = outside.count;
+  above = λ j. elim (cases_lt j k) [
+    | inl low ↦ outside.before j low
+    | inr past ↦ outside.behind j past
+  ];
+}
+
+-- bounds that stay, over numbers some of which change
+pub outside : (bs xs zs : List ℕ) (first end low high : ℕ) → AreBounds bs xs → length zs ≤ 32 * length bs
+    → ((j : ℕ) → j < first → get_or zs j 0 ≡ get_or xs j 0)
+    → ((j : ℕ) → end ≤ j → get_or zs j 0 ≡ get_or xs j 0)
+    → low ≤ first → end ≤ high → AreBoundsOutside bs zs low high
+outside bs xs zs first end low high bounds room before behind down up = record {
+  count = room;
+  before = λ j under. rw (before j (omega arith)) (bounds.above j);
+  behind = λ j past. rw (behind j (omega arith)) (bounds.above j);
+}
+
 -- zeros behind a list are what is read there anyway
-zeros-at : (k j : ℕ) → get_or {A = ℕ} (replicate k 0) j 0 ≡ 0
+pub zeros-at : (k j : ℕ) → get_or {A = ℕ} (replicate k 0) j 0 ≡ 0
 zeros-at zero j = refl
 zeros-at (suc k) zero = refl
 zeros-at (suc k) (suc j) = zeros-at k j
@@ -121,9 +156,14 @@ but-written bs old xs ys zs k p n bounds same padded written room = record {
   above = λ j apart. rw (written, same, get_or-set_other, padded, padded-at) (bounds.above j);
 }
 
--- there is room for the bounds over numbers that reach to a place
-pub extended : (xs ys : List ℕ) (p count room : ℕ) → ys ≡ xs ++ replicate (p + 1 - length xs) 0 → length xs ≤ count → p < count → count ≤ room → length ys ≤ room
-extended xs ys p count room is fits inside covers =
-    let long = ap length is in let sum = length-append xs (replicate (p + 1 - length xs) 0) in
-    let zeros : length {A = ℕ} (replicate (p + 1 - length xs) 0) ≡ p + 1 - length xs = length-replicate {A = ℕ} (p + 1 - length xs) 0 in
-    omega arith
+-- numbers that reach to a place, zeros maybe put before it
+module _ (xs ys : List ℕ) (end : ℕ) (is : ys ≡ xs ++ replicate (end - length xs) 0) where
+  long : length ys ≡ length xs + (end - length xs)
+  long = ap length is ∙ length-append xs (replicate (end - length xs) 0) ∙ ap (λ (k : ℕ). length xs + k) (length-replicate (end - length xs) 0)
+
+  pub reached : end ≤ length ys
+  reached = let so = long in omega arith
+
+  -- there is room for them and the bounds over them
+  pub extended : (count room : ℕ) → length xs ≤ count → end ≤ count → count ≤ room → length ys ≤ room
+  extended count room fits inside covers = let so = long in omega arith

@@ -2,11 +2,13 @@
 //! 32,768 of them let a search pass over those that are too small.
 #![tactic(auto)]
 
-ghost use Rattle.std.specs.Prelude.{◌≡◌, ℕ, ◌-◌, ◌++◌, ◌≤◌, ◌<◌, ◌/◌, ◌≢◌, length, replicate, slice_index, vec_capacity};
+ghost use Rattle.std.specs.Prelude.{◌≡◌, ℕ, ◌-◌, ◌++◌, ◌≤◌, ◌<◌, ◌*◌, ◌/◌, ◌≢◌, length, replicate, slice_index, vec_capacity};
 ghost use Rattle.place_numbers.specs.Bounds.{AreBounds, AreBoundsBut};
 
 use std::alloc::{AllocError, Global};
 use std::marker::Model;
+
+mod shifts;
 
 /// So many numbers, each at its place from 0 on. A contract sees their list. After `create` no call takes memory of the
 /// host.
@@ -59,6 +61,19 @@ fn extend(numbers: &mut Vec<u32>, end: usize)
     }
 }
 
+/// The largest of the 32 numbers that have one bound. Behind the last number there may be less of them.
+fn bound_over(numbers: &[u32], chunk: usize) -> u32
+    requires { chunk * 32 < length numbers.now }
+    ensures { (j : ℕ) → j / 32 ≡ chunk → slice_index numbers.now j ≤ result }
+{
+    let start = chunk * 32;
+    if 32 <= numbers.len() - start {
+        largest(&numbers[start..start + 32])
+    } else {
+        largest(&numbers[start..])
+    }
+}
+
 /// Makes the bound over a place right again, where another number stood before.
 fn cover(bounds: &mut [u32], numbers: &[u32], place: usize, before: u32)
     requires inside { place < length numbers.now }
@@ -72,14 +87,14 @@ fn cover(bounds: &mut [u32], numbers: &[u32], place: usize, before: u32)
     if bound <= number {
         bounds[chunk] = number;
     } else if before == bound {
-        let end = numbers.len().min(chunk * 32 + 32);
-        bounds[chunk] = largest(&numbers[chunk * 32..end]);
+        bounds[chunk] = bound_over(numbers, chunk);
     }
 }
 
 impl Numbers {
-    ghost use Rattle.std.specs.Prelude.{◌≡◌, ℕ, ◌≤◌, ◌<◌, ◌*◌, ◌^◌, length, slice_index, set, replicate, IfOk, IfSome, IfNone};
+    ghost use Rattle.std.specs.Prelude.{◌≡◌, ℕ, ◌+◌, ◌≤◌, ◌<◌, ◌*◌, ◌^◌, length, slice_index, set, replicate, IfOk, IfSome, IfNone};
     ghost use Rattle.place_numbers.specs.Numbers.{FirstAtLeast, LastAtLeast};
+    ghost use Rattle.place_numbers.specs.Shifted.{shifted_down, shifted_up};
 
     /// So many numbers, all 0. The only error is that the host has no memory.
     pub fn create(alloc: Global, count: usize) -> Result<Numbers, AllocError>
@@ -129,6 +144,34 @@ impl Numbers {
         cover(&mut self.low, &self.numbers, place, first);
         cover(&mut self.middle, &self.low, chunk, second);
         cover(&mut self.high, &self.middle, group, third);
+    }
+
+    /// Moves the `count` numbers from `from` on down to `to` and behind. Those that stood between are gone, and as many zeros stand
+    /// behind the moved ones. `sparse` says that few of them are above 0, which is then done faster; it changes nothing else.
+    pub fn shift_down(&mut self, from: usize, to: usize, count: usize, sparse: bool)
+        requires order { to ≤ from }
+        requires inside { from + count ≤ length self.old }
+        ensures { self.new ≡ shifted_down from to count self.old }
+    {
+        if sparse {
+            self.shift_few_down(from, to, count);
+        } else {
+            self.shift_all_down(from, to, count);
+        }
+    }
+
+    /// Moves the `count` numbers from `from` on up to `to` and behind. Those that stood there are gone, and as many zeros stand
+    /// before the moved ones. `sparse` says that few of them are above 0, which is then done faster; it changes nothing else.
+    pub fn shift_up(&mut self, from: usize, to: usize, count: usize, sparse: bool)
+        requires order { from ≤ to }
+        requires inside { to + count ≤ length self.old }
+        ensures { self.new ≡ shifted_up from to count self.old }
+    {
+        if sparse {
+            self.shift_few_up(from, to, count);
+        } else {
+            self.shift_all_up(from, to, count);
+        }
     }
 
     /// The first place, `from` or behind it, whose number is at least `least`.

@@ -1,4 +1,4 @@
-use Rattle.std.proofs.Common.{◌≡◌, ◌+◌, ◌-◌, ◌/◌, ◌<◌, ◌≤◌, ◌*◌, ap, sym, ◌∙◌, length, arith}
+use Rattle.std.proofs.Common.{◌+◌, ◌*◌, ap, sym, ◌∙◌, length, arith}
 use Rattle.place_numbers.proofs.Bounds.{length-numbers, set-padded, but-written, extended}
 use Rattle.place_numbers.proofs.Numbers.set.Goals as goal
 
@@ -20,4 +20,4 @@ pub cover-requires-clause-others : goal.cover-requires-clause-others
 cover-requires-clause-others c =
     let whole = ap length (sym c.self.view_is) ∙ length-numbers c.self.inside c.self.invariant in
     but-written c.deref_mut.result.now c.self.inside.low.items c.self.inside.numbers.items c.extend.new.numbers.items c.deref.result.now _ c.args.place c.args.number c.self.invariant.low c.deref_mut.ensures.value c.extend.ensures.zeros c.deref.ensures.value
-    (extended c.self.inside.numbers.items c.extend.new.numbers.items c.args.place c.self.inside.count _ c.extend.ensures.zeros c.self.invariant.fits (omega (arith, whole, c.requires)) c.self.invariant.covers)
+    (extended c.self.inside.numbers.items c.extend.new.numbers.items (c.args.place + 1) c.extend.ensures.zeros c.self.inside.count (32 * length c.self.inside.low.items) c.self.invariant.fits (omega (arith, whole, c.requires)) c.self.invariant.covers)
