@@ -1,314 +1,312 @@
--- A block that is carried past those behind it: their marks, their bytes, and what the list of blocks is then.
-use Rattle.std.proofs.Common.{◌≡◌, ℕ, ◌+◌, ◌-◌, ◌/◌, ◌<◌, ◌≤◌, false, not, List, [], ◌∷◌, ◌++◌, length, refl, sym, ap, ◌∙◌, subst, arith, append_assoc, append-nil, length-append, length-set, drop, IsTrue}
+-- A block that is carried past those behind it, or sinks past those before it: its bytes, the index, and what the list of blocks is then.
+use Rattle.std.proofs.Common.{◌≡◌, ℕ, ◌+◌, ◌-◌, ◌*◌, ◌/◌, ◌%◌, ◌≤◌, false, not, List, [], ◌∷◌, ◌++◌, length, take, drop, refl, sym, ap, ◌∙◌, subst, arith, append_assoc, append-nil, length-append, length-take-le, length-drop, take-append-drop, IsTrue}
 use Rattle.std.specs.List.{list_all}
 use Rattle.std.proofs.Math.ListN.{set}
 use Rattle.std.proofs.lemmas.List.Folds.{list_all-append}
-use Rattle.mac_base.specs.declared.block.HeadKind.{HeadKind}
-use Rattle.mac_base.specs.HeadKind.{zone_header}
+use Rattle.mac_base.specs.HeadKind.{head_size, zone_header}
 use Rattle.mac_base.specs.ZoneSizes.{ArePossible}
 use Rattle.raw_region.specs.Bytes.{part, written}
 use Rattle.raw_region.specs.Span.{IsFree}
 use Rattle.raw_region.specs.State.{State, with_bytes}
+use Rattle.place_numbers.specs.Shifted.{shifted_down, shifted_up}
 use Rattle.zone_laws.proofs.Maps.{true_not}
 use Rattle.block_bytes.specs.declared.header.Header.{Header}
 use Rattle.block_bytes.specs.declared.blocks.Blocks.TheInside.{Inside}
-use Rattle.block_bytes.specs.Head.{header_in}
-use Rattle.block_bytes.specs.Layout.{RawBlock, Layout, BlockAt, ParcelAt, carried, none_lent, size_of, total_of, header_of, is_possible, rendered, header_bytes, with_blocks}
-use Rattle.block_bytes.specs.Starts.{mark_in, mark_of, marks_of, first_marked, starts_of}
+use Rattle.block_bytes.specs.Head.{most_over, head_bytes}
+use Rattle.block_bytes.specs.Layout.{RawBlock, Layout, IsMoved, body, is_free, none_lent, size_of, total_of, header_of, is_possible, rendered, header_bytes, with_blocks}
+use Rattle.block_bytes.specs.Starts.{mark_of, marks_of, first_marked, starts_of}
 use Rattle.block_bytes.specs.Reading.{layout_of, IsLayout}
-use Rattle.block_bytes.proofs.Rendered.{total_of-append, length-rendered, rendered-append, part-middle, written-middle}
-use Rattle.block_bytes.proofs.ReadBlocks.{and-true, IsPossible-from, smallest-block, head_size-positive}
-use Rattle.block_bytes.proofs.Starts.{unmarked, length-marks_of, length-before}
+use Rattle.block_bytes.proofs.Heads.{length-head_bytes}
+use Rattle.block_bytes.proofs.Rendered.{total_of-append, length-rendered, rendered-append, written-middle}
+use Rattle.block_bytes.proofs.ReadBlocks.{and-true, IsPossible-from, smallest-block}
+use Rattle.block_bytes.proofs.Starts.{unmarked, length-before, length-marks_of, marks_of-append, starts-parts}
 use Rattle.block_bytes.proofs.Spans.{AllUnlent}
-use Rattle.block_bytes.proofs.Parts.{IsRead, front, rear, stale_image, length-front, possible-with, possible-more, marked-parts, total-ends}
+use Rattle.block_bytes.proofs.Parts.{IsRead, front, rear, head, stale_image, image-parts, length-front, possible-with, possible-more, total-ends, length-starts}
 use Rattle.block_bytes.proofs.Settled.{counted, free-append, unlent-free, replaced}
-use Rattle.block_bytes.proofs.Changes.{mark-unlent}
-use Rattle.block_bytes.proofs.Counting.{IsKept, CanCount, can-count, kept-first, kept-written}
-use Rattle.block_bytes.proofs.ReadParts.{header-read}
-use Rattle.block_bytes.proofs.Here.{IsHere, IsHere-from}
-use Rattle.block_bytes.proofs.Exchanging.{marks-exchanged, starts-two}
+use Rattle.block_bytes.proofs.Counting.{IsKept, kept-first, kept-written}
+use Rattle.block_bytes.proofs.Exchanging.{moved-itself, moved-free, moved-size, moved-header, moved-mark, moved-possible, moved-free_bytes, slack-free, none-left}
+use Rattle.block_bytes.proofs.Rotated.{parts-turned, slid-down, slid-up, numbers-down, numbers-up}
 
 -- none of these is lent
 all-unlent : (bs : List RawBlock) → IsTrue (none_lent bs) → AllUnlent bs
 all-unlent [] none = tt
 all-unlent (b ∷ bs) none = let both = and-true (not b.lent) (none_lent bs) none in (true_not b.lent both.0, all-unlent bs both.1)
 
--- nor of those behind some of them
-rest-unlent : (xs ys : List RawBlock) → AllUnlent (xs ++ ys) → AllUnlent ys
-rest-unlent [] ys unlent = unlent
-rest-unlent (x ∷ xs) ys unlent = rest-unlent xs ys unlent.1
-
 -- nor with one more
-more-unlent : (xs : List RawBlock) (b : RawBlock) → AllUnlent xs → b.lent ≡ false → AllUnlent (xs ++ b ∷ [])
+pub more-unlent : (xs : List RawBlock) (b : RawBlock) → AllUnlent xs → b.lent ≡ false → AllUnlent (xs ++ b ∷ [])
 more-unlent [] b unlent one = (one, tt)
 more-unlent (x ∷ xs) b unlent one = (unlent.0, more-unlent xs b unlent.1 one)
 
--- blocks of no bytes are none
-no-blocks : (heads : HeadKind) (bs : List RawBlock) → total_of heads bs ≡ 0 → bs ≡ []
-no-blocks heads [] none = refl
-no-blocks heads (b ∷ bs) none = let some = head_size-positive heads in absurd (omega arith)
+-- all bytes of a block
+abbrev bytes_of : Layout → RawBlock → List ℕ
+bytes_of l b = head l b ++ body b
 
--- the bytes of a zone, by a run of its blocks
-image-run : (l : Layout) (before mid behind : List RawBlock) → stale_image l (before ++ (mid ++ behind)) ≡ front l before ++ (rendered l.heads l.base mid ++ rear l behind)
-image-run l before mid behind =
-    ap (λ (bytes : List ℕ). header_bytes l ++ (bytes ++ l.spare)) (rendered-append l.heads l.base before (mid ++ behind)
-    ∙ ap (λ (bytes : List ℕ). rendered l.heads l.base before ++ bytes) (rendered-append l.heads l.base mid behind)) ∙ simp append_assoc
+-- as many as its size
+length-bytes_of : (l : Layout) (b : RawBlock) → length (bytes_of l b) ≡ size_of l.heads b
+length-bytes_of l b = let a = length-append (head l b) (body b) in let e = length-head_bytes l.heads l.base (header_of l.heads b) in let c = length-append b.contents b.slack in omega arith
 
--- The marks are those of the zone with the block behind some of the others; the next stands at an offset.
-pub record Turned (z : Inside) {at end : ℕ} (parcel : ParcelAt (layout_of z) at end) (done rest : List RawBlock) (w : Inside) (next : ℕ) : Type 0 where
-  pub spec : w.spec ≡ z.spec
-  pub memory : w.memory ≡ z.memory
-  pub loans : w.loans ≡ z.loans
-  pub parts : parcel.others ≡ done ++ rest
-  pub long : length w.index ≡ length z.index
-  pub marks : w.index ≡ starts_of (with_blocks ((parcel.before ++ done) ++ parcel.here ∷ (rest ++ parcel.behind)) (layout_of z))
-  pub place : next ≡ zone_header + total_of z.spec.heads parcel.before + (size_of z.spec.heads parcel.here + total_of z.spec.heads done)
+module _ (l : Layout) (before others behind : List RawBlock) (b : RawBlock) where
+  -- the bytes of a zone with a block before some others, or behind them
+  image-first : stale_image l (before ++ b ∷ (others ++ behind)) ≡ front l before ++ (bytes_of l b ++ (rendered l.heads l.base others ++ rear l behind))
+  image-first = image-parts l before b (others ++ behind)
+      ∙ ap (λ (bytes : List ℕ). front l before ++ (head l b ++ (body b ++ bytes)))
+      (ap (λ (bytes : List ℕ). bytes ++ l.spare) (rendered-append l.heads l.base others behind) ∙ append_assoc (rendered l.heads l.base others) (rendered l.heads l.base behind) l.spare)
+      ∙ ap (λ (bytes : List ℕ). front l before ++ bytes) (sym (append_assoc (head l b) (body b) (rendered l.heads l.base others ++ rear l behind)))
 
--- they are so with some behind which it stands
-pub record Turning (z : Inside) {at end : ℕ} (parcel : ParcelAt (layout_of z) at end) (w : Inside) (next : ℕ) : Type 0 where
-  pub done : List RawBlock
-  pub rest : List RawBlock
-  pub is : Turned z parcel done rest w next
+  image-last : stale_image l (before ++ (others ++ b ∷ behind)) ≡ front l before ++ (rendered l.heads l.base others ++ (bytes_of l b ++ rear l behind))
+  image-last = ap (stale_image l) (sym (append_assoc before others (b ∷ behind))) ∙ image-parts l (before ++ others) b behind
+      ∙ ap (λ (bytes : List ℕ). bytes ++ (head l b ++ (body b ++ rear l behind)))
+      (ap (λ (bytes : List ℕ). header_bytes l ++ bytes) (rendered-append l.heads l.base before others) ∙ sym (append_assoc (header_bytes l) (rendered l.heads l.base before) (rendered l.heads l.base others)))
+      ∙ append_assoc (front l before) (rendered l.heads l.base others) (head l b ++ (body b ++ rear l behind))
+      ∙ ap (λ (bytes : List ℕ). front l before ++ (rendered l.heads l.base others ++ bytes)) (sym (append_assoc (head l b) (body b) (rear l behind)))
 
--- and one more is there
-pub record Coming (z : Inside) {at end : ℕ} (parcel : ParcelAt (layout_of z) at end) (w : Inside) (next : ℕ) : Type 0 where
-  pub done : List RawBlock
-  pub passed : RawBlock
-  pub rest : List RawBlock
-  pub is : Turned z parcel done (passed ∷ rest) w next
+  -- the numbers of the index before those of the blocks that move, and those behind them
+  abbrev marks-before : List ℕ
+  marks-before = unmarked (zone_header / 4) ++ marks_of l.heads before
 
-module _ (z : Inside) (whole : IsLayout z) {at end : ℕ} (parcel : ParcelAt (layout_of z) at end) where
-  -- the blocks before are possible, and the others, with the one that is carried
-  before-possible : IsTrue (list_all (is_possible z.spec.heads) parcel.before)
-  before-possible = (and-true _ _ (sym (list_all-append (is_possible z.spec.heads) parcel.before (parcel.here ∷ (parcel.others ++ parcel.behind))) ∙ sym (ap (list_all (is_possible z.spec.heads)) parcel.blocks) ∙ whole.possible)).0
+  abbrev marks-behind : List ℕ
+  marks-behind = marks_of l.heads behind ++ unmarked (length l.spare / 4)
 
-  run-possible : IsTrue (list_all (is_possible z.spec.heads) (parcel.here ∷ parcel.others))
-  run-possible = (and-true _ (list_all (is_possible z.spec.heads) parcel.behind)
-      (sym (list_all-append (is_possible z.spec.heads) (parcel.here ∷ parcel.others) parcel.behind)
-      ∙ (and-true (list_all (is_possible z.spec.heads) parcel.before) _ (sym (list_all-append (is_possible z.spec.heads) parcel.before (parcel.here ∷ (parcel.others ++ parcel.behind))) ∙ sym (ap (list_all (is_possible z.spec.heads)) parcel.blocks) ∙ whole.possible)).1)).0
+  -- the index of such a zone
+  starts-first : starts_of (with_blocks (before ++ b ∷ (others ++ behind)) l) ≡ marks-before ++ mark_of l.heads b ∷ (unmarked (size_of l.heads b / 4 - 1) ++ (marks_of l.heads others ++ marks-behind))
+  starts-first = starts-parts l before b (others ++ behind)
+      ∙ ap (λ (ms : List ℕ). marks-before ++ mark_of l.heads b ∷ (unmarked (size_of l.heads b / 4 - 1) ++ ms))
+      (ap (λ (ms : List ℕ). ms ++ unmarked (length l.spare / 4)) (marks_of-append l.heads others behind) ∙ append_assoc (marks_of l.heads others) (marks_of l.heads behind) (unmarked (length l.spare / 4)))
 
-  both-possible : IsTrue (is_possible z.spec.heads parcel.here) × IsTrue (list_all (is_possible z.spec.heads) parcel.others)
-  both-possible = and-true (is_possible z.spec.heads parcel.here) (list_all (is_possible z.spec.heads) parcel.others) run-possible
+  starts-last : starts_of (with_blocks (before ++ (others ++ b ∷ behind)) l) ≡ marks-before ++ (marks_of l.heads others ++ mark_of l.heads b ∷ (unmarked (size_of l.heads b / 4 - 1) ++ marks-behind))
+  starts-last = ap (λ (bs : List RawBlock). starts_of (with_blocks bs l)) (sym (append_assoc before others (b ∷ behind))) ∙ starts-parts l (before ++ others) b behind
+      ∙ ap (λ (ms : List ℕ). ms ++ mark_of l.heads b ∷ (unmarked (size_of l.heads b / 4 - 1) ++ marks-behind))
+      (ap (λ (ms : List ℕ). unmarked (zone_header / 4) ++ ms) (marks_of-append l.heads before others) ∙ sym (append_assoc (unmarked (zone_header / 4)) (marks_of l.heads before) (marks_of l.heads others)))
+      ∙ append_assoc marks-before (marks_of l.heads others) (mark_of l.heads b ∷ (unmarked (size_of l.heads b / 4 - 1) ++ marks-behind))
 
-  -- no block of them is lent
-  run-unlent : AllUnlent (parcel.here ∷ parcel.others)
-  run-unlent = all-unlent (parcel.here ∷ parcel.others) parcel.unlent
+module _ (l : Layout) (here : RawBlock) (free : IsTrue (is_free here.role)) (none : length here.slack ≡ 0) (stale : List ℕ) (long : length stale ≡ size_of l.heads here) where
+  -- a free block, of which all bytes but its header are others
+  abbrev anew : RawBlock
+  anew = record here { contents = drop (head_size l.heads) stale }
 
-  -- where the run begins, and ends
-  pub record IsRun (first : Header) : Type 0 where
-    pub size : first.size ≡ size_of z.spec.heads parcel.here
-    pub above : z.spec.base + zone_header ≤ at
-    pub some : 0 < first.size
-    pub start : at ≡ z.spec.base + (zone_header + total_of z.spec.heads parcel.before)
-    pub stop : end ≡ at + (first.size + total_of z.spec.heads parcel.others)
-    pub below : end ≤ z.spec.base + z.spec.size
-    pub within : z.spec.size ≤ z.spec.limit
-    pub all_bytes : length z.memory.bytes ≡ z.spec.limit
+  -- it is that block, moved
+  anew-moved : IsMoved here anew
+  anew-moved = let e = length-drop (head_size l.heads) stale in moved-free here (drop (head_size l.heads) stale) free (omega arith)
 
-  pub run-here : (first : Header) → ((b : BlockAt (layout_of z) at) → first ≡ header_of z.spec.heads b.here) → IsRun first
-  run-here first said =
-      let b : BlockAt (layout_of z) at = record { before = parcel.before; here = parcel.here; behind = parcel.others ++ parcel.behind; blocks = parcel.blocks; place = parcel.place } in
-      let h = IsHere-from z whole (layout_of z) refl at first b (said b) in
-      let size : first.size ≡ size_of z.spec.heads parcel.here = ap (λ (h : Header). h.size) (said b) in
-      let total = ap (total_of z.spec.heads) parcel.blocks ∙ total_of-append z.spec.heads parcel.before ((parcel.here ∷ parcel.others) ++ parcel.behind) in
-      let run = total_of-append z.spec.heads (parcel.here ∷ parcel.others) parcel.behind in
-      let ends = total-ends z whole in let place = parcel.place in let long = parcel.long in let some = head_size-positive z.spec.heads in
+  -- its bytes, once its header is written
+  anew-written : (low high : List ℕ) (at : ℕ) → at ≡ length low → written (low ++ (stale ++ high)) at (head l here) ≡ low ++ (bytes_of l anew ++ high)
+  anew-written low high at there =
+      let k = head_size l.heads in let cut = length-take-le k stale (omega arith) in let headed = length-head_bytes l.heads l.base (header_of l.heads here) in
+      let left = drop k stale in
+      let same : head l here ≡ head l anew = ap (head_bytes l.heads l.base) (sym (moved-header l.heads here anew anew-moved)) in
+      let whole : left ≡ left ++ here.slack = sym (append-nil left) ∙ ap (λ (xs : List ℕ). left ++ xs) (sym (none-left here.slack none)) in
+      ap (λ (xs : List ℕ). written (low ++ xs) at (head l here)) (ap (λ (xs : List ℕ). xs ++ high) (sym (take-append-drop k stale)) ∙ append_assoc (take k stale) left high)
+      ∙ written-middle low (take k stale) (left ++ high) (head l here) at there (omega arith)
+      ∙ ap (λ (xs : List ℕ). low ++ xs) (sym (append_assoc (head l here) left high)) ∙ (λ i. low ++ ((same i ++ whole i) ++ high))
+
+-- blocks with one before some of them, or behind these
+abbrev pub with-first : List RawBlock → List RawBlock → List RawBlock → RawBlock → List RawBlock
+with-first before others behind b = before ++ b ∷ (others ++ behind)
+
+abbrev pub with-last : List RawBlock → List RawBlock → List RawBlock → RawBlock → List RawBlock
+with-last before others behind b = before ++ (others ++ b ∷ behind)
+
+-- Memory in which a block has moved to where these blocks have it, behind the zone's header as it was.
+pub record HasMoved (z : Inside) (here : RawBlock) (blocks : RawBlock → List RawBlock) (m : State) : Type 0 where
+  pub moved : RawBlock
+  pub same : IsMoved here moved
+  pub kept : IsKept z m
+  pub bytes : m.bytes ≡ stale_image (layout_of z) (blocks moved)
+
+-- What is known of blocks of a zone that change places with one, none of them lent.
+pub record AreUnlent (z : Inside) (before others : List RawBlock) (here : RawBlock) : Type 0 where
+  pub here_unlent : here.lent ≡ false
+  pub others_unlent : AllUnlent others
+  pub before_possible : IsTrue (list_all (is_possible z.spec.heads) before)
+  pub here_possible : IsTrue (is_possible z.spec.heads here)
+  pub others_possible : IsTrue (list_all (is_possible z.spec.heads) others)
+
+-- Where the bytes lie of blocks, of which one has this header and the others have so many bytes.
+pub record LiesFrom (z : Inside) (start : ℕ) (header : Header) (count : ℕ) : Type 0 where
+  pub above : z.spec.base + zone_header ≤ start
+  pub below : start + header.size + count ≤ z.spec.base + z.spec.size
+  pub within : z.spec.size ≤ z.spec.limit
+  pub all_bytes : length z.memory.bytes ≡ z.spec.limit
+  pub marks : z.spec.size ≤ 4 * length z.index
+  pub headed : head_size z.spec.heads ≤ header.size
+  pub large : 12 ≤ header.size
+  pub few : header.correction ≤ most_over z.spec.heads
+  pub even : (start - z.spec.base) % 4 ≡ 0
+  pub even_size : header.size % 4 ≡ 0
+  pub even_count : count % 4 ≡ 0
+  pub free : (p n : ℕ) → start ≤ z.spec.base + p → z.spec.base + p + n ≤ start + header.size + count → IsFree z.memory.lent p n
+
+module _ (z : Inside) (whole : IsLayout z) (before others behind : List RawBlock) (here : RawBlock) where
+  -- a block before the others
+  pub unlent-first : (layout_of z).blocks ≡ before ++ here ∷ (others ++ behind) → IsTrue (none_lent (here ∷ others)) → AreUnlent z before others here
+  unlent-first is unlent =
+      let p = is_possible z.spec.heads in let none = all-unlent (here ∷ others) unlent in
+      let both = and-true (list_all p before) (list_all p (here ∷ (others ++ behind))) (sym (list_all-append p before (here ∷ (others ++ behind))) ∙ sym (ap (list_all p) is) ∙ whole.possible) in
+      let both' = and-true (p here) (list_all p (others ++ behind)) both.1 in let both'' = and-true (list_all p others) (list_all p behind) (sym (list_all-append p others behind) ∙ both'.1) in
+      record { here_unlent = none.0; others_unlent = none.1; before_possible = both.0; here_possible = both'.0; others_possible = both''.0 }
+
+  -- a block behind them
+  pub unlent-last : (layout_of z).blocks ≡ before ++ (others ++ here ∷ behind) → IsTrue (none_lent (others ++ here ∷ [])) → AreUnlent z before others here
+  unlent-last is unlent =
+      let p = is_possible z.spec.heads in let q = λ (b : RawBlock). not b.lent in
+      let none = and-true (none_lent others) (none_lent (here ∷ [])) (sym (list_all-append q others (here ∷ [])) ∙ unlent) in
+      let both = and-true (list_all p before) (list_all p (others ++ here ∷ behind)) (sym (list_all-append p before (others ++ here ∷ behind)) ∙ sym (ap (list_all p) is) ∙ whole.possible) in
+      let both' = and-true (list_all p others) (list_all p (here ∷ behind)) (sym (list_all-append p others (here ∷ behind)) ∙ both.1) in
+      record { here_unlent = (all-unlent (here ∷ []) none.1).0; others_unlent = all-unlent others none.0; before_possible = both.0; here_possible = (and-true (p here) (list_all p behind) both'.1).0; others_possible = both'.0 }
+
+  -- where they lie
+  pub lies-from : AreUnlent z before others here → (run : List RawBlock) → (layout_of z).blocks ≡ before ++ (run ++ behind) → AllUnlent run → total_of z.spec.heads run ≡ size_of z.spec.heads here + total_of z.spec.heads others
+      → (start : ℕ) (header : Header) (count : ℕ) → start ≡ z.spec.base + zone_header + total_of z.spec.heads before → header ≡ header_of z.spec.heads here → count ≡ total_of z.spec.heads others → LiesFrom z start header count
+  lies-from a run is unlent sum start header count there said long =
+      let heads = z.spec.heads in let p = IsPossible-from heads here a.here_possible in let large = p.large in let some = smallest-block heads in let even = p.even in let few = p.few in
+      let size : header.size ≡ size_of heads here = ap (λ (h : Header). h.size) said in let slack : header.correction ≡ length here.slack = ap (λ (h : Header). h.correction) said in
+      let first = length-marks_of heads before a.before_possible in let second = length-marks_of heads others a.others_possible in
+      let total = ap (total_of heads) is ∙ total_of-append heads before (run ++ behind) in let total' = total_of-append heads run behind in let ends = total-ends z whole in
       record {
-        size = size;
-        above = h.above;
-        some = omega arith;
-        start = omega arith;
-        stop = omega arith;
+        above = omega arith;
         below = omega arith;
-        within = h.within;
-        all_bytes = h.all_bytes;
+        within = whole.high;
+        all_bytes = whole.all_bytes;
+        marks = length-starts z whole;
+        headed = omega arith;
+        large = omega arith;
+        few = omega arith;
+        even = omega arith;
+        even_size = omega arith;
+        even_count = omega arith;
+        free = λ p n low high. unlent-free z whole before run behind is unlent p n (omega arith) (omega arith);
       }
 
-  -- no byte of the run is lent
-  pub run-free : (p n : ℕ) → at ≤ z.spec.base + p → z.spec.base + p + n ≤ end → IsFree z.memory.lent p n
-  run-free p n low high = let place = parcel.place in let long = parcel.long in
-      unlent-free z whole parcel.before (parcel.here ∷ parcel.others) parcel.behind parcel.blocks run-unlent p n (omega arith) (omega arith)
+module _ (z : Inside) (whole : IsLayout z) (small : ArePossible z.spec) (before others behind : List RawBlock) (here : RawBlock) (a : AreUnlent z before others here) where
+  -- no bytes of it are over where it is free
+  none-over : IsTrue (is_free here.role) → length here.slack ≡ 0
+  none-over free = slack-free z.spec.heads here.role (length here.slack) free (IsPossible-from z.spec.heads here a.here_possible).told
 
-  -- at first it stands behind none
-  pub turning-first : (next : ℕ) → next ≡ zone_header + total_of z.spec.heads parcel.before + size_of z.spec.heads parcel.here → Turning z parcel z next
-  turning-first next there = record {
-    done = [];
-    rest = parcel.others;
-    is = record {
-      spec = refl;
-      memory = refl;
-      loans = refl;
-      parts = refl;
-      long = refl;
-      marks = marked-parts z whole parcel.before parcel.here (parcel.others ++ parcel.behind) parcel.blocks
-          ∙ ap (λ (bs : List RawBlock). starts_of (with_blocks (bs ++ parcel.here ∷ (parcel.others ++ parcel.behind)) (layout_of z))) (sym (append-nil parcel.before));
-      place = omega arith;
-    };
-  }
+  -- the bytes of the others
+  abbrev rest : List ℕ
+  rest = rendered z.spec.heads z.spec.base others
 
-  -- below the end one more is there
-  pub coming : (w : Inside) (next : ℕ) → Turning z parcel w next → z.spec.base + next < end → Coming z parcel w next
-  coming w next t less = by_rest t.rest t.is
-    where
-      by_rest : (rest : List RawBlock) → Turned z parcel t.done rest w next → Coming z parcel w next
-      by_rest [] is =
-          let all : total_of z.spec.heads parcel.others ≡ total_of z.spec.heads t.done + 0 = ap (total_of z.spec.heads) is.parts ∙ total_of-append z.spec.heads t.done [] in
-          let place = is.place in let start = parcel.place in let long = parcel.long in absurd (omega arith)
-      by_rest (b ∷ bs) is = record { done = t.done; passed = b; rest = bs; is = is }
+  -- how the block lies before the others, and what its going behind them is
+  module _ (is : (layout_of z).blocks ≡ with-first before others behind here) (p n c : ℕ) (there : p ≡ zone_header + total_of z.spec.heads before) (size : n ≡ size_of z.spec.heads here) (count : c ≡ total_of z.spec.heads others) where
+    bytes-first : z.memory.bytes ≡ front (layout_of z) before ++ (bytes_of (layout_of z) here ++ (rest ++ rear (layout_of z) behind))
+    bytes-first = whole.form ∙ ap (stale_image (layout_of z)) is ∙ image-first (layout_of z) before others behind here
 
-  module _ (w : Inside) (next : ℕ) (c : Coming z parcel w next) where
-    -- it is a block of the zone
-    abbrev pub coming-block : (place : ℕ) → place ≡ z.spec.base + next → BlockAt (layout_of z) place
-    coming-block place is =
-        let sum = total_of-append z.spec.heads parcel.before (parcel.here ∷ c.done) in let there = (c.is).place in
+    -- all turn
+    pub carried-used : (m : State) → m ≡ with_bytes z.memory p (part z.memory.bytes (p + n) c ++ part z.memory.bytes p n) → HasMoved z here (with-last before others behind) m
+    carried-used m is_m = let l = layout_of z in let b = length-front l before in let e = length-bytes_of l here in let f = length-rendered z.spec.heads z.spec.base others in record {
+      moved = here;
+      same = moved-itself here;
+      kept = kept-written z z.memory m p (part z.memory.bytes (p + n) c ++ part z.memory.bytes p n) (kept-first z whole small) is_m (omega arith);
+      bytes = ap (λ (s : State). s.bytes) is_m
+          ∙ parts-turned z.memory.bytes (front l before) (bytes_of l here) rest (rear l behind) bytes-first p (omega arith) (p + n) c n (omega arith) (omega arith) (omega arith)
+          ∙ sym (image-last l before others behind here);
+    }
+
+    -- the header of a free one is written behind the others, which have slid down
+    carried-anew : (m : State) (free : IsTrue (is_free here.role)) (stale : List ℕ) → length stale ≡ size_of z.spec.heads here → (slid : State) → IsKept z slid
+        → slid.bytes ≡ front (layout_of z) before ++ (rest ++ (stale ++ rear (layout_of z) behind)) → m ≡ with_bytes slid (p + c) (head (layout_of z) here) → HasMoved z here (with-last before others behind) m
+    carried-anew m free stale fits slid kept slides is_m =
+        let l = layout_of z in let b = length-front l before in let f = length-rendered z.spec.heads z.spec.base others in let g = length-append (front l before) rest in
         record {
-          before = parcel.before ++ parcel.here ∷ c.done;
-          here = c.passed;
-          behind = c.rest ++ parcel.behind;
-          blocks = parcel.blocks ∙ ap (λ (bs : List RawBlock). parcel.before ++ parcel.here ∷ (bs ++ parcel.behind)) (c.is).parts
-              ∙ ap (λ (bs : List RawBlock). parcel.before ++ parcel.here ∷ bs) (append_assoc c.done (c.passed ∷ c.rest) parcel.behind)
-              ∙ sym (append_assoc parcel.before (parcel.here ∷ c.done) (c.passed ∷ (c.rest ++ parcel.behind)));
-          place = omega arith;
+          moved = anew l here free (none-over free) stale fits;
+          same = anew-moved l here free (none-over free) stale fits;
+          kept = kept-written z slid m (p + c) (head l here) kept is_m (omega arith);
+          bytes = ap (λ (s : State). s.bytes) is_m
+              ∙ ap (λ (xs : List ℕ). written xs (p + c) (head l here)) (slides ∙ sym (append_assoc (front l before) rest (stale ++ rear l behind)))
+              ∙ anew-written l here free (none-over free) stale fits (front l before ++ rest) (rear l behind) (p + c) (omega arith)
+              ∙ append_assoc (front l before) rest (bytes_of l (anew l here free (none-over free) stale fits) ++ rear l behind)
+              ∙ sym (image-last l before others behind (anew l here free (none-over free) stale fits));
         }
 
-    -- no byte of its header is lent, and it lies below the end
-    pub coming-here : (passed : Header) → passed ≡ header_of z.spec.heads c.passed → IsHere z (z.spec.base + next) passed
-    coming-here passed is = IsHere-from z whole (layout_of z) refl (z.spec.base + next) passed (coming-block (z.spec.base + next) refl) is
+    -- the others slide down, and the header is written behind them
+    pub carried-free : (m : State) → IsTrue (is_free here.role) → m ≡ with_bytes (with_bytes z.memory p (part z.memory.bytes (p + n) c)) (p + c) (head (layout_of z) here) → HasMoved z here (with-last before others behind) m
+    carried-free m free is_m =
+        let l = layout_of z in let b = length-front l before in let e = length-bytes_of l here in let f = length-rendered z.spec.heads z.spec.base others in
+        let sum = length-append (bytes_of l here) rest in let cut = length-drop (length rest) (bytes_of l here ++ rest) in
+        carried-anew m free (drop (length rest) (bytes_of l here ++ rest)) (omega arith) (with_bytes z.memory p (part z.memory.bytes (p + n) c))
+        (kept-written z z.memory (with_bytes z.memory p (part z.memory.bytes (p + n) c)) p (part z.memory.bytes (p + n) c) (kept-first z whole small) refl (omega arith))
+        (slid-down z.memory.bytes (front l before) (bytes_of l here) rest (rear l behind) bytes-first p (omega arith) (p + n) c (omega arith) (omega arith)) is_m
 
-    -- what is read of it
-    pub coming-read : ArePossible z.spec → (heads : HeadKind) (said : Header) → heads ≡ z.spec.heads → said ≡ header_in heads (drop next w.memory.bytes) → said ≡ header_of z.spec.heads c.passed
-    coming-read small heads said heads_is reads =
-        let b = coming-block (z.spec.base + next) refl in let sum = total_of-append z.spec.heads parcel.before (parcel.here ∷ c.done) in let there = (c.is).place in
-        reads ∙ (λ i. header_in (heads_is i) (drop next ((c.is).memory i).bytes)) ∙ header-read z whole b.before b.here b.behind b.blocks small next (omega arith)
+    -- the index then
+    pub carried-marks : (b : RawBlock) → IsMoved here b → (k : ℕ) → k ≡ mark_of z.spec.heads here → set (shifted_down ((p + n) / 4) (p / 4) (c / 4) z.index) (p / 4 + c / 4) k ≡ starts_of (with_blocks (with-last before others behind b) (layout_of z))
+    carried-marks b moved k mark =
+        let l = layout_of z in let heads = z.spec.heads in let h = IsPossible-from heads here a.here_possible in let large = h.large in let even = h.even in let some = smallest-block heads in
+        let first = length-marks_of heads before a.before_possible in let second = length-marks_of heads others a.others_possible in let long = length-before heads before (p / 4) a.before_possible (omega arith) in
+        ap (λ (ms : List ℕ). set (shifted_down ((p + n) / 4) (p / 4) (c / 4) ms) (p / 4 + c / 4) k)
+        (whole.marked ∙ ap (λ (bs : List RawBlock). starts_of (with_blocks bs l)) is ∙ starts-first l before others behind here)
+        ∙ numbers-down (marks-before l before others behind here) (marks_of heads others) (marks-behind l before others behind here) (mark_of heads here) k (size_of heads here / 4 - 1)
+        ((p + n) / 4) (p / 4) (c / 4) (p / 4 + c / 4) (sym long) (omega arith) (omega arith) refl
+        ∙ (λ i. marks-before l before others behind here ++ (marks_of heads others ++ (mark ∙ sym (moved-mark heads here b moved)) i ∷ (unmarked (sym (moved-size heads here b moved) i / 4 - 1) ++ marks-behind l before others behind here)))
+        ∙ sym (starts-last l before others behind b)
 
-    -- the parts of the others are possible
-    parts-possible : IsTrue (list_all (is_possible z.spec.heads) c.done) × IsTrue (is_possible z.spec.heads c.passed)
-    parts-possible =
-        let both = and-true (list_all (is_possible z.spec.heads) c.done) (list_all (is_possible z.spec.heads) (c.passed ∷ c.rest))
-        (sym (list_all-append (is_possible z.spec.heads) c.done (c.passed ∷ c.rest)) ∙ sym (ap (list_all (is_possible z.spec.heads)) (c.is).parts) ∙ both-possible.1) in
-        (both.0, (and-true (is_possible z.spec.heads c.passed) (list_all (is_possible z.spec.heads) c.rest) both.1).0)
+    -- what the fields stand for then
+    pub carried-read : (m s : State) (index : List ℕ) (base : ℕ) (e : HasMoved z here (with-last before others behind) m) → index ≡ starts_of (with_blocks (with-last before others behind e.moved) (layout_of z)) → base ≡ z.spec.base
+        → s ≡ counted m base 0 0 (first_marked base index) → IsRead (record z { memory = s; index = index }) (with_blocks (with-last before others behind e.moved) (layout_of z))
+    carried-read m s index base e marks base_is settles =
+        let heads = z.spec.heads in let regroup : before ++ ((others ++ e.moved ∷ []) ++ behind) ≡ with-last before others behind e.moved = ap (λ (bs : List RawBlock). before ++ bs) (append_assoc others (e.moved ∷ []) behind) in
+        let sum = total_of-append heads others (e.moved ∷ []) in let sizes = moved-size heads here e.moved e.same in let frees = free-append heads others (e.moved ∷ []) in let one = moved-free_bytes heads here e.moved e.same in
+        subst (λ (bs : List RawBlock). IsRead (record z { memory = s; index = index }) (with_blocks bs (layout_of z))) regroup
+        (replaced z whole small before (here ∷ others) (others ++ e.moved ∷ []) behind is (a.here_unlent, a.others_unlent) (more-unlent others e.moved a.others_unlent (e.same.lent ∙ a.here_unlent)) (omega arith)
+        (possible-with heads others (e.moved ∷ []) a.others_possible (possible-more heads e.moved [] (moved-possible heads here e.moved e.same a.here_possible) refl))
+        m s index base 0 0 e.kept.name e.kept.lent (e.bytes ∙ sym (ap (stale_image (layout_of z)) regroup)) (marks ∙ sym (ap (λ (bs : List RawBlock). starts_of (with_blocks bs (layout_of z))) regroup)) base_is (omega arith) settles)
 
-    passed-unlent : (c.passed).lent ≡ false
-    passed-unlent = (rest-unlent c.done (c.passed ∷ c.rest) (subst AllUnlent (c.is).parts run-unlent.1)).0
+  -- how the block lies behind the others, and what its going before them is
+  module _ (is : (layout_of z).blocks ≡ with-last before others behind here) (p n c : ℕ) (there : p ≡ zone_header + total_of z.spec.heads before) (size : n ≡ size_of z.spec.heads here) (count : c ≡ total_of z.spec.heads others) where
+    bytes-last : z.memory.bytes ≡ front (layout_of z) before ++ (rest ++ (bytes_of (layout_of z) here ++ rear (layout_of z) behind))
+    bytes-last = whole.form ∙ ap (stale_image (layout_of z)) is ∙ image-last (layout_of z) before others behind here
 
-    -- the block stands behind it then
-    pub turning-on : (first passed : Header) (index : List ℕ) → first ≡ header_of z.spec.heads parcel.here → passed ≡ header_of z.spec.heads c.passed
-        → index ≡ set (set (set w.index (next / 4) 0) ((next - first.size) / 4) (mark_in passed)) ((next - first.size) / 4 + passed.size / 4) (mark_in first)
-        → Turning z parcel (record w { index = index }) (next + passed.size)
-    turning-on first passed index one two written_is =
-        let heads = z.spec.heads in let l = layout_of z in
-        let size : first.size ≡ size_of heads parcel.here = ap (λ (h : Header). h.size) one in let size' : passed.size ≡ size_of heads c.passed = ap (λ (h : Header). h.size) two in
-        let p = IsPossible-from heads parcel.here both-possible.0 in let q = IsPossible-from heads c.passed parts-possible.1 in let some = smallest-block heads in
-        let even = p.even in let even' = q.even in let large = p.large in let large' = q.large in
-        let sum = total_of-append heads parcel.before c.done in let there = (c.is).place in
-        let possible = possible-with heads parcel.before c.done before-possible parts-possible.0 in
-        let marks = unmarked (zone_header / 4) ++ marks_of heads (parcel.before ++ c.done) in let rest = marks_of heads (c.rest ++ parcel.behind) ++ unmarked (length l.spare / 4) in
-        let place = (next - first.size) / 4 in
-        let long : length marks ≡ place = length-before heads (parcel.before ++ c.done) place possible (omega arith) in
-        let whole_long = length-marks_of heads (parcel.before ++ c.done) possible in
-        let turned = marks-exchanged marks (mark_of heads parcel.here) (mark_of heads c.passed) (size_of heads parcel.here / 4 - 1) (size_of heads c.passed / 4 - 1) rest place (next / 4) (place + passed.size / 4) long (omega arith) (omega arith) in
-        let now : index ≡ starts_of (with_blocks ((parcel.before ++ c.done) ++ c.passed ∷ parcel.here ∷ (c.rest ++ parcel.behind)) l) =
-        written_is
-        ∙ (λ i. set (set (set ((c.is).marks i) (next / 4) 0) place ((ap mark_in two ∙ sym (mark-unlent heads c.passed passed-unlent)) i)) (place + passed.size / 4) ((ap mark_in one ∙ sym (mark-unlent heads parcel.here run-unlent.0)) i))
-        ∙ ap (λ (ms : List ℕ). set (set (set ms (next / 4) 0) place (mark_of heads c.passed)) (place + passed.size / 4) (mark_of heads parcel.here)) (starts-two l (parcel.before ++ c.done) parcel.here c.passed (c.rest ++ parcel.behind))
-        ∙ turned ∙ sym (starts-two l (parcel.before ++ c.done) c.passed parcel.here (c.rest ++ parcel.behind)) in
-        let more = total_of-append heads c.done (c.passed ∷ []) in
+    -- all turn
+    pub sunk-used : (m : State) → m ≡ with_bytes z.memory p (part z.memory.bytes (p + c) n ++ part z.memory.bytes p c) → HasMoved z here (with-first before others behind) m
+    sunk-used m is_m = let l = layout_of z in let b = length-front l before in let e = length-bytes_of l here in let f = length-rendered z.spec.heads z.spec.base others in record {
+      moved = here;
+      same = moved-itself here;
+      kept = kept-written z z.memory m p (part z.memory.bytes (p + c) n ++ part z.memory.bytes p c) (kept-first z whole small) is_m (omega arith);
+      bytes = ap (λ (s : State). s.bytes) is_m
+          ∙ parts-turned z.memory.bytes (front l before) rest (bytes_of l here) (rear l behind) bytes-last p (omega arith) (p + c) n c (omega arith) (omega arith) (omega arith)
+          ∙ sym (image-first l before others behind here);
+    }
+
+    -- the header of a free one is written before the others, which have slid up
+    sunk-anew : (m : State) (free : IsTrue (is_free here.role)) (stale : List ℕ) → length stale ≡ size_of z.spec.heads here → (slid : State) → IsKept z slid
+        → slid.bytes ≡ front (layout_of z) before ++ (stale ++ (rest ++ rear (layout_of z) behind)) → m ≡ with_bytes slid p (head (layout_of z) here) → HasMoved z here (with-first before others behind) m
+    sunk-anew m free stale fits slid kept slides is_m =
+        let l = layout_of z in let b = length-front l before in
         record {
-          done = c.done ++ c.passed ∷ [];
-          rest = c.rest;
-          is = record {
-            spec = (c.is).spec;
-            memory = (c.is).memory;
-            loans = (c.is).loans;
-            parts = (c.is).parts ∙ sym (append_assoc c.done (c.passed ∷ []) c.rest);
-            long = ap length written_is ∙ length-set (set (set w.index (next / 4) 0) place (mark_in passed)) _ _ ∙ length-set (set w.index (next / 4) 0) _ _ ∙ length-set w.index _ _ ∙ (c.is).long;
-            marks = now ∙ ap (λ (bs : List RawBlock). starts_of (with_blocks bs l))
-                (sym (append_assoc (parcel.before ++ c.done) (c.passed ∷ []) (parcel.here ∷ (c.rest ++ parcel.behind)))
-                ∙ ap (λ (bs : List RawBlock). bs ++ parcel.here ∷ (c.rest ++ parcel.behind)) (append_assoc parcel.before c.done (c.passed ∷ [])));
-            place = omega arith;
-          };
+          moved = anew l here free (none-over free) stale fits;
+          same = anew-moved l here free (none-over free) stale fits;
+          kept = kept-written z slid m p (head l here) kept is_m (omega arith);
+          bytes = ap (λ (s : State). s.bytes) is_m ∙ ap (λ (xs : List ℕ). written xs p (head l here)) slides
+              ∙ anew-written l here free (none-over free) stale fits (front l before) (rest ++ rear l behind) p (omega arith)
+              ∙ sym (image-first l before others behind (anew l here free (none-over free) stale fits));
         }
 
-  -- the run with the block behind the others
-  abbrev run-now : List RawBlock
-  run-now = parcel.others ++ parcel.here ∷ []
+    -- the others slide up, and the header is written before them
+    pub sunk-free : (m : State) → IsTrue (is_free here.role) → m ≡ with_bytes (with_bytes z.memory (p + n) (part z.memory.bytes p c)) p (head (layout_of z) here) → HasMoved z here (with-first before others behind) m
+    sunk-free m free is_m =
+        let l = layout_of z in let b = length-front l before in let e = length-bytes_of l here in let f = length-rendered z.spec.heads z.spec.base others in
+        let sum = length-append rest (bytes_of l here) in let cut = length-take-le (length (bytes_of l here)) (rest ++ bytes_of l here) (omega arith) in
+        sunk-anew m free (take (length (bytes_of l here)) (rest ++ bytes_of l here)) (omega arith) (with_bytes z.memory (p + n) (part z.memory.bytes p c))
+        (kept-written z z.memory (with_bytes z.memory (p + n) (part z.memory.bytes p c)) (p + n) (part z.memory.bytes p c) (kept-first z whole small) refl (omega arith))
+        (slid-up z.memory.bytes (front l before) rest (bytes_of l here) (rear l behind) bytes-last p (omega arith) (p + n) c (omega arith) (omega arith)) is_m
 
-  -- at the end the marks are those of the zone in which it is carried
-  pub turned-all : (w : Inside) (next : ℕ) → Turning z parcel w next → end ≤ z.spec.base + next → w.index ≡ starts_of (with_blocks (parcel.before ++ (run-now ++ parcel.behind)) (layout_of z))
-  turned-all w next t more =
-      let all : total_of z.spec.heads parcel.others ≡ total_of z.spec.heads t.done + total_of z.spec.heads t.rest = ap (total_of z.spec.heads) (t.is).parts ∙ total_of-append z.spec.heads t.done t.rest in
-      let there = (t.is).place in let start = parcel.place in let long = parcel.long in
-      let none : t.rest ≡ [] = no-blocks z.spec.heads t.rest (omega arith) in
-      let done : t.done ≡ parcel.others = sym ((t.is).parts ∙ ap (λ (bs : List RawBlock). t.done ++ bs) none ∙ append-nil t.done) in
-      (t.is).marks ∙ ap (λ (bs : List RawBlock). starts_of (with_blocks bs (layout_of z)))
-      ((λ i. (parcel.before ++ done i) ++ parcel.here ∷ (none i ++ parcel.behind)) ∙ append_assoc parcel.before parcel.others (parcel.here ∷ parcel.behind)
-      ∙ ap (λ (bs : List RawBlock). parcel.before ++ bs) (sym (append_assoc parcel.others (parcel.here ∷ []) parcel.behind)))
+    -- the index then
+    pub sunk-marks : (b : RawBlock) → IsMoved here b → (k : ℕ) → k ≡ mark_of z.spec.heads here → set (shifted_up (p / 4) ((p + n) / 4) (c / 4) z.index) (p / 4) k ≡ starts_of (with_blocks (with-first before others behind b) (layout_of z))
+    sunk-marks b moved k mark =
+        let l = layout_of z in let heads = z.spec.heads in let h = IsPossible-from heads here a.here_possible in let large = h.large in let even = h.even in let some = smallest-block heads in
+        let first = length-marks_of heads before a.before_possible in let second = length-marks_of heads others a.others_possible in let long = length-before heads before (p / 4) a.before_possible (omega arith) in
+        ap (λ (ms : List ℕ). set (shifted_up (p / 4) ((p + n) / 4) (c / 4) ms) (p / 4) k)
+        (whole.marked ∙ ap (λ (bs : List RawBlock). starts_of (with_blocks bs l)) is ∙ starts-last l before others behind here)
+        ∙ numbers-up (marks-before l before others behind here) (marks_of heads others) (marks-behind l before others behind here) (mark_of heads here) k (size_of heads here / 4 - 1)
+        (p / 4) ((p + n) / 4) (c / 4) (sym long) (omega arith) (omega arith)
+        ∙ (λ i. marks-before l before others behind here ++ (mark ∙ sym (moved-mark heads here b moved)) i ∷ (unmarked (sym (moved-size heads here b moved) i / 4 - 1) ++ (marks_of heads others ++ marks-behind l before others behind here)))
+        ∙ sym (starts-first l before others behind b)
 
-  -- the bytes turn
-  pub bytes-turned : (m : State) (p q r : ℕ) → p ≡ zone_header + total_of z.spec.heads parcel.before → q ≡ p + size_of z.spec.heads parcel.here → r ≡ q + total_of z.spec.heads parcel.others
-      → m ≡ with_bytes z.memory p (part z.memory.bytes q (r - q) ++ part z.memory.bytes p (q - p)) → m.bytes ≡ stale_image (layout_of z) (parcel.before ++ (run-now ++ parcel.behind))
-  bytes-turned m p q r there there' there'' is =
-      let l = layout_of z in let heads = z.spec.heads in
-      let one = rendered heads z.spec.base (parcel.here ∷ []) in let many = rendered heads z.spec.base parcel.others in let low = front l parcel.before in let high = rear l parcel.behind in
-      let a = length-rendered heads z.spec.base (parcel.here ∷ []) in let b = length-rendered heads z.spec.base parcel.others in let c = length-front l parcel.before in
-      let d = length-append low one in let e = length-append one many in let f = length-append many one in
-      let was : z.memory.bytes ≡ low ++ ((one ++ many) ++ high) =
-      whole.form ∙ ap (stale_image l) parcel.blocks ∙ image-run l parcel.before (parcel.here ∷ parcel.others) parcel.behind
-      ∙ ap (λ (bytes : List ℕ). low ++ (bytes ++ high)) (rendered-append heads z.spec.base (parcel.here ∷ []) parcel.others) in
-      let first : part z.memory.bytes p (q - p) ≡ one =
-      ap (λ (bytes : List ℕ). part bytes p (q - p)) (was ∙ ap (λ (bytes : List ℕ). low ++ bytes) (append_assoc one many high)) ∙ part-middle low one (many ++ high) p (q - p) (omega arith) (omega arith) in
-      let second : part z.memory.bytes q (r - q) ≡ many =
-      ap (λ (bytes : List ℕ). part bytes q (r - q)) (was ∙ ap (λ (bytes : List ℕ). low ++ bytes) (append_assoc one many high) ∙ sym (append_assoc low one (many ++ high)))
-      ∙ part-middle (low ++ one) many high q (r - q) (omega arith) (omega arith) in
-      ap (λ (s : State). s.bytes) is
-      ∙ (λ i. written (was i) p (second i ++ first i))
-      ∙ written-middle low (one ++ many) high (many ++ one) p (omega arith) (omega arith)
-      ∙ ap (λ (bytes : List ℕ). low ++ (bytes ++ high)) (sym (rendered-append heads z.spec.base parcel.others (parcel.here ∷ [])))
-      ∙ sym (image-run l parcel.before run-now parcel.behind)
-
-  -- what the fields stand for then
-  pub carried-read : ArePossible z.spec → (m n : State) (index : List ℕ) (base : ℕ) → IsKept z m → m.bytes ≡ stale_image (layout_of z) (parcel.before ++ (run-now ++ parcel.behind))
-      → index ≡ starts_of (with_blocks (parcel.before ++ (run-now ++ parcel.behind)) (layout_of z)) → base ≡ z.spec.base → n ≡ counted m base 0 0 (first_marked base index)
-      → IsRead (record z { memory = n; index = index }) (carried (layout_of z) parcel)
-  carried-read small m n index base kept bytes marks base_is settles =
-      let heads = z.spec.heads in
-      let a = total_of-append heads parcel.others (parcel.here ∷ []) in let b = free-append heads parcel.others (parcel.here ∷ []) in
-      subst (λ (bs : List RawBlock). IsRead (record z { memory = n; index = index }) (with_blocks bs (layout_of z)))
-      (ap (λ (bs : List RawBlock). parcel.before ++ bs) (append_assoc parcel.others (parcel.here ∷ []) parcel.behind))
-      (replaced z whole small parcel.before (parcel.here ∷ parcel.others) run-now parcel.behind parcel.blocks run-unlent (more-unlent parcel.others parcel.here run-unlent.1 run-unlent.0) (omega arith)
-      (possible-with heads parcel.others (parcel.here ∷ []) both-possible.1 (possible-more heads parcel.here [] both-possible.0 refl))
-      m n index base 0 0 kept.name kept.lent bytes marks base_is (omega arith) settles)
-
-  module _ (small : ArePossible z.spec) (w : Inside) (next : ℕ) (t : Turning z parcel w next) (first : Header) (r : IsRun first) (m : State) (base : ℕ) (base_is : base ≡ z.spec.base)
-      (turns : m ≡ with_bytes w.memory (at - base) (part w.memory.bytes (at - base + first.size) (end - base - (at - base + first.size)) ++ part w.memory.bytes (at - base) (at - base + first.size - (at - base)))) where
-    -- the bytes turn in the memory as it was
-    turns_now : m ≡ with_bytes z.memory (at - base) (part z.memory.bytes (at - base + first.size) (end - base - (at - base + first.size)) ++ part z.memory.bytes (at - base) (at - base + first.size - (at - base)))
-    turns_now = turns ∙ ap (λ (s : State). with_bytes s (at - base) (part s.bytes (at - base + first.size) (end - base - (at - base + first.size)) ++ part s.bytes (at - base) (at - base + first.size - (at - base)))) (t.is).memory
-
-    -- the zone's header is as it was
-    kept_now : IsKept z m
-    kept_now = let above = r.above in kept-written z z.memory m (at - base) (part z.memory.bytes (at - base + first.size) (end - base - (at - base + first.size)) ++ part z.memory.bytes (at - base) (at - base + first.size - (at - base))) (kept-first z whole small) turns_now (omega arith)
-
-    -- so the free bytes can be counted
-    pub carry-counts : CanCount m w.index base 0 0
-    carry-counts = can-count z whole small m w.index base 0 0 kept_now (t.is).long base_is (omega arith) (omega arith)
-
-    -- and the block is carried
-    pub carry-ends : (n : State) → end ≤ z.spec.base + next → n ≡ counted m base 0 0 (first_marked base w.index) → IsRead (record w { memory = n }) (carried (layout_of z) parcel)
-    carry-ends n more settles =
-        let start = r.start in let stop = r.stop in let size = r.size in
-        subst (λ (x : Inside). IsRead x (carried (layout_of z) parcel)) (λ i. record { spec = sym (t.is).spec i; memory = n; index = w.index; loans = sym (t.is).loans i })
-        (carried-read small m n w.index base kept_now (bytes-turned m (at - base) (at - base + first.size) (end - base) (omega arith) (omega arith) (omega arith) turns_now) (turned-all w next t more) base_is settles)
-
--- the parcel in what the fields stand for
-abbrev pub parcel-in : (z : Inside) (l : Layout) → layout_of z ≡ l → (at end : ℕ) → ParcelAt l at end → ParcelAt (layout_of z) at end
-parcel-in z l is at end = subst (λ (l : Layout). ParcelAt l at end) (sym is)
-
--- what was read of its block
-pub first-said : (z : Inside) (l : Layout) → layout_of z ≡ l → (at end : ℕ) (parcel : ParcelAt (layout_of z) at end) (first : Header) → ((b : BlockAt l at) → first ≡ header_of l.heads b.here) → first ≡ header_of z.spec.heads parcel.here
-first-said z l is at end parcel first said =
-    (subst (λ (l : Layout). (b : BlockAt l at) → first ≡ header_of l.heads b.here) (sym is) said)
-    (record { before = parcel.before; here = parcel.here; behind = parcel.others ++ parcel.behind; blocks = parcel.blocks; place = parcel.place })
-
-pub run-said : (z : Inside) (whole : IsLayout z) (l : Layout) → layout_of z ≡ l → (at end : ℕ) (parcel : ParcelAt (layout_of z) at end) (first : Header) → ((b : BlockAt l at) → first ≡ header_of l.heads b.here) → IsRun z whole parcel first
-run-said z whole l is at end parcel first said = run-here z whole parcel first (subst (λ (l : Layout). (b : BlockAt l at) → first ≡ header_of l.heads b.here) (sym is) said)
+    -- what the fields stand for then
+    pub sunk-read : (m s : State) (index : List ℕ) (base : ℕ) (e : HasMoved z here (with-first before others behind) m) → index ≡ starts_of (with_blocks (with-first before others behind e.moved) (layout_of z)) → base ≡ z.spec.base
+        → s ≡ counted m base 0 0 (first_marked base index) → IsRead (record z { memory = s; index = index }) (with_blocks (with-first before others behind e.moved) (layout_of z))
+    sunk-read m s index base e marks base_is settles =
+        let heads = z.spec.heads in let regroup : before ++ ((others ++ here ∷ []) ++ behind) ≡ with-last before others behind here = ap (λ (bs : List RawBlock). before ++ bs) (append_assoc others (here ∷ []) behind) in
+        let sum = total_of-append heads others (here ∷ []) in let sizes = moved-size heads here e.moved e.same in let frees = free-append heads others (here ∷ []) in let one = moved-free_bytes heads here e.moved e.same in
+        replaced z whole small before (others ++ here ∷ []) (e.moved ∷ others) behind (is ∙ sym regroup) (more-unlent others here a.others_unlent a.here_unlent) (e.same.lent ∙ a.here_unlent, a.others_unlent) (omega arith)
+        (possible-more heads e.moved others (moved-possible heads here e.moved e.same a.here_possible) a.others_possible)
+        m s index base 0 0 e.kept.name e.kept.lent e.bytes marks base_is (omega arith) settles

@@ -56,18 +56,18 @@ module _ (heads : HeadKind) (b c : RawBlock) (m : IsMoved b c) where
       && (nat_le (length (m.slack i)) (most_over heads) && (can_be_told heads (m.role i) (length (m.slack i)) && (not (m.lent i) || has_owner (m.role i)))))) ∙ possible
 
   -- as many bytes are free by it
-  moved-free_bytes : (if is_free c.role then size_of heads c else 0) ≡ (if is_free b.role then size_of heads b else 0)
+  pub moved-free_bytes : (if is_free c.role then size_of heads c else 0) ≡ (if is_free b.role then size_of heads b else 0)
   moved-free_bytes = λ i. if is_free (m.role i) then moved-size i else 0
 
 -- no bytes of a free block are over
-slack-free : (heads : HeadKind) (role : Role) (n : ℕ) → IsTrue (is_free role) → IsTrue (can_be_told heads role n) → n ≡ 0
+pub slack-free : (heads : HeadKind) (role : Role) (n : ℕ) → IsTrue (is_free role) → IsTrue (can_be_told heads role n) → n ≡ 0
 slack-free heads Free n free told = grind (arith, nat_tests)
 slack-free heads Fixed n free told = let f : false ≡ true = free in cc
 slack-free heads Master n free told = let f : false ≡ true = free in cc
 slack-free heads (Relocatable slot flags) n free told = let f : false ≡ true = free in cc
 
 -- a list of no bytes is empty
-none-left : (xs : List ℕ) → length xs ≡ 0 → xs ≡ []
+pub none-left : (xs : List ℕ) → length xs ≡ 0 → xs ≡ []
 none-left [] none = refl
 none-left (x ∷ xs) none = absurd (omega arith)
 

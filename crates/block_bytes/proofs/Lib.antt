@@ -22,5 +22,7 @@ pub mod Copied
 pub mod Loans
 pub mod NewZone
 pub mod Exchanging
+pub mod Rotated
 pub mod Carrying
+pub mod NextFree
 pub mod Extending

@@ -37,7 +37,7 @@ no_room false Free needed k n owned least some low = ap not (small (nat_le neede
     small true is = let enough : needed ≤ n = grind (arith, nat_tests) in let no = least.2 n enough some in absurd (omega arith)
 
 -- a block whose mark is 3 or more is free, and that is its size
-large-free : (lent : Bool) (role : Role) (n k : ℕ) → 3 ≤ k → k ≤ (if lent then 2 else (if is_free role then n else 1)) → (role ≡ Free) × (k ≤ n)
+pub large-free : (lent : Bool) (role : Role) (n k : ℕ) → 3 ≤ k → k ≤ (if lent then 2 else (if is_free role then n else 1)) → (role ≡ Free) × (k ≤ n)
 large-free true role n k three large = absurd (omega arith)
 large-free false Free n k three large = (refl, large)
 large-free false Fixed n k three large = absurd (omega arith)

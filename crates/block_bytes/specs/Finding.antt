@@ -1,9 +1,9 @@
 -- What a walk over the blocks finds.
-use Rattle.std.specs.Prelude.{◌≡◌, ℕ, ◌+◌, ◌<◌, ◌≤◌, ◌⊎◌, Bool, not, ◌&&◌, nat_le, IsTrue, []}
+use Rattle.std.specs.Prelude.{◌≡◌, ℕ, ◌+◌, ◌<◌, ◌≤◌, ◌⊎◌, Bool, not, ◌&&◌, nat_le, IsTrue, List, [], ◌∷◌, ◌++◌}
 use Rattle.std.specs.List.{list_all}
 use Rattle.mac_base.specs.declared.block.HeadKind.{HeadKind}
 use Rattle.block_bytes.specs.declared.header.Role.TheVariants.{Free}
-use Rattle.block_bytes.specs.Layout.{RawBlock, Layout, BlockAt, is_free, size_of, address_behind}
+use Rattle.block_bytes.specs.Layout.{RawBlock, Layout, BlockAt, is_free, size_of, total_of, address_behind}
 
 -- the block at `start` has the byte at an address, in its header or behind it
 pub record HoldsByte (l : Layout) (at start : ℕ) : Type 0 where
@@ -14,6 +14,27 @@ pub record HoldsByte (l : Layout) (at start : ℕ) : Type 0 where
 -- the byte at an address lies before all blocks, or behind them
 abbrev pub LiesOutside : Layout → ℕ → Type 0
 LiesOutside l at = (at < address_behind l []) ⊎ (address_behind l l.blocks ≤ at)
+
+-- the blocks from an address on, which is that of a block or of the end of the last
+pub record SplitAt (l : Layout) (at : ℕ) : Type 0 where
+  pub before : List RawBlock
+  pub behind : List RawBlock
+  pub blocks : l.blocks ≡ before ++ behind
+  pub place : at ≡ address_behind l before
+
+-- whether none of these is free
+abbrev pub none_free : List RawBlock → Bool
+none_free bs = list_all (λ (b : RawBlock). not (is_free b.role)) bs
+
+-- the first free one of these blocks, which begin at an address, stands at another
+pub record FirstFree (heads : HeadKind) (bs : List RawBlock) (from at : ℕ) : Type 0 where
+  pub passed : List RawBlock
+  pub here : RawBlock
+  pub behind : List RawBlock
+  pub blocks : bs ≡ passed ++ here ∷ behind
+  pub used : IsTrue (none_free passed)
+  pub free : here.role ≡ Free
+  pub place : at ≡ from + total_of heads passed
 
 -- whether a block is free and has so many bytes, its header among them
 abbrev pub has_room : HeadKind → ℕ → RawBlock → Bool

@@ -276,9 +276,28 @@ pub record ParcelAt (l : Layout) (at end : ℕ) : Type 0 where
   pub long : end ≡ at + total_of l.heads (here ∷ others)
   pub unlent : IsTrue (none_lent (here ∷ others))
 
--- the zone with the block behind the others
-abbrev pub carried : {at end : ℕ} → (l : Layout) → ParcelAt l at end → Layout
-carried l parcel = with_blocks (parcel.before ++ (parcel.others ++ parcel.here ∷ parcel.behind)) l
+-- the block stands behind the others. The bytes of a free one may be other ones
+pub record Carried (old : Layout) {at end : ℕ} (parcel : ParcelAt old at end) (new : Layout) : Type 0 where
+  pub moved : RawBlock
+  pub blocks : new ≡ with_blocks (parcel.before ++ (parcel.others ++ moved ∷ parcel.behind)) old
+  pub same : IsMoved parcel.here moved
+
+-- some blocks stand from an address on, and a block behind them at another, none of them lent
+pub record ParcelUpTo (l : Layout) (start at : ℕ) : Type 0 where
+  pub before : List RawBlock
+  pub others : List RawBlock
+  pub here : RawBlock
+  pub behind : List RawBlock
+  pub blocks : l.blocks ≡ before ++ (others ++ here ∷ behind)
+  pub place : start ≡ address_behind l before
+  pub long : at ≡ start + total_of l.heads others
+  pub unlent : IsTrue (none_lent (others ++ here ∷ []))
+
+-- the block stands before the others. The bytes of a free one may be other ones
+pub record Sunk (old : Layout) {start at : ℕ} (parcel : ParcelUpTo old start at) (new : Layout) : Type 0 where
+  pub moved : RawBlock
+  pub blocks : new ≡ with_blocks (parcel.before ++ (moved ∷ parcel.others ++ parcel.behind)) old
+  pub same : IsMoved parcel.here moved
 
 -- the block at an address can be lent: it is a handle's or a pointer's, it isn't lent yet, and few are
 pub record CanLend (l : Layout) (at : ℕ) : Type 0 where

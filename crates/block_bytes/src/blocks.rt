@@ -25,6 +25,9 @@ use std::marker::Model;
 /// What the index has at the place of a lent block. No block is as small.
 const LENT_MARK: u32 = 2;
 
+/// Where the first of some blocks has as many bytes, few of their numbers in the index are thought to be above 0.
+const SPARSE_SIZE: u32 = 1024;
+
 /// The blocks of a zone in one run of bytes, from the zone's start to its limit. A contract sees the list of the
 /// blocks, each with all bytes behind its header, beside the bytes up to the limit and the number in the zone's header that
 /// tells of the free slots. All else in that header follows from the blocks: where they end, how many bytes are free and
@@ -100,8 +103,8 @@ impl Blocks {
     ghost use Rattle.mac_base.specs.ZoneSizes.{shape_of};
     ghost use Rattle.raw_region.specs.Bytes.{part, written};
     ghost use Rattle.block_bytes.specs.declared.header.Role.TheVariants.{Free};
-    ghost use Rattle.block_bytes.specs.Layout.{RawBlock, Layout, BlockAt, UnlentAt, WordAt, CanBe, CanTurn, CanResize, CanSplit, PairAt, ParcelAt, carried, CanMerge, Exchanged, CanLend, IsLoanOf, NothingLent, in_role, front_of, rest_of, with_word, cleared, cleared_from, CanClear, body, raw_block, free_raw_block, size_of, header_of, is_possible, joint_body, zone_bytes, with_blocks, with_front, extended, address_behind, free_total, lent_count, most_lent, loan_of, lent_block, given_back};
-    ghost use Rattle.block_bytes.specs.Finding.{HoldsByte, LiesOutside, LowestFree, NoneFree};
+    ghost use Rattle.block_bytes.specs.Layout.{RawBlock, Layout, BlockAt, UnlentAt, WordAt, CanBe, CanTurn, CanResize, CanSplit, PairAt, ParcelAt, Carried, ParcelUpTo, Sunk, CanMerge, Exchanged, CanLend, IsLoanOf, NothingLent, in_role, front_of, rest_of, with_word, cleared, cleared_from, CanClear, body, raw_block, free_raw_block, size_of, header_of, is_possible, joint_body, zone_bytes, with_blocks, with_front, extended, address_behind, free_total, lent_count, most_lent, loan_of, lent_block, given_back};
+    ghost use Rattle.block_bytes.specs.Finding.{HoldsByte, LiesOutside, LowestFree, NoneFree, SplitAt, FirstFree, none_free};
     ghost use Rattle.block_bytes.specs.Copying.{CanCopy, copied_over};
     ghost use Rattle.block_bytes.specs.WritingBack.{WritesBackContents};
     ghost use Rattle.block_bytes.specs.NewLayout.{new_layout};
@@ -393,30 +396,66 @@ impl Blocks {
         count_free(&mut self.memory, &self.index, base, 0, 0);
     }
 
-    /// The block at an address changes places with those behind it up to an address. The bytes of all of them, those of
-    /// free ones too, are kept, and turn in one rotation.
+    /// The block at an address changes places with those behind it up to an address. The bytes of a free one aren't kept: the
+    /// others slide over them. Else the bytes of all turn in one rotation.
     pub fn carry(&mut self, at: u32, end: u32)
         requires { ParcelAt self.old at end }
-        ensures { (parcel : ParcelAt self.old at end) → self.new ≡ carried self.old parcel }
+        ensures { (parcel : ParcelAt self.old at end) → Carried self.old parcel self.new }
     {
         let heads = self.spec.heads();
         let base = self.spec.base();
-        let first = self.entry_at(at);
-        let size = first.size as usize;
+        let header = self.entry_at(at);
+        let sparse = self.is_sparse(at + header.size, end);
+        let size = header.size as usize;
         let start = (at - base) as usize;
-        let stop = (end - base) as usize;
-        let mut next = start + size;
-        while next < stop {
-            let passed = self.memory.header(heads, next);
-            let place = (next - size) / 4;
-            self.index.set(next / 4, 0);
-            self.index.set(place, passed.mark());
-            self.index
-                .set(place + passed.size as usize / 4, first.mark());
-            next += passed.size as usize;
-        }
-        self.memory.rotate(start, start + size, stop);
+        let count = (end - at) as usize - size;
+        self.memory.carry(heads, start, count, header);
+        self.index
+            .shift_down((start + size) / 4, start / 4, count / 4, sparse);
+        self.index.set(start / 4 + count / 4, header.mark());
         count_free(&mut self.memory, &self.index, base, 0, 0);
+    }
+
+    /// The block at an address changes places with those before it, which begin at `start`. The bytes of a free one aren't kept: the
+    /// others slide over them. Else the bytes of all turn in one rotation.
+    pub fn sink(&mut self, start: u32, at: u32)
+        requires { ParcelUpTo self.old start at }
+        ensures { (parcel : ParcelUpTo self.old start at) → Sunk self.old parcel self.new }
+    {
+        let heads = self.spec.heads();
+        let base = self.spec.base();
+        let header = self.entry_at(at);
+        let sparse = self.is_sparse(start, at);
+        let size = header.size as usize;
+        let first = (start - base) as usize;
+        let count = (at - start) as usize;
+        self.memory.sink(heads, first, count, header);
+        self.index
+            .shift_up(first / 4, (first + size) / 4, count / 4, sparse);
+        self.index.set(first / 4, header.mark());
+        count_free(&mut self.memory, &self.index, base, 0, 0);
+    }
+
+    /// Whether there are blocks between two addresses, and the first is so large that few numbers of the index are thought to be
+    /// above 0 there.
+    fn is_sparse(&self, start: u32, end: u32) -> bool
+        requires { start < end → BlockAt self.now start }
+        ensures none { end ≤ start → IsFalse result }
+        ensures first { (b : BlockAt self.now start) → start < end → IsTrue result ↔ 1024 ≤ size_of self.now.heads b.here }
+    {
+        start < end && self.entry_at(start).size >= SPARSE_SIZE
+    }
+
+    /// The address of the first free block from an address on, if there is one. No header is read.
+    pub fn next_free(&self, from: u32) -> Option<u32>
+        requires { SplitAt self.now from }
+        ensures next { IfSome result (λ at. (split : SplitAt self.now from) → FirstFree self.now.heads split.behind from at) }
+        ensures none { IfNone result ((split : SplitAt self.now from) → IsTrue (none_free split.behind)) }
+    {
+        let base = self.spec.base();
+        let first = (from - base) as usize / 4;
+        let place = self.index.first_at_least(LENT_MARK + 1, first)?;
+        Some(base + 4 * place as u32)
     }
 
     /// Grows the zone to its limit: the bytes up to there become one free block behind the last. Its header is written, and
@@ -537,17 +576,17 @@ impl Blocks {
         self.memory.clear(start as usize, length as usize);
     }
 
-    /// Copies the first `count` bytes of the contents of the block at `from` over the first of the contents of the block
-    /// at `to`, which stands below it or above.
-    pub fn copy(&mut self, from: u32, to: u32, count: u32)
-        requires { CanCopy self.old from to count }
-        ensures { (can : CanCopy self.old from to count)
-            → self.new ≡ with_blocks (can.target.before ++ copied_over can.target.here (take count can.source.here.contents) ∷ can.target.behind) self.old }
+    /// Copies the `count` bytes of contents from `start` on of the block at `from` over those from `offset` on of the block at `to`.
+    /// It may be the same block, whose bytes are then those before the call.
+    pub fn copy(&mut self, from: u32, start: u32, to: u32, offset: u32, count: u32)
+        requires { CanCopy self.old from start to offset count }
+        ensures { (can : CanCopy self.old from start to offset count)
+            → self.new ≡ with_blocks (can.target.before ++ copied_over can.target.here offset (take count (drop start can.source.here.contents)) ∷ can.target.behind) self.old }
     {
         let base = self.spec.base();
         let head_size = self.spec.heads().head_size();
-        let source = from - base + head_size;
-        let target = to - base + head_size;
+        let source = from - base + head_size + start;
+        let target = to - base + head_size + offset;
         self.memory
             .slide(source as usize, target as usize, count as usize);
     }

@@ -174,6 +174,46 @@ impl Memory {
         }
     }
 
+    /// The block with this header, which stands at `at`, moves behind the `count` bytes behind it. Where it is free only those
+    /// move, and its header, which names no zone, is written anew.
+    pub fn carry(&mut self, heads: HeadKind, at: usize, count: usize, header: Header)
+        requires inside { at + header.size + count ≤ length self.old.bytes }
+        requires free { IsFree self.old.lent at (header.size + count) }
+        requires size { (header.size < 2 ^ 24) × (head_size heads ≤ header.size) }
+        requires correction { header.correction ≤ most_over heads }
+        ensures free { IsTrue (is_free header.role) → self.new ≡ with_bytes (with_bytes self.old at (part self.old.bytes (at + header.size) count)) (at + count) (head_bytes heads 0 header) }
+        ensures used { IsFalse (is_free header.role) → self.new ≡ with_bytes self.old at (part self.old.bytes (at + header.size) count ++ part self.old.bytes at header.size) }
+    {
+        let _len = self.len();
+        let middle = at + header.size as usize;
+        if header.is_free() {
+            self.slide(middle, at, count);
+            self.set_header(heads, at + count, 0, header);
+        } else {
+            self.rotate(at, middle, middle + count);
+        }
+    }
+
+    /// The block with this header moves before the `count` bytes before it, which begin at `at`. Where it is free only those
+    /// move, and its header, which names no zone, is written anew.
+    pub fn sink(&mut self, heads: HeadKind, at: usize, count: usize, header: Header)
+        requires inside { at + count + header.size ≤ length self.old.bytes }
+        requires free { IsFree self.old.lent at (count + header.size) }
+        requires size { (header.size < 2 ^ 24) × (head_size heads ≤ header.size) }
+        requires correction { header.correction ≤ most_over heads }
+        ensures free { IsTrue (is_free header.role) → self.new ≡ with_bytes (with_bytes self.old (at + header.size) (part self.old.bytes at count)) at (head_bytes heads 0 header) }
+        ensures used { IsFalse (is_free header.role) → self.new ≡ with_bytes self.old at (part self.old.bytes (at + count) header.size ++ part self.old.bytes at count) }
+    {
+        let _len = self.len();
+        let middle = at + count;
+        if header.is_free() {
+            self.slide(at, at + header.size as usize, count);
+            self.set_header(heads, at, 0, header);
+        } else {
+            self.rotate(at, middle, middle + header.size as usize);
+        }
+    }
+
     /// Lends the `count` bytes from `at` on.
     pub fn lend(&mut self, at: usize, count: usize) -> Lent
         requires inside { at + count ≤ length self.old.bytes }

@@ -1,161 +1,191 @@
-use Rattle.std.proofs.Common.{◌≡◌, ◌+◌, ◌-◌, ◌/◌, length, refl, sym, ap, ◌∙◌, subst, arith, length-set}
+use Rattle.std.proofs.Common.{◌≡◌, ℕ, ◌+◌, ◌-◌, ◌/◌, ◌<◌, ◌≤◌, List, [], ◌∷◌, ◌++◌, length, refl, ap, sym, ◌∙◌, subst, arith, append_assoc, length-set, IsTrue, IsFalse}
 use Rattle.std.proofs.Math.ListN.{set}
+use Rattle.mac_base.specs.declared.block.HeadKind.{HeadKind}
 use Rattle.mac_base.specs.HeadKind.{head_size}
-use Rattle.raw_region.specs.Span.{IsFree}
-use Rattle.raw_region.specs.State.{State}
-use Rattle.block_bytes.specs.Layout.{Layout, ParcelAt, carried, header_of}
-use Rattle.block_bytes.specs.Reading.{layout_of}
-use Rattle.block_bytes.specs.Starts.{mark_in}
-use Rattle.block_bytes.proofs.ReadBlocks.{head_size-positive}
+use Rattle.mac_base.specs.ZoneSizes.{ArePossible}
+use Rattle.place_numbers.specs.Shifted.{shifted_down}
+use Rattle.raw_region.specs.Bytes.{part}
+use Rattle.raw_region.specs.State.{State, with_bytes}
+use Rattle.raw_region.proofs.Places.{by_case}
+use Rattle.block_bytes.specs.declared.header.Header.{Header}
+use Rattle.block_bytes.specs.declared.blocks.Blocks.TheInside.{Inside}
+use Rattle.block_bytes.specs.Head.{most_over, head_bytes}
+use Rattle.block_bytes.specs.Layout.{RawBlock, Layout, BlockAt, ParcelAt, Carried, is_free, size_of, total_of, header_of, with_blocks}
+use Rattle.block_bytes.specs.Starts.{mark_in, first_marked}
+use Rattle.block_bytes.specs.Reading.{layout_of, IsLayout}
+use Rattle.block_bytes.proofs.Heads.{head-free}
+use Rattle.block_bytes.proofs.Rendered.{total_of-append}
 use Rattle.block_bytes.proofs.Parts.{IsRead}
-use Rattle.block_bytes.proofs.Counting.{CanCount}
-use Rattle.block_bytes.proofs.Carrying.{parcel-in, first-said, run-said, run-free, turning-first, coming, coming-here, coming-read, turning-on, carry-counts, carry-ends}
+use Rattle.block_bytes.proofs.Settled.{counted}
+use Rattle.block_bytes.proofs.Changes.{mark-unlent}
+use Rattle.block_bytes.proofs.Counting.{IsKept, CanCount, can-count}
+use Rattle.block_bytes.proofs.Carrying.{HasMoved, AreUnlent, LiesFrom, with-last, unlent-first, lies-from, carried-used, carried-free, carried-marks, carried-read}
+use Rattle.block_bytes.proofs.Rotated.{length-shifted_down}
 use Rattle.block_bytes.proofs.blocks.Blocks.carry.Goals as goal
-use Rattle.block_bytes.proofs.blocks.Blocks.carry.Goals.{After-rotate}
+use Rattle.block_bytes.proofs.blocks.Blocks.carry.Goals.{After-set}
 
-pub loop-next-init : goal.loop-next-init
-loop-next-init c parcel =
-    let z = c.self.inside in let r = run-said z c.self.invariant c.args.self.now c.self.view_is c.args.at c.args.end parcel c.entry_at-first.result c.entry_at-first.ensures in
-    let size = r.size in let above = r.above in let some = r.some in let start = r.start in let stop = r.stop in let below = r.below in let within = r.within in let all = r.all_bytes in let base_is = c.base-base.ensures.value in
-    turning-first z c.self.invariant parcel (c.args.at - c.base-base.result + c.entry_at-first.result.size) (omega arith)
+-- the block that is carried
+abbrev carried_block : (l : Layout) (at end : ℕ) → ParcelAt l at end → BlockAt l at
+carried_block l at end parcel = record { before = parcel.before; here = parcel.here; behind = parcel.others ++ parcel.behind; blocks = parcel.blocks; place = parcel.place }
 
-pub header-passed-requires-clause-inside : goal.header-passed-requires-clause-inside
-header-passed-requires-clause-inside c =
-    let z = c.self.inside in let parcel = parcel-in z c.args.self.now c.self.view_is c.args.at c.args.end c.requires in
-    let r = run-said z c.self.invariant c.args.self.now c.self.view_is c.args.at c.args.end parcel c.entry_at-first.result c.entry_at-first.ensures in
-    let size = r.size in let above = r.above in let some = r.some in let start = r.start in let stop = r.stop in let below = r.below in let within = r.within in let all = r.all_bytes in let base_is = c.base-base.ensures.value in
-    let w = c.loop-next.self-inside in let t = c.loop-next.invariant parcel in let memory = ap (λ (s : State). length s.bytes) (t.is).memory in let there = (t.is).place in
-    let n = coming z c.self.invariant parcel w c.loop-next.next t (omega arith) in
-    let h = coming-here z c.self.invariant parcel w c.loop-next.next n (header_of z.spec.heads n.passed) refl in let inside = h.below in let headed = h.headed in
-    let e = ap head_size c.heads-heads.ensures in omega arith
+-- below the end, another stands behind it
+next_block : (l : Layout) (at end next : ℕ) (parcel : ParcelAt l at end) → next ≡ at + size_of l.heads parcel.here → next < end → BlockAt l next
+next_block l at end next parcel there below = by_others parcel.others parcel.blocks parcel.long
+  where
+    by_others : (others : List RawBlock) → l.blocks ≡ parcel.before ++ parcel.here ∷ (others ++ parcel.behind) → end ≡ at + (size_of l.heads parcel.here + total_of l.heads others) → BlockAt l next
+    by_others [] is long = absurd (omega arith)
+    by_others (b ∷ bs) is long = let sum = total_of-append l.heads parcel.before (parcel.here ∷ []) in let place = parcel.place in record {
+      before = parcel.before ++ parcel.here ∷ [];
+      here = b;
+      behind = bs ++ parcel.behind;
+      blocks = is ∙ sym (append_assoc parcel.before (parcel.here ∷ []) (b ∷ (bs ++ parcel.behind)));
+      place = omega arith;
+    }
 
-pub header-passed-requires-clause-free : goal.header-passed-requires-clause-free
-header-passed-requires-clause-free c =
-    let z = c.self.inside in let parcel = parcel-in z c.args.self.now c.self.view_is c.args.at c.args.end c.requires in
-    let r = run-said z c.self.invariant c.args.self.now c.self.view_is c.args.at c.args.end parcel c.entry_at-first.result c.entry_at-first.ensures in
-    let size = r.size in let above = r.above in let some = r.some in let start = r.start in let stop = r.stop in let below = r.below in let within = r.within in let all = r.all_bytes in let base_is = c.base-base.ensures.value in
-    let w = c.loop-next.self-inside in let t = c.loop-next.invariant parcel in let memory = ap (λ (s : State). length s.bytes) (t.is).memory in let there = (t.is).place in
-    let n = coming z c.self.invariant parcel w c.loop-next.next t (omega arith) in
-    let h = coming-here z c.self.invariant parcel w c.loop-next.next n (header_of z.spec.heads n.passed) refl in let inside = h.below in let headed = h.headed in
-    subst (λ (s : State). IsFree s.lent c.loop-next.next (head_size c.heads-heads.result)) (sym (t.is).memory) (h.unlent c.loop-next.next (head_size c.heads-heads.result) (omega arith) (ap head_size c.heads-heads.ensures))
+-- where the blocks lie
+record Lies (z : Inside) (at end : ℕ) (header : Header) : Type 0 where
+  long : at + header.size ≤ end
+  from : LiesFrom z at header (end - at - header.size)
 
-pub overflow_sub-place : goal.overflow_sub-place
-overflow_sub-place c =
-    let z = c.self.inside in let parcel = parcel-in z c.args.self.now c.self.view_is c.args.at c.args.end c.requires in
-    let r = run-said z c.self.invariant c.args.self.now c.self.view_is c.args.at c.args.end parcel c.entry_at-first.result c.entry_at-first.ensures in
-    let size = r.size in let above = r.above in let some = r.some in let start = r.start in let stop = r.stop in let below = r.below in let within = r.within in let all = r.all_bytes in let base_is = c.base-base.ensures.value in
-    let w = c.loop-next.self-inside in let t = c.loop-next.invariant parcel in let memory = ap (λ (s : State). length s.bytes) (t.is).memory in let there = (t.is).place in omega arith
+-- none of the blocks is lent
+are_unlent : (z : Inside) → IsLayout z → (at end : ℕ) (parcel : ParcelAt (layout_of z) at end) → AreUnlent z parcel.before parcel.others parcel.here
+are_unlent z whole at end parcel = unlent-first z whole parcel.before parcel.others parcel.behind parcel.here parcel.blocks parcel.unlent
+
+lies : (z : Inside) → IsLayout z → (l : Layout) → layout_of z ≡ l → (at end : ℕ) (header : Header) → ParcelAt l at end → ((b : BlockAt l at) → header ≡ header_of l.heads b.here) → Lies z at end header
+lies z whole l is at end header = subst (λ (m : Layout). ParcelAt m at end → ((b : BlockAt m at) → header ≡ header_of m.heads b.here) → Lies z at end header) is
+    (λ parcel entry. let said = entry (carried_block (layout_of z) at end parcel) in let long = parcel.long in let place = parcel.place in
+    let size : header.size ≡ size_of z.spec.heads parcel.here = ap (λ (h : Header). h.size) said in let a = are_unlent z whole at end parcel in
+    record {
+      long = omega arith;
+      from = lies-from z whole parcel.before parcel.others parcel.behind parcel.here a (parcel.here ∷ parcel.others) parcel.blocks (a.here_unlent, a.others_unlent) refl at header (end - at - header.size) (omega arith) said (omega arith);
+    })
+
+pub overflow_add-at : goal.overflow_add-at
+overflow_add-at c = let lie = lies c.self.inside c.self.invariant c.args.self.now c.self.view_is c.args.at c.args.end c.entry_at-header.result c.requires c.entry_at-header.ensures in
+    let long = lie.long in let f = lie.from in let above = f.above in let below = f.below in let within = f.within in let small = c.base-base.ensures.possible in let base_is = c.base-base.ensures.value in
+    let high = small.end_low_enough in omega arith
+
+pub is_sparse-sparse-requires : goal.is_sparse-sparse-requires
+is_sparse-sparse-requires c = next_block c.args.self.now c.args.at c.args.end (c.args.at + c.entry_at-header.result.size) c.requires
+    (ap (λ (h : Header). c.args.at + h.size) (c.entry_at-header.ensures (carried_block c.args.self.now c.args.at c.args.end c.requires)))
+
+pub overflow_sub-count-2 : goal.overflow_sub-count-2
+overflow_sub-count-2 c = let lie = lies c.self.inside c.self.invariant c.args.self.now c.self.view_is c.args.at c.args.end c.entry_at-header.result c.requires c.entry_at-header.ensures in
+    let long = lie.long in let f = lie.from in let above = f.above in let below = f.below in let within = f.within in let small = c.base-base.ensures.possible in let base_is = c.base-base.ensures.value in omega arith
+
+pub carry-requires-clause-inside : goal.carry-requires-clause-inside
+carry-requires-clause-inside c = let lie = lies c.self.inside c.self.invariant c.args.self.now c.self.view_is c.args.at c.args.end c.entry_at-header.result c.requires c.entry_at-header.ensures in
+    let long = lie.long in let f = lie.from in let above = f.above in let below = f.below in let within = f.within in let small = c.base-base.ensures.possible in let base_is = c.base-base.ensures.value in let all = f.all_bytes in omega arith
+
+pub carry-requires-clause-free : goal.carry-requires-clause-free
+carry-requires-clause-free c = let lie = lies c.self.inside c.self.invariant c.args.self.now c.self.view_is c.args.at c.args.end c.entry_at-header.result c.requires c.entry_at-header.ensures in
+    let long = lie.long in let f = lie.from in let above = f.above in let below = f.below in let within = f.within in let small = c.base-base.ensures.possible in let base_is = c.base-base.ensures.value in
+    f.free (c.args.at - c.base-base.result) (c.entry_at-header.result.size + (c.args.end - c.args.at - c.entry_at-header.result.size)) (omega arith) (omega arith)
+
+pub carry-requires-clause-size : goal.carry-requires-clause-size
+carry-requires-clause-size c = let lie = lies c.self.inside c.self.invariant c.args.self.now c.self.view_is c.args.at c.args.end c.entry_at-header.result c.requires c.entry_at-header.ensures in
+    let long = lie.long in let f = lie.from in let above = f.above in let below = f.below in let within = f.within in let small = c.base-base.ensures.possible in let base_is = c.base-base.ensures.value in
+    let limit = small.small_enough in let headed = f.headed in let e = ap head_size c.heads-heads.ensures in (omega arith, omega arith)
+
+pub carry-requires-clause-correction : goal.carry-requires-clause-correction
+carry-requires-clause-correction c = let lie = lies c.self.inside c.self.invariant c.args.self.now c.self.view_is c.args.at c.args.end c.entry_at-header.result c.requires c.entry_at-header.ensures in
+    let long = lie.long in let f = lie.from in let above = f.above in let below = f.below in let within = f.within in let small = c.base-base.ensures.possible in let base_is = c.base-base.ensures.value in let few = f.few in let e = ap most_over c.heads-heads.ensures in omega arith
+
+pub shift_down-requires-clause-inside : goal.shift_down-requires-clause-inside
+shift_down-requires-clause-inside c = let lie = lies c.self.inside c.self.invariant c.args.self.now c.self.view_is c.args.at c.args.end c.entry_at-header.result c.requires c.entry_at-header.ensures in
+    let long = lie.long in let f = lie.from in let above = f.above in let below = f.below in let within = f.within in let small = c.base-base.ensures.possible in let base_is = c.base-base.ensures.value in
+    let marks = f.marks in let even = f.even in let even_size = f.even_size in let even_count = f.even_count in omega arith
+
+-- the index is as long as before
+as_long : (z : Inside) (start : ℕ) (header : Header) (count base : ℕ) → LiesFrom z start header count → base ≡ z.spec.base
+    → length (shifted_down ((start - base + header.size) / 4) ((start - base) / 4) (count / 4) z.index) ≡ length z.index
+as_long z start header count base f base_is =
+    let even = f.even in let even_size = f.even_size in let even_count = f.even_count in let marks = f.marks in let above = f.above in let below = f.below in
+    length-shifted_down ((start - base + header.size) / 4) ((start - base) / 4) (count / 4) z.index (omega arith) (omega arith)
 
 pub set-requires : goal.set-requires
-set-requires c =
-    let z = c.self.inside in let parcel = parcel-in z c.args.self.now c.self.view_is c.args.at c.args.end c.requires in
-    let r = run-said z c.self.invariant c.args.self.now c.self.view_is c.args.at c.args.end parcel c.entry_at-first.result c.entry_at-first.ensures in
-    let size = r.size in let above = r.above in let some = r.some in let start = r.start in let stop = r.stop in let below = r.below in let within = r.within in let all = r.all_bytes in let base_is = c.base-base.ensures.value in
-    let w = c.loop-next.self-inside in let t = c.loop-next.invariant parcel in let memory = ap (λ (s : State). length s.bytes) (t.is).memory in let there = (t.is).place in
-    let n = coming z c.self.invariant parcel w c.loop-next.next t (omega arith) in
-    let passed = coming-read z c.self.invariant parcel w c.loop-next.next n c.base-base.ensures.possible c.heads-heads.result c.header-passed.result c.heads-heads.ensures c.header-passed.ensures in
-    let h = coming-here z c.self.invariant parcel w c.loop-next.next n c.header-passed.result passed in let inside = h.below in let headed = h.headed in let marks = h.marks in let positive = head_size-positive z.spec.heads in let same = (t.is).long in omega arith
+set-requires c = let lie = lies c.self.inside c.self.invariant c.args.self.now c.self.view_is c.args.at c.args.end c.entry_at-header.result c.requires c.entry_at-header.ensures in
+    let long = lie.long in let f = lie.from in let above = f.above in let below = f.below in let within = f.within in let small = c.base-base.ensures.possible in let base_is = c.base-base.ensures.value in
+    let even = f.even in let marks = f.marks in let some = f.large in let same = as_long c.self.inside c.args.at c.entry_at-header.result (c.args.end - c.args.at - c.entry_at-header.result.size) c.base-base.result f base_is in let shifted = ap length c.shift_down.ensures in omega arith
 
-pub set-requires-in-loop-next : goal.set-requires-in-loop-next
-set-requires-in-loop-next c =
-    let z = c.self.inside in let parcel = parcel-in z c.args.self.now c.self.view_is c.args.at c.args.end c.requires in
-    let r = run-said z c.self.invariant c.args.self.now c.self.view_is c.args.at c.args.end parcel c.entry_at-first.result c.entry_at-first.ensures in
-    let size = r.size in let above = r.above in let some = r.some in let start = r.start in let stop = r.stop in let below = r.below in let within = r.within in let all = r.all_bytes in let base_is = c.base-base.ensures.value in
-    let w = c.loop-next.self-inside in let t = c.loop-next.invariant parcel in let memory = ap (λ (s : State). length s.bytes) (t.is).memory in let there = (t.is).place in
-    let n = coming z c.self.invariant parcel w c.loop-next.next t (omega arith) in
-    let passed = coming-read z c.self.invariant parcel w c.loop-next.next n c.base-base.ensures.possible c.heads-heads.result c.header-passed.result c.heads-heads.ensures c.header-passed.ensures in
-    let h = coming-here z c.self.invariant parcel w c.loop-next.next n c.header-passed.result passed in let inside = h.below in let headed = h.headed in let marks = h.marks in let positive = head_size-positive z.spec.heads in let same = (t.is).long in
-    let long : length c.set.new.self ≡ length w.index = ap length c.set.ensures ∙ length-set w.index _ _ in omega arith
+-- what the call that moved it says of the memory
+record HasCarried (z : Inside) (at end : ℕ) (heads : HeadKind) (base : ℕ) (header : Header) (m : State) : Type 0 where
+  heads_is : heads ≡ z.spec.heads
+  base_is : base ≡ z.spec.base
+  free : IsTrue (is_free header.role)
+      → m ≡ with_bytes (with_bytes z.memory (at - base) (part z.memory.bytes (at - base + header.size) (end - at - header.size))) (at - base + (end - at - header.size)) (head_bytes heads 0 header)
+  used : IsFalse (is_free header.role) → m ≡ with_bytes z.memory (at - base) (part z.memory.bytes (at - base + header.size) (end - at - header.size) ++ part z.memory.bytes (at - base) header.size)
 
-pub set-requires-in-loop-next-2 : goal.set-requires-in-loop-next-2
-set-requires-in-loop-next-2 c =
-    let z = c.self.inside in let parcel = parcel-in z c.args.self.now c.self.view_is c.args.at c.args.end c.requires in
-    let r = run-said z c.self.invariant c.args.self.now c.self.view_is c.args.at c.args.end parcel c.entry_at-first.result c.entry_at-first.ensures in
-    let size = r.size in let above = r.above in let some = r.some in let start = r.start in let stop = r.stop in let below = r.below in let within = r.within in let all = r.all_bytes in let base_is = c.base-base.ensures.value in
-    let w = c.loop-next.self-inside in let t = c.loop-next.invariant parcel in let memory = ap (λ (s : State). length s.bytes) (t.is).memory in let there = (t.is).place in
-    let n = coming z c.self.invariant parcel w c.loop-next.next t (omega arith) in
-    let passed = coming-read z c.self.invariant parcel w c.loop-next.next n c.base-base.ensures.possible c.heads-heads.result c.header-passed.result c.heads-heads.ensures c.header-passed.ensures in
-    let h = coming-here z c.self.invariant parcel w c.loop-next.next n c.header-passed.result passed in let inside = h.below in let headed = h.headed in let marks = h.marks in let positive = head_size-positive z.spec.heads in let same = (t.is).long in
-    let long : length c.set-in-loop-next.new.self ≡ length w.index = ap length c.set-in-loop-next.ensures ∙ length-set c.set.new.self _ _ ∙ ap length c.set.ensures ∙ length-set w.index _ _ in omega arith
+module _ (z : Inside) (whole : IsLayout z) (small : ArePossible z.spec) (at end : ℕ) (heads : HeadKind) (base : ℕ) (header : Header) (m : State) (t : HasCarried z at end heads base header m) where
+  -- the block stands behind the others in the memory
+  has_moved : (parcel : ParcelAt (layout_of z) at end) → header ≡ header_of z.spec.heads parcel.here → HasMoved z parcel.here (with-last parcel.before parcel.others parcel.behind) m
+  has_moved parcel said = let place = parcel.place in let long = parcel.long in let is = t.base_is in
+      let size : header.size ≡ size_of z.spec.heads parcel.here = ap (λ (h : Header). h.size) said in let a = are_unlent z whole at end parcel in
+      let p = at - base in let c = end - at - header.size in
+      by_case (is_free header.role)
+      (λ free. carried-free z whole small parcel.before parcel.others parcel.behind parcel.here a parcel.blocks p header.size c (omega arith) size (omega arith) m (sym (ap (λ (h : Header). is_free h.role) said) ∙ free)
+      (t.free free ∙ ap (with_bytes (with_bytes z.memory p (part z.memory.bytes (p + header.size) c)) (p + c)) (head-free heads 0 base header free ∙ (λ i. head_bytes (t.heads_is i) (t.base_is i) (said i)))))
+      (λ used. carried-used z whole small parcel.before parcel.others parcel.behind parcel.here a parcel.blocks p header.size c (omega arith) size (omega arith) m (t.used used))
 
-pub loop-next-smaller : goal.loop-next-smaller
-loop-next-smaller c =
-    let z = c.self.inside in let parcel = parcel-in z c.args.self.now c.self.view_is c.args.at c.args.end c.requires in
-    let r = run-said z c.self.invariant c.args.self.now c.self.view_is c.args.at c.args.end parcel c.entry_at-first.result c.entry_at-first.ensures in
-    let size = r.size in let above = r.above in let some = r.some in let start = r.start in let stop = r.stop in let below = r.below in let within = r.within in let all = r.all_bytes in let base_is = c.base-base.ensures.value in
-    let w = c.loop-next.self-inside in let t = c.loop-next.invariant parcel in let memory = ap (λ (s : State). length s.bytes) (t.is).memory in let there = (t.is).place in
-    let n = coming z c.self.invariant parcel w c.loop-next.next t (omega arith) in
-    let passed = coming-read z c.self.invariant parcel w c.loop-next.next n c.base-base.ensures.possible c.heads-heads.result c.header-passed.result c.heads-heads.ensures c.header-passed.ensures in
-    let h = coming-here z c.self.invariant parcel w c.loop-next.next n c.header-passed.result passed in let inside = h.below in let headed = h.headed in let marks = h.marks in let positive = head_size-positive z.spec.heads in let same = (t.is).long in omega arith
+  -- the zone's header is as it was
+  is_kept : (l : Layout) → layout_of z ≡ l → ParcelAt l at end → ((b : BlockAt l at) → header ≡ header_of l.heads b.here) → IsKept z m
+  is_kept l is = subst (λ (l : Layout). ParcelAt l at end → ((b : BlockAt l at) → header ≡ header_of l.heads b.here) → IsKept z m) is
+      (λ parcel entry. (has_moved parcel (entry (carried_block (layout_of z) at end parcel))).kept)
 
-pub loop-next-preserved : goal.loop-next-preserved
-loop-next-preserved c parcel =
-    let z = c.self.inside in let r = run-said z c.self.invariant c.args.self.now c.self.view_is c.args.at c.args.end parcel c.entry_at-first.result c.entry_at-first.ensures in
-    let size = r.size in let above = r.above in let some = r.some in let start = r.start in let stop = r.stop in let below = r.below in let within = r.within in let all = r.all_bytes in let base_is = c.base-base.ensures.value in
-    let w = c.loop-next.self-inside in let t = c.loop-next.invariant parcel in let memory = ap (λ (s : State). length s.bytes) (t.is).memory in let there = (t.is).place in
-    let n = coming z c.self.invariant parcel w c.loop-next.next t (omega arith) in
-    turning-on z c.self.invariant parcel w c.loop-next.next n c.entry_at-first.result c.header-passed.result c.set-in-loop-next-2.new.self
-    (first-said z c.args.self.now c.self.view_is c.args.at c.args.end parcel c.entry_at-first.result c.entry_at-first.ensures)
-    (coming-read z c.self.invariant parcel w c.loop-next.next n c.base-base.ensures.possible c.heads-heads.result c.header-passed.result c.heads-heads.ensures c.header-passed.ensures)
-    (c.set-in-loop-next-2.ensures ∙ (λ i. set (c.set-in-loop-next.ensures i) ((c.loop-next.next - c.entry_at-first.result.size) / 4 + c.header-passed.result.size / 4) (c.mark-in-loop-next.ensures i))
-    ∙ (λ i. set (set (c.set.ensures i) ((c.loop-next.next - c.entry_at-first.result.size) / 4) (c.mark.ensures i)) ((c.loop-next.next - c.entry_at-first.result.size) / 4 + c.header-passed.result.size / 4) (mark_in c.entry_at-first.result)))
+  -- what the fields stand for then
+  record IsDone (l : Layout) (parcel : ParcelAt l at end) (n : State) (index : List ℕ) : Type 0 where
+    carried : Carried l parcel (layout_of (record z { memory = n; index = index }))
+    possible : IsLayout (record z { memory = n; index = index })
 
-pub rotate-requires-clause-order : goal.rotate-requires-clause-order
-rotate-requires-clause-order c =
-    let z = c.self.inside in let parcel = parcel-in z c.args.self.now c.self.view_is c.args.at c.args.end c.requires in
-    let r = run-said z c.self.invariant c.args.self.now c.self.view_is c.args.at c.args.end parcel c.entry_at-first.result c.entry_at-first.ensures in
-    let size = r.size in let above = r.above in let some = r.some in let start = r.start in let stop = r.stop in let below = r.below in let within = r.within in let all = r.all_bytes in let base_is = c.base-base.ensures.value in (omega arith, omega arith)
-
-pub rotate-requires-clause-inside : goal.rotate-requires-clause-inside
-rotate-requires-clause-inside c =
-    let z = c.self.inside in let parcel = parcel-in z c.args.self.now c.self.view_is c.args.at c.args.end c.requires in
-    let r = run-said z c.self.invariant c.args.self.now c.self.view_is c.args.at c.args.end parcel c.entry_at-first.result c.entry_at-first.ensures in
-    let size = r.size in let above = r.above in let some = r.some in let start = r.start in let stop = r.stop in let below = r.below in let within = r.within in let all = r.all_bytes in let base_is = c.base-base.ensures.value in
-    let w = c.loop-next.self-inside in let t = c.loop-next.invariant parcel in let memory = ap (λ (s : State). length s.bytes) (t.is).memory in let there = (t.is).place in omega arith
-
-pub rotate-requires-clause-free : goal.rotate-requires-clause-free
-rotate-requires-clause-free c =
-    let z = c.self.inside in let parcel = parcel-in z c.args.self.now c.self.view_is c.args.at c.args.end c.requires in
-    let r = run-said z c.self.invariant c.args.self.now c.self.view_is c.args.at c.args.end parcel c.entry_at-first.result c.entry_at-first.ensures in
-    let size = r.size in let above = r.above in let some = r.some in let start = r.start in let stop = r.stop in let below = r.below in let within = r.within in let all = r.all_bytes in let base_is = c.base-base.ensures.value in
-    let w = c.loop-next.self-inside in let t = c.loop-next.invariant parcel in let memory = ap (λ (s : State). length s.bytes) (t.is).memory in let there = (t.is).place in
-    subst (λ (s : State). IsFree s.lent (c.args.at - c.base-base.result) (c.args.end - c.base-base.result - (c.args.at - c.base-base.result))) (sym (t.is).memory)
-    (run-free z c.self.invariant parcel (c.args.at - c.base-base.result) (c.args.end - c.base-base.result - (c.args.at - c.base-base.result)) (omega arith) (omega arith))
+  is_done : (l : Layout) → layout_of z ≡ l → (n : State) (index : List ℕ)
+      → index ≡ set (shifted_down ((at - base + header.size) / 4) ((at - base) / 4) ((end - at - header.size) / 4) z.index) ((at - base) / 4 + (end - at - header.size) / 4) (mark_in header)
+      → n ≡ counted m base 0 0 (first_marked base index)
+      → (parcel : ParcelAt l at end) → ((b : BlockAt l at) → header ≡ header_of l.heads b.here) → IsDone l parcel n index
+  is_done l is n index marks settles =
+      subst (λ (l : Layout). (parcel : ParcelAt l at end) → ((b : BlockAt l at) → header ≡ header_of l.heads b.here) → IsDone l parcel n index) is
+      (λ parcel entry. let said = entry (carried_block (layout_of z) at end parcel) in let place = parcel.place in let long = parcel.long in let base_is = t.base_is in
+      let size : header.size ≡ size_of z.spec.heads parcel.here = ap (λ (h : Header). h.size) said in let a = are_unlent z whole at end parcel in
+      done parcel (has_moved parcel said) (carried-read z whole small parcel.before parcel.others parcel.behind parcel.here a parcel.blocks (at - base) header.size (end - at - header.size) (omega arith) size (omega arith) m n index base
+      (has_moved parcel said) (marks ∙ carried-marks z whole small parcel.before parcel.others parcel.behind parcel.here a parcel.blocks (at - base) header.size (end - at - header.size) (omega arith) size (omega arith)
+      (has_moved parcel said).moved (has_moved parcel said).same (mark_in header) (ap mark_in said ∙ sym (mark-unlent z.spec.heads parcel.here a.here_unlent))) base_is settles))
+    where
+      done : (parcel : ParcelAt (layout_of z) at end) → (e : HasMoved z parcel.here (with-last parcel.before parcel.others parcel.behind) m)
+          → IsRead (record z { memory = n; index = index }) (with_blocks (with-last parcel.before parcel.others parcel.behind e.moved) (layout_of z)) → IsDone (layout_of z) parcel n index
+      done parcel e read = record { carried = record { moved = e.moved; blocks = read.view; same = e.same }; possible = read.whole }
 
 -- what counting the free bytes asks for
-counts : (c : After-rotate) → CanCount c.rotate.new.self c.loop-next.self-inside.index c.base-base.result 0 0
-counts c =
-    let z = c.self.inside in let parcel = parcel-in z c.args.self.now c.self.view_is c.args.at c.args.end c.requires in
-    carry-counts z c.self.invariant parcel c.base-base.ensures.possible c.loop-next.self-inside c.loop-next.next (c.loop-next.invariant parcel) c.entry_at-first.result
-    (run-said z c.self.invariant c.args.self.now c.self.view_is c.args.at c.args.end parcel c.entry_at-first.result c.entry_at-first.ensures) c.rotate.new.self c.base-base.result c.base-base.ensures.value c.rotate.ensures
+counts : (c : After-set) → CanCount c.carry.new.self c.set.new.self c.base-base.result 0 0
+counts c = let lie = lies c.self.inside c.self.invariant c.args.self.now c.self.view_is c.args.at c.args.end c.entry_at-header.result c.requires c.entry_at-header.ensures in
+    let long = lie.long in let f = lie.from in let above = f.above in let below = f.below in let within = f.within in let small = c.base-base.ensures.possible in let base_is = c.base-base.ensures.value in
+    let even = f.even in let marks = f.marks in let some = f.large in let same = as_long c.self.inside c.args.at c.entry_at-header.result (c.args.end - c.args.at - c.entry_at-header.result.size) c.base-base.result f base_is in let shifted = ap length c.shift_down.ensures in
+    can-count c.self.inside c.self.invariant small c.carry.new.self c.set.new.self c.base-base.result 0 0
+    (is_kept c.self.inside c.self.invariant small c.args.at c.args.end c.heads-heads.result c.base-base.result c.entry_at-header.result c.carry.new.self
+    (record { heads_is = c.heads-heads.ensures; base_is = base_is; free = c.carry.ensures.free; used = c.carry.ensures.used }) c.args.self.now c.self.view_is c.requires c.entry_at-header.ensures)
+    (ap length c.set.ensures ∙ length-set c.shift_down.new.self _ _ ∙ shifted ∙ same) base_is (omega arith) (omega arith)
 
 pub count_free-requires-clause-inside : goal.count_free-requires-clause-inside
-count_free-requires-clause-inside c =
-    (counts (goal.at.count_free-requires-clause-inside c).After-rotate).inside
+count_free-requires-clause-inside c = (counts (goal.at.count_free-requires-clause-inside c).After-set).inside
 
 pub count_free-requires-clause-unlent : goal.count_free-requires-clause-unlent
-count_free-requires-clause-unlent c =
-    (counts (goal.at.count_free-requires-clause-unlent c).After-rotate).unlent
+count_free-requires-clause-unlent c = (counts (goal.at.count_free-requires-clause-unlent c).After-set).unlent
 
 pub count_free-requires-clause-few : goal.count_free-requires-clause-few
-count_free-requires-clause-few c =
-    (counts (goal.at.count_free-requires-clause-few c).After-rotate).few
+count_free-requires-clause-few c = (counts (goal.at.count_free-requires-clause-few c).After-set).few
 
 pub count_free-requires-clause-small : goal.count_free-requires-clause-small
-count_free-requires-clause-small c =
-    (counts (goal.at.count_free-requires-clause-small c).After-rotate).small
+count_free-requires-clause-small c = (counts (goal.at.count_free-requires-clause-small c).After-set).small
 
--- how it ends
-ends : (c : goal.After-count_free) (parcel : ParcelAt (layout_of c.self.inside) c.args.at c.args.end) → IsRead (record c.loop-next.self-inside { memory = c.count_free.new.memory }) (carried (layout_of c.self.inside) parcel)
-ends c parcel =
-    let z = c.self.inside in let r = run-said z c.self.invariant c.args.self.now c.self.view_is c.args.at c.args.end parcel c.entry_at-first.result c.entry_at-first.ensures in
-    let above = r.above in let stop = r.stop in let base_is = c.base-base.ensures.value in
-    carry-ends z c.self.invariant parcel c.base-base.ensures.possible c.loop-next.self-inside c.loop-next.next (c.loop-next.invariant parcel) c.entry_at-first.result r c.rotate.new.self c.base-base.result c.base-base.ensures.value c.rotate.ensures
-    c.count_free.new.memory (omega (arith, c.loop-next-test.false)) c.count_free.ensures
+-- so the call is done
+done : (c : goal.After-count_free) (parcel : ParcelAt c.args.self.now c.args.at c.args.end)
+    → IsDone c.self.inside c.self.invariant c.base-base.ensures.possible c.args.at c.args.end c.heads-heads.result c.base-base.result c.entry_at-header.result c.carry.new.self
+    (record { heads_is = c.heads-heads.ensures; base_is = c.base-base.ensures.value; free = c.carry.ensures.free; used = c.carry.ensures.used }) c.args.self.now parcel c.count_free.new.memory c.set.new.self
+done c parcel = is_done c.self.inside c.self.invariant c.base-base.ensures.possible c.args.at c.args.end c.heads-heads.result c.base-base.result c.entry_at-header.result c.carry.new.self
+    (record { heads_is = c.heads-heads.ensures; base_is = c.base-base.ensures.value; free = c.carry.ensures.free; used = c.carry.ensures.used }) c.args.self.now c.self.view_is c.count_free.new.memory c.set.new.self
+    (c.set.ensures ∙ (λ i. set (c.shift_down.ensures i) ((c.args.at - c.base-base.result) / 4 + (c.args.end - c.args.at - c.entry_at-header.result.size) / 4) (c.mark.ensures i)))
+    c.count_free.ensures parcel c.entry_at-header.ensures
 
 pub invariant_of-self : goal.invariant_of-self
-invariant_of-self c =
-    (ends c (parcel-in c.self.inside c.args.self.now c.self.view_is c.args.at c.args.end c.requires)).whole
+invariant_of-self c = (done c c.requires).possible
 
 pub returns : goal.returns
-returns c = subst (λ (l : Layout). (parcel : ParcelAt l c.args.at c.args.end) → layout_of (record c.loop-next.self-inside { memory = c.count_free.new.memory }) ≡ carried l parcel) c.self.view_is (λ parcel. (ends c parcel).view)
+returns c = λ parcel. (done c parcel).carried

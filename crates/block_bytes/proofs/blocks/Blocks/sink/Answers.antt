@@ -1,0 +1,179 @@
+use Rattle.std.proofs.Common.{◌≡◌, ℕ, ◌+◌, ◌-◌, ◌/◌, ◌<◌, List, [], ◌∷◌, ◌++◌, length, ap, sym, ◌∙◌, subst, arith, append_assoc, length-set, IsTrue, IsFalse}
+use Rattle.std.proofs.Math.ListN.{set}
+use Rattle.mac_base.specs.declared.block.HeadKind.{HeadKind}
+use Rattle.mac_base.specs.HeadKind.{head_size}
+use Rattle.mac_base.specs.ZoneSizes.{ArePossible}
+use Rattle.place_numbers.specs.Shifted.{shifted_up}
+use Rattle.raw_region.specs.Bytes.{part}
+use Rattle.raw_region.specs.State.{State, with_bytes}
+use Rattle.raw_region.proofs.Places.{by_case}
+use Rattle.block_bytes.specs.declared.header.Header.{Header}
+use Rattle.block_bytes.specs.declared.blocks.Blocks.TheInside.{Inside}
+use Rattle.block_bytes.specs.Head.{most_over, head_bytes}
+use Rattle.block_bytes.specs.Layout.{RawBlock, Layout, BlockAt, ParcelUpTo, Sunk, is_free, size_of, total_of, header_of, with_blocks}
+use Rattle.block_bytes.specs.Starts.{mark_in, first_marked}
+use Rattle.block_bytes.specs.Reading.{layout_of, IsLayout}
+use Rattle.block_bytes.proofs.Heads.{head-free}
+use Rattle.block_bytes.proofs.Rendered.{total_of-append}
+use Rattle.block_bytes.proofs.Parts.{IsRead}
+use Rattle.block_bytes.proofs.Settled.{counted}
+use Rattle.block_bytes.proofs.Changes.{mark-unlent}
+use Rattle.block_bytes.proofs.Counting.{IsKept, CanCount, can-count}
+use Rattle.block_bytes.proofs.Carrying.{HasMoved, AreUnlent, LiesFrom, with-first, more-unlent, unlent-last, lies-from, sunk-used, sunk-free, sunk-marks, sunk-read}
+use Rattle.block_bytes.proofs.Rotated.{length-shifted_up}
+use Rattle.block_bytes.proofs.blocks.Blocks.sink.Goals as goal
+use Rattle.block_bytes.proofs.blocks.Blocks.sink.Goals.{After-set}
+
+-- the block that sinks
+abbrev sunk_block : (l : Layout) (start at : ℕ) → ParcelUpTo l start at → BlockAt l at
+sunk_block l start at parcel = let sum = total_of-append l.heads parcel.before parcel.others in let place = parcel.place in let long = parcel.long in record {
+  before = parcel.before ++ parcel.others;
+  here = parcel.here;
+  behind = parcel.behind;
+  blocks = parcel.blocks ∙ sym (append_assoc parcel.before parcel.others (parcel.here ∷ parcel.behind));
+  place = omega arith;
+}
+
+-- where there are others, the first stands where they begin
+first_block : (l : Layout) (start at : ℕ) → ParcelUpTo l start at → start < at → BlockAt l start
+first_block l start at parcel below = by_others parcel.others parcel.blocks parcel.long
+  where
+    by_others : (others : List RawBlock) → l.blocks ≡ parcel.before ++ (others ++ parcel.here ∷ parcel.behind) → at ≡ start + total_of l.heads others → BlockAt l start
+    by_others [] is long = absurd (omega arith)
+    by_others (b ∷ bs) is long = record { before = parcel.before; here = b; behind = bs ++ parcel.here ∷ parcel.behind; blocks = is; place = parcel.place }
+
+-- none of the blocks is lent
+are_unlent : (z : Inside) → IsLayout z → (start at : ℕ) (parcel : ParcelUpTo (layout_of z) start at) → AreUnlent z parcel.before parcel.others parcel.here
+are_unlent z whole start at parcel = unlent-last z whole parcel.before parcel.others parcel.behind parcel.here parcel.blocks parcel.unlent
+
+-- where they lie
+lies : (z : Inside) → IsLayout z → (l : Layout) → layout_of z ≡ l → (start at : ℕ) (header : Header) → ParcelUpTo l start at → ((b : BlockAt l at) → header ≡ header_of l.heads b.here) → LiesFrom z start header (at - start)
+lies z whole l is start at header = subst (λ (m : Layout). ParcelUpTo m start at → ((b : BlockAt m at) → header ≡ header_of m.heads b.here) → LiesFrom z start header (at - start)) is
+    (λ parcel entry. let said = entry (sunk_block (layout_of z) start at parcel) in let long = parcel.long in
+    let a = are_unlent z whole start at parcel in let sum = total_of-append z.spec.heads parcel.others (parcel.here ∷ []) in
+    lies-from z whole parcel.before parcel.others parcel.behind parcel.here a (parcel.others ++ parcel.here ∷ [])
+    (parcel.blocks ∙ ap (λ (bs : List RawBlock). parcel.before ++ bs) (sym (append_assoc parcel.others (parcel.here ∷ []) parcel.behind)))
+    (more-unlent parcel.others parcel.here a.others_unlent a.here_unlent) (omega arith) start header (at - start) parcel.place said (omega arith))
+
+pub entry_at-header-requires : goal.entry_at-header-requires
+entry_at-header-requires c = sunk_block c.args.self.now c.args.start c.args.at c.requires
+
+pub is_sparse-sparse-requires : goal.is_sparse-sparse-requires
+is_sparse-sparse-requires c = first_block c.args.self.now c.args.start c.args.at c.requires
+
+pub sink-requires-clause-inside : goal.sink-requires-clause-inside
+sink-requires-clause-inside c = let f = lies c.self.inside c.self.invariant c.args.self.now c.self.view_is c.args.start c.args.at c.entry_at-header.result c.requires c.entry_at-header.ensures in
+    let order = c.requires.long in let above = f.above in let below = f.below in let within = f.within in let small = c.base-base.ensures.possible in let base_is = c.base-base.ensures.value in let all = f.all_bytes in omega arith
+
+pub sink-requires-clause-free : goal.sink-requires-clause-free
+sink-requires-clause-free c = let f = lies c.self.inside c.self.invariant c.args.self.now c.self.view_is c.args.start c.args.at c.entry_at-header.result c.requires c.entry_at-header.ensures in
+    let order = c.requires.long in let above = f.above in let below = f.below in let within = f.within in let small = c.base-base.ensures.possible in let base_is = c.base-base.ensures.value in
+    f.free (c.args.start - c.base-base.result) (c.args.at - c.args.start + c.entry_at-header.result.size) (omega arith) (omega arith)
+
+pub sink-requires-clause-size : goal.sink-requires-clause-size
+sink-requires-clause-size c = let f = lies c.self.inside c.self.invariant c.args.self.now c.self.view_is c.args.start c.args.at c.entry_at-header.result c.requires c.entry_at-header.ensures in
+    let order = c.requires.long in let above = f.above in let below = f.below in let within = f.within in let small = c.base-base.ensures.possible in let base_is = c.base-base.ensures.value in
+    let limit = small.small_enough in let headed = f.headed in let e = ap head_size c.heads-heads.ensures in (omega arith, omega arith)
+
+pub sink-requires-clause-correction : goal.sink-requires-clause-correction
+sink-requires-clause-correction c = let f = lies c.self.inside c.self.invariant c.args.self.now c.self.view_is c.args.start c.args.at c.entry_at-header.result c.requires c.entry_at-header.ensures in
+    let order = c.requires.long in let above = f.above in let below = f.below in let within = f.within in let small = c.base-base.ensures.possible in let base_is = c.base-base.ensures.value in let few = f.few in let e = ap most_over c.heads-heads.ensures in omega arith
+
+pub shift_up-requires-clause-inside : goal.shift_up-requires-clause-inside
+shift_up-requires-clause-inside c = let f = lies c.self.inside c.self.invariant c.args.self.now c.self.view_is c.args.start c.args.at c.entry_at-header.result c.requires c.entry_at-header.ensures in
+    let order = c.requires.long in let above = f.above in let below = f.below in let within = f.within in let small = c.base-base.ensures.possible in let base_is = c.base-base.ensures.value in
+    let marks = f.marks in let even = f.even in let even_size = f.even_size in let even_count = f.even_count in omega arith
+
+-- the index is as long as before
+as_long : (z : Inside) (start : ℕ) (header : Header) (count base : ℕ) → LiesFrom z start header count → base ≡ z.spec.base
+    → length (shifted_up ((start - base) / 4) ((start - base + header.size) / 4) (count / 4) z.index) ≡ length z.index
+as_long z start header count base f base_is =
+    let even = f.even in let even_size = f.even_size in let even_count = f.even_count in let marks = f.marks in let above = f.above in let below = f.below in
+    length-shifted_up ((start - base) / 4) ((start - base + header.size) / 4) (count / 4) z.index (omega arith) (omega arith)
+
+pub set-requires : goal.set-requires
+set-requires c = let f = lies c.self.inside c.self.invariant c.args.self.now c.self.view_is c.args.start c.args.at c.entry_at-header.result c.requires c.entry_at-header.ensures in
+    let order = c.requires.long in let above = f.above in let below = f.below in let within = f.within in let small = c.base-base.ensures.possible in let base_is = c.base-base.ensures.value in
+    let even = f.even in let marks = f.marks in let some = f.large in let same = as_long c.self.inside c.args.start c.entry_at-header.result (c.args.at - c.args.start) c.base-base.result f base_is in let shifted = ap length c.shift_up.ensures in omega arith
+
+-- what the call that moved it says of the memory
+record HasSunk (z : Inside) (start at : ℕ) (heads : HeadKind) (base : ℕ) (header : Header) (m : State) : Type 0 where
+  heads_is : heads ≡ z.spec.heads
+  base_is : base ≡ z.spec.base
+  free : IsTrue (is_free header.role)
+      → m ≡ with_bytes (with_bytes z.memory (start - base + header.size) (part z.memory.bytes (start - base) (at - start))) (start - base) (head_bytes heads 0 header)
+  used : IsFalse (is_free header.role) → m ≡ with_bytes z.memory (start - base) (part z.memory.bytes (start - base + (at - start)) header.size ++ part z.memory.bytes (start - base) (at - start))
+
+module _ (z : Inside) (whole : IsLayout z) (small : ArePossible z.spec) (start at : ℕ) (heads : HeadKind) (base : ℕ) (header : Header) (m : State) (t : HasSunk z start at heads base header m) where
+  -- the block stands before the others in the memory
+  has_moved : (parcel : ParcelUpTo (layout_of z) start at) → header ≡ header_of z.spec.heads parcel.here → HasMoved z parcel.here (with-first parcel.before parcel.others parcel.behind) m
+  has_moved parcel said = let place = parcel.place in let long = parcel.long in let is = t.base_is in
+      let size : header.size ≡ size_of z.spec.heads parcel.here = ap (λ (h : Header). h.size) said in let a = are_unlent z whole start at parcel in
+      let p = start - base in let c = at - start in
+      by_case (is_free header.role)
+      (λ free. sunk-free z whole small parcel.before parcel.others parcel.behind parcel.here a parcel.blocks p header.size c (omega arith) size (omega arith) m (sym (ap (λ (h : Header). is_free h.role) said) ∙ free)
+      (t.free free ∙ ap (with_bytes (with_bytes z.memory (p + header.size) (part z.memory.bytes p c)) p) (head-free heads 0 base header free ∙ (λ i. head_bytes (t.heads_is i) (t.base_is i) (said i)))))
+      (λ used. sunk-used z whole small parcel.before parcel.others parcel.behind parcel.here a parcel.blocks p header.size c (omega arith) size (omega arith) m (t.used used))
+
+  -- the zone's header is as it was
+  is_kept : (l : Layout) → layout_of z ≡ l → ParcelUpTo l start at → ((b : BlockAt l at) → header ≡ header_of l.heads b.here) → IsKept z m
+  is_kept l is = subst (λ (l : Layout). ParcelUpTo l start at → ((b : BlockAt l at) → header ≡ header_of l.heads b.here) → IsKept z m) is
+      (λ parcel entry. (has_moved parcel (entry (sunk_block (layout_of z) start at parcel))).kept)
+
+  -- what the fields stand for then
+  record IsDone (l : Layout) (parcel : ParcelUpTo l start at) (n : State) (index : List ℕ) : Type 0 where
+    sunk : Sunk l parcel (layout_of (record z { memory = n; index = index }))
+    possible : IsLayout (record z { memory = n; index = index })
+
+  is_done : (l : Layout) → layout_of z ≡ l → (n : State) (index : List ℕ)
+      → index ≡ set (shifted_up ((start - base) / 4) ((start - base + header.size) / 4) ((at - start) / 4) z.index) ((start - base) / 4) (mark_in header)
+      → n ≡ counted m base 0 0 (first_marked base index)
+      → (parcel : ParcelUpTo l start at) → ((b : BlockAt l at) → header ≡ header_of l.heads b.here) → IsDone l parcel n index
+  is_done l is n index marks settles =
+      subst (λ (l : Layout). (parcel : ParcelUpTo l start at) → ((b : BlockAt l at) → header ≡ header_of l.heads b.here) → IsDone l parcel n index) is
+      (λ parcel entry. let said = entry (sunk_block (layout_of z) start at parcel) in let place = parcel.place in let long = parcel.long in let base_is = t.base_is in
+      let size : header.size ≡ size_of z.spec.heads parcel.here = ap (λ (h : Header). h.size) said in let a = are_unlent z whole start at parcel in
+      done parcel (has_moved parcel said) (sunk-read z whole small parcel.before parcel.others parcel.behind parcel.here a parcel.blocks (start - base) header.size (at - start) (omega arith) size (omega arith) m n index base
+      (has_moved parcel said) (marks ∙ sunk-marks z whole small parcel.before parcel.others parcel.behind parcel.here a parcel.blocks (start - base) header.size (at - start) (omega arith) size (omega arith)
+      (has_moved parcel said).moved (has_moved parcel said).same (mark_in header) (ap mark_in said ∙ sym (mark-unlent z.spec.heads parcel.here a.here_unlent))) base_is settles))
+    where
+      done : (parcel : ParcelUpTo (layout_of z) start at) → (e : HasMoved z parcel.here (with-first parcel.before parcel.others parcel.behind) m)
+          → IsRead (record z { memory = n; index = index }) (with_blocks (with-first parcel.before parcel.others parcel.behind e.moved) (layout_of z)) → IsDone (layout_of z) parcel n index
+      done parcel e read = record { sunk = record { moved = e.moved; blocks = read.view; same = e.same }; possible = read.whole }
+
+-- what counting the free bytes asks for
+counts : (c : After-set) → CanCount c.sink.new.self c.set.new.self c.base-base.result 0 0
+counts c = let f = lies c.self.inside c.self.invariant c.args.self.now c.self.view_is c.args.start c.args.at c.entry_at-header.result c.requires c.entry_at-header.ensures in
+    let order = c.requires.long in let above = f.above in let below = f.below in let within = f.within in let small = c.base-base.ensures.possible in let base_is = c.base-base.ensures.value in
+    let even = f.even in let marks = f.marks in let some = f.large in let same = as_long c.self.inside c.args.start c.entry_at-header.result (c.args.at - c.args.start) c.base-base.result f base_is in let shifted = ap length c.shift_up.ensures in
+    can-count c.self.inside c.self.invariant small c.sink.new.self c.set.new.self c.base-base.result 0 0
+    (is_kept c.self.inside c.self.invariant small c.args.start c.args.at c.heads-heads.result c.base-base.result c.entry_at-header.result c.sink.new.self
+    (record { heads_is = c.heads-heads.ensures; base_is = base_is; free = c.sink.ensures.free; used = c.sink.ensures.used }) c.args.self.now c.self.view_is c.requires c.entry_at-header.ensures)
+    (ap length c.set.ensures ∙ length-set c.shift_up.new.self _ _ ∙ shifted ∙ same) base_is (omega arith) (omega arith)
+
+pub count_free-requires-clause-inside : goal.count_free-requires-clause-inside
+count_free-requires-clause-inside c = (counts (goal.at.count_free-requires-clause-inside c).After-set).inside
+
+pub count_free-requires-clause-unlent : goal.count_free-requires-clause-unlent
+count_free-requires-clause-unlent c = (counts (goal.at.count_free-requires-clause-unlent c).After-set).unlent
+
+pub count_free-requires-clause-few : goal.count_free-requires-clause-few
+count_free-requires-clause-few c = (counts (goal.at.count_free-requires-clause-few c).After-set).few
+
+pub count_free-requires-clause-small : goal.count_free-requires-clause-small
+count_free-requires-clause-small c = (counts (goal.at.count_free-requires-clause-small c).After-set).small
+
+-- so the call is done
+done : (c : goal.After-count_free) (parcel : ParcelUpTo c.args.self.now c.args.start c.args.at)
+    → IsDone c.self.inside c.self.invariant c.base-base.ensures.possible c.args.start c.args.at c.heads-heads.result c.base-base.result c.entry_at-header.result c.sink.new.self
+    (record { heads_is = c.heads-heads.ensures; base_is = c.base-base.ensures.value; free = c.sink.ensures.free; used = c.sink.ensures.used }) c.args.self.now parcel c.count_free.new.memory c.set.new.self
+done c parcel = is_done c.self.inside c.self.invariant c.base-base.ensures.possible c.args.start c.args.at c.heads-heads.result c.base-base.result c.entry_at-header.result c.sink.new.self
+    (record { heads_is = c.heads-heads.ensures; base_is = c.base-base.ensures.value; free = c.sink.ensures.free; used = c.sink.ensures.used }) c.args.self.now c.self.view_is c.count_free.new.memory c.set.new.self
+    (c.set.ensures ∙ (λ i. set (c.shift_up.ensures i) ((c.args.start - c.base-base.result) / 4) (c.mark.ensures i)))
+    c.count_free.ensures parcel c.entry_at-header.ensures
+
+pub invariant_of-self : goal.invariant_of-self
+invariant_of-self c = (done c c.requires).possible
+
+pub returns : goal.returns
+returns c = λ parcel. (done c parcel).sunk
