@@ -1,12 +1,12 @@
 -- What callers of the arrangements cite: a gap that was found stands at its address, and a settled zone stays settled.
 use Rattle.std.proofs.Common.{◌≡◌, ℕ, ◌+◌, Bool, true, false, cond, List, [], ◌∷◌, length, refl, ap, sym, ◌∙◌, subst, Option, Some, None}
-use Rattle.std.specs.Prelude.{Contains, find, map}
+use Rattle.std.specs.Prelude.{Contains, find, map, nat_le}
 use Rattle.std.specs.Option.{option_map_or}
 use Rattle.std.proofs.lemmas.List.Elements.{Contains-push, Contains-append_left, Contains-append_right}
 use Rattle.mac_base.specs.declared.block.Kind.TheVariants.{Ptr, Rel}
 use Rattle.mac_base.specs.Arrangement.{high, open_at}
 use Rattle.mac_base.specs.Compaction.{all_down, moved_high}
-use Rattle.mac_base.specs.Gap.{Gap, gaps, filled, is_fixed, own_gap}
+use Rattle.mac_base.specs.Gap.{Gap, gaps, filled, is_fixed, own_gap, room}
 use Rattle.mac_base.specs.HandleTable.{HandleTable}
 use Rattle.mac_base.specs.HeadKind.{Shape, head_size}
 use Rattle.mac_base.specs.Suits.{Coherent, is_handle_block}
@@ -21,8 +21,7 @@ use Rattle.zone_laws.proofs.Rearranging.{gap-Rearranged}
 use Rattle.gap_laws.proofs.RearrangedSuits.{handle_block-kind, pointer_block-kind, slots-rearranged}
 use Rattle.gap_laws.proofs.RearrangingAll.{all_down-Rearranged, sizes_possible-all_down, moved_high-is}
 use Rattle.linked_zone.specs.Changes.{with_map}
-use Rattle.zone_gaps.specs.declared.gap.FoundGap.{FoundGap}
-use Rattle.zone_gaps.specs.Gaps.{Settled, GapAt, IsFoundGap, with_gap, opened_after}
+use Rattle.zone_gaps.specs.Gaps.{Settled, GapFrom, IsLowestGap, with_gap, opened_after}
 
 -- what a search finds is in the list
 pub find-contains : (test : Gap → Bool) (gs : List Gap) (g : Gap) → find test gs ≡ Some g → Contains gs g
@@ -33,13 +32,9 @@ find-contains test (f ∷ gs) g found =
       | false ↦ λ is. Contains-append_right (f ∷ []) gs g (find-contains test gs g is)
     ] found
 
--- a gap that a search finds begins at the address behind what lies before it
-pub gap_at : (z : ZoneState) (start : ℕ) (test : Gap → Bool) (g : Gap) → find test (gaps z.heap.table z.heap.map) ≡ Some g → start ≡ address_behind z.shape g.before → GapAt z start
-gap_at z start test g found place = record { gap = g; among = find-contains test (gaps z.heap.table z.heap.map) g found; place = place }
-
--- so does the lowest gap that has room
-pub gap_at-found : (z : ZoneState) (k : ℕ) (found : FoundGap) → IsFoundGap z k found → GapAt z found.start
-gap_at-found z k found is = gap_at z found.start _ is.gap is.lowest is.start
+-- the lowest gap with room is one of the gaps
+abbrev pub gap_from : (z : ZoneState) (k at : ℕ) → IsLowestGap z k at → GapFrom z at
+gap_from z k at is = record { gap = is.gap; among = find-contains (λ g. nat_le k (room g)) (gaps z.heap.table z.heap.map) is.gap is.lowest; first = is.first }
 
 -- a rearrangement keeps that blocks and owners find each other
 pub coherent-rearranged : (s : Shape) (t : HandleTable) (old new : ZoneMap) → Rearranged s (is_fixed t) old new → Coherent s t old → Coherent s t new

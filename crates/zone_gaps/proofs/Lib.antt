@@ -1,9 +1,11 @@
 pub mod Sizes
 pub mod Entries
-pub mod Walking
 pub mod Settling
 pub mod Pressing
+pub mod Fronts
+pub mod Squeezing
 pub mod Lasts
+pub mod Walking
 pub mod Stepping
 pub mod Lifting
 pub mod Backing

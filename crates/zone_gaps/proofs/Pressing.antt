@@ -1,24 +1,21 @@
--- A run pressed down block by block.
-use Rattle.std.proofs.Common.{◌≡◌, ℕ, ◌+◌, ◌<◌, ◌≤◌, true, false, not, cond, [], ◌∷◌, ◌++◌, refl, ap, sym, ◌∙◌, subst, append_assoc, append-nil, arith, IsTrue}
+-- A run pressed down, run of used blocks by run of used blocks.
+use Rattle.std.proofs.Common.{◌≡◌, ℕ, ◌+◌, ◌-◌, ◌<◌, ◌≤◌, true, false, not, cond, [], ◌∷◌, ◌++◌, refl, ap, sym, ◌∙◌, subst, append_assoc, append-nil, arith, IsTrue}
 use Rattle.std.specs.Prelude.{◌==◌}
-use Rattle.std.proofs.lemmas.Bool.{and_parts}
 use Rattle.std.proofs.lemmas.Bool.Decides.{nat_tests}
 use Rattle.std.proofs.lemmas.List.Elements.{filter-append}
 use Rattle.mac_base.specs.declared.block.Entry.{Entry}
 use Rattle.mac_base.specs.declared.block.Kind.{Kind}
 use Rattle.mac_base.specs.declared.block.Kind.TheVariants.{Free}
-use Rattle.mac_base.specs.Loans.{is_here}
 use Rattle.mac_base.specs.ZoneMap.{ZoneMap, block, free_block, is_free, total_size, free_bytes, address_behind}
 use Rattle.mac_base.specs.ZoneState.{ZoneState}
 use Rattle.mac_base.specs.Arrangement.{used_blocks, down}
 use Rattle.zone_laws.proofs.GapAppend.{total_size-append, free_bytes-append}
-use Rattle.zone_laws.proofs.Arranging.{free_is, total_size-used, down-IsArrangement}
+use Rattle.zone_laws.proofs.Arranging.{free_is, free_bytes-all_used, total_size-used, used_blocks-same, down-IsArrangement}
 use Rattle.zone_laws.proofs.GapApart.{sizes_possible}
-use Rattle.zone_laws.proofs.NamedPlace.{used_blocks-around}
-use Rattle.linked_zone.specs.Changes.{with_map, joined_pair, exchanged}
-use Rattle.linked_zone.specs.Places.{EntryAt, FreePair, MovablePair, can_move, all_can_move}
-use Rattle.zone_gaps.specs.Runs.{RunAt, arranged}
-use Rattle.zone_gaps.proofs.Sizes.{all_parts, first_bytes, no_bytes, total_size-push}
+use Rattle.linked_zone.specs.Changes.{with_map, joined_pair, carried_up}
+use Rattle.linked_zone.specs.Places.{none_free, EntryAt, FreePair, ParcelAt, all_can_move}
+use Rattle.zone_gaps.specs.Runs.{RunAt, UsedUpTo, begins_unused}
+use Rattle.zone_gaps.proofs.Sizes.{all_parts, first_bytes, no_bytes}
 
 -- a free block is one of its size
 pub free_entry : (e : Entry) → is_free e.kind ≡ true → e ≡ block Free e.size
@@ -35,11 +32,7 @@ some_free n some = ap (λ c. cond c [] (block Free n ∷ [])) not_none
 pub no_free : (n : ℕ) → n ≡ 0 → free_block n ≡ []
 no_free n none = ap free_block none
 
--- the blocks in use, with one more that is
-pub used-push_used : (m : ZoneMap) (e : Entry) → is_free e.kind ≡ false → used_blocks (m ++ e ∷ []) ≡ used_blocks m ++ e ∷ []
-used-push_used m e used = used_blocks-around m e [] used
-
--- or with one that isn't
+-- the blocks in use, with one more that is free
 pub used-push_free : (m : ZoneMap) (e : Entry) → is_free e.kind ≡ true → used_blocks (m ++ e ∷ []) ≡ used_blocks m
 used-push_free m e free = filter-append _ m (e ∷ []) ∙ ap (λ c. used_blocks m ++ cond (not c) (e ∷ []) []) free ∙ append-nil (used_blocks m)
 
@@ -50,6 +43,26 @@ free-push_used m e used = free_bytes-append m (e ∷ []) ∙ ap (λ c. free_byte
 -- or with one that is
 pub free-push_free : (m : ZoneMap) (e : Entry) → is_free e.kind ≡ true → free_bytes (m ++ e ∷ []) ≡ free_bytes m + e.size
 free-push_free m e free = free_bytes-append m (e ∷ []) ∙ ap (λ c. free_bytes m + (cond c e.size 0 + 0)) free ∙ (let same : free_bytes m + (e.size + 0) ≡ free_bytes m + e.size = omega arith in same)
+
+-- blocks in use before others
+pub used-front : (used m : ZoneMap) → none_free used ≡ true → used_blocks (used ++ m) ≡ used ++ used_blocks m
+used-front used m none = filter-append _ used m ∙ ap (λ u. u ++ used_blocks m) (used_blocks-same used none)
+
+pub free-front : (used m : ZoneMap) → none_free used ≡ true → free_bytes (used ++ m) ≡ free_bytes m
+free-front used m none = let all = free_bytes-append used m in let no = free_bytes-all_used used none in omega arith
+
+pub down-front : (used m : ZoneMap) → none_free used ≡ true → down (used ++ m) ≡ used ++ down m
+down-front used m none =
+    ap (λ n. used_blocks (used ++ m) ++ free_block n) (free-front used m none) ∙ ap (λ u. u ++ free_block (free_bytes m)) (used-front used m none) ∙ append_assoc used (used_blocks m) (free_block (free_bytes m))
+
+-- or behind others
+used-behind : (m used : ZoneMap) → none_free used ≡ true → used_blocks (m ++ used) ≡ used_blocks m ++ used
+used-behind m used none = filter-append _ m used ∙ ap (λ u. used_blocks m ++ u) (used_blocks-same used none)
+
+down-behind : (m used : ZoneMap) → none_free used ≡ true → down (m ++ used) ≡ (used_blocks m ++ used) ++ free_block (free_bytes m)
+down-behind m used none =
+    let same : free_bytes (m ++ used) ≡ free_bytes m = let all = free_bytes-append m used in let no = free_bytes-all_used used none in omega arith in
+    ap (λ n. used_blocks (m ++ used) ++ free_block n) same ∙ ap (λ u. u ++ free_block (free_bytes m)) (used-behind m used none)
 
 -- The first blocks of a run are pressed down, the others are to come.
 pub record Pressed {start end : ℕ} (z : ZoneState) (run : RunAt z start end) (done rest : ZoneMap) (new : ZoneState) (free next : ℕ) : Type 0 where
@@ -64,12 +77,12 @@ pub record Pressing {start end : ℕ} (z : ZoneState) (run : RunAt z start end) 
   pub rest : ZoneMap
   pub is : Pressed z run done rest new free next
 
--- there is one more to come
-pub record Ahead {start end : ℕ} (z : ZoneState) (run : RunAt z start end) (new : ZoneState) (free next : ℕ) : Type 0 where
-  pub done : ZoneMap
+-- a free block comes next
+pub record Ahead (rest : ZoneMap) : Type 0 where
   pub here : Entry
-  pub rest : ZoneMap
-  pub is : Pressed z run done (here ∷ rest) new free next
+  pub more : ZoneMap
+  pub is : rest ≡ here ∷ more
+  pub unused : is_free here.kind ≡ true
 
 module _ {start end : ℕ} (z : ZoneState) (run : RunAt z start end) where
   -- at first none is
@@ -93,19 +106,11 @@ module _ {start end : ℕ} (z : ZoneState) (run : RunAt z start end) where
 
   module _ (new : ZoneState) (free next : ℕ) where
     -- the bytes that are left
-    total-rest : (done rest : ZoneMap) → Pressed z run done rest new free next → end ≡ next + total_size rest
+    pub total-rest : (done rest : ZoneMap) → Pressed z run done rest new free next → end ≡ next + total_size rest
     total-rest done rest p =
         let long = run.long in let at = p.next_is in
         let all : total_size run.blocks ≡ total_size done + total_size rest = ap total_size p.parts ∙ total_size-append done rest in
         omega arith
-
-    -- below the end there is one more
-    pub ahead : Pressing z run new free next → next < end → Ahead z run new free next
-    ahead p below = by_rest p.rest p.is
-      where
-        by_rest : (rest : ZoneMap) → Pressed z run p.done rest new free next → Ahead z run new free next
-        by_rest [] is = let all = total-rest p.done [] is in absurd (omega arith)
-        by_rest (e ∷ es) is = record { done = p.done; here = e; rest = es; is = is }
 
     -- at the end all are
     pub all_pressed : sizes_possible z.shape z.heap.map ≡ true → Pressing z run new free next → end ≤ next → Pressed z run run.blocks [] new free next
@@ -116,194 +121,212 @@ module _ {start end : ℕ} (z : ZoneState) (run : RunAt z start end) where
         let whole : p.done ≡ run.blocks = sym (append-nil p.done) ∙ ap (λ m. p.done ++ m) (sym none) ∙ sym parts in
         subst (λ done. Pressed z run done [] new free next) whole (subst (λ rest. Pressed z run p.done rest new free next) none p.is)
 
-    -- it is the one that is read there
-    abbrev pub ahead_read : (a : Ahead z run new free next) (e : Entry) → e ≡ a.here → Ahead z run new free next
-    ahead_read a e is = record { done = a.done; here = e; rest = a.rest; is = subst (λ e. Pressed z run a.done (e ∷ a.rest) new free next) (sym is) a.is }
+    module _ (p : Pressing z run new free next) where
+      -- what is to come, and what follows the run
+      abbrev tail : ZoneMap
+      tail = p.rest ++ run.behind
 
-    module _ (a : Ahead z run new free next) where
-      -- it stands there
-      pub map_next : new.heap.map ≡ (run.before ++ down a.done) ++ a.here ∷ (a.rest ++ run.behind)
-      map_next = ap (λ (w : ZoneState). w.heap.map) (a.is).zone ∙ sym (append_assoc run.before (down a.done) (a.here ∷ (a.rest ++ run.behind)))
+      -- the blocks in use so far
+      abbrev used : ZoneMap
+      used = used_blocks p.done
 
-      pub place_next : next ≡ address_behind new.shape (run.before ++ down a.done)
+      abbrev bytes : ℕ
+      bytes = free_bytes p.done
+
+      pub map_next : new.heap.map ≡ (run.before ++ down p.done) ++ tail
+      map_next = ap (λ (w : ZoneState). w.heap.map) (p.is).zone ∙ sym (append_assoc run.before (down p.done) tail)
+
+      pub place_next : next ≡ address_behind new.shape (run.before ++ down p.done)
       place_next =
           let first = run.place in
-          let at = (a.is).next_is in
-          let all = total_size-append run.before (down a.done) in
-          let same = (down-IsArrangement a.done).same_total in
-          let here : next ≡ address_behind z.shape (run.before ++ down a.done) = omega arith in
-          here ∙ ap (λ (w : ZoneState). address_behind w.shape (run.before ++ down a.done)) (sym (a.is).zone)
+          let at = (p.is).next_is in
+          let all = total_size-append run.before (down p.done) in
+          let same = (down-IsArrangement p.done).same_total in
+          let here : next ≡ address_behind z.shape (run.before ++ down p.done) = omega arith in
+          here ∙ ap (λ (w : ZoneState). address_behind w.shape (run.before ++ down p.done)) (sym (p.is).zone)
 
-      abbrev pub entry_ahead : EntryAt new next
-      entry_ahead = record { before = run.before ++ down a.done; here = a.here; behind = a.rest ++ run.behind; map = map_next; place = place_next }
+      table_next : new.heap.table ≡ z.heap.table
+      table_next = ap (λ (w : ZoneState). w.heap.table) (p.is).zone
 
-      -- its place among the run's blocks
-      parts_ahead : run.blocks ≡ (a.done ++ a.here ∷ []) ++ a.rest
-      parts_ahead = (a.is).parts ∙ sym (append_assoc a.done (a.here ∷ []) a.rest)
+      pub moves_next : IsTrue (all_can_move new.heap.table p.rest)
+      moves_next = ap (λ t. all_can_move t p.rest) table_next ∙ (all_parts _ p.done p.rest (subst (λ m. all_can_move z.heap.table m ≡ true) (p.is).parts run.moves)).1
 
-      -- what follows it
-      abbrev tail_ahead : ZoneMap
-      tail_ahead = a.rest ++ run.behind
+      -- what is to come is a run
+      abbrev pub run_next : RunAt new next end
+      run_next = record { before = run.before ++ down p.done; blocks = p.rest; behind = run.behind; map = map_next; place = place_next; long = total-rest p.done p.rest p.is; moves = moves_next }
 
-      -- the map
-      map_ahead : new.heap.map ≡ run.before ++ (down a.done ++ (a.here ∷ tail_ahead))
-      map_ahead = ap (λ (w : ZoneState). w.heap.map) (a.is).zone
+      rest_sizes : sizes_possible z.shape z.heap.map ≡ true → sizes_possible z.shape p.rest ≡ true
+      rest_sizes sizes = (all_parts _ p.done p.rest (subst (λ m. sizes_possible z.shape m ≡ true) (p.is).parts (run_sizes sizes))).1
 
-      -- there are free bytes before it
-      abbrev free_ahead : ℕ
-      free_ahead = free_bytes a.done
+      -- there are free bytes just where they begin below what is to come
+      some_before : free < next → 0 < bytes
+      some_before less = let all = total_size-used p.done in let f = (p.is).free_is in let n = (p.is).next_is in omega arith
 
-      -- just where they begin below it
-      some_ahead : free < next → 0 < free_ahead
-      some_ahead less = let all = total_size-used a.done in let f = (a.is).free_is in let n = (a.is).next_is in omega arith
+      none_before : next ≤ free → bytes ≡ 0
+      none_before more = let all = total_size-used p.done in let f = (p.is).free_is in let n = (p.is).next_is in omega arith
 
-      none_ahead : next ≤ free → free_ahead ≡ 0
-      none_ahead more = let all = total_size-used a.done in let f = (a.is).free_is in let n = (a.is).next_is in omega arith
+      -- as many as lie between
+      pub next_is_behind : next ≡ free + bytes
+      next_is_behind = let all = total_size-used p.done in let f = (p.is).free_is in let n = (p.is).next_is in omega arith
 
       -- where they begin
-      place_ahead : free ≡ address_behind new.shape (run.before ++ used_blocks a.done)
-      place_ahead =
+      place_free : free ≡ address_behind new.shape (run.before ++ used)
+      place_free =
           let first = run.place in
-          let f = (a.is).free_is in
-          let all = total_size-append run.before (used_blocks a.done) in
-          let here : free ≡ address_behind z.shape (run.before ++ used_blocks a.done) = omega arith in
-          here ∙ ap (λ (w : ZoneState). address_behind w.shape (run.before ++ used_blocks a.done)) (sym (a.is).zone)
+          let f = (p.is).free_is in
+          let all = total_size-append run.before used in
+          let here : free ≡ address_behind z.shape (run.before ++ used) = omega arith in
+          here ∙ ap (λ (w : ZoneState). address_behind w.shape (run.before ++ used)) (sym (p.is).zone)
 
-      -- the map by the block of free bytes
-      map_free : free < next → new.heap.map ≡ (run.before ++ used_blocks a.done) ++ block Free free_ahead ∷ a.here ∷ tail_ahead
-      map_free less =
-          map_ahead ∙ ap (λ f. run.before ++ ((used_blocks a.done ++ f) ++ (a.here ∷ tail_ahead))) (some_free free_ahead (some_ahead less)) ∙ simp append_assoc
+      -- the map
+      map_whole : new.heap.map ≡ run.before ++ (down p.done ++ tail)
+      map_whole = ap (λ (w : ZoneState). w.heap.map) (p.is).zone
 
-      -- a zone with another map in place of this one
-      with_other : (m : ZoneMap) → with_map m new ≡ with_map m z
-      with_other m = ap (with_map m) (a.is).zone
+      -- by the block of free bytes
+      map_free : free < next → new.heap.map ≡ (run.before ++ used) ++ block Free bytes ∷ tail
+      map_free less = map_whole ∙ ap (λ f. run.before ++ ((used ++ f) ++ tail)) (some_free bytes (some_before less)) ∙ simp append_assoc
 
-      -- the step is done once the map is that of one block more, and the addresses are right
-      one_more : (after : ZoneState) (low : ℕ) (m : ZoneMap) → after ≡ with_map m new → m ≡ run.before ++ (down (a.done ++ a.here ∷ []) ++ tail_ahead) → low ≡ start + total_size (used_blocks (a.done ++ a.here ∷ []))
-          → Pressing z run after low (next + (a.here).size)
-      one_more after low m is map at = record {
-        done = a.done ++ a.here ∷ [];
-        rest = a.rest;
+      -- or without any
+      map_none : next ≤ free → new.heap.map ≡ run.before ++ (used ++ tail)
+      map_none more = map_whole ∙ ap (λ f. run.before ++ ((used ++ f) ++ tail)) (no_free bytes (none_before more)) ∙ ap (λ u. run.before ++ (u ++ tail)) (append-nil used)
+
+      -- the step is done once the map is that of some blocks more, and the addresses are right
+      further : (m rest : ZoneMap) → p.rest ≡ m ++ rest → (after : ZoneState) (low at : ℕ) (map : ZoneMap) → after ≡ with_map map new → map ≡ run.before ++ (down (p.done ++ m) ++ (rest ++ run.behind))
+          → low ≡ start + total_size (used_blocks (p.done ++ m)) → at ≡ next + total_size m → Pressing z run after low at
+      further m rest is after low at map there same low_is at_is = record {
+        done = p.done ++ m;
+        rest = rest;
         is = record {
-          parts = parts_ahead;
-          zone = is ∙ with_other m ∙ ap (λ m. with_map m z) map;
-          free_is = at;
-          next_is = (let n = (a.is).next_is in let all = total_size-push a.done a.here in omega arith);
+          parts = (p.is).parts ∙ ap (λ r. p.done ++ r) is ∙ sym (append_assoc p.done m rest);
+          zone = there ∙ ap (with_map map) (p.is).zone ∙ ap (λ m. with_map m z) same;
+          free_is = low_is;
+          next_is = (let n = (p.is).next_is in let all = total_size-append p.done m in omega arith);
         };
       }
 
-      -- the free bytes and a free block behind them
-      pub pair_ahead : is_free (a.here).kind ≡ true → free < next → FreePair new free
-      pair_ahead unused less = record {
-        before = run.before ++ used_blocks a.done;
-        first = free_ahead;
-        second = (a.here).size;
-        behind = tail_ahead;
-        map = map_free less ∙ ap (λ e. (run.before ++ used_blocks a.done) ++ block Free free_ahead ∷ e ∷ tail_ahead) (free_entry a.here unused);
-        place = place_ahead;
-      }
+      -- blocks in use come next, up to an address
+      module _ (at : ℕ) (u : UsedUpTo p.rest next at) where
+        tail_is : tail ≡ u.used ++ (u.rest ++ run.behind)
+        tail_is = ap (λ r. r ++ run.behind) u.parts ∙ append_assoc u.used u.rest run.behind
 
-      -- the free bytes begin where they did
-      low_free : is_free (a.here).kind ≡ true → free ≡ start + total_size (used_blocks (a.done ++ a.here ∷ []))
-      low_free unused = (a.is).free_is ∙ ap (λ m. start + total_size m) (sym (used-push_free a.done a.here unused))
+        -- it lies within the run
+        pub within_used : at ≤ end
+        within_used =
+            let all = total-rest p.done p.rest p.is in
+            let parts = ap total_size u.parts ∙ total_size-append u.used u.rest in
+            let here = u.place in
+            omega arith
 
-      -- down with a free block more
-      down_free : is_free (a.here).kind ≡ true → 0 < free_ahead + (a.here).size → used_blocks a.done ++ block Free (free_ahead + (a.here).size) ∷ [] ≡ down (a.done ++ a.here ∷ [])
-      down_free unused some =
-          ap (λ b. used_blocks a.done ++ b) (sym (some_free (free_ahead + (a.here).size) some) ∙ ap free_block (sym (free-push_free a.done a.here unused)))
-          ∙ ap (λ b. b ++ free_block (free_bytes (a.done ++ a.here ∷ []))) (sym (used-push_free a.done a.here unused))
+        -- with the block of free bytes they are a parcel
+        pub parcel_next : free < next → ParcelAt new free at
+        parcel_next less = record {
+          before = run.before ++ used;
+          here = block Free bytes;
+          blocks = u.used;
+          behind = u.rest ++ run.behind;
+          map = map_free less ∙ ap (λ t. (run.before ++ used) ++ block Free bytes ∷ t) tail_is;
+          place = place_free;
+          long = (let here = u.place in let n = next_is_behind in omega arith);
+          moves = (all_parts _ u.used u.rest (ap (all_can_move new.heap.table) (sym u.parts) ∙ moves_next)).0;
+        }
 
-      -- they are joined
-      pub merged : (after : ZoneState) → is_free (a.here).kind ≡ true → free < next → ((pair : FreePair new free) → after ≡ joined_pair new pair) → Pressing z run after free (next + (a.here).size)
-      unfolding pair_ahead
-      merged after unused less is =
-          let some = some_ahead less in
-          let u : ZoneMap = used_blocks a.done in
-          let b : ZoneMap = block Free (free_ahead + (a.here).size) ∷ [] in
-          let same : (run.before ++ u) ++ (b ++ tail_ahead) ≡ run.before ++ ((u ++ b) ++ tail_ahead) = simp append_assoc in
-          one_more after free _ (is (pair_ahead unused less)) (same ∙ ap (λ d. run.before ++ (d ++ tail_ahead)) (down_free unused (omega arith))) (low_free unused)
+        low_used : free + (at - next) ≡ start + total_size (used_blocks (p.done ++ u.used))
+        low_used =
+            let f = (p.is).free_is in
+            let here = u.place in
+            let all = ap total_size (used-behind p.done u.used u.none) ∙ total_size-append used u.used in
+            omega arith
 
-      -- or where there was none the free block is the first
-      pub first_free : is_free (a.here).kind ≡ true → next ≤ free → 0 < (a.here).size → Pressing z run new free (next + (a.here).size)
-      first_free unused more some =
-          let u : ZoneMap = used_blocks a.done in
-          let none = none_ahead more in
-          let b : ZoneMap = block Free (free_ahead + (a.here).size) ∷ [] in
-          let alone : free_ahead + (a.here).size ≡ (a.here).size = omega arith in
-          let is_first : a.here ∷ tail_ahead ≡ b ++ tail_ahead = ap (λ e. e ∷ tail_ahead) (free_entry a.here unused ∙ ap (block Free) (sym alone)) in
-          let same : (u ++ []) ++ (b ++ tail_ahead) ≡ (u ++ b) ++ tail_ahead = ap (λ u. u ++ (b ++ tail_ahead)) (append-nil u) ∙ sym (append_assoc u b tail_ahead) in
-          one_more new free new.heap.map refl
-          (map_ahead ∙ ap (λ f. run.before ++ ((u ++ f) ++ (a.here ∷ tail_ahead))) (no_free free_ahead none) ∙ ap (λ t. run.before ++ ((u ++ []) ++ t)) is_first ∙ ap (λ m. run.before ++ m) same
-          ∙ ap (λ d. run.before ++ (d ++ tail_ahead)) (down_free unused (omega arith))) (low_free unused)
+        -- the free bytes are carried past them
+        pub passed : (after : ZoneState) → free < next → ((parcel : ParcelAt new free at) → after ≡ carried_up new parcel) → Pressing z run after (free + (at - next)) at
+        unfolding parcel_next
+        passed after less is =
+            let b : ZoneMap = block Free bytes ∷ [] in
+            let rest = u.rest ++ run.behind in
+            let same : (run.before ++ used) ++ (u.used ++ (b ++ rest)) ≡ run.before ++ (((used ++ u.used) ++ b) ++ rest) = simp append_assoc in
+            further u.used u.rest u.parts after (free + (at - next)) at _ (is (parcel_next less))
+            (same ∙ ap (λ f. run.before ++ (((used ++ u.used) ++ f) ++ rest)) (sym (some_free bytes (some_before less))) ∙ ap (λ d. run.before ++ (d ++ rest)) (sym (down-behind p.done u.used u.none))) low_used u.place
 
-      -- the block can be moved
-      moves_ahead : IsTrue (can_move z.heap.table (a.here).kind)
-      moves_ahead = (and_parts _ _ (all_parts _ a.done (a.here ∷ a.rest) (subst (λ m. all_can_move z.heap.table m ≡ true) (a.is).parts run.moves)).1).0
+        -- or where there are none they stay
+        pub stayed : next ≤ free → Pressing z run new (free + (at - next)) at
+        stayed more =
+            let rest = u.rest ++ run.behind in
+            let same : used ++ (u.used ++ rest) ≡ ((used ++ u.used) ++ []) ++ rest = simp (append-nil, append_assoc) in
+            further u.used u.rest u.parts new (free + (at - next)) at new.heap.map refl
+            (map_none more ∙ ap (λ t. run.before ++ (used ++ t)) tail_is ∙ ap (λ m. run.before ++ m) same
+            ∙ ap (λ f. run.before ++ (((used ++ u.used) ++ f) ++ rest)) (sym (no_free bytes (none_before more))) ∙ ap (λ d. run.before ++ (d ++ rest)) (sym (down-behind p.done u.used u.none))) low_used u.place
 
-      table_ahead : new.heap.table ≡ z.heap.table
-      table_ahead = ap (λ (w : ZoneState). w.heap.table) (a.is).zone
+        -- where there are none a free block comes next
+        pub ahead : sizes_possible z.shape z.heap.map ≡ true → next < end → at ≤ next → Ahead p.rest
+        ahead sizes below above = by_rest u.rest refl
+          where
+            by_rest : (m : ZoneMap) → u.rest ≡ m → Ahead p.rest
+            by_rest [] none =
+                let all = total-rest p.done p.rest p.is in
+                let parts = ap total_size u.parts ∙ total_size-append u.used u.rest in
+                let no = ap total_size none in
+                let here = u.place in
+                absurd (omega arith)
+            by_rest (e ∷ es) some =
+                let here = u.place in
+                let none = no_bytes z.shape u.used (all_parts _ u.used u.rest (ap (sizes_possible z.shape) (sym u.parts) ∙ rest_sizes sizes)).0 (omega arith) in
+                record { here = e; more = es; is = u.parts ∙ ap (λ m. m ++ u.rest) none ∙ some; unused = ap begins_unused (sym some) ∙ u.begins }
 
-      -- the free bytes and a block in use behind them
-      pub movable_ahead : free < next → MovablePair new free
-      movable_ahead less = record {
-        before = run.before ++ used_blocks a.done;
-        first = block Free free_ahead;
-        second = a.here;
-        behind = tail_ahead;
-        map = map_free less;
-        place = place_ahead;
-        first_moves = refl;
-        second_moves = (and_parts _ _ moves_ahead).0;
-        first_here = refl;
-        second_here = ap (λ t. is_here t (a.here).kind) table_ahead ∙ (and_parts _ _ moves_ahead).1;
-      }
+      -- a free block comes next
+      module _ (a : Ahead p.rest) where
+        abbrev after_it : ZoneMap
+        after_it = a.more ++ run.behind
 
-      -- the free bytes begin behind it then
-      low_used : is_free (a.here).kind ≡ false → free + (a.here).size ≡ start + total_size (used_blocks (a.done ++ a.here ∷ []))
-      low_used used =
-          let all = total_size-push (used_blocks a.done) a.here in
-          let f = (a.is).free_is in
-          let here : free + (a.here).size ≡ start + total_size (used_blocks a.done ++ a.here ∷ []) = omega arith in
-          here ∙ ap (λ m. start + total_size m) (sym (used-push_used a.done a.here used))
+        pub tail_free : tail ≡ block Free (a.here).size ∷ after_it
+        tail_free = ap (λ r. r ++ run.behind) (a.is ∙ ap (λ e. e ∷ a.more) (free_entry a.here a.unused))
 
-      -- down with a block in use more
-      down_used : is_free (a.here).kind ≡ false → (used_blocks a.done ++ a.here ∷ []) ++ free_block free_ahead ≡ down (a.done ++ a.here ∷ [])
-      down_used used =
-          ap (λ n. (used_blocks a.done ++ a.here ∷ []) ++ free_block n) (sym (free-push_used a.done a.here used))
-          ∙ ap (λ b. b ++ free_block (free_bytes (a.done ++ a.here ∷ []))) (sym (used-push_used a.done a.here used))
+        abbrev pub entry_ahead : EntryAt new next
+        entry_ahead = record { before = run.before ++ down p.done; here = block Free (a.here).size; behind = after_it; map = map_next ∙ ap (λ t. (run.before ++ down p.done) ++ t) tail_free; place = place_next }
 
-      -- they change places
-      pub passed : (after : ZoneState) → is_free (a.here).kind ≡ false → free < next → ((pair : MovablePair new free) → after ≡ exchanged new pair) → Pressing z run after (free + (a.here).size) (next + (a.here).size)
-      unfolding movable_ahead
-      passed after used less is =
-          let u : ZoneMap = used_blocks a.done in
-          let b : ZoneMap = block Free free_ahead ∷ [] in
-          let same : (run.before ++ u) ++ (a.here ∷ (b ++ tail_ahead)) ≡ run.before ++ (((u ++ a.here ∷ []) ++ b) ++ tail_ahead) = simp append_assoc in
-          one_more after (free + (a.here).size) _ (is (movable_ahead less))
-          (same ∙ ap (λ f. run.before ++ (((u ++ a.here ∷ []) ++ f) ++ tail_ahead)) (sym (some_free free_ahead (some_ahead less))) ∙ ap (λ d. run.before ++ (d ++ tail_ahead)) (down_used used)) (low_used used)
+        -- with the free bytes before it
+        pub pair_ahead : free < next → FreePair new free
+        pair_ahead less = record {
+          before = run.before ++ used;
+          first = bytes;
+          second = (a.here).size;
+          behind = after_it;
+          map = map_free less ∙ ap (λ t. (run.before ++ used) ++ block Free bytes ∷ t) tail_free;
+          place = place_free;
+        }
 
-      -- or where there are none it stays
-      pub stayed : is_free (a.here).kind ≡ false → next ≤ free → Pressing z run new (free + (a.here).size) (next + (a.here).size)
-      stayed used more =
-          let u : ZoneMap = used_blocks a.done in
-          let none = no_free free_ahead (none_ahead more) in
-          let same : (u ++ []) ++ (a.here ∷ tail_ahead) ≡ ((u ++ a.here ∷ []) ++ []) ++ tail_ahead = simp (append-nil, append_assoc) in
-          one_more new (free + (a.here).size) new.heap.map refl
-          (map_ahead ∙ ap (λ f. run.before ++ ((u ++ f) ++ (a.here ∷ tail_ahead))) none ∙ ap (λ m. run.before ++ m) same
-          ∙ ap (λ f. run.before ++ (((u ++ a.here ∷ []) ++ f) ++ tail_ahead)) (sym none) ∙ ap (λ d. run.before ++ (d ++ tail_ahead)) (down_used used)) (low_used used)
+        -- the free bytes begin where they did
+        low_free : free ≡ start + total_size (used_blocks (p.done ++ a.here ∷ []))
+        low_free = (p.is).free_is ∙ ap (λ m. start + total_size m) (sym (used-push_free p.done a.here a.unused))
 
-      -- it ends at the run's end or below it
-      pub within_ahead : next + (a.here).size ≤ end
-      within_ahead = let all = total-rest a.done (a.here ∷ a.rest) a.is in omega arith
+        -- down with a free block more
+        down_free : 0 < bytes + (a.here).size → used ++ block Free (bytes + (a.here).size) ∷ [] ≡ down (p.done ++ a.here ∷ [])
+        down_free some =
+            ap (λ b. used ++ b) (sym (some_free (bytes + (a.here).size) some) ∙ ap free_block (sym (free-push_free p.done a.here a.unused)))
+            ∙ ap (λ b. b ++ free_block (free_bytes (p.done ++ a.here ∷ []))) (sym (used-push_free p.done a.here a.unused))
 
-      -- the free bytes begin no higher than it
-      pub low_ahead : free ≤ next
-      low_ahead = let all = total_size-used a.done in let f = (a.is).free_is in let n = (a.is).next_is in omega arith
+        -- they are joined
+        pub merged : (after : ZoneState) → free < next → ((pair : FreePair new free) → after ≡ joined_pair new pair) → Pressing z run after free (next + (a.here).size)
+        unfolding pair_ahead
+        merged after less is =
+            let some = some_before less in
+            let b : ZoneMap = block Free (bytes + (a.here).size) ∷ [] in
+            let same : (run.before ++ used) ++ (b ++ after_it) ≡ run.before ++ ((used ++ b) ++ after_it) = simp append_assoc in
+            further (a.here ∷ []) a.more a.is after free (next + (a.here).size) _ (is (pair_ahead less)) (same ∙ ap (λ d. run.before ++ (d ++ after_it)) (down_free (omega arith))) low_free (omega arith)
 
-      -- it has bytes
-      pub some_size : sizes_possible z.shape z.heap.map ≡ true → 0 < (a.here).size
-      some_size sizes = first_bytes z.shape a.here a.rest (all_parts _ a.done (a.here ∷ a.rest) (subst (λ m. sizes_possible z.shape m ≡ true) (a.is).parts (run_sizes sizes))).1
+        -- or where there was none the free block is the first
+        pub first_free : next ≤ free → 0 < (a.here).size → Pressing z run new free (next + (a.here).size)
+        first_free more some =
+            let none = none_before more in
+            let b : ZoneMap = block Free (bytes + (a.here).size) ∷ [] in
+            let alone : (a.here).size ≡ bytes + (a.here).size = omega arith in
+            further (a.here ∷ []) a.more a.is new free (next + (a.here).size) new.heap.map refl
+            (map_none more ∙ ap (λ t. run.before ++ (used ++ t)) (tail_free ∙ ap (λ n. block Free n ∷ after_it) alone) ∙ ap (λ m. run.before ++ m) (sym (append_assoc used b after_it))
+            ∙ ap (λ d. run.before ++ (d ++ after_it)) (down_free (omega arith))) low_free (omega arith)
 
-    -- the zone once all are pressed
-    pub pressed_zone : Pressed z run run.blocks [] new free next → new ≡ arranged z run (down run.blocks)
-    pressed_zone p = p.zone
+        -- it ends at the run's end or below it
+        pub within_ahead : next + (a.here).size ≤ end
+        within_ahead = let all = total-rest p.done p.rest p.is in let bytes = ap total_size a.is in omega arith
+
+        -- it has bytes
+        pub some_size : sizes_possible z.shape z.heap.map ≡ true → 0 < (a.here).size
+        some_size sizes = first_bytes z.shape a.here a.more (ap (sizes_possible z.shape) (sym a.is) ∙ rest_sizes sizes)

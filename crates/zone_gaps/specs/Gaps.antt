@@ -1,15 +1,17 @@
 -- Gaps by their addresses.
-use Rattle.std.specs.Prelude.{◌≡◌, ℕ, ◌+◌, Contains, Option, Some}
+use Rattle.std.specs.Prelude.{◌≡◌, ℕ, ◌+◌, ◌∷◌, ◌++◌, Contains, IsTrue, Option, Some}
 use Rattle.std.specs.Option.{option_map_or}
 use Rattle.mac_base.specs.Arrangement.{open_at}
 use Rattle.mac_base.specs.Gap.{Gap, gaps, filled, lowest_gap, own_gap, room}
 use Rattle.mac_base.specs.HandleTable.{HandleTable}
 use Rattle.mac_base.specs.Loans.{LoansAreFixed}
 use Rattle.mac_base.specs.Suits.{Coherent}
-use Rattle.mac_base.specs.ZoneMap.{ZoneMap, address_behind, total_size}
+use Rattle.mac_base.specs.declared.block.Kind.TheVariants.{Free}
+use Rattle.mac_base.specs.ZoneMap.{ZoneMap, block, address_behind, total_size}
 use Rattle.mac_base.specs.ZoneState.{ZoneState}
 use Rattle.linked_zone.specs.Changes.{with_map}
 use Rattle.linked_zone.specs.Fit.{HasSizes}
+use Rattle.linked_zone.specs.Places.{none_free}
 use Rattle.zone_gaps.specs.declared.gap.FoundGap.{FoundGap}
 
 -- blocks may be moved: they and their owners find each other, sizes are possible, and what is lent is fixed
@@ -24,13 +26,26 @@ pub record GapAt (z : ZoneState) (start : ℕ) : Type 0 where
   pub among : Contains (gaps z.heap.table z.heap.map) gap
   pub place : start ≡ address_behind z.shape gap.before
 
--- the lowest gap with room for k bytes is found
-pub record IsFoundGap (z : ZoneState) (k : ℕ) (found : FoundGap) : Type 0 where
+-- the first free block of a gap stands at an address
+pub record FirstFreeOf (z : ZoneState) (g : Gap) (at : ℕ) : Type 0 where
+  pub used : ZoneMap
+  pub size : ℕ
+  pub rest : ZoneMap
+  pub blocks : g.blocks ≡ used ++ block Free size ∷ rest
+  pub none : IsTrue (none_free used)
+  pub place : at ≡ address_behind z.shape (g.before ++ used)
+
+-- that of some gap
+pub record GapFrom (z : ZoneState) (at : ℕ) : Type 0 where
+  pub gap : Gap
+  pub among : Contains (gaps z.heap.table z.heap.map) gap
+  pub first : FirstFreeOf z gap at
+
+-- that of the lowest gap with room for k bytes
+pub record IsLowestGap (z : ZoneState) (k at : ℕ) : Type 0 where
   pub gap : Gap
   pub lowest : lowest_gap k (gaps z.heap.table z.heap.map) ≡ Some gap
-  pub start : found.start ≡ address_behind z.shape gap.before
-  pub end : found.end ≡ found.start + total_size gap.blocks
-  pub room : found.room ≡ room gap
+  pub first : FirstFreeOf z gap at
 
 -- the gap that a search gives is found
 pub record IsGapOf (z : ZoneState) (searched : Option Gap) (found : FoundGap) : Type 0 where

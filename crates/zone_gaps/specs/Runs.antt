@@ -6,10 +6,10 @@ use Rattle.mac_base.specs.declared.block.Kind.{Kind}
 use Rattle.mac_base.specs.declared.block.Kind.TheVariants.{Free, Master, Ptr, Rel}
 use Rattle.mac_base.specs.Gap.{is_fixed}
 use Rattle.mac_base.specs.HandleTable.{HandleTable, is_handle}
-use Rattle.mac_base.specs.ZoneMap.{ZoneMap, address_behind, total_size}
+use Rattle.mac_base.specs.ZoneMap.{ZoneMap, is_free, address_behind, total_size}
 use Rattle.mac_base.specs.ZoneState.{ZoneState}
 use Rattle.linked_zone.specs.Changes.{with_map}
-use Rattle.linked_zone.specs.Places.{all_can_move}
+use Rattle.linked_zone.specs.Places.{all_can_move, none_free}
 
 -- whether the handle whose block a block of this kind is is live
 abbrev pub has_owner : HandleTable → Kind → Bool
@@ -50,6 +50,20 @@ pub record RunAt (z : ZoneState) (start end : ℕ) : Type 0 where
 -- the zone with other blocks in place of a run
 abbrev pub arranged : {start end : ℕ} → (z : ZoneState) → RunAt z start end → ZoneMap → ZoneState
 arranged z run blocks = with_map (run.before ++ (blocks ++ run.behind)) z
+
+-- whether the first is free, if there is one
+abbrev pub begins_unused : ZoneMap → Bool
+begins_unused [] = true
+begins_unused (e ∷ es) = is_free e.kind
+
+-- the blocks in use with which these begin end at an address, where these begin at another
+pub record UsedUpTo (blocks : ZoneMap) (from at : ℕ) : Type 0 where
+  pub used : ZoneMap
+  pub rest : ZoneMap
+  pub parts : blocks ≡ used ++ rest
+  pub none : IsTrue (none_free used)
+  pub begins : IsTrue (begins_unused rest)
+  pub place : at ≡ from + total_size used
 
 -- the last of the blocks from an address on, if there is one, stands at an address
 abbrev pub LastAt : ZoneMap → ℕ → ℕ → Type 0

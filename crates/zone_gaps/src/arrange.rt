@@ -1,12 +1,13 @@
 //! Arrangements of gaps.
 
-ghost use Rattle.std.specs.Prelude.{◌≡◌, IsTrue, IsFalse};
-ghost use Rattle.mac_base.specs.Arrangement.{down, up};
+ghost use Rattle.std.specs.Prelude.{◌≡◌, ◌++◌, IsTrue, IsFalse};
+ghost use Rattle.mac_base.specs.Arrangement.{down, up, used_blocks};
 ghost use Rattle.mac_base.specs.Compaction.{all_down, moved_high};
 ghost use Rattle.mac_base.specs.HandleTable.{is_full, is_locked};
+ghost use Rattle.mac_base.specs.ZoneMap.{address_behind};
 ghost use Rattle.linked_zone.specs.Changes.{with_map};
 ghost use Rattle.linked_zone.specs.Loans.{KeepsLoans};
-ghost use Rattle.zone_gaps.specs.Gaps.{Settled, GapAt, with_gap, opened_after};
+ghost use Rattle.zone_gaps.specs.Gaps.{Settled, GapAt, GapFrom, with_gap, opened_after};
 
 use crate::gap::{gap_end, gap_start, zone_end};
 use crate::run::{carry_up, press_down, press_up};
@@ -14,17 +15,18 @@ use linked_zone::LinkedZone;
 use mac_base::handle::Handle;
 use mac_base::size::ZONE_HEADER;
 
-/// Arranges the gap that begins at an address down: its blocks are moved down, and its free bytes are above them in one
-/// block. The bytes of each block are moved once.
-pub fn squeeze_down(zone: &mut LinkedZone, start: u32)
-    requires gap { GapAt zone.old start }
+/// Arranges a gap down, given the address of its first free block: its blocks are moved down, and its free bytes are above
+/// them in one block. The bytes of each block are moved once. Gives the address at which the free bytes begin.
+pub fn squeeze_down(zone: &mut LinkedZone, at: u32) -> u32
+    requires gap { GapFrom zone.old at }
     requires settled { Settled zone.old }
-    ensures zone { (at : GapAt zone.old start) → zone.new ≡ with_gap zone.old at.gap (down at.gap.blocks) }
+    ensures zone { (from : GapFrom zone.old at) → zone.new ≡ with_gap zone.old from.gap (down from.gap.blocks) }
+    ensures free { (from : GapFrom zone.old at) → result ≡ address_behind zone.old.shape (from.gap.before ++ used_blocks from.gap.blocks) }
     ensures loans { KeepsLoans zone.old zone.new }
     ensures settled { Settled zone.new }
 {
-    let end = gap_end(zone, start);
-    press_down(zone, start, end);
+    let end = gap_end(zone, at);
+    press_down(zone, at, end)
 }
 
 /// Arranges the gap that begins at an address up: its blocks are moved up, and its free bytes are below them in one

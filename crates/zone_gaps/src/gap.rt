@@ -1,11 +1,11 @@
 //! Where gaps begin and end.
 
-ghost use Rattle.std.specs.Prelude.{◌≡◌, ◌+◌, ◌≤◌, MatchOption, None};
+ghost use Rattle.std.specs.Prelude.{◌≡◌, ◌+◌, ◌<◌, ◌≤◌, IfNone, IfSome, MatchOption, None};
 ghost use Rattle.mac_base.specs.Gap.{gaps, is_fixed, lowest_gap};
-ghost use Rattle.mac_base.specs.ZoneMap.{address_behind, total_size};
+ghost use Rattle.mac_base.specs.ZoneMap.{address_behind, free_bytes, total_size};
 ghost use Rattle.linked_zone.specs.Fit.{HasSizes};
 ghost use Rattle.linked_zone.specs.Places.{HasOwner};
-ghost use Rattle.zone_gaps.specs.Gaps.{Settled, IsFoundGap};
+ghost use Rattle.zone_gaps.specs.Gaps.{Settled, IsLowestGap};
 ghost use Rattle.zone_gaps.specs.Runs.{HasOwners, RestAt, FrontAt};
 
 use linked_zone::LinkedZone;
@@ -23,41 +23,53 @@ pub struct FoundGap {
     pub room: u32,
 }
 
-/// The lowest gap with at least `needed` free bytes, if there is one.
-pub fn lowest_gap(zone: &LinkedZone, needed: u32) -> Option<FoundGap>
-    requires { Settled zone.now }
-    ensures { MatchOption result (lowest_gap needed (gaps zone.now.heap.table zone.now.heap.map) ≡ None) (λ found. IsFoundGap zone.now needed found) }
+/// The address of the first free block of the lowest gap with at least `needed` free bytes, if there is one. Of the gaps below
+/// only those with free blocks are looked at.
+pub fn lowest_gap(zone: &LinkedZone, needed: u32) -> Option<u32>
+    requires some { 0 < needed }
+    requires settled { Settled zone.now }
+    ensures { MatchOption result (lowest_gap needed (gaps zone.now.heap.table zone.now.heap.map) ≡ None) (λ at. IsLowestGap zone.now needed at) }
+{
+    if zone.free_bytes() < needed {
+        return None;
+    }
+    let mut from = zone.spec().base() + ZONE_HEADER;
+    while let Some(at) = zone.next_free(from) {
+        let Some(end) = small_end(zone, at, needed) else {
+            return Some(at);
+        };
+        from = end;
+    }
+    None
+}
+
+/// The address behind the gap that has the blocks from an address on, if these have fewer than `needed` free bytes.
+fn small_end(zone: &LinkedZone, start: u32, needed: u32) -> Option<u32>
+    requires some { 0 < needed }
+    requires rest { RestAt zone.now start }
+    requires owners { HasOwners zone.now }
+    requires sizes { HasSizes zone.now }
+    ensures enough { IfNone result ((rest : RestAt zone.now start) → needed ≤ free_bytes rest.blocks) }
+    ensures few { IfSome result (λ end. (rest : RestAt zone.now start) → free_bytes rest.blocks < needed) }
+    ensures end { IfSome result (λ end. (rest : RestAt zone.now start) → end ≡ start + total_size rest.blocks) }
 {
     let top = zone_end(zone);
-    let mut start = zone.spec().base() + ZONE_HEADER;
     let mut at = start;
     let mut room = 0;
     while at < top {
         let here = zone.entry_at(at);
         if is_fixed(zone, here.kind) {
-            if needed <= room {
-                return Some(FoundGap {
-                    start,
-                    end: at,
-                    room,
-                });
-            }
-            start = at + here.size;
-            room = 0;
-        } else if here.kind.is_free() {
+            return Some(at);
+        }
+        if here.kind.is_free() {
             room += here.size;
+            if needed <= room {
+                return None;
+            }
         }
         at += here.size;
     }
-    if needed <= room {
-        Some(FoundGap {
-            start,
-            end: at,
-            room,
-        })
-    } else {
-        None
-    }
+    Some(at)
 }
 
 /// The address behind a zone's last block.
@@ -101,7 +113,7 @@ pub fn gap_end(zone: &LinkedZone, start: u32) -> u32
 }
 
 /// The address at which the gap begins that has the blocks before an address.
-pub(crate) fn gap_start(zone: &LinkedZone, end: u32) -> u32
+pub fn gap_start(zone: &LinkedZone, end: u32) -> u32
     requires front { FrontAt zone.now end }
     requires owners { HasOwners zone.now }
     requires sizes { HasSizes zone.now }

@@ -6,12 +6,12 @@ ghost use Rattle.mac_base.specs.ZoneMap.{total_size};
 ghost use Rattle.linked_zone.specs.Fit.{HasSizes};
 ghost use Rattle.linked_zone.specs.Changes.{carried_up};
 ghost use Rattle.linked_zone.specs.Places.{ParcelAt};
-ghost use Rattle.zone_gaps.specs.Runs.{RunAt, arranged, LastAt};
+ghost use Rattle.zone_gaps.specs.Runs.{RunAt, UsedUpTo, arranged, LastAt};
 
 use linked_zone::LinkedZone;
 
-/// Moves the blocks of a run down, so that its free bytes are above them in one block. The bytes of each block are
-/// moved once. Gives the address at which the free bytes begin.
+/// Moves the blocks of a run down, so that its free bytes are above them in one block. Blocks in use that are neighbours are
+/// moved together, and the bytes of each once. Gives the address at which the free bytes begin.
 pub(crate) fn press_down(zone: &mut LinkedZone, start: u32, end: u32) -> u32
     requires run { RunAt zone.old start end }
     requires sizes { HasSizes zone.old }
@@ -21,20 +21,33 @@ pub(crate) fn press_down(zone: &mut LinkedZone, start: u32, end: u32) -> u32
     let mut free = start;
     let mut next = start;
     while next < end {
-        let here = zone.entry_at(next);
-        if here.kind.is_free() {
+        let behind = used_end(zone, next, end);
+        if next < behind {
+            if free < next {
+                zone.carry(free, behind);
+            }
+            free += behind - next;
+            next = behind;
+        } else {
+            let size = zone.entry_at(next).size;
             if free < next {
                 zone.merge(free);
             }
-        } else {
-            if free < next {
-                zone.exchange(free);
-            }
-            free += here.size;
+            next += size;
         }
-        next += here.size;
     }
     free
+}
+
+/// The address behind the blocks in use with which a run begins. No header is read.
+fn used_end(zone: &LinkedZone, start: u32, end: u32) -> u32
+    requires { RunAt zone.now start end }
+    ensures { (run : RunAt zone.now start end) → UsedUpTo run.blocks start result }
+{
+    match zone.next_free(start) {
+        Some(at) => at.min(end),
+        None => end,
+    }
 }
 
 /// Moves the blocks of a run up, so that its free bytes are below them in one block. The bytes of each block are moved

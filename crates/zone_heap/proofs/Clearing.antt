@@ -1,6 +1,6 @@
 -- The lowest gap with room is cleared, or arranged down: what the zone is then, and where its lowest free block with room stands.
-use Rattle.std.proofs.Common.{◌≡◌, ℕ, ◌-◌, ◌<◌, ◌≤◌, Bool, true, false, not, cond, [], ◌∷◌, ◌++◌, Some, refl, ap, sym, ◌∙◌, subst, inl, inr, append-nil, append_assoc, arith}
-use Rattle.std.specs.Prelude.{◌&&◌, ◌⊎◌, nat_le, option_map, option_and_then}
+use Rattle.std.proofs.Common.{◌≡◌, ℕ, ◌+◌, ◌<◌, ◌≤◌, true, false, not, cond, [], ◌∷◌, ◌++◌, Some, refl, ap, sym, ◌∙◌, subst, append-nil, append_assoc, arith}
+use Rattle.std.specs.Prelude.{nat_le, option_map, option_and_then}
 use Rattle.std.specs.Option.{option_or}
 use Rattle.std.proofs.lemmas.Bool.Decides.{nat_tests}
 use Rattle.std.proofs.lemmas.List.Folds.{list_all-append}
@@ -10,20 +10,22 @@ use Rattle.mac_base.specs.declared.block.Kind.TheVariants.{Free}
 use Rattle.mac_base.specs.Arrangement.{down, up, used_blocks}
 use Rattle.mac_base.specs.Gap.{Gap, gaps, filled, lowest_gap, room}
 use Rattle.mac_base.specs.Serve.{begins_free, taken, take_lowest, placed_relocatable}
-use Rattle.mac_base.specs.ZoneMap.{ZoneMap, block, free_bytes, has_free, is_free}
+use Rattle.mac_base.specs.ZoneMap.{ZoneMap, block, free_bytes, has_free, address_behind, total_size}
 use Rattle.mac_base.specs.ZoneState.{ZoneState}
-use Rattle.zone_laws.proofs.Arranging.{IsArrangement, down-IsArrangement, up-IsArrangement, total_size-used}
+use Rattle.zone_laws.proofs.Arranging.{IsArrangement, down-IsArrangement, up-IsArrangement}
 use Rattle.zone_laws.proofs.Fitting.{free_block-some}
 use Rattle.zone_laws.proofs.GapParts.{IsGap, lowest_gap-is}
-use Rattle.zone_laws.proofs.Maps.{true_both, total_size-append}
+use Rattle.zone_laws.proofs.Maps.{true_both}
 use Rattle.gap_laws.proofs.RearrangedSuits.{Sound-arranged}
 use Rattle.linked_zone.specs.Changes.{with_map}
-use Rattle.linked_zone.specs.Places.{LowestAt}
-use Rattle.zone_gaps.specs.declared.gap.FoundGap.{FoundGap}
-use Rattle.zone_gaps.specs.Gaps.{IsFoundGap, with_gap}
+use Rattle.linked_zone.specs.Fit.{HasSizes}
+use Rattle.linked_zone.specs.Places.{EntryAt, LowestAt}
+use Rattle.zone_gaps.specs.Gaps.{GapAt, GapFrom, IsLowestGap, with_gap}
+use Rattle.zone_gaps.proofs.Laws.{gap_from}
+use Rattle.zone_gaps.proofs.Squeezing.{map_from, start_from, none_before}
 use Rattle.zone_heap.specs.Attempts.{SoundZone}
 use Rattle.zone_heap.specs.Room.{IsCleared, IsOpened}
-use Rattle.zone_heap.proofs.Finding.{NoneHas, before_none, used_none, Begins}
+use Rattle.zone_heap.proofs.Finding.{NoneHas, before_none, used_none, used_begins}
 use Rattle.zone_heap.proofs.Taking.{take_lowest-there, take_lowest-none}
 
 -- a zone with a gap arranged is sound
@@ -46,25 +48,11 @@ opened_taken z new k at o kind =
     o.taken kind ∙ ap (λ (w : ZoneState). take_lowest w.shape k kind w.heap.map) (sym o.zone) ∙ ap (take_lowest new.shape k kind) o.low.free.map
     ∙ take_lowest-there new.shape k kind o.low.free.before o.low.free.size o.low.free.behind o.low.lowest o.low.large
 
--- a first block that isn't free or is too small does not do, and any other does
-pub does_not : (free is : Bool) (k n : ℕ) → free ≡ is → (free ≡ false) ⊎ ((free ≡ true) × (n < k)) → (is && nat_le k n) ≡ false
-does_not free is k n same (inl used) = ap (λ b. b && nat_le k n) (sym same ∙ used)
-does_not free is k n same (inr few) = ap (λ b. b && nat_le k n) (sym same ∙ few.0) ∙ below k n few.1
-  where
-    below : (k n : ℕ) → n < k → nat_le k n ≡ false
-    below k n h = grind (arith, nat_tests)
-
-pub does : (free is : Bool) (k n : ℕ) → free ≡ is → free ≡ true → k ≤ n → (is && nat_le k n) ≡ true
-does free is k n same unused fits = ap (λ b. b && nat_le k n) (sym same ∙ unused) ∙ above k n fits
-  where
-    above : (k n : ℕ) → k ≤ n → nat_le k n ≡ true
-    above k n h = grind (arith, nat_tests)
-
 -- no free block has room in blocks where none has in two parts of them
 both_none : (k : ℕ) (a b : ZoneMap) → NoneHas k a → NoneHas k b → NoneHas k (a ++ b)
 both_none k a b none others = list_all-append (λ e. not (has_free k e)) a b ∙ true_both _ _ none others
 
-module _ (z : ZoneState) (k : ℕ) (found : FoundGap) (some : 0 < k) (is : IsFoundGap z k found) where
+module _ (z : ZoneState) (k at : ℕ) (some : 0 < k) (is : IsLowestGap z k at) where
   abbrev g : Gap
   g = is.gap
 
@@ -74,10 +62,6 @@ module _ (z : ZoneState) (k : ℕ) (found : FoundGap) (some : 0 < k) (is : IsFou
 
   pub gap_free : 0 < free_bytes g.blocks
   gap_free = let fits = gap_is.1 in omega arith
-
-  -- the bytes of a gap are used or free
-  pub room_within : found.room ≤ found.end
-  room_within = let all = total_size-used g.blocks in let end = is.end in let room = is.room in omega arith
 
   -- the map with the gap arranged down: its free bytes are one block, behind the blocks that are used
   down_map : filled g (down g.blocks) ≡ (g.before ++ used_blocks g.blocks) ++ block Free (free_bytes g.blocks) ∷ g.behind
@@ -107,18 +91,12 @@ module _ (z : ZoneState) (k : ℕ) (found : FoundGap) (some : 0 < k) (is : IsFou
       ∙ sym (ap (take_lowest s k kind) down_map ∙ take_lowest-there s k kind (g.before ++ used) free g.behind below_none gap_is.1)
 
   -- arranged down, the gap has the lowest free block with room
-  pub opened_down : (new : ZoneState) → NoneHas k z.heap.map → new ≡ with_gap z g (down g.blocks) → IsOpened z k (found.end - found.room) new
-  opened_down new none same = record {
+  pub opened_down : (new : ZoneState) (low : ℕ) → NoneHas k z.heap.map → new ≡ with_gap z g (down g.blocks) → low ≡ address_behind z.shape (g.before ++ used_blocks g.blocks) → IsOpened z k low new
+  opened_down new low none same place = record {
     map = filled g (down g.blocks);
     zone = same;
-    low = subst (λ w. LowestAt w k (found.end - found.room)) (sym same) (let low : LowestAt (with_gap z g (down g.blocks)) k (found.end - found.room) = record {
-      free = record {
-        before = g.before ++ used_blocks g.blocks;
-        size = free_bytes g.blocks;
-        behind = g.behind;
-        map = down_map;
-        place = (let all = total_size-used g.blocks in let end = is.end in let room = is.room in let start = is.start in let parts = total_size-append g.before (used_blocks g.blocks) in omega arith);
-      };
+    low = subst (λ w. LowestAt w k low) (sym same) (let low : LowestAt (with_gap z g (down g.blocks)) k low = record {
+      free = record { before = g.before ++ used_blocks g.blocks; size = free_bytes g.blocks; behind = g.behind; map = down_map; place = place };
       large = gap_is.1;
       lowest = below_none;
     } in low);
@@ -128,17 +106,50 @@ module _ (z : ZoneState) (k : ℕ) (found : FoundGap) (some : 0 < k) (is : IsFou
   pub sound_down : (new : ZoneState) → SoundZone z → new ≡ with_gap z g (down g.blocks) → SoundZone new
   sound_down new s same = sound-arranged z new g (down g.blocks) s gap_is.0 (down-IsArrangement g.blocks) same
 
-  -- a gap that does not begin with the bytes is arranged up
-  pub cleared_up : (new : ZoneState) → begins_free k g.blocks ≡ false → new ≡ with_gap z g (up g.blocks) → IsCleared z k found.start new
-  cleared_up new begins same = record { gap = g; lowest = is.lowest; start = is.start; zone = same ∙ sym (ap (λ c. with_gap z g (cond c g.blocks (up g.blocks))) begins) }
-
-  -- one that does stays
-  pub cleared_there : begins_free k g.blocks ≡ true → IsCleared z k found.start z
-  cleared_there begins = record { gap = g; lowest = is.lowest; start = is.start; zone = ap (λ m. with_map m z) gap_is.0.parts ∙ sym (ap (λ c. with_gap z g (cond c g.blocks (up g.blocks))) begins) }
+  -- the gap with its first free block
+  abbrev pub from : GapFrom z at
+  from = gap_from z k at is
 
   pub sound_up : (new : ZoneState) → SoundZone z → new ≡ with_gap z g (up g.blocks) → SoundZone new
   sound_up new s same = sound-arranged z new g (up g.blocks) s gap_is.0 (up-IsArrangement g.blocks) same
 
-  -- whether it begins with them, by its first block
-  pub begins_with : (b : Begins g.blocks) (first : Entry) → first ≡ b.here → begins_free k g.blocks ≡ (is_free first.kind && nat_le k first.size)
-  begins_with b first here = ap (begins_free k) b.is ∙ ap (has_free k) (sym here)
+  -- it stands there
+  abbrev pub entry_first : EntryAt z at
+  entry_first = record { before = g.before ++ (is.first).used; here = block Free (is.first).size; behind = (is.first).rest ++ g.behind; map = map_from z at from; place = (is.first).place }
+
+  module _ (start : ℕ) (there : start + total_size (is.first).used ≡ at) where
+    -- the gap begins there
+    abbrev pub at_start : GapAt z start
+    at_start = record { gap = g; among = from.among; place = start_from z at from start there }
+
+    -- arranged up where it begins with used blocks, or with too few free bytes
+    pub cleared_up : (new : ZoneState) → begins_free k g.blocks ≡ false → new ≡ with_gap z g (up g.blocks) → IsCleared z k start new
+    cleared_up new begins same = record { gap = g; lowest = is.lowest; start = start_from z at from start there; zone = same ∙ sym (ap (λ c. with_gap z g (cond c g.blocks (up g.blocks))) begins) }
+
+    -- it stays where it begins with enough
+    pub cleared_there : begins_free k g.blocks ≡ true → IsCleared z k start z
+    cleared_there begins = record {
+      gap = g;
+      lowest = is.lowest;
+      start = start_from z at from start there;
+      zone = ap (λ m. with_map m z) gap_is.0.parts ∙ sym (ap (λ c. with_gap z g (cond c g.blocks (up g.blocks))) begins);
+    }
+
+    pub begins_used : start < at → begins_free k g.blocks ≡ false
+    begins_used below = ap (begins_free k) (is.first).blocks ∙ used_begins k (is.first).used _ (is.first).none (omega arith)
+
+    begins_there : HasSizes z → at ≤ start → begins_free k g.blocks ≡ nat_le k (is.first).size
+    begins_there sizes above = ap (begins_free k) ((is.first).blocks ∙ ap (λ u. u ++ block Free (is.first).size ∷ (is.first).rest) (none_before z at from sizes start there above))
+
+    -- by the size of its first block
+    pub begins_few : HasSizes z → at ≤ start → (e : Entry) → e ≡ block Free (is.first).size → e.size < k → begins_free k g.blocks ≡ false
+    begins_few sizes above e here few = begins_there sizes above ∙ below k (is.first).size (subst (λ (e : Entry). e.size < k) here few)
+      where
+        below : (k n : ℕ) → n < k → nat_le k n ≡ false
+        below k n h = grind (arith, nat_tests)
+
+    pub begins_enough : HasSizes z → at ≤ start → (e : Entry) → e ≡ block Free (is.first).size → k ≤ e.size → begins_free k g.blocks ≡ true
+    begins_enough sizes above e here fits = begins_there sizes above ∙ within k (is.first).size (subst (λ (e : Entry). k ≤ e.size) here fits)
+      where
+        within : (k n : ℕ) → k ≤ n → nat_le k n ≡ true
+        within k n h = grind (arith, nat_tests)

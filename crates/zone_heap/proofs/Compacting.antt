@@ -12,17 +12,11 @@ use Rattle.mac_base.specs.ZoneMap.{ZoneMap, largest_free}
 use Rattle.mac_base.specs.ZoneState.{ZoneState}
 use Rattle.gap_laws.proofs.RearrangingAll.{Sound-compacted, Sound-all_down, Sound-moved_high}
 use Rattle.linked_zone.specs.Changes.{with_map}
-use Rattle.zone_gaps.specs.declared.gap.FoundGap.{FoundGap}
-use Rattle.zone_gaps.specs.Gaps.{Settled, GapAt, IsFoundGap}
-use Rattle.zone_gaps.proofs.Laws.{find-contains}
+use Rattle.zone_gaps.specs.Gaps.{Settled}
 use Rattle.zone_heap.specs.Attempts.{SoundZone}
 use Rattle.zone_heap.specs.Squeezed.{squeezed}
 
--- the lowest gap that has room stands where it was found
-abbrev pub found_gap : (z : ZoneState) (k : ℕ) (found : FoundGap) → IsFoundGap z k found → GapAt z found.start
-found_gap z k found is = record { gap = is.gap; among = find-contains (λ g. nat_le k (room g)) (gaps z.heap.table z.heap.map) is.gap is.lowest; place = is.start }
-
--- and down it is what the blocks are moved to
+-- the lowest gap with room arranged down is what the blocks are moved to
 pub squeezed-found : (t : HandleTable) (m : ZoneMap) (k : ℕ) (g : Gap) → Rattle.mac_base.specs.Gap.lowest_gap k (gaps t m) ≡ Some g → filled g (down g.blocks) ≡ squeezed t k m
 squeezed-found t m k g is = ap (λ o. option_map_or (λ (g : Gap). filled g (down g.blocks)) o (all_down t m)) (sym is)
 

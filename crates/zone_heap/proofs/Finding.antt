@@ -1,23 +1,21 @@
 -- What the lowest gap with room is, and what lies before it.
-use Rattle.std.proofs.Common.{◌≡◌, ℕ, ◌+◌, ◌<◌, Bool, true, false, not, cond, List, [], ◌∷◌, ◌++◌, Some, None, refl, ap, sym, ◌∙◌, subst, append_assoc, arith, IsTrue}
+use Rattle.std.proofs.Common.{◌≡◌, ℕ, ◌+◌, ◌<◌, Bool, true, false, not, cond, List, [], ◌∷◌, ◌++◌, Some, None, refl, ap, sym, ◌∙◌, subst, arith, IsTrue}
 use Rattle.std.specs.Prelude.{◌&&◌, nat_le, find, map, option_map}
 use Rattle.std.specs.List.{list_all}
+use Rattle.std.proofs.lemmas.Bool.{and_parts, not-true}
 use Rattle.std.proofs.lemmas.Bool.Decides.{nat_tests}
 use Rattle.mac_base.specs.declared.block.Entry.{Entry}
 use Rattle.mac_base.specs.declared.block.Kind.{Kind}
 use Rattle.mac_base.specs.declared.block.Kind.TheVariants.{Free, Master, Ptr, Rel}
 use Rattle.mac_base.specs.Arrangement.{used_blocks}
-use Rattle.mac_base.specs.Gap.{Gap, gaps, gaps_with, filled, further, is_fixed, lowest_gap, room}
+use Rattle.mac_base.specs.Gap.{Gap, gaps, gaps_with, further, is_fixed, lowest_gap, room}
 use Rattle.mac_base.specs.HandleTable.{HandleTable}
-use Rattle.mac_base.specs.ZoneMap.{ZoneMap, free_bytes, has_free, is_free}
-use Rattle.mac_base.specs.ZoneState.{ZoneState}
-use Rattle.zone_laws.proofs.GapParts.{first_gap, first_gap-before, later_gaps, gaps-first, lowest_gap-is}
+use Rattle.mac_base.specs.Serve.{begins_free}
+use Rattle.mac_base.specs.ZoneMap.{ZoneMap, free_bytes, has_free, is_free, total_size}
+use Rattle.zone_laws.proofs.GapParts.{first_gap, first_gap-before, later_gaps, gaps-first}
 use Rattle.zone_laws.proofs.Maps.{true_both}
 use Rattle.zone_laws.proofs.PlacedParts.{option_map-Some}
-use Rattle.linked_zone.specs.Places.{EntryAt}
-use Rattle.zone_gaps.specs.declared.gap.FoundGap.{FoundGap}
-use Rattle.zone_gaps.specs.Gaps.{GapAt, IsFoundGap}
-use Rattle.zone_gaps.proofs.Laws.{find-contains}
+use Rattle.linked_zone.specs.Places.{none_free}
 
 -- none of these blocks is free and has k bytes
 abbrev pub NoneHas : ℕ → ZoneMap → Type 0
@@ -100,26 +98,7 @@ used_none k (e ∷ es) = elim (is_free e.kind) as (λ c. is_free e.kind ≡ c �
   | false ↦ λ used. true_both (not (has_free k e)) (list_all (λ e. not (has_free k e)) (used_blocks es)) (ap (λ c. not (c && nat_le k e.size)) used) (used_none k es)
 ] refl
 
--- the gap that was found begins at its address
-abbrev pub gap_of_found : (z : ZoneState) (k : ℕ) (found : FoundGap) → IsFoundGap z k found → GapAt z found.start
-gap_of_found z k found is = record { gap = is.gap; among = find-contains (λ g. nat_le k (room g)) (gaps z.heap.table z.heap.map) is.gap is.lowest; place = is.start }
-
--- a gap with room has a first block
-pub record Begins (m : ZoneMap) : Type 0 where
-  pub here : Entry
-  pub rest : ZoneMap
-  pub is : m ≡ here ∷ rest
-
-pub some_begins : (m : ZoneMap) → 0 < free_bytes m → Begins m
-some_begins [] h = absurd (omega arith)
-some_begins (e ∷ es) h = record { here = e; rest = es; is = refl }
-
--- which stands where the gap begins
-abbrev pub first_entry : (z : ZoneState) (k : ℕ) (found : FoundGap) (is : IsFoundGap z k found) → Begins is.gap.blocks → EntryAt z found.start
-first_entry z k found is begins = let g : Gap = is.gap in record {
-  before = g.before;
-  here = begins.here;
-  behind = begins.rest ++ g.behind;
-  map = (lowest_gap-is z.heap.table z.heap.map k g is.lowest).0.parts ∙ ap (filled g) begins.is ∙ append_assoc g.before (begins.here ∷ begins.rest) g.behind;
-  place = is.start;
-}
+-- blocks that begin with one in use don't begin with free bytes
+pub used_begins : (k : ℕ) (used m : ZoneMap) → none_free used ≡ true → 0 < total_size used → begins_free k (used ++ m) ≡ false
+used_begins k [] m none some = absurd (omega arith)
+used_begins k (e ∷ es) m none some = ap (λ c. c && nat_le k e.size) (not-true _ (and_parts _ (none_free es) none).0)

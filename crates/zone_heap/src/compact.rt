@@ -76,7 +76,7 @@ impl Zone {
     }
 }
 
-ghost use Rattle.std.specs.Prelude.{◌≡◌};
+ghost use Rattle.std.specs.Prelude.{◌≡◌, ◌<◌};
 ghost use Rattle.mac_base.specs.ZoneMap.{handle_of, largest_free};
 ghost use Rattle.linked_zone.specs.Changes.{with_map as zone_with_map};
 ghost use Rattle.linked_zone.specs.Fit.{HasSizes};
@@ -105,13 +105,16 @@ fn largest_free(pointers: &LinkedZone) -> u32
 
 /// Moves the blocks of the lowest gap with at least `needed` free bytes down, or those of all gaps where none has so many.
 fn squeeze(pointers: &mut LinkedZone, needed: u32)
-    requires { Settled pointers.old }
+    requires some { 0 < needed }
+    requires settled { Settled pointers.old }
     ensures zone { pointers.new ≡ zone_with_map (squeezed pointers.old.heap.table needed pointers.old.heap.map) pointers.old }
     ensures loans { KeepsLoans pointers.old pointers.new }
     ensures settled { Settled pointers.new }
 {
     match lowest_gap(pointers, needed) {
-        Some(gap) => squeeze_down(pointers, gap.start),
+        Some(at) => {
+            squeeze_down(pointers, at);
+        }
         None => squeeze_all_down(pointers),
     }
 }

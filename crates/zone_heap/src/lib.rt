@@ -3,10 +3,12 @@
 
 mod attempt;
 mod compact;
+mod copying;
 mod growth;
 mod place;
 mod purge;
 mod replace;
+mod reports;
 mod shortage;
 mod size;
 mod zone;

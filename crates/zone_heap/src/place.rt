@@ -6,7 +6,7 @@ use linked_zone::LinkedZone;
 use mac_base::handle::{Handle, Ptr};
 use mac_base::size::{MASTER_LENGTH, need_for};
 use mac_base::zone_spec::ADDRESS_END;
-use zone_gaps::{lowest_gap, squeeze_down, squeeze_up};
+use zone_gaps::{gap_start, lowest_gap, squeeze_down, squeeze_up};
 
 impl Zone {
     ghost use Rattle.std.specs.Prelude.{◌≤◌, MatchResult};
@@ -172,9 +172,8 @@ pub(crate) fn open_lowest(zone: &mut LinkedZone, needed: u32) -> Option<u32>
     if let Some(at) = zone.lowest_free(needed) {
         return Some(at);
     }
-    let found = lowest_gap(zone, needed)?;
-    squeeze_down(zone, found.start);
-    Some(found.end - found.room)
+    let at = lowest_gap(zone, needed)?;
+    Some(squeeze_down(zone, at))
 }
 
 /// The start of the lowest gap with room for `needed` bytes. The gap begins with so many free bytes: it is arranged up
@@ -186,10 +185,10 @@ fn clear_lowest(zone: &mut LinkedZone, needed: u32) -> Option<u32>
     ensures loans { KeepsLoans zone.old zone.new }
     ensures sound { SoundZone zone.new }
 {
-    let found = lowest_gap(zone, needed)?;
-    let first = zone.entry_at(found.start);
-    if !first.kind.is_free() || first.size < needed {
-        squeeze_up(zone, found.start);
+    let at = lowest_gap(zone, needed)?;
+    let start = gap_start(zone, at);
+    if start < at || zone.entry_at(at).size < needed {
+        squeeze_up(zone, start);
     }
-    Some(found.start)
+    Some(start)
 }

@@ -46,7 +46,7 @@ loop-at-preserved c rest =
     let w = (goal.at.loop-at-preserved c).After-entry_at-here in
     let size : c.entry_at-here.result.size ≡ ((coming w rest).here).size = ap (λ (e : Entry). e.size) (read w rest) in
     subst (λ n. Walked c.args.zone.now rest (c.loop-at.at + n)) (sym size)
-    (facing_moves c.args.zone.now rest c.loop-at.at (coming w rest) (ap (λ (e : Entry). is_fixed c.args.zone.now.heap.table e.kind) (sym (read w rest)) ∙ sym c.is_fixed.ensures ∙ c.if-is_fixed.false))
+    (facing_moves c.args.zone.now rest c.loop-at.at (coming w rest) (ap (λ (e : Entry). is_fixed c.args.zone.now.heap.table e.kind) (sym (read w rest)) ∙ sym c.is_fixed.ensures ∙ c.if-is_fixed.false)).walked
 
 pub returns-then-is_fixed : goal.returns-then-is_fixed
 returns-then-is_fixed c rest =

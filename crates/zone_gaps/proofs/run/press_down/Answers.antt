@@ -1,78 +1,98 @@
-use Rattle.std.proofs.Common.{◌+◌, ◌∙◌, sym, subst, arith}
-use Rattle.zone_gaps.specs.Runs.{RunAt}
-use Rattle.zone_gaps.proofs.Pressing.{Pressing, Ahead, none_pressed, ahead, ahead_read, all_pressed, entry_ahead, pair_ahead, movable_ahead, merged, first_free, passed, stayed, within_ahead, low_ahead, some_size}
+use Rattle.std.proofs.Common.{◌≡◌, ◌+◌, ◌-◌, ◌∙◌, sym, ap, subst, arith}
+use Rattle.mac_base.specs.declared.block.Entry.{Entry}
+use Rattle.zone_gaps.specs.Runs.{RunAt, UsedUpTo}
+use Rattle.zone_gaps.proofs.Pressing.{Pressing, Ahead, all_pressed, run_next, within_used, next_is_behind, parcel_next, passed, stayed, ahead, entry_ahead, pair_ahead, merged, first_free, within_ahead, some_size}
 use Rattle.zone_gaps.proofs.run.press_down.Goals as goal
-use Rattle.zone_gaps.proofs.run.press_down.Goals.{After-entry_at-here, then-is_free+then-free-next, then-is_free+else-free-next, else-is_free, then-free-next-2, else-free-next-2}
+use Rattle.zone_gaps.proofs.run.press_down.Goals.{After-used_end-behind, After-entry_at-size, then-free-next, else-free-next, then-free-next-2, else-free-next-2}
 
--- a block is to come
-abbrev coming : (c : After-entry_at-here) (run : RunAt c.args.zone.now c.args.start c.args.end) → Ahead c.args.zone.now run c.loop-next.zone c.loop-next.free c.loop-next.next
-coming c run = ahead c.args.zone.now run c.loop-next.zone c.loop-next.free c.loop-next.next (c.loop-next.invariant run) c.loop-next-test.true
+-- the blocks in use that come next
+abbrev coming : (c : After-used_end-behind) (run : RunAt c.args.zone.now c.args.start c.args.end) → UsedUpTo (c.loop-next.invariant run).rest c.loop-next.next c.used_end-behind.result
+coming c run = c.used_end-behind.ensures (run_next c.args.zone.now run c.loop-next.zone c.loop-next.free c.loop-next.next (c.loop-next.invariant run))
 
--- and is the one that is read
-abbrev taken : (c : After-entry_at-here) (run : RunAt c.args.zone.now c.args.start c.args.end) → Ahead c.args.zone.now run c.loop-next.zone c.loop-next.free c.loop-next.next
-taken c run =
-    ahead_read c.args.zone.now run c.loop-next.zone c.loop-next.free c.loop-next.next (coming c run) c.entry_at-here.result
-    (c.entry_at-here.ensures (entry_ahead c.args.zone.now run c.loop-next.zone c.loop-next.free c.loop-next.next (coming c run)))
+-- or a free block
+unused : (c : After-entry_at-size) (run : RunAt c.args.zone.now c.args.start c.args.end) → Ahead (c.loop-next.invariant run).rest
+unused c run =
+    ahead c.args.zone.now run c.loop-next.zone c.loop-next.free c.loop-next.next (c.loop-next.invariant run) c.used_end-behind.result (coming (goal.at.After-entry_at-size c).After-used_end-behind run) c.requires.sizes c.loop-next-test.true c.if-next-behind.false
 
-pub entry_at-here-requires : goal.entry_at-here-requires
-entry_at-here-requires c =
-    entry_ahead c.args.zone.now c.requires.run c.loop-next.zone c.loop-next.free c.loop-next.next
-    (ahead c.args.zone.now c.requires.run c.loop-next.zone c.loop-next.free c.loop-next.next (c.loop-next.invariant c.requires.run) c.loop-next-test.true)
+-- of the size that is read
+size : (c : After-entry_at-size) (run : RunAt c.args.zone.now c.args.start c.args.end) → c.entry_at-size.result.size ≡ ((unused c run).here).size
+size c run = ap (λ (e : Entry). e.size) (c.entry_at-size.ensures (entry_ahead c.args.zone.now run c.loop-next.zone c.loop-next.free c.loop-next.next (c.loop-next.invariant run) (unused c run)))
 
-pub merge-requires : goal.merge-requires
-merge-requires c =
-    let w = (goal.at.merge-requires c).After-entry_at-here in
-    pair_ahead c.args.zone.now c.requires.run c.loop-next.zone c.loop-next.free c.loop-next.next (taken w c.requires.run) (sym c.is_free.ensures ∙ c.if-is_free.true) c.if-free-next.true
+pub used_end-behind-requires : goal.used_end-behind-requires
+used_end-behind-requires c = let run = c.requires.run in run_next c.args.zone.now run c.loop-next.zone c.loop-next.free c.loop-next.next (c.loop-next.invariant run)
 
-pub exchange-requires : goal.exchange-requires
-exchange-requires c =
-    let w = (goal.at.exchange-requires c).After-entry_at-here in
-    movable_ahead c.args.zone.now c.requires.run c.loop-next.zone c.loop-next.free c.loop-next.next (taken w c.requires.run) c.if-free-next-2.true
+pub carry-requires : goal.carry-requires
+carry-requires c =
+    let run = c.requires.run in
+    let l = c.loop-next in
+    parcel_next c.args.zone.now run l.zone l.free l.next (l.invariant run) c.used_end-behind.result (coming (goal.at.carry-requires c).After-used_end-behind run) c.if-free-next.true
 
 pub overflow_add-free : goal.overflow_add-free
 overflow_add-free c =
-    let a = taken (goal.at.overflow_add-free c).After-entry_at-here c.requires.run in
-    omega (arith, within_ahead c.args.zone.now c.requires.run c.loop-next.zone c.loop-next.free c.loop-next.next a, low_ahead c.args.zone.now c.requires.run c.loop-next.zone c.loop-next.free c.loop-next.next a, c.ranges.end.fits)
+    let run = c.requires.run in
+    let l = c.loop-next in
+    let u = coming (goal.at.overflow_add-free c).After-used_end-behind run in
+    omega (arith, within_used c.args.zone.now run l.zone l.free l.next (l.invariant run) c.used_end-behind.result u, next_is_behind c.args.zone.now run l.zone l.free l.next (l.invariant run), c.if-next-behind.true, c.ranges.end.fits)
+
+pub loop-next-preserved-then-next-behind : goal.loop-next-preserved-then-next-behind
+loop-next-preserved-then-next-behind c run =
+    let z = c.args.zone.now in
+    let l = c.loop-next in
+    let p = l.invariant run in
+    let at = c.used_end-behind.result in
+    let u = coming (goal.at.loop-next-preserved-then-next-behind c).After-used_end-behind run in
+    elim c.if-free-next.branch [
+      | then-free-next w ↦ passed z run l.zone l.free l.next p at u c.if-free-next.zone w.if-free-next.true (λ parcel. w.zone-is ∙ w.carry.ensures parcel)
+      | else-free-next w ↦ subst (λ y. Pressing z run y (l.free + (at - l.next)) at) (sym w.zone-is) (stayed z run l.zone l.free l.next p at u w.if-free-next.false)
+    ]
+
+pub entry_at-size-requires : goal.entry_at-size-requires
+entry_at-size-requires c =
+    let z = c.args.zone.now in
+    let run = c.requires.run in
+    let l = c.loop-next in
+    let p = l.invariant run in
+    let u = coming (goal.at.entry_at-size-requires c).After-used_end-behind run in
+    entry_ahead z run l.zone l.free l.next p (ahead z run l.zone l.free l.next p c.used_end-behind.result u c.requires.sizes c.loop-next-test.true c.if-next-behind.false)
+
+pub merge-requires : goal.merge-requires
+merge-requires c =
+    let run = c.requires.run in
+    let l = c.loop-next in
+    pair_ahead c.args.zone.now run l.zone l.free l.next (l.invariant run) (unused (goal.at.merge-requires c).After-entry_at-size run) c.if-free-next-2.true
 
 pub overflow_add-next : goal.overflow_add-next
 overflow_add-next c =
-    let a = taken (goal.at.overflow_add-next c).After-entry_at-here c.requires.run in
-    omega (arith, within_ahead c.args.zone.now c.requires.run c.loop-next.zone c.loop-next.free c.loop-next.next a, c.ranges.end.fits)
+    let run = c.requires.run in
+    let l = c.loop-next in
+    let w = (goal.at.overflow_add-next c).After-entry_at-size in
+    omega (arith, size w run, within_ahead c.args.zone.now run l.zone l.free l.next (l.invariant run) (unused w run), c.ranges.end.fits)
 
 pub loop-next-smaller : goal.loop-next-smaller
 loop-next-smaller c =
-    let a = taken (goal.at.loop-next-smaller c).After-entry_at-here c.requires.run in
-    omega (arith, some_size c.args.zone.now c.requires.run c.loop-next.zone c.loop-next.free c.loop-next.next a c.requires.sizes, c.loop-next-test.true)
-
-pub loop-next-init : goal.loop-next-init
-loop-next-init c run = none_pressed c.args.zone.now run
+    let run = c.requires.run in
+    let l = c.loop-next in
+    let w = (goal.at.loop-next-smaller c).After-entry_at-size in
+    omega (arith, size w run, some_size c.args.zone.now run l.zone l.free l.next (l.invariant run) (unused w run) c.requires.sizes, c.loop-next-test.true)
 
 pub loop-next-preserved : goal.loop-next-preserved
 loop-next-preserved c run =
     let z = c.args.zone.now in
     let l = c.loop-next in
-    let a = taken (goal.at.loop-next-preserved c).After-entry_at-here run in
-    let n = l.next + c.entry_at-here.result.size in
-    elim c.if-is_free.branch [
-      | then-is_free+then-free-next w ↦ subst (λ f. Pressing z run c.if-is_free.zone f n) (sym w.free-is)
-          (merged z run l.zone l.free l.next a c.if-is_free.zone (sym c.is_free.ensures ∙ w.if-is_free.true) w.if-free-next.true (λ pair. w.zone-is ∙ w.merge.ensures pair))
-      | then-is_free+else-free-next w ↦ subst (λ f. Pressing z run c.if-is_free.zone f n) (sym w.free-is) (subst (λ y. Pressing z run y l.free n) (sym w.zone-is)
-          (first_free z run l.zone l.free l.next a (sym c.is_free.ensures ∙ w.if-is_free.true) w.if-free-next.false (some_size z run l.zone l.free l.next a c.requires.sizes)))
-      | else-is_free w ↦ subst (λ f. Pressing z run c.if-is_free.zone f n) (sym w.free-is) (elim w.if-free-next-2.branch [
-        | then-free-next-2 v ↦ passed z run l.zone l.free l.next a c.if-is_free.zone (sym c.is_free.ensures ∙ w.if-is_free.false) v.if-free-next-2.true (λ pair. w.zone-is ∙ v.zone-is ∙ v.exchange.ensures pair)
-        | else-free-next-2 v ↦ subst (λ y. Pressing z run y (l.free + c.entry_at-here.result.size) n) (sym (w.zone-is ∙ v.zone-is))
-            (stayed z run l.zone l.free l.next a (sym c.is_free.ensures ∙ w.if-is_free.false) v.if-free-next-2.false)
-      ])
-    ]
+    let p = l.invariant run in
+    let w = (goal.at.loop-next-preserved c).After-entry_at-size in
+    let a = unused w run in
+    subst (λ n. Pressing z run c.if-free-next-2.zone l.free (l.next + n)) (sym (size w run)) (elim c.if-free-next-2.branch [
+      | then-free-next-2 v ↦ merged z run l.zone l.free l.next p a c.if-free-next-2.zone v.if-free-next-2.true (λ pair. v.zone-is ∙ v.merge.ensures pair)
+      | else-free-next-2 v ↦ subst (λ y. Pressing z run y l.free (l.next + (a.here).size)) (sym v.zone-is) (first_free z run l.zone l.free l.next p a v.if-free-next-2.false (some_size z run l.zone l.free l.next p a c.requires.sizes))
+    ])
 
 pub returns-clause-zone : goal.returns-clause-zone
 returns-clause-zone c run =
-    let z = c.args.zone.now in
     let l = c.loop-next in
-    (all_pressed z run l.zone l.free l.next c.requires.sizes (l.invariant run) c.loop-next-test.false).zone
+    (all_pressed c.args.zone.now run l.zone l.free l.next c.requires.sizes (l.invariant run) c.loop-next-test.false).zone
 
 pub returns-clause-free : goal.returns-clause-free
 returns-clause-free c run =
-    let z = c.args.zone.now in
     let l = c.loop-next in
-    (all_pressed z run l.zone l.free l.next c.requires.sizes (l.invariant run) c.loop-next-test.false).free_is
+    (all_pressed c.args.zone.now run l.zone l.free l.next c.requires.sizes (l.invariant run) c.loop-next-test.false).free_is

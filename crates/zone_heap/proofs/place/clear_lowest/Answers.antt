@@ -1,37 +1,56 @@
-use Rattle.std.proofs.Common.{◌≡◌, ◌∙◌}
-use Rattle.std.specs.Prelude.{◌&&◌, nat_le}
+use Rattle.std.proofs.Common.{◌≡◌, false}
 use Rattle.mac_base.specs.Serve.{begins_free}
-use Rattle.mac_base.specs.ZoneMap.{is_free}
-use Rattle.zone_heap.proofs.Finding.{gap_of_found, first_entry, some_begins}
-use Rattle.zone_heap.proofs.Clearing.{gap_free, cleared_up, cleared_there, sound_up, begins_with, does, does_not}
+use Rattle.zone_gaps.proofs.Laws.{gap_from}
+use Rattle.zone_gaps.proofs.Settling.{settled-sound, owners-settled}
+use Rattle.zone_gaps.proofs.Squeezing.{front_from}
+use Rattle.zone_heap.proofs.Clearing.{at_start, cleared_up, cleared_there, sound_up, begins_used, begins_few, begins_enough, entry_first}
 use Rattle.zone_heap.proofs.place.clear_lowest.Goals as goal
-use Rattle.zone_heap.proofs.place.clear_lowest.Goals.{After-entry_at-first}
+use Rattle.zone_heap.proofs.place.clear_lowest.Goals.{Then-start-at, then-start-at-via-then-start-at, then-start-at-via-else-start-at+then-entry_at-needed}
 
-pub entry_at-first-requires : goal.entry_at-first-requires
-entry_at-first-requires c = first_entry c.args.zone.now c.args.needed c.in_ok-found.found c.in_ok-found.ensures
-    (some_begins _ (gap_free c.args.zone.now c.args.needed c.in_ok-found.found c.requires.some c.in_ok-found.ensures))
+pub gap_start-start-requires-clause-front : goal.gap_start-start-requires-clause-front
+gap_start-start-requires-clause-front c = front_from c.args.zone.now c.in_ok-at.at (gap_from c.args.zone.now c.args.needed c.in_ok-at.at c.in_ok-at.ensures)
 
--- whether the gap begins with the bytes that are needed
-begins : (c : After-entry_at-first) → begins_free c.args.needed c.in_ok-found.ensures.gap.blocks ≡ (is_free c.entry_at-first.result.kind && nat_le c.args.needed c.entry_at-first.result.size)
-begins c =
-    let z = c.args.zone.now in
-    let found = c.in_ok-found.found in
-    let is = c.in_ok-found.ensures in
-    let b = some_begins is.gap.blocks (gap_free z c.args.needed found c.requires.some is) in
-    begins_with z c.args.needed found c.requires.some is b c.entry_at-first.result (c.entry_at-first.ensures (first_entry z c.args.needed found is b))
+pub gap_start-start-requires-clause-owners : goal.gap_start-start-requires-clause-owners
+gap_start-start-requires-clause-owners c = owners-settled c.args.zone.now (settled-sound c.args.zone.now (c.requires.sound).sound (c.requires.sound).fixed)
+
+pub entry_at-requires : goal.entry_at-requires
+entry_at-requires c = entry_first c.args.zone.now c.args.needed c.in_ok-at.at c.requires.some c.in_ok-at.ensures
 
 pub squeeze_up-requires-clause-gap : goal.squeeze_up-requires-clause-gap
-squeeze_up-requires-clause-gap c = gap_of_found c.args.zone.now c.args.needed c.in_ok-found.found c.in_ok-found.ensures
+squeeze_up-requires-clause-gap c =
+    let z = c.args.zone.now in
+    at_start z c.args.needed c.in_ok-at.at c.requires.some c.in_ok-at.ensures c.gap_start-start.result (c.gap_start-start.ensures (front_from z c.in_ok-at.at (gap_from z c.args.needed c.in_ok-at.at c.in_ok-at.ensures)))
 
-pub returns-then-not-is_free-clause-room : goal.returns-then-not-is_free-clause-room
-returns-then-not-is_free-clause-room c = cleared_up c.args.zone.now c.args.needed c.in_ok-found.found c.requires.some c.in_ok-found.ensures c.squeeze_up.new.zone
-    (begins (goal.at.returns-then-not-is_free-clause-room c).After-entry_at-first ∙ does_not _ _ _ _ c.is_free.ensures c.then-not-is_free.either)
-    (c.squeeze_up.ensures.zone (gap_of_found c.args.zone.now c.args.needed c.in_ok-found.found c.in_ok-found.ensures))
+pub returns-then-start-at-clause-room : goal.returns-then-start-at-clause-room
+returns-then-start-at-clause-room c =
+    let z = c.args.zone.now in
+    let k = c.args.needed in
+    let at = c.in_ok-at.at in
+    let is = c.in_ok-at.ensures in
+    let start = c.gap_start-start.result in
+    let there = c.gap_start-start.ensures (front_from z at (gap_from z k at is)) in
+    let begins : begins_free k is.gap.blocks ≡ false = elim c.then-start-at.branch [
+      | then-start-at-via-then-start-at w ↦ begins_used z k at c.requires.some is start there w.if-start-at.true
+      | then-start-at-via-else-start-at+then-entry_at-needed w ↦ begins_few z k at c.requires.some is start there c.requires.sound.sound.suits.sizes w.if-start-at.false
+          w.entry_at.result (w.entry_at.ensures (entry_first z k at c.requires.some is)) w.if-entry_at-needed.true
+    ] in
+    cleared_up z k at c.requires.some is start there c.squeeze_up.new.zone begins (c.squeeze_up.ensures.zone (at_start z k at c.requires.some is start there))
 
-pub returns-then-not-is_free-clause-sound : goal.returns-then-not-is_free-clause-sound
-returns-then-not-is_free-clause-sound c = sound_up c.args.zone.now c.args.needed c.in_ok-found.found c.requires.some c.in_ok-found.ensures c.squeeze_up.new.zone c.requires.sound
-    (c.squeeze_up.ensures.zone (gap_of_found c.args.zone.now c.args.needed c.in_ok-found.found c.in_ok-found.ensures))
+pub returns-then-start-at-clause-sound : goal.returns-then-start-at-clause-sound
+returns-then-start-at-clause-sound c =
+    let z = c.args.zone.now in
+    let k = c.args.needed in
+    let at = c.in_ok-at.at in
+    let is = c.in_ok-at.ensures in
+    let there = c.gap_start-start.ensures (front_from z at (gap_from z k at is)) in
+    sound_up z k at c.requires.some is c.squeeze_up.new.zone c.requires.sound (c.squeeze_up.ensures.zone (at_start z k at c.requires.some is c.gap_start-start.result there))
 
-pub returns-else-first-needed-clause-room : goal.returns-else-first-needed-clause-room
-returns-else-first-needed-clause-room c = cleared_there c.args.zone.now c.args.needed c.in_ok-found.found c.requires.some c.in_ok-found.ensures
-    (begins (goal.at.returns-else-first-needed-clause-room c).After-entry_at-first ∙ does _ _ _ _ c.is_free.ensures c.if-not-is_free.false c.if-first-needed.false)
+pub returns-else-entry_at-needed-clause-room : goal.returns-else-entry_at-needed-clause-room
+returns-else-entry_at-needed-clause-room c =
+    let z = c.args.zone.now in
+    let k = c.args.needed in
+    let at = c.in_ok-at.at in
+    let is = c.in_ok-at.ensures in
+    let there = c.gap_start-start.ensures (front_from z at (gap_from z k at is)) in
+    cleared_there z k at c.requires.some is c.gap_start-start.result there
+    (begins_enough z k at c.requires.some is c.gap_start-start.result there c.requires.sound.sound.suits.sizes c.if-start-at.false c.entry_at.result (c.entry_at.ensures (entry_first z k at c.requires.some is)) c.if-entry_at-needed.false)

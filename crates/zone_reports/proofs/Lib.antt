@@ -1,0 +1,5 @@
+pub mod Standing
+pub mod Most
+pub mod Measuring
+pub mod Space
+pub mod Totals
