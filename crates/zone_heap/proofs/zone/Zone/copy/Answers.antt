@@ -1,6 +1,5 @@
-use Rattle.std.proofs.Common.{◌≡◌, ◌+◌, ◌≤◌, ◌∙◌, ap, sym, subst, refl, length}
+use Rattle.std.proofs.Common.{◌+◌, ◌≤◌, ◌∙◌, ap, sym, subst, refl, length}
 use Rattle.mac_base.specs.BlockStatus.{status_of}
-use Rattle.mac_base.specs.declared.block.Status.TheVariants.{Full}
 use Rattle.mac_base.specs.HandleTable.{bytes_of}
 use Rattle.mac_base.specs.Sound.{Sound}
 use Rattle.mac_base.specs.ZoneState.{ZoneState, written}
