@@ -6,9 +6,10 @@ pub mod Fronts
 pub mod Squeezing
 pub mod Lasts
 pub mod Walking
-pub mod Stepping
-pub mod Lifting
 pub mod Backing
+pub mod Stepping
+pub mod Ending
+pub mod Lifting
 pub mod Owning
 pub mod Opening
 pub mod Raising

@@ -6,7 +6,7 @@ use Rattle.mac_base.specs.declared.block.Kind.{Kind}
 use Rattle.mac_base.specs.declared.block.Kind.TheVariants.{Free, Master, Ptr, Rel}
 use Rattle.mac_base.specs.Gap.{is_fixed}
 use Rattle.mac_base.specs.HandleTable.{HandleTable, is_handle}
-use Rattle.mac_base.specs.ZoneMap.{ZoneMap, is_free, address_behind, total_size}
+use Rattle.mac_base.specs.ZoneMap.{ZoneMap, block, is_free, address_behind, total_size}
 use Rattle.mac_base.specs.ZoneState.{ZoneState}
 use Rattle.linked_zone.specs.Changes.{with_map}
 use Rattle.linked_zone.specs.Places.{all_can_move, none_free}
@@ -65,9 +65,23 @@ pub record UsedUpTo (blocks : ZoneMap) (from at : ℕ) : Type 0 where
   pub begins : IsTrue (begins_unused rest)
   pub place : at ≡ from + total_size used
 
--- the last of the blocks from an address on, if there is one, stands at an address
-abbrev pub LastAt : ZoneMap → ℕ → ℕ → Type 0
-LastAt blocks start last = (front : ZoneMap) (e : Entry) → blocks ≡ front ++ e ∷ [] → last ≡ start + total_size front
+-- the blocks in use with which these end begin at an address, where these begin at another
+pub record UsedFrom (blocks : ZoneMap) (start at : ℕ) : Type 0 where
+  pub rest : ZoneMap
+  pub used : ZoneMap
+  pub parts : blocks ≡ rest ++ used
+  pub none : IsTrue (none_free used)
+  pub ends : (front : ZoneMap) (e : Entry) → rest ≡ front ++ e ∷ [] → IsTrue (is_free e.kind)
+  pub place : at ≡ start + total_size rest
+
+-- the last free one of these blocks, which begin at an address, stands at another
+pub record LastFree (blocks : ZoneMap) (start at : ℕ) : Type 0 where
+  pub front : ZoneMap
+  pub size : ℕ
+  pub used : ZoneMap
+  pub parts : blocks ≡ front ++ block Free size ∷ used
+  pub none : IsTrue (none_free used)
+  pub place : at ≡ start + total_size front
 
 -- the blocks from an address on up to the next fixed one, or to the zone's end
 pub record RestAt (z : ZoneState) (start : ℕ) : Type 0 where

@@ -1,12 +1,12 @@
 //! Arrangements of runs: neighbouring blocks that may move.
 
-ghost use Rattle.std.specs.Prelude.{◌≡◌, ◌+◌};
+ghost use Rattle.std.specs.Prelude.{◌≡◌, ◌+◌, IsTrue, MatchOption};
 ghost use Rattle.mac_base.specs.Arrangement.{down, up, used_blocks};
 ghost use Rattle.mac_base.specs.ZoneMap.{total_size};
 ghost use Rattle.linked_zone.specs.Fit.{HasSizes};
 ghost use Rattle.linked_zone.specs.Changes.{carried_up};
-ghost use Rattle.linked_zone.specs.Places.{ParcelAt};
-ghost use Rattle.zone_gaps.specs.Runs.{RunAt, UsedUpTo, arranged, LastAt};
+ghost use Rattle.linked_zone.specs.Places.{EntryAt, ParcelAt, none_free};
+ghost use Rattle.zone_gaps.specs.Runs.{RunAt, UsedUpTo, UsedFrom, LastFree, arranged};
 
 use linked_zone::LinkedZone;
 
@@ -50,46 +50,64 @@ fn used_end(zone: &LinkedZone, start: u32, end: u32) -> u32
     }
 }
 
-/// Moves the blocks of a run up, so that its free bytes are below them in one block. The bytes of each block are moved
-/// once.
+/// Moves the blocks of a run up, so that its free bytes are below them in one block. Blocks in use that are neighbours are
+/// moved together, and the bytes of each once.
 pub(crate) fn press_up(zone: &mut LinkedZone, start: u32, end: u32)
     requires run { RunAt zone.old start end }
     requires sizes { HasSizes zone.old }
     ensures { (run : RunAt zone.old start end) → zone.new ≡ arranged zone.old run (up run.blocks) }
 {
-    let mut last = last_block(zone, start, end);
-    let mut low = end;
-    let mut free = 0;
+    let Some(mut low) = last_free(zone, start, end) else {
+        return;
+    };
     while start < low {
-        let here = zone.entry_at(last);
-        if here.kind.is_free() {
-            if free > 0 {
-                zone.merge(last);
-            }
-            free += here.size;
-        } else if free > 0 {
-            zone.exchange(last);
-        }
-        low = last;
-        if let Some(below) = zone.before(last) {
-            last = below;
+        let bottom = used_start(zone, start, low);
+        if bottom < low {
+            zone.sink(bottom, low);
+            low = bottom;
+        } else {
+            let Some(below) = zone.before(low) else {
+                unreachable!();
+            };
+            zone.merge(below);
+            low = below;
         }
     }
 }
 
-/// The address of a run's last block, and that of an empty run's end.
-fn last_block(zone: &LinkedZone, start: u32, end: u32) -> u32
+/// The last free block of a run, if there is one. Only the headers of free blocks are read.
+fn last_free(zone: &LinkedZone, start: u32, end: u32) -> Option<u32>
     requires run { RunAt zone.now start end }
     requires sizes { HasSizes zone.now }
-    ensures { (run : RunAt zone.now start end) → LastAt run.blocks start result }
+    ensures { (run : RunAt zone.now start end) → MatchOption result (IsTrue (none_free run.blocks)) (λ at. LastFree run.blocks start at) }
 {
-    let mut last = start;
-    let mut next = start;
+    let mut last = None;
+    let mut next = used_end(zone, start, end);
     while next < end {
-        last = next;
-        next += zone.entry_at(next).size;
+        last = Some(next);
+        next = used_end(zone, next + zone.entry_at(next).size, end);
     }
     last
+}
+
+/// The address of the blocks in use with which a run ends.
+fn used_start(zone: &LinkedZone, start: u32, end: u32) -> u32
+    requires run { RunAt zone.now start end }
+    requires behind { EntryAt zone.now end }
+    requires sizes { HasSizes zone.now }
+    ensures { (run : RunAt zone.now start end) → UsedFrom run.blocks start result }
+{
+    let mut low = end;
+    while start < low {
+        let Some(last) = zone.before(low) else {
+            unreachable!();
+        };
+        if zone.entry_at(last).kind.is_free() {
+            return low;
+        }
+        low = last;
+    }
+    low
 }
 
 /// Moves a block up past the blocks between it and an address. Gives the address at which it stands then. The

@@ -20,11 +20,7 @@ use Rattle.zone_heap.specs.Squeezed.{squeezed}
 pub squeezed-found : (t : HandleTable) (m : ZoneMap) (k : ℕ) (g : Gap) → Rattle.mac_base.specs.Gap.lowest_gap k (gaps t m) ≡ Some g → filled g (down g.blocks) ≡ squeezed t k m
 squeezed-found t m k g is = ap (λ o. option_map_or (λ (g : Gap). filled g (down g.blocks)) o (all_down t m)) (sym is)
 
--- where a free block is large enough nothing moves
-pub compacted-same : (t : HandleTable) (k : ℕ) (m : ZoneMap) → nat_le k (largest_free m) ≡ true → m ≡ compacted t k m
-compacted-same t k m enough = ap (λ b. cond b m (squeezed t k m)) (sym enough)
-
--- and where none is, blocks are moved down
+-- where no free block is large enough blocks are moved down
 pub compacted-squeezed : (t : HandleTable) (k : ℕ) (m : ZoneMap) → largest_free m < k → squeezed t k m ≡ compacted t k m
 compacted-squeezed t k m small = ap (λ b. cond b m (squeezed t k m)) (sym (too_small k (largest_free m) small))
   where

@@ -1,6 +1,8 @@
-use Rattle.std.proofs.Common.{◌<◌, subst, arith}
+use Rattle.std.proofs.Common.{◌≡◌, ◌+◌, ◌<◌, [], ap, ◌∙◌, subst, arith}
+use Rattle.mac_base.specs.ZoneMap.{address_behind}
+use Rattle.mac_base.specs.ZoneSizes.{ZoneSizes}
 use Rattle.zone_gaps.specs.Runs.{RestAt}
-use Rattle.zone_gaps.proofs.Searching.{Candidate, split_searched, none_left, none-lowest, candidate, candidate_found, candidate_passed, candidate_some, candidate_within, rest_candidate}
+use Rattle.zone_gaps.proofs.Searching.{Candidate, none_searched, split_searched, none_left, none-lowest, candidate, candidate_found, candidate_passed, candidate_some, candidate_within, rest_candidate}
 use Rattle.zone_gaps.proofs.Settling.{owners-settled}
 use Rattle.zone_gaps.proofs.gap.lowest_gap.Goals as goal
 use Rattle.zone_gaps.proofs.gap.lowest_gap.Goals.{In-Some}
@@ -20,6 +22,14 @@ pub returns-then-free_bytes-needed : goal.returns-then-free_bytes-needed
 returns-then-free_bytes-needed c =
     let z = c.args.zone.now in
     none-lowest z.heap.table c.args.needed z.heap.map (subst (λ n. n < c.args.needed) c.free_bytes.ensures c.if-free_bytes-needed.true)
+
+pub loop-at-init : goal.loop-at-init
+loop-at-init c =
+    let base = c.base-from.ensures.value ∙ ap (λ (s : ZoneSizes). s.base) c.spec.ensures.sizes in
+    none_searched c.args.zone.now c.args.needed c.requires.some (c.base-from.result + 52) (let e : c.base-from.result + 52 ≡ address_behind c.args.zone.now.shape [] = omega (arith, base) in e)
+
+pub next_free-requires : goal.next_free-requires
+next_free-requires c = split_searched c.args.zone.now c.args.needed c.requires.some c.loop-at.from c.loop-at.invariant
 
 pub small_end-requires-clause-rest : goal.small_end-requires-clause-rest
 small_end-requires-clause-rest c = rest (goal.at.small_end-requires-clause-rest c).In-Some

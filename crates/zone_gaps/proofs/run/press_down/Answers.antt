@@ -1,7 +1,7 @@
 use Rattle.std.proofs.Common.{◌≡◌, ◌+◌, ◌-◌, ◌∙◌, sym, ap, subst, arith}
 use Rattle.mac_base.specs.declared.block.Entry.{Entry}
 use Rattle.zone_gaps.specs.Runs.{RunAt, UsedUpTo}
-use Rattle.zone_gaps.proofs.Pressing.{Pressing, Ahead, all_pressed, run_next, within_used, next_is_behind, parcel_next, passed, stayed, ahead, entry_ahead, pair_ahead, merged, first_free, within_ahead, some_size}
+use Rattle.zone_gaps.proofs.Pressing.{Pressing, Ahead, none_pressed, all_pressed, run_next, within_used, next_is_behind, parcel_next, passed, stayed, ahead, entry_ahead, pair_ahead, merged, first_free, within_ahead, some_size}
 use Rattle.zone_gaps.proofs.run.press_down.Goals as goal
 use Rattle.zone_gaps.proofs.run.press_down.Goals.{After-used_end-behind, After-entry_at-size, then-free-next, else-free-next, then-free-next-2, else-free-next-2}
 
@@ -17,6 +17,9 @@ unused c run =
 -- of the size that is read
 size : (c : After-entry_at-size) (run : RunAt c.args.zone.now c.args.start c.args.end) → c.entry_at-size.result.size ≡ ((unused c run).here).size
 size c run = ap (λ (e : Entry). e.size) (c.entry_at-size.ensures (entry_ahead c.args.zone.now run c.loop-next.zone c.loop-next.free c.loop-next.next (c.loop-next.invariant run) (unused c run)))
+
+pub loop-next-init : goal.loop-next-init
+loop-next-init c run = none_pressed c.args.zone.now run
 
 pub used_end-behind-requires : goal.used_end-behind-requires
 used_end-behind-requires c = let run = c.requires.run in run_next c.args.zone.now run c.loop-next.zone c.loop-next.free c.loop-next.next (c.loop-next.invariant run)

@@ -1,89 +1,74 @@
-use Rattle.std.proofs.Common.{◌+◌, ◌∙◌, sym, subst, arith}
-use Rattle.zone_gaps.specs.Runs.{RunAt}
-use Rattle.zone_gaps.proofs.Lifting.{Atop, Taken, none_lifted, atop, atop_read, all_lifted, entry_atop, low_atop, free_within, pair_atop, movable_atop, lifted_free, first_free, lifted_used, stayed, some_atop, entry_first, next_lifting, last_lifting}
+use Rattle.std.proofs.Common.{arith}
+use Rattle.zone_gaps.specs.Runs.{RunAt, UsedFrom}
+use Rattle.zone_gaps.proofs.Entries.{entry_size}
+use Rattle.zone_gaps.proofs.Lifting.{Under, none_lifted, first_lifted, all_lifted, entry_low, run_low, sizes_low, parcel_low, sunk_low, under, pair_under, joined_under, not_first}
 use Rattle.zone_gaps.proofs.run.press_up.Goals as goal
-use Rattle.zone_gaps.proofs.run.press_up.Goals.{After-entry_at-here, Joined-is_free, then-is_free, then-free-gt0, else-free-gt0, else-is_free+then-free-gt0-2, else-is_free+else-free-gt0-2}
+use Rattle.zone_gaps.proofs.run.press_up.Goals.{After-used_start-bottom, In-Some-before}
 
--- a block is to come, the one that is read
-abbrev coming : (c : After-entry_at-here) (run : RunAt c.args.zone.now c.args.start c.args.end) → Atop c.args.zone.now run c.loop-low.zone c.loop-low.last c.loop-low.low c.loop-low.free
-coming c run = atop c.args.zone.now run c.loop-low.zone c.loop-low.last c.loop-low.low c.loop-low.free (c.loop-low.invariant run) c.loop-low-test.true
+-- the blocks in use right below
+abbrev coming : (c : After-used_start-bottom) (run : RunAt c.args.zone.now c.args.start c.args.end) → UsedFrom (c.loop-low.invariant run).rest c.args.start c.used_start-bottom.result
+coming c run = c.used_start-bottom.ensures (run_low c.args.zone.now run c.loop-low.zone c.loop-low.low (c.loop-low.invariant run))
 
-abbrev read : (c : After-entry_at-here) (run : RunAt c.args.zone.now c.args.start c.args.end) → Atop c.args.zone.now run c.loop-low.zone c.loop-low.last c.loop-low.low c.loop-low.free
-read c run =
-    atop_read c.args.zone.now run c.loop-low.zone c.loop-low.last c.loop-low.low c.loop-low.free (coming c run) c.entry_at-here.result
-    (c.entry_at-here.ensures (entry_atop c.args.zone.now run c.loop-low.zone c.loop-low.last c.loop-low.low c.loop-low.free (coming c run)))
-
--- it is done
-taken : (c : Joined-is_free) (run : RunAt c.args.zone.now c.args.start c.args.end) → Taken c.args.zone.now run c.if-is_free.zone c.loop-low.last c.if-is_free.free
-taken c run =
-    let z = c.args.zone.now in
-    let l = c.loop-low in
-    let size = c.entry_at-here.result.size in
-    let a = read (goal.at.Joined-is_free c).After-entry_at-here run in
-    elim c.if-is_free.branch [
-      | then-is_free w ↦ subst (λ f. Taken z run c.if-is_free.zone l.last f) (sym w.free-is) (elim w.if-free-gt0.branch [
-        | then-free-gt0 v ↦ lifted_free z run l.zone l.last l.low l.free a c.if-is_free.zone (sym c.is_free.ensures ∙ w.if-is_free.true) v.if-free-gt0.true (λ pair. w.zone-is ∙ v.zone-is ∙ v.merge.ensures pair)
-        | else-free-gt0 v ↦ subst (λ y. Taken z run y l.last (l.free + size)) (sym (w.zone-is ∙ v.zone-is))
-            (first_free z run l.zone l.last l.low l.free a (sym c.is_free.ensures ∙ w.if-is_free.true) v.if-free-gt0.false (some_atop z run l.zone l.last l.low l.free a c.requires.sizes))
-      ])
-      | else-is_free+then-free-gt0-2 w ↦ subst (λ f. Taken z run c.if-is_free.zone l.last f) (sym w.free-is)
-          (lifted_used z run l.zone l.last l.low l.free a c.if-is_free.zone (sym c.is_free.ensures ∙ w.if-is_free.false) w.if-free-gt0-2.true (λ pair. w.zone-is ∙ w.exchange.ensures pair))
-      | else-is_free+else-free-gt0-2 w ↦ subst (λ f. Taken z run c.if-is_free.zone l.last f) (sym w.free-is) (subst (λ y. Taken z run y l.last l.free) (sym w.zone-is)
-          (stayed z run l.zone l.last l.low l.free a (sym c.is_free.ensures ∙ w.if-is_free.false) w.if-free-gt0-2.false))
-    ]
+pub returns-in_default : goal.returns-in_default
+returns-in_default c run = none_lifted c.args.zone.now run (c.in_default.ensures run)
 
 pub loop-low-init : goal.loop-low-init
-loop-low-init c run = none_lifted c.args.zone.now run c.last_block-last.result (c.last_block-last.ensures run)
+loop-low-init c run = first_lifted c.args.zone.now run c.requires.sizes c.in-Some.low (c.in-Some.ensures run)
 
-pub entry_at-here-requires : goal.entry_at-here-requires
-entry_at-here-requires c =
+pub used_start-bottom-requires : goal.used_start-bottom-requires
+used_start-bottom-requires c =
     let z = c.args.zone.now in
     let run = c.requires.run in
     let l = c.loop-low in
-    entry_atop z run l.zone l.last l.low l.free (atop z run l.zone l.last l.low l.free (l.invariant run) c.loop-low-test.true)
+    record { run = run_low z run l.zone l.low (l.invariant run); behind = entry_low z run l.zone l.low (l.invariant run); sizes = sizes_low z run l.zone l.low (l.invariant run) c.requires.sizes }
+
+pub sink-requires : goal.sink-requires
+sink-requires c =
+    let run = c.requires.run in
+    let l = c.loop-low in
+    parcel_low c.args.zone.now run l.zone l.low (l.invariant run) c.used_start-bottom.result (coming (goal.at.sink-requires c).After-used_start-bottom run)
+
+pub loop-low-preserved-then-bottom-low : goal.loop-low-preserved-then-bottom-low
+loop-low-preserved-then-bottom-low c run =
+    let l = c.loop-low in
+    sunk_low c.args.zone.now run l.zone l.low (l.invariant run) c.used_start-bottom.result (coming (goal.at.loop-low-preserved-then-bottom-low c).After-used_start-bottom run) c.sink.new.self c.sink.ensures
+
+pub before-requires : goal.before-requires
+before-requires c = let run = c.requires.run in entry_low c.args.zone.now run c.loop-low.zone c.loop-low.low (c.loop-low.invariant run)
+
+pub unreachable-requires : goal.unreachable-requires
+unreachable-requires c =
+    let z = c.args.zone.now in
+    let run = c.requires.run in
+    let l = c.loop-low in
+    not_first z run l.zone l.low (l.invariant run) c.loop-low-test.true (c.in_default-before.ensures.first (entry_low z run l.zone l.low (l.invariant run)))
+
+-- or a free block lies below
+lower : (c : In-Some-before) (run : RunAt c.args.zone.now c.args.start c.args.end) → Under (c.loop-low.invariant run).rest
+lower c run =
+    let l = c.loop-low in
+    under c.args.zone.now run l.zone l.low (l.invariant run) c.used_start-bottom.result (coming (goal.at.In-Some-before c).After-used_start-bottom run) c.requires.sizes c.loop-low-test.true c.if-bottom-low.false
 
 pub merge-requires : goal.merge-requires
 merge-requires c =
-    let l = c.loop-low in
-    pair_atop c.args.zone.now c.requires.run l.zone l.last l.low l.free (read (goal.at.merge-requires c).After-entry_at-here c.requires.run) (sym c.is_free.ensures ∙ c.if-is_free.true) c.if-free-gt0.true
-
-pub overflow_add-free : goal.overflow_add-free
-overflow_add-free c =
-    let l = c.loop-low in
-    omega (arith, free_within c.args.zone.now c.requires.run l.zone l.last l.low l.free (read (goal.at.overflow_add-free c).After-entry_at-here c.requires.run), c.ranges.end.fits)
-
-pub exchange-requires : goal.exchange-requires
-exchange-requires c =
-    let l = c.loop-low in
-    movable_atop c.args.zone.now c.requires.run l.zone l.last l.low l.free (read (goal.at.exchange-requires c).After-entry_at-here c.requires.run) c.if-free-gt0-2.true
-
-pub before-requires : goal.before-requires
-before-requires c =
     let run = c.requires.run in
-    entry_first c.args.zone.now run c.requires.sizes c.if-is_free.zone c.loop-low.last c.if-is_free.free (taken (goal.at.before-requires c).Joined-is_free run)
-
-pub loop-low-smaller-in-Some : goal.loop-low-smaller-in-Some
-loop-low-smaller-in-Some c =
     let l = c.loop-low in
-    let a = read (goal.at.loop-low-smaller-in-Some c).After-entry_at-here c.requires.run in
-    omega (arith, low_atop c.args.zone.now c.requires.run l.zone l.last l.low l.free a, some_atop c.args.zone.now c.requires.run l.zone l.last l.low l.free a c.requires.sizes, c.loop-low-test.true)
+    let e = c.in-Some-before.ensures.there in
+    pair_under c.args.zone.now run l.zone l.low (l.invariant run) (lower (goal.at.merge-requires c).In-Some-before run) c.requires.sizes c.in-Some-before.below e (c.in-Some-before.ensures.next e)
 
 pub loop-low-smaller : goal.loop-low-smaller
 loop-low-smaller c =
+    let z = c.args.zone.now in
+    let run = c.requires.run in
     let l = c.loop-low in
-    let a = read (goal.at.loop-low-smaller c).After-entry_at-here c.requires.run in
-    omega (arith, low_atop c.args.zone.now c.requires.run l.zone l.last l.low l.free a, some_atop c.args.zone.now c.requires.run l.zone l.last l.low l.free a c.requires.sizes, c.loop-low-test.true)
-
-pub loop-low-preserved-in-Some : goal.loop-low-preserved-in-Some
-loop-low-preserved-in-Some c run =
-    let t = taken (goal.at.loop-low-preserved-in-Some c).Joined-is_free run in
-    next_lifting c.args.zone.now run c.requires.sizes c.if-is_free.zone c.loop-low.last c.if-is_free.free t c.in-Some.below c.in-Some.ensures.there (c.in-Some.ensures.next c.in-Some.ensures.there)
+    let e = c.in-Some-before.ensures.there in
+    omega (arith, c.in-Some-before.ensures.next e, entry_size l.zone c.in-Some-before.below e (sizes_low z run l.zone l.low (l.invariant run) c.requires.sizes))
 
 pub loop-low-preserved : goal.loop-low-preserved
 loop-low-preserved c run =
-    let t = taken (goal.at.loop-low-preserved c).Joined-is_free run in
-    last_lifting c.args.zone.now run c.requires.sizes c.if-is_free.zone c.loop-low.last c.if-is_free.free t c.loop-low.last
-    (c.in_default.ensures.first (entry_first c.args.zone.now run c.requires.sizes c.if-is_free.zone c.loop-low.last c.if-is_free.free t))
+    let l = c.loop-low in
+    let e = c.in-Some-before.ensures.there in
+    joined_under c.args.zone.now run l.zone l.low (l.invariant run) (lower (goal.at.loop-low-preserved c).In-Some-before run) c.requires.sizes c.in-Some-before.below e (c.in-Some-before.ensures.next e) c.merge.new.self c.merge.ensures
 
 pub returns : goal.returns
-returns c run = all_lifted c.args.zone.now run c.loop-low.zone c.loop-low.last c.loop-low.low c.loop-low.free c.requires.sizes (c.loop-low.invariant run) c.loop-low-test.false
+returns c run = all_lifted c.args.zone.now run c.loop-low.zone c.loop-low.low (c.loop-low.invariant run) c.requires.sizes c.loop-low-test.false

@@ -1,12 +1,11 @@
-use Rattle.std.proofs.Common.{◌-◌}
 use Rattle.zone_gaps.specs.Runs.{RunAt}
 use Rattle.zone_gaps.proofs.Lifting.{Lifting}
 use Rattle.zone_gaps.proofs.run.press_up.Given as goal
 
 -- what lies above is pressed
 abbrev pub invariant-loop-low : goal.invariant-loop-low
-invariant-loop-low l = (run : RunAt l.fn.zone l.start l.end) → Lifting l.fn.zone run l.zone l.last l.low l.free
+invariant-loop-low l = (run : RunAt l.fn.zone l.start l.end) → Lifting l.fn.zone run l.zone l.low
 
--- the bytes that are left
+-- the bytes below
 abbrev pub decreases-loop-low : goal.decreases-loop-low
-decreases-loop-low l = l.low - l.start
+decreases-loop-low l = l.low
