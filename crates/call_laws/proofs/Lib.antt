@@ -15,4 +15,5 @@ pub mod StepQuiet
 pub mod StepRequests
 pub mod Steps
 pub mod Unmoved
+pub mod Lengths
 pub mod LentSteps

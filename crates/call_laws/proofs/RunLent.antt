@@ -61,7 +61,7 @@ lent-carried_out s protected calls heap = lent-from s protected calls (record { 
 -- ---- a run
 
 -- no lent block gets another size or is replaced, as long as the same are lent
-spares-kept : (s : Shape) (r : Request) (old new : Heap) → KeepsLent s old new → SparesLent old r → SparesLent new r
+pub spares-kept : (s : Shape) (r : Request) (old new : Heap) → KeepsLent s old new → SparesLent old r → SparesLent new r
 spares-kept s (NewBlock n) old new keeps spares = tt
 spares-kept s NewEmpty old new keeps spares = tt
 spares-kept s (NewPointer n) old new keeps spares = tt

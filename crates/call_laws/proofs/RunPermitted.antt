@@ -6,7 +6,7 @@ use Rattle.std.proofs.lemmas.Bool.Decides.{nat_tests}
 use Rattle.std.proofs.lemmas.List.{length-replicate}
 use Rattle.mac_base.specs.HeadKind.{Shape}
 use Rattle.mac_base.specs.ZoneMap.{ZoneMap}
-use Rattle.mac_base.specs.HandleTable.{EmptyHandle, FullHandle, live_at, live_bytes, live_full, live_handle, live_pointer, bytes_of, is_full, is_pointer, no_flags, refilled, resized, zeros}
+use Rattle.mac_base.specs.HandleTable.{HandleTable, EmptyHandle, FullHandle, live_at, live_bytes, live_full, live_handle, live_pointer, bytes_of, is_full, is_pointer, no_flags, refilled, resized, zeros}
 use Rattle.mac_base.specs.Suits.{slots_from}
 use Rattle.mac_base.specs.declared.error.OsErr.{OsErr}
 use Rattle.mac_base.specs.declared.releasing.ReleasingCall.{ReleasingCall}
@@ -16,9 +16,9 @@ use Rattle.mac_base.specs.declared.request.Request.{Request}
 use Rattle.mac_base.specs.declared.request.Request.TheVariants.{NewBlock, NewEmpty, NewPointer, NewMaster, Reserve, Resize, Replace}
 use Rattle.mac_base.specs.Request.{is_among}
 use Rattle.mac_base.specs.Serve.{serve}
-use Rattle.mac_base.specs.Heap.{Heap, front_slot, granted}
+use Rattle.mac_base.specs.Heap.{Heap, front_slot, granted, table_granted}
 use Rattle.mac_base.specs.Sound.{Sound}
-use Rattle.mac_base.specs.Trial.{Served, Serves, Fails, SameHeap}
+use Rattle.mac_base.specs.Trial.{NumberGiven, Served, Serves, Fails, SameHeap}
 use Rattle.mac_calls.specs.Tests.{refusal}
 use Rattle.mac_calls.specs.GrowZone.{Answer, Ask, Carried, memory_call, heap_unless, carried_once, carried_from, carried_out}
 use Rattle.mac_calls.specs.ExactRequest.{Ending, prepared, unserved, served_or, after_ask, asked, request_run}
@@ -26,7 +26,7 @@ use Rattle.mac_calls.specs.RequestRun.{EndsUnserved, RequestRun}
 use Rattle.zone_laws.proofs.SoundResized.{length-resized}
 use Rattle.zone_laws.proofs.SoundWritten.{refilled_block}
 use Rattle.zone_laws.proofs.Tables.{eqb-true-is, live_at-with_live_same, with_live_agrees, without_agrees}
-use Rattle.gap_laws.proofs.ServedRequests.{MayAsk, front_slot-not_live, serve-Served, serve-no_room}
+use Rattle.gap_laws.proofs.ServedRequests.{MayAsk, front_slot-not_live, serve-NumberGiven, serve-Served, serve-no_room}
 use Rattle.gap_laws.proofs.SoundServed.{MayServe, sound-serve}
 use Rattle.call_laws.proofs.Prepared.{IsPrepared, prepared-is}
 use Rattle.call_laws.proofs.SoundCarried.{sound-carried_out}
@@ -149,11 +149,24 @@ may-ask s (Replace h n) heap sound may = tt
 
 -- ---- the run
 
+-- How a request that gave x leaves the table: as one in which all that is protected is as it was, once the request is served there.
+pub record Grants (protected : List ℕ) (r : Request) (x : ℕ) (old new : Heap) : Type 0 where
+  pub before : HandleTable
+  pub protects : (y : ℕ) → is_among protected y ≡ true → live_at before y ≡ live_at old.table y
+  pub number : NumberGiven r x before
+  pub table : new.table ≡ table_granted r x before
+
+-- so it does behind a change that keeps what is protected
+pub grants-behind : (protected : List ℕ) (r : Request) (old mid new : Heap) (given : Option ℕ) → KeepsRunning protected old mid → MatchOption given ⊤ (λ x. Grants protected r x mid new) → MatchOption given ⊤ (λ x. Grants protected r x old new)
+grants-behind protected r old mid new None keeps grants = tt
+grants-behind protected r old mid new (Some x) keeps grants = record { before = grants.before; protects = λ y among. grants.protects y among ∙ keeps.protects y among; number = grants.number; table = grants.table }
+
 -- what is known of the ending of a run
 pub record RunFacts (s : Shape) (protected : List ℕ) (r : Request) (allowed : ℕ) (heap : Heap) (e : Ending) : Type 0 where
   pub permitted : RequestRun s protected r allowed heap e.asks e.given e.heap
   pub sound : Sound s e.heap
   pub gives : MatchOption e.given ⊤ (λ x. Gives r x e.heap)
+  pub grants : MatchOption e.given ⊤ (λ x. Grants protected r x heap e.heap)
 
 module _ (s : Shape) (protected : List ℕ) (r : Request) (heap mid : Heap) (p : IsPrepared s protected r heap mid) (may : MayServe mid r) where
   -- a trial that serves
@@ -172,7 +185,12 @@ module _ (s : Shape) (protected : List ℕ) (r : Request) (heap mid : Heap) (p :
   -- so a run that ends with this trial, or goes on behind it
   by_trial : (allowed : ℕ) (left : List Answer) (other : Ending) (o : Option (ℕ × ZoneMap)) → serve s mid.table (front_slot mid) mid.map r ≡ o → (Fails s protected r heap mid → RunFacts s protected r allowed heap other)
       → RunFacts s protected r allowed heap (served_or r mid left other o)
-  by_trial allowed left other (Some found) is behind = record { permitted = trial_serves found.0 found.1 is; sound = sound-serve s r mid found.0 found.1 p.sound may is; gives = gives-granted r found.0 found.1 mid may }
+  by_trial allowed left other (Some found) is behind = record {
+    permitted = trial_serves found.0 found.1 is;
+    sound = sound-serve s r mid found.0 found.1 p.sound may is;
+    gives = gives-granted r found.0 found.1 mid may;
+    grants = record { before = mid.table; protects = p.protects; number = serve-NumberGiven s mid.table (front_slot mid) mid.map r found.0 found.1 p.sound.suits (may-ask s r mid p.sound may) is; table = refl };
+  }
   by_trial allowed left other None is behind = behind (trial_fails is)
 
 zero_of : (n : ℕ) → (n == 0) ≡ true → n ≡ 0
@@ -189,8 +207,8 @@ run-facts s protected r allowed [] heap sound guards may =
     let asks : Bool → List Ask = λ b. cond b [] (asked s r None (carried_out s protected [] mid) ∷ []) in
     by_trial s protected r heap mid p (may-kept protected r heap mid guards (running-prepared s protected r heap mid p) may) allowed [] (unserved mid (asks (allowed == 0)) []) (serve s mid.table (front_slot mid) mid.map r) refl
     (λ fails. elim (allowed == 0) as (λ b. (allowed == 0) ≡ b → RunFacts s protected r allowed heap (unserved mid (asks b) [])) [
-      | true ↦ λ is. record { permitted = (zero_of allowed is, fails); sound = p.sound; gives = tt }
-      | false ↦ λ is. record { permitted = (some_of allowed is, refl, mid, fails, (refl, (refl, refl, same_heap mid))); sound = p.sound; gives = tt }
+      | true ↦ λ is. record { permitted = (zero_of allowed is, fails); sound = p.sound; gives = tt; grants = tt }
+      | false ↦ λ is. record { permitted = (some_of allowed is, refl, mid, fails, (refl, (refl, refl, same_heap mid))); sound = p.sound; gives = tt; grants = tt }
     ] refl)
 run-facts s protected r allowed (a ∷ later) heap sound guards may =
     let mid = prepared s protected r heap in
@@ -203,17 +221,19 @@ run-facts s protected r allowed (a ∷ later) heap sound guards may =
     let again : Bool → Ending = λ b. cond b (unserved c.heap (ask ∷ []) later) (after_ask ask (request_run s protected r (allowed - 1) later c.heap)) in
     by_trial s protected r heap mid p may_mid allowed (a ∷ later) (cond (allowed == 0) (unserved mid [] (a ∷ later)) (again (a.value == 0))) (serve s mid.table (front_slot mid) mid.map r) refl
     (λ fails. elim (allowed == 0) as (λ b. (allowed == 0) ≡ b → RunFacts s protected r allowed heap (cond b (unserved mid [] (a ∷ later)) (again (a.value == 0)))) [
-      | true ↦ λ is. record { permitted = (zero_of allowed is, fails); sound = p.sound; gives = tt }
+      | true ↦ λ is. record { permitted = (zero_of allowed is, fails); sound = p.sound; gives = tt; grants = tt }
       | false ↦ λ is. elim (a.value == 0) as (λ b. (a.value == 0) ≡ b → RunFacts s protected r allowed heap (again b)) [
         | true ↦ λ worthless. record {
           permitted = (some_of allowed is, refl, mid, fails, (refl, subst (λ b. MatchBool b (EndsUnserved c.heap [] None c.heap) (RequestRun s protected r (allowed - 1) c.heap [] None c.heap)) (sym worthless) (refl, refl, same_heap c.heap)));
           sound = after;
           gives = tt;
+          grants = tt;
         }
         | false ↦ λ worth. (let e = request_run s protected r (allowed - 1) later c.heap in record {
           permitted = (some_of allowed is, refl, mid, fails, (refl, subst (λ b. MatchBool b (EndsUnserved c.heap e.asks e.given e.heap) (RequestRun s protected r (allowed - 1) c.heap e.asks e.given e.heap)) (sym worth) rest.permitted));
           sound = rest.sound;
           gives = rest.gives;
+          grants = grants-behind protected r heap c.heap e.heap e.given (running-then protected heap mid c.heap (running-prepared s protected r heap mid p) (running-carried_out s protected a.calls mid)) rest.grants;
         })
       ] refl
     ] refl)

@@ -1,12 +1,14 @@
 pub mod Again
 pub mod Carrying
 pub mod Keeping
+pub mod Copies
 pub mod KeptLoans
 pub mod Masters
 pub mod Passing
 pub mod Purged
 pub mod Releases
 pub mod Running
+pub mod Serving
 pub mod StateBits
 pub mod Stepping
 pub mod Telling

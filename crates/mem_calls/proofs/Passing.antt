@@ -1,11 +1,12 @@
 -- What several tests of a call's operands answer, one behind another.
-use Rattle.std.proofs.Common.{◌≡◌, ℕ, List, [], ◌∷◌, ◌++◌, Option, Some, None, refl, ap, ◌∙◌}
+use Rattle.std.proofs.Common.{◌≡◌, ℕ, nat_le, List, [], ◌∷◌, ◌++◌, Option, Some, None, refl, ap, ◌∙◌}
 use Rattle.std.specs.Option.{option_or}
 use Rattle.mac_base.specs.declared.error.OsErr.{OsErr}
-use Rattle.mac_base.specs.HeadKind.{Shape}
 use Rattle.mac_base.specs.Heap.{Heap}
-use Rattle.mac_calls.specs.Tests.{Test, IsHandle, IsPointer, NotEmpty, NotLent, IsSize, refused_by, first_refusal, refusal}
-use Rattle.mac_calls.specs.declared.memory_call.MemoryCall.TheVariants.{SetHandleSize, SetPtrSize}
+use Rattle.mac_base.specs.declared.error.OsErr.TheVariants.{MemPurErr, ParamErr}
+use Rattle.mac_base.specs.HeadKind.{Shape, max_size}
+use Rattle.mac_calls.specs.Tests.{Test, IsHandle, IsPointer, NotEmpty, NotLent, NotLocked, IsSize, refused_by, first_refusal, refusal, unless_passed}
+use Rattle.mac_calls.specs.declared.memory_call.MemoryCall.TheVariants.{ReallocateHandle, SetHandleSize, SetPtrSize}
 
 or_or : (a b c : Option OsErr) → option_or a (option_or b c) ≡ option_or (option_or a b) c
 or_or None b c = refl
@@ -35,3 +36,9 @@ passed-set_handle_size s heap h n full fits = passed-both s heap (IsHandle h ∷
 -- SetPtrSize isn't refused
 pub passed-set_ptr_size : (s : Shape) (heap : Heap) (p n : ℕ) → first_refusal s heap (IsPointer p ∷ []) ≡ None → first_refusal s heap (NotLent p ∷ IsSize n ∷ []) ≡ None → refusal s heap (SetPtrSize p n) ≡ None
 passed-set_ptr_size s heap p n live fits = passed-both s heap (IsPointer p ∷ []) (NotLent p ∷ IsSize n ∷ []) live fits
+
+-- ReallocateHandle isn't refused
+pub passed-reallocate_handle : (s : Shape) (heap : Heap) (h n : ℕ) → first_refusal s heap (IsHandle h ∷ NotLent h ∷ []) ≡ None → first_refusal s heap (NotLocked MemPurErr h ∷ []) ≡ None → unless_passed ParamErr (nat_le n max_size) ≡ None
+    → refusal s heap (ReallocateHandle h n) ≡ None
+passed-reallocate_handle s heap h n live unlocked fits =
+    passed-both s heap (IsHandle h ∷ NotLent h ∷ []) (NotLocked MemPurErr h ∷ IsSize n ∷ []) live (passed-both s heap (NotLocked MemPurErr h ∷ []) (IsSize n ∷ []) unlocked (ap (λ o. option_or o None) fits))

@@ -3,7 +3,7 @@ use Rattle.std.proofs.Common.{◌≡◌, ℕ, Bool, true, false, List, [], ◌++
 use Rattle.std.specs.Result.{IsErrAnd}
 use Rattle.mac_base.specs.declared.error.OsErr.{OsErr}
 use Rattle.mac_base.specs.HeadKind.{Shape}
-use Rattle.mac_base.specs.HandleTable.{HandleTable}
+use Rattle.mac_base.specs.HandleTable.{HandleTable, with_bytes}
 use Rattle.mac_base.specs.Heap.{Heap, with_table}
 use Rattle.mac_base.specs.Sound.{Sound}
 use Rattle.mac_base.specs.ZoneState.{ZoneState}
@@ -15,11 +15,12 @@ use Rattle.mac_calls.specs.GrowZone.{Answer, Ask, answers_in, most_answers}
 use Rattle.mac_calls.specs.ExactRequest.{Ending, request_run}
 use Rattle.mac_calls.specs.ExactStep.{StepEnd, rearranged, quiet_outcome, request_end, behind_master, request_step, step_asking, step_unless, IsExactStep}
 use Rattle.mac_calls.specs.Effect.{request_of, table_copied, effect_of}
-use Rattle.mac_calls.specs.Outcomes.{Outcome, given_results}
+use Rattle.mac_calls.specs.declared.reply.Results.TheVariants.{Handle, Nothing}
+use Rattle.mac_calls.specs.Outcomes.{Outcome, done_outcome, given_results, handle_outcome}
 use Rattle.mac_calls.specs.MemoryStep.{MemoryStep}
 use Rattle.call_laws.proofs.StepPermitted.{exact-permitted}
 use Rattle.zone_heap.specs.Attempts.{lacks_slot}
-use Rattle.mem_calls.specs.Requesting.{IsCallRun, call_run, given_or_full}
+use Rattle.mem_calls.specs.Requesting.{IsCallRun, IsCopyRun, block_given, call_run, done, filled, given_or_full}
 
 -- what a call does exactly, it may do
 pub permitted : (s : Shape) (old new : Heap) (call : MemoryCall) (asks : List Ask) (outcome : Outcome) → Sound s old → IsExactStep s old call asks outcome new → MemoryStep s old call asks outcome new
@@ -50,16 +51,51 @@ abbrev pub request_outcome : MemoryCall → Result ℕ OsErr → Outcome
 request_outcome call (Ok x) = Ok (given_results call x)
 request_outcome call (Err code) = Err code
 
+-- the heap at the end of a call whose request left this one
+abbrev ended : MemoryCall → HandleTable → Result ℕ OsErr → Heap → Heap
+ended call entry (Ok x) heap = with_table (table_copied call x entry heap.table) heap
+ended call entry (Err code) heap = heap
+
 -- a call that isn't refused and makes a request
-pub exact-request : (s : Shape) (old new : Heap) (call : MemoryCall) (r : Request) (asks : List Ask) (tried : Result ℕ OsErr) → refusal s old call ≡ None → request_of old.table call ≡ Some r
-    → ((x : ℕ) (t : HandleTable) → table_copied call x old.table t ≡ t) → IsCallRun s (protected_by call) r asks old tried new → IsExactStep s old call asks (request_outcome call tried) new
-exact-request s old new call r asks tried passed requests same run =
+exact-ended : (s : Shape) (old mid : Heap) (call : MemoryCall) (r : Request) (asks : List Ask) (tried : Result ℕ OsErr) → refusal s old call ≡ None → request_of old.table call ≡ Some r
+    → IsCallRun s (protected_by call) r asks old tried mid → IsExactStep s old call asks (request_outcome call tried) (ended call old.table tried mid)
+exact-ended s old mid call r asks tried passed requests run =
     ap (step_unless s (answers_in asks) old call) passed ∙ ap (step_asking s (answers_in asks) old call) requests ∙ by_request s (answers_in asks) old call r (lacks_slot r old)
-    ∙ ap (request_ended call old.table) run.run ∙ by_given run.given ∙ ap (λ (result : Result ℕ OsErr). record { outcome = request_outcome call result; heap = new; asks = asks; left = [] }) (sym run.result_is)
+    ∙ ap (request_ended call old.table) run.run ∙ by_given run.given ∙ ap (λ (result : Result ℕ OsErr). record { outcome = request_outcome call result; heap = ended call old.table result mid; asks = asks; left = [] }) (sym run.result_is)
   where
-    by_given : (o : Option ℕ) → request_ended call old.table (record { given = o; heap = new; asks = asks; left = [] }) ≡ record { outcome = request_outcome call (given_or_full o); heap = new; asks = asks; left = [] }
+    by_given : (o : Option ℕ) → request_ended call old.table (record { given = o; heap = mid; asks = asks; left = [] })
+        ≡ record { outcome = request_outcome call (given_or_full o); heap = ended call old.table (given_or_full o) mid; asks = asks; left = [] }
     by_given None = refl
-    by_given (Some x) = ap (λ (t : HandleTable). record { outcome = Ok (given_results call x); heap = with_table t new; asks = asks; left = [] }) (same x new.table)
+    by_given (Some x) = refl
+
+-- one that copies nothing
+exact-request : (s : Shape) (old new : Heap) (call : MemoryCall) (r : Request) (asks : List Ask) (tried : Result ℕ OsErr) → refusal s old call ≡ None → request_of old.table call ≡ Some r
+    → ((x : ℕ) (t : HandleTable) → table_copied call x old.table t ≡ t) → IsCallRun s (protected_by call) r asks old tried new → IsExactStep s old call asks (request_outcome call tried) new
+exact-request s old new call r asks tried passed requests same run = subst (λ heap. IsExactStep s old call asks (request_outcome call tried) heap) (unchanged tried) (exact-ended s old new call r asks tried passed requests run)
+  where
+    unchanged : (tried : Result ℕ OsErr) → ended call old.table tried new ≡ new
+    unchanged (Ok x) = ap (λ (t : HandleTable). with_table t new) (same x new.table)
+    unchanged (Err code) = refl
+
+-- and one that copies bytes into the block that was given
+exact-copy : (s : Shape) (old new : Heap) (call : MemoryCall) (r : Request) (bytes : List ℕ) (asks : List Ask) (tried : Result ℕ OsErr) → refusal s old call ≡ None → request_of old.table call ≡ Some r
+    → ((x : ℕ) (t : HandleTable) → table_copied call x old.table t ≡ with_bytes (block_given r x) bytes t) → IsCopyRun s (protected_by call) r bytes asks old tried new → IsExactStep s old call asks (request_outcome call tried) new
+exact-copy s old new call r bytes asks tried passed requests copies run =
+    subst (λ heap. IsExactStep s old call asks (request_outcome call tried) heap) (filled_so tried ∙ sym run.fills) (exact-ended s old run.mid call r asks tried passed requests run.run)
+  where
+    filled_so : (tried : Result ℕ OsErr) → ended call old.table tried run.mid ≡ filled r bytes tried run.mid
+    filled_so (Ok x) = ap (λ (t : HandleTable). with_table t run.mid) (copies x (let mid = run.mid in mid.table))
+    filled_so (Err code) = refl
+
+-- the outcome of a call that gives a handle, by what its request gave
+pub handle_ends : (call : MemoryCall) → ((x : ℕ) → given_results call x ≡ Handle x) → (tried : Result ℕ OsErr) → handle_outcome tried ≡ request_outcome call tried
+handle_ends call gives (Ok x) = ap Ok (sym (gives x))
+handle_ends call gives (Err code) = refl
+
+-- and of one without a result
+pub done_ends : (call : MemoryCall) → ((x : ℕ) → given_results call x ≡ Nothing) → (result : Result (Unit {0}) OsErr) (tried : Result ℕ OsErr) → result ≡ done tried → done_outcome result ≡ request_outcome call tried
+done_ends call gives result (Ok x) is = ap done_outcome is ∙ ap Ok (sym (gives x))
+done_ends call gives result (Err code) is = ap done_outcome is
 
 -- the outcome of a refused call
 pub refused_outcome : {A : Type 0} (outcome : Result A OsErr → Outcome) → ((code : OsErr) → outcome (Err code) ≡ Err code) → (result : Result A OsErr) (code : OsErr) → IsErrAnd result (λ e. e ≡ code) → outcome result ≡ Err code
@@ -75,6 +111,13 @@ module _ (old zone new : ZoneState) (is : zone ≡ old) (sound : Sound zone.shap
       → IsCallRun zone.shape (protected_by call) r asks zone.heap tried new.heap → outcome ≡ request_outcome call tried → IsExactStep old.shape old.heap call asks outcome new.heap
   exact-requested r asks tried outcome requests same run ends = subst (λ o. IsExactStep old.shape old.heap call asks o new.heap) (sym ends)
       (exact-request old.shape old.heap new.heap call r asks tried passes requests same (subst (λ (z : ZoneState). IsCallRun z.shape (protected_by call) r asks z.heap tried new.heap) is run))
+
+  -- one that copies bytes
+  pub exact-copied : (r : Request) (bytes : List ℕ) (asks : List Ask) (tried : Result ℕ OsErr) (outcome : Outcome) → request_of zone.heap.table call ≡ Some r
+      → ((x : ℕ) (t : HandleTable) → table_copied call x zone.heap.table t ≡ with_bytes (block_given r x) bytes t) → IsCopyRun zone.shape (protected_by call) r bytes asks zone.heap tried new.heap → outcome ≡ request_outcome call tried
+      → IsExactStep old.shape old.heap call asks outcome new.heap
+  exact-copied r bytes asks tried outcome requests copies run ends = subst (λ (z : ZoneState). IsExactStep z.shape z.heap call asks outcome new.heap) is
+      (subst (λ o. IsExactStep zone.shape zone.heap call asks o new.heap) (sym ends) (exact-copy zone.shape zone.heap new.heap call r bytes asks tried passed requests copies run))
 
   -- it may
   pub step-exact : (asks : List Ask) (outcome : Outcome) → IsExactStep old.shape old.heap call asks outcome new.heap → MemoryStep old.shape old.heap call asks outcome new.heap

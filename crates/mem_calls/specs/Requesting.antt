@@ -6,11 +6,12 @@ use Rattle.mac_base.specs.declared.error.OsErr.{OsErr}
 use Rattle.mac_base.specs.declared.error.OsErr.TheVariants.{MemFullErr}
 use Rattle.mac_base.specs.HeadKind.{Shape}
 use Rattle.mac_base.specs.Attempt.{attempted}
-use Rattle.mac_base.specs.Heap.{Heap}
+use Rattle.mac_base.specs.HandleTable.{with_bytes}
+use Rattle.mac_base.specs.Heap.{Heap, with_table}
 use Rattle.mac_base.specs.ZoneState.{ZoneState}
 use Rattle.mac_base.specs.declared.releasing.ReleasingCall.{ReleasingCall}
 use Rattle.mac_base.specs.declared.request.Request.{Request}
-use Rattle.mac_base.specs.declared.request.Request.TheVariants.{NewMaster}
+use Rattle.mac_base.specs.declared.request.Request.TheVariants.{NewMaster, Resize}
 use Rattle.mac_base.specs.Request.{fits}
 use Rattle.mac_calls.specs.GrowZone.{Answer, Ask, new_ask, answers_in, most_answers, carried_out}
 use Rattle.mac_calls.specs.ExactRequest.{Ending, asked, prepared, request_run}
@@ -82,3 +83,24 @@ pub record IsCallRun (s : Shape) (protected : List ℕ) (r : Request) (asks : Li
   pub given : Option ℕ
   pub result_is : result ≡ given_or_full given
   pub run : call_run s protected r (answers_in asks) old (lacks_slot r old) ≡ record { given = given; heap = new; asks = asks; left = [] }
+
+-- the handle or pointer whose block a request has made or given another size, where it gave the number x
+abbrev pub block_given : Request → ℕ → ℕ
+block_given (Resize y n) x = y
+block_given _ x = x
+
+-- the heap with these bytes in that block, where the request gave a number
+abbrev pub filled : Request → List ℕ → Result ℕ OsErr → Heap → Heap
+filled r bytes (Ok x) heap = with_table (with_bytes (block_given r x) bytes heap.table) heap
+filled r bytes (Err code) heap = heap
+
+-- the request of a call runs, and where it gives a number these bytes come into its block
+pub record IsCopyRun (s : Shape) (protected : List ℕ) (r : Request) (bytes : List ℕ) (asks : List Ask) (old : Heap) (result : Result ℕ OsErr) (new : Heap) : Type 0 where
+  pub mid : Heap
+  pub run : IsCallRun s protected r asks old result mid
+  pub fills : new ≡ filled r bytes result mid
+
+-- a result without its number
+abbrev pub done : Result ℕ OsErr → Result (Unit {0}) OsErr
+done (Ok x) = Ok (record {})
+done (Err code) = Err code

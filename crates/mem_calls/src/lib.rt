@@ -1,6 +1,7 @@
 //! The calls of the Memory Manager over one zone.
 #![tactic(auto)]
 
+mod copying;
 mod flags;
 mod loans;
 mod manager;
@@ -8,6 +9,7 @@ mod new_blocks;
 mod operands;
 mod places;
 mod releasing;
+mod reports;
 mod request;
 mod room;
 mod sizes;

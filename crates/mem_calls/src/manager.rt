@@ -3,7 +3,7 @@
 use mac_base::block::{Block, Status};
 use mac_base::error::HostFull;
 use mac_base::handle::Handle;
-use mac_base::zone_spec::ZoneSpec;
+use mac_base::zone_spec::{LARGEST_LIMIT, ZoneSpec};
 use std::alloc::Global;
 use std::marker::Model;
 use zone_heap::Zone;
@@ -15,11 +15,14 @@ pub struct MemoryManager {
 }
 
 impl Model for MemoryManager {
+    ghost use Rattle.std.specs.Prelude.{◌≤◌};
     ghost use Rattle.mac_base.specs.ZoneState.{ZoneState};
 
     ghost Value = { ZoneState };
 
     ghost view = { λ m. m.zone };
+
+    ghost invariant = { λ m. m.zone.shape.limit ≤ 0x10_0000 };
 }
 
 impl Drop for MemoryManager {
@@ -51,6 +54,7 @@ impl MemoryManager {
     pub fn create(alloc: Global, spec: ZoneSpec) -> Result<MemoryManager, HostFull>
         ensures { IfOk result (λ memory. memory ≡ record { memory = memory.memory; shape = shape_of spec; heap = new_heap (shape_of spec) spec.size }) }
     {
+        prove!(spec.limit() <= LARGEST_LIMIT);
         Ok(MemoryManager {
             zone: Zone::create(alloc, spec)?,
         })

@@ -1,8 +1,8 @@
 //! The tests of calls' operands.
 
 ghost use Rattle.std.specs.Prelude.{◌≡◌, ◌∷◌, [], ◌||◌, not, IfOk, OnOk, IsTrue};
-ghost use Rattle.mac_base.specs.HandleTable.{flags_of, is_handle, is_lent, is_locked};
-ghost use Rattle.mac_calls.specs.Tests.{IsHandle, IsPointer, NotEmpty, NotLent, NotLocked, IsSize};
+ghost use Rattle.mac_base.specs.HandleTable.{flags_of, has_block, is_handle, is_lent, is_locked};
+ghost use Rattle.mac_calls.specs.Tests.{IsHandle, IsPointer, IsBlock, NotEmpty, NotLent, NotLocked, IsSize, IsWithin};
 ghost use Rattle.mac_base.specs.declared.error.OsErr.TheVariants.{MemLockedErr, MemPurErr};
 ghost use Rattle.mem_calls.specs.Testing.{Tests, TestsSize};
 
@@ -131,4 +131,67 @@ pub(crate) fn test_size(size: u32) -> Result<(), OsErr>
         return Err(OsErr::ParamErr);
     }
     Ok(())
+}
+
+/// Tests that a handle is live, has a block and isn't lent: nilHandleErr where it is 0 or empty, memWZErr where it is another
+/// number that isn't live, memLockedErr where it is lent.
+pub(crate) fn test_full_here(zone: &Zone, handle: Handle) -> Result<(), OsErr>
+    ensures { Tests zone.now (IsHandle handle ∷ NotEmpty handle ∷ NotLent handle ∷ []) result }
+{
+    test_full(zone, handle)?;
+    test_here(zone, handle.number())
+}
+
+/// Tests that a pointer is live and not lent: memWZErr where it isn't live, memLockedErr where it is lent.
+pub(crate) fn test_pointer_here(zone: &Zone, pointer: Ptr) -> Result<(), OsErr>
+    ensures { Tests zone.now (IsPointer pointer ∷ NotLent pointer ∷ []) result }
+{
+    test_pointer(zone, pointer)?;
+    test_here(zone, pointer.number())
+}
+
+/// Tests that a number is a live handle or pointer, has a block and isn't lent: nilHandleErr where it is 0 or an empty handle,
+/// memWZErr where it is another number that isn't live, memLockedErr where it is lent.
+pub(crate) fn test_block_here(zone: &Zone, block: u32) -> Result<(), OsErr>
+    ensures { Tests zone.now (IsBlock block ∷ NotEmpty block ∷ NotLent block ∷ []) result }
+{
+    if block == 0 {
+        return Err(OsErr::NilHandleErr);
+    }
+    if !zone.has_block(block) {
+        return Err(if zone.is_live(Handle::new(block)) {
+            OsErr::NilHandleErr
+        } else {
+            OsErr::MemWzErr
+        });
+    }
+    test_here(zone, block)
+}
+
+/// Tests that `count` bytes from `start` on are within a block: paramErr where it has fewer.
+pub(crate) fn test_within(zone: &Zone, block: u32, start: u32, count: u32) -> Result<(), OsErr>
+    requires { IsTrue (has_block zone.now.heap.table block) }
+    ensures { Tests zone.now (IsWithin block start count ∷ []) result }
+{
+    let length = zone.length(block);
+    if start > length || count > length - start {
+        return Err(OsErr::ParamErr);
+    }
+    Ok(())
+}
+
+/// Tests the operands of a call that takes the first `count` bytes of a pointer's block for a handle's: memWZErr where the
+/// pointer or the handle isn't live, memLockedErr where one of them is lent, nilHandleErr where the handle is 0 or empty, paramErr
+/// where the pointer has fewer bytes.
+pub(crate) fn test_pointer_for(
+    zone: &Zone,
+    pointer: Ptr,
+    handle: Handle,
+    count: u32,
+) -> Result<(), OsErr>
+    ensures { Tests zone.now (IsPointer pointer ∷ NotLent pointer ∷ IsHandle handle ∷ NotEmpty handle ∷ NotLent handle ∷ IsWithin pointer 0 count ∷ []) result }
+{
+    test_pointer_here(zone, pointer)?;
+    test_full_here(zone, handle)?;
+    test_within(zone, pointer.number(), 0, count)
 }

@@ -8,7 +8,7 @@ ghost use Rattle.mac_calls.specs.ExactStep.{IsExactStep};
 ghost use Rattle.mac_calls.specs.Outcomes.{number_outcome, done_outcome};
 
 use crate::manager::MemoryManager;
-use crate::operands::{test_full, test_new_size, test_pointer};
+use crate::operands::{test_full, test_handle_here, test_new_size, test_pointer, test_size, test_unlocked};
 use crate::request::request;
 use mac_base::error::OsErr;
 use mac_base::handle::{Handle, Ptr};
@@ -93,5 +93,35 @@ impl MemoryManager {
     {
         test_pointer(&self.zone, pointer)?;
         Ok(self.zone.length(pointer.number()))
+    }
+
+    /// ReallocateHandle: a new block of `size` zero bytes for the handle, without flags, in place of the one that it has, which
+    /// counts as free for it. The handle may be empty. Where there is no room, the zone grows and purges, and asks the grow-zone procedure,
+    /// as for NewHandle; a refused one keeps block, bytes and flags. nilHandleErr where the handle is 0, memWZErr where it isn't live,
+    /// memLockedErr where it is lent, memPurErr where it is locked, paramErr where `size` is over 8,388,608, memFullErr where there is no
+    /// room (Inside Macintosh: Memory, Managing Relocatable Blocks).
+    pub fn reallocate_handle<G: GrowZone>(
+        &mut self,
+        handle: Handle,
+        size: u32,
+        procedure: &mut G,
+    ) -> Result<(), OsErr>
+        requires { G.asks procedure.old ≡ [] }
+        ensures exact { IsExactStep self.old.shape self.old.heap (call.ReallocateHandle handle size) (G.asks procedure.new) (done_outcome result) self.new.heap }
+        ensures step { MemoryStep self.old.shape self.old.heap (call.ReallocateHandle handle size) (G.asks procedure.new) (done_outcome result) self.new.heap }
+        ensures source { G.source procedure.new ≡ G.source procedure.old }
+        ensures shape { self.new.shape ≡ self.old.shape }
+        ensures loans { KeepsLoans self.old self.new }
+    {
+        test_handle_here(&self.zone, handle)?;
+        test_unlocked(&self.zone, handle)?;
+        test_size(size)?;
+        request(
+            &mut self.zone,
+            &Request::Replace(handle, size),
+            &[handle.number()],
+            procedure,
+        )?;
+        Ok(())
     }
 }

@@ -1,0 +1,37 @@
+use Rattle.std.proofs.Common.{[], ◌∷◌, ◌≡◌, ◌+◌, ◌++◌, length, take, Some, refl, ap, sym, ◌∙◌}
+use Rattle.mac_base.specs.HandleTable.{HandleTable, bytes_of, with_bytes}
+use Rattle.mac_base.specs.declared.request.Request.TheVariants.{Resize}
+use Rattle.mac_calls.specs.declared.memory_call.MemoryCall.TheVariants.{HandAndHand}
+use Rattle.mac_calls.specs.Outcomes.{done_outcome}
+use Rattle.mac_calls.specs.Tests.{IsHandle, NotEmpty, NotLent}
+use Rattle.mem_calls.proofs.Copies.{whole}
+use Rattle.mem_calls.proofs.KeptLoans.{kept}
+use Rattle.mem_calls.proofs.Passing.{passed-both}
+use Rattle.mem_calls.proofs.Stepping.{exact-copied, done_ends, step-exact}
+use Rattle.mem_calls.proofs.manager.MemoryManager.hand_and_hand.Goals as goal
+
+pub returns-clause-exact : goal.returns-clause-exact
+returns-clause-exact g c =
+    let entry = c.self.inside.zone.heap.table in
+    let a = c.args.one in
+    let b = c.args.other in
+    let n = c.length-count.result in
+    let offset = c.length-length.result in
+    let short : n ≡ length (bytes_of entry a) = rw c.number-from.ensures at c.length-count.ensures in
+    let long : offset ≡ length (bytes_of entry b) = rw c.number-to.ensures at c.length-length.ensures in
+    let run = rw c.number-from.ensures at rw c.number-to.ensures at c.copy_behind.ensures.run in
+    exact-copied c.args.self.now c.self.inside.zone c.copy_behind.new.zone c.self.view_is c.copy_behind.ensures.sound (HandAndHand c.args.one c.args.other)
+    (passed-both c.self.inside.zone.shape c.self.inside.zone.heap (IsHandle c.args.one ∷ NotEmpty c.args.one ∷ NotLent c.args.one ∷ []) (IsHandle c.args.other ∷ NotEmpty c.args.other ∷ NotLent c.args.other ∷ [])
+    c.in_ok-test_full_here.ensures c.in_ok-test_full_here-2.ensures)
+    (Resize b (offset + n)) (take offset (bytes_of entry b) ++ take n (bytes_of entry a)) (g.G.GrowZone.asks c.copy_behind.new.procedure) run.0 (done_outcome c.copy_behind.result)
+    (ap (λ k. Some (Resize b (k + length (bytes_of entry a)))) (sym long) ∙ ap (λ k. Some (Resize b (offset + k))) (sym short))
+    (λ x (t : HandleTable). ap (λ bytes. with_bytes b (bytes ++ bytes_of entry a) t) (whole offset (bytes_of entry b) long) ∙ ap (λ bytes. with_bytes b (take offset (bytes_of entry b) ++ bytes) t) (whole n (bytes_of entry a) short))
+    run.2 (done_ends (HandAndHand c.args.one c.args.other) (λ x. refl) c.copy_behind.result run.0 run.1)
+
+pub returns-clause-step : goal.returns-clause-step
+returns-clause-step g c = step-exact c.args.self.now c.self.inside.zone c.copy_behind.new.zone c.self.view_is c.copy_behind.ensures.sound (HandAndHand c.args.one c.args.other)
+    (passed-both c.self.inside.zone.shape c.self.inside.zone.heap (IsHandle c.args.one ∷ NotEmpty c.args.one ∷ NotLent c.args.one ∷ []) (IsHandle c.args.other ∷ NotEmpty c.args.other ∷ NotLent c.args.other ∷ [])
+    c.in_ok-test_full_here.ensures c.in_ok-test_full_here-2.ensures) (g.G.GrowZone.asks c.copy_behind.new.procedure) (done_outcome c.copy_behind.result) (returns-clause-exact g c)
+
+pub returns-clause-loans : goal.returns-clause-loans
+returns-clause-loans g c = kept c.copy_behind.ensures.loans c.self.view_is

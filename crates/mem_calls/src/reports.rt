@@ -1,0 +1,45 @@
+//! The calls that tell how much room there is.
+
+ghost use Rattle.std.specs.Prelude.{◌≡◌, []};
+ghost use Rattle.mac_calls.specs.declared.memory_call.MemoryCall.TheVariants as call;
+ghost use Rattle.mac_calls.specs.MemoryStep.{MemoryStep};
+ghost use Rattle.mac_calls.specs.ExactStep.{IsExactStep};
+ghost use Rattle.std.specs.Prelude.{Ok};
+ghost use Rattle.mac_calls.specs.declared.reply.Results.TheVariants.{Number, TwoNumbers};
+
+use crate::manager::MemoryManager;
+use mac_base::purge_space::PurgeSpace;
+
+impl MemoryManager {
+    /// FreeMem: the free bytes (Inside Macintosh: Memory, Assessing Memory Conditions).
+    pub fn free_mem(&self) -> u32
+        ensures exact { IsExactStep self.now.shape self.now.heap call.FreeMem [] (Ok (Number result)) self.now.heap }
+        ensures step { MemoryStep self.now.shape self.now.heap call.FreeMem [] (Ok (Number result)) self.now.heap }
+    {
+        // The address of the first block says that the heap is sound.
+        prove!(self.zone.first_block() > 0);
+        self.zone.free_bytes()
+    }
+
+    /// MaxBlock: the most free bytes that moving blocks would bring together (Inside Macintosh: Memory, Assessing Memory
+    /// Conditions).
+    pub fn max_block(&self) -> u32
+        ensures exact { IsExactStep self.now.shape self.now.heap call.MaxBlock [] (Ok (Number result)) self.now.heap }
+        ensures step { MemoryStep self.now.shape self.now.heap call.MaxBlock [] (Ok (Number result)) self.now.heap }
+    {
+        // The address of the first block says that the heap is sound.
+        prove!(self.zone.first_block() > 0);
+        self.zone.largest_room()
+    }
+
+    /// PurgeSpace: the bytes that would be free if all blocks that may be purged were, in all and in one block (Inside
+    /// Macintosh: Memory, Assessing Memory Conditions).
+    pub fn purge_space(&self) -> PurgeSpace
+        ensures exact { IsExactStep self.now.shape self.now.heap call.PurgeSpace [] (Ok (TwoNumbers result.total result.contiguous)) self.now.heap }
+        ensures step { MemoryStep self.now.shape self.now.heap call.PurgeSpace [] (Ok (TwoNumbers result.total result.contiguous)) self.now.heap }
+    {
+        // The address of the first block says that the heap is sound.
+        prove!(self.zone.first_block() > 0);
+        self.zone.purge_space()
+    }
+}
