@@ -1,5 +1,4 @@
 pub mod Calls
-pub mod Built
 pub mod Tests
 pub mod GrowZone
 pub mod ExactRequest

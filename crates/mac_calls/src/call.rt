@@ -13,18 +13,3 @@ pub enum Call<'a> {
     /// The code of the last call other than MemError (Inside Macintosh: Memory, Errors).
     MemError,
 }
-
-impl Call<'_> {
-    ghost use Rattle.std.specs.Prelude.{◌≡◌};
-    ghost use Rattle.mac_calls.specs.Built.{is_built};
-
-    /// Whether the call can be made yet.
-    pub fn is_built(&self) -> bool
-        ensures { result ≡ is_built self.now }
-    {
-        match self {
-            Call::Memory(call) => call.is_built(),
-            Call::Loan(_) | Call::MemError => true,
-        }
-    }
-}

@@ -136,27 +136,3 @@ pub enum MemoryCall<'a> {
         count: u32,
     },
 }
-
-impl MemoryCall<'_> {
-    ghost use Rattle.std.specs.Prelude.{◌≡◌};
-    ghost use Rattle.mac_calls.specs.Built.{is_built_memory};
-
-    /// Whether the call can be made yet.
-    pub fn is_built(&self) -> bool
-        ensures { result ≡ is_built_memory self.now }
-    {
-        !matches!(
-            self,
-            MemoryCall::PurgeSpace
-                | MemoryCall::MaxBlock
-                | MemoryCall::FreeMem
-                | MemoryCall::HandToHand(_)
-                | MemoryCall::ReallocateHandle(..)
-                | MemoryCall::PtrToHand(..)
-                | MemoryCall::HandAndHand(..)
-                | MemoryCall::PtrToXHand(..)
-                | MemoryCall::PtrAndHand(..)
-                | MemoryCall::BlockMove { .. }
-        )
-    }
-}

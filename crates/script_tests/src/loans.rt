@@ -166,6 +166,13 @@ SetHandleSize h 8: -117
 SetHandleSize h 8388609: -117
 SetPtrSize p 20: -117
 SetPtrSize p 8388609: -117
+ReallocateHandle h 8388609: -117
+HandToHand h: -117
+PtrToHand p 21: -117
+PtrToXHand p 0 21: -117
+PtrAndHand p 0 21: -117
+HandAndHand h 0: -117
+BlockMove p 21 0 0 0: -117
 HUnlock h: -117
 HSetState h 0: -117
 HSetState h 127: -117

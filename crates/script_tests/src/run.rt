@@ -207,7 +207,7 @@ fn scripts_print_their_replies(rt: HostRuntime) -> Result<(), Fail> {
 
 #[test]
 fn handles_and_pointers_print_their_replies(rt: HostRuntime) -> Result<(), Fail> {
-    let rows: [(&str, &str); 7] = [
+    let rows: [(&str, &str); 9] = [
         (
             "h = NewHandle 100\nHLock h\nHPurge h\nHGetState h\nHSetState h 64\nHGetState h\nHSetState h 256\nEmptyHandle h\nGetHandleSize h\nHLock h\nEmptyHandle h\nMemError\n",
             "1 NewHandle $0010003C 0\n2 HLock 0\n3 HPurge 0\n4 HGetState 192 0\n5 HSetState 0\n6 HGetState 64 0\n7 HSetState -50\n8 EmptyHandle 0\n9 GetHandleSize -109\n10 HLock -109\n11 EmptyHandle 0\n12 MemError 0 0\n",
@@ -235,6 +235,14 @@ fn handles_and_pointers_print_their_replies(rt: HostRuntime) -> Result<(), Fail>
         (
             "a = GetHandleSize 0\nNewHandle a\nn = ZoneMap\nNewPtr n\n",
             "1 GetHandleSize -109\n2 NewHandle $0010003C 0\n3 ZoneMap 3 0\n  $00100034 264 master\n  $0010013C 12 rel $0010003C 0 ---\n  $00100148 3768 free\n4 NewPtr $00100144 0\n",
+        ),
+        (
+            "p = NewPtr 4\nPoke p 0 \"abcd\"\nh = PtrToHand p 3\nPtrAndHand p h 2\nPeek h 0 5\nPtrToXHand p h 1\nk = HandToHand h\nPeek k 0 1\n",
+            "1 NewPtr $00100144 0\n2 Poke 0\n3 PtrToHand $0010003C 0\n4 PtrAndHand 0\n5 Peek \"abcab\" 0\n6 PtrToXHand 0\n7 HandToHand $00100040 0\n8 Peek \"a\" 0\n",
+        ),
+        (
+            "h = NewHandle 4\nPoke h 0 \"abcd\"\nHandAndHand h h\nBlockMove h 0 h 1 6\nPeek h 0 8\nHPurge h\nFreeMem\nMaxBlock\nPurgeSpace\nReallocateHandle h 2\nPeek h 0 2\nHGetState h\n",
+            "1 NewHandle $0010003C 0\n2 Poke 0\n3 HandAndHand 0\n4 BlockMove 0\n5 Peek \"aabcdabd\" 0\n6 HPurge 0\n7 FreeMem 3764 0\n8 MaxBlock 3764 0\n9 PurgeSpace 3780 3780 0\n10 ReallocateHandle 0\n11 Peek $\"0000\" 0\n12 HGetState 0 0\n",
         ),
     ];
     check_replies(&rt, rt.alloc(), &rows)
@@ -334,6 +342,33 @@ SetPtrSize p 8388609: -50
 SetPtrSize p 8388608: -108
 SetPtrSize p 21: -108
 SetPtrSize 0 8388609: -111
+ReallocateHandle 0 8388609: -109
+ReallocateHandle p 8388609: -111
+ReallocateHandle l 8388609: -112
+ReallocateHandle h 8388609: -50
+ReallocateHandle h 8388608: -108
+HandToHand 0: -109
+HandToHand p: -111
+HandToHand e: -109
+PtrToHand 0 21: -111
+PtrToHand h 0: -111
+PtrToHand p 21: -50
+PtrToXHand h 0 0: -111
+PtrToXHand p 0 21: -109
+PtrToXHand p p 21: -111
+PtrToXHand p e 21: -109
+PtrToXHand p h 21: -50
+PtrAndHand 0 e 0: -111
+PtrAndHand p 0 21: -109
+PtrAndHand p h 21: -50
+HandAndHand e 0: -109
+HandAndHand h 0: -109
+HandAndHand h p: -111
+BlockMove 0 0 4 0 0: -109
+BlockMove h 9 4 0 0: -111
+BlockMove h 9 e 0 0: -109
+BlockMove h 0 p 0 9: -50
+BlockMove p 0 h 1 8: -50
 Poke 0 0 \"a\": -109
 Poke 4 0 \"a\": -111
 Poke e 0 \"\": -109

@@ -151,6 +151,22 @@ ok HSetState 1 2\nSetHandleSize 1 2\nSetPtrSize 1 2\nEmptyHandle 1\nDisposePtr 1
 1 NewEmptyHandle 1|\
 1 NewPtr|\
 ok a = RecoverHandle 1\nMoveHHi a\nHLockHi a\na = CompactMem 1\nPurgeMem 1\na = MaxMem\nReserveMem 1\nMoreMasters\nMaxApplZone|\
+ok h = HandToHand 1\nh = PtrToHand 1 2\nPtrToXHand 1 h 3\nPtrAndHand 1 h 3\nHandAndHand 1 h\nBlockMove 1 2 h 4 5\nReallocateHandle h 1\nn = FreeMem\nn = MaxBlock\nn = PurgeSpace|\
+1 n = ReallocateHandle 1 2|\
+1 n = PtrToXHand 1 2 3|\
+1 n = PtrAndHand 1 2 3|\
+1 n = HandAndHand 1 2|\
+1 n = BlockMove 1 2 3 4 5|\
+1 ReallocateHandle 1|\
+1 HandToHand 1 2|\
+1 PtrToHand 1|\
+1 PtrToXHand 1 2|\
+1 PtrAndHand 1 2|\
+1 HandAndHand 1|\
+1 BlockMove 1 2 3 4|\
+1 FreeMem 1|\
+1 MaxBlock 1|\
+1 PurgeSpace 1|\
 1 a = MoveHHi 1|\
 1 MaxMem 1|\
 1 CompactMem|\

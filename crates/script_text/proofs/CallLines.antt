@@ -1,11 +1,12 @@
 -- Which tokens make a call.
 use Rattle.std.proofs.Common.{◌≡◌, ◌≢◌, ℕ, List, [], ◌∷◌, ◌++◌, Option, Some, None, sym, ap, subst, ◌∙◌}
+use Rattle.std.specs.Prelude.{IfSome, IsTrue}
 use Rattle.mac_calls.specs.declared.table.CallName.{CallName}
 use Rattle.script_text.specs.declared.line.CallLine.{CallLine}
 use Rattle.script_text.specs.declared.line.Operand.{Operand}
 use Rattle.script_text.specs.Tokens.{Token, Equals, Word}
 use Rattle.mac_calls.specs.Calls.{signature}
-use Rattle.script_text.specs.Operands.{AreOperands}
+use Rattle.script_text.specs.Operands.{AreOperands, is_name}
 use Rattle.script_text.specs.Script.{assignment, assigned_by, HasNoFirstWord, IsCall}
 use Rattle.mac_calls.proofs.CallNames.{one_call}
 use Rattle.script_text.proofs.OneOperand.{operands_no_equals}
@@ -50,6 +51,26 @@ name_and_operands names tokens others word o x parted p =
 -- a word that is no call's name makes no call
 pub no_name : (names : List (List ℕ)) (tokens others : List Token) (word : List ℕ) (o : Option (List ℕ)) → Parted tokens o (Word word ∷ others) → ((call : CallName) → (signature call).name ≢ word) → (x : CallLine) → ¬ IsCall names tokens x
 no_name names tokens others word o parted none x p = none x.call (name_and_operands names tokens others word o x parted p).0
+
+-- the name that a call's tokens assign may be assigned, and so may the call's result
+assigned_may : (names : List (List ℕ)) (tokens rest : List Token) (word : List ℕ) (x : CallLine) → Parted tokens (Some word) rest → (p : List Token) → AreOperands names (signature x.call).operands p x.operands → (a : Option (List ℕ)) → tokens ≡ assignment a ++ Word (signature x.call).name ∷ p
+    → IfSome a (λ name. IsTrue (is_name name) × IsTrue (signature x.call).is_assignable) → IsTrue (is_name word) × IsTrue (signature x.call).is_assignable
+assigned_may names tokens rest word x parted p are None e may =
+    let same : Word word ∷ Equals ∷ rest ≡ Word (signature x.call).name ∷ p = sym parted.parts ∙ e in
+    let begins : p ≡ Equals ∷ rest = cc in
+    absurd (operands_no_equals names (signature x.call).operands rest x.operands (subst (λ (t : List Token). AreOperands names (signature x.call).operands t x.operands) begins are))
+assigned_may names tokens rest word x parted p are (Some a) e may =
+    let same : Word word ∷ Equals ∷ rest ≡ Word a ∷ Equals ∷ Word (signature x.call).name ∷ p = sym parted.parts ∙ e in
+    let name : a ≡ word = cc in
+    (subst (λ (w : List ℕ). IsTrue (is_name w)) name may.0, may.1)
+
+-- tokens that assign what may not be assigned make no call
+pub no_assigned : (names : List (List ℕ)) (tokens others : List Token) (call : CallName) (o : Option (List ℕ)) (word : List ℕ) → o ≡ Some word → Parted tokens o (Word (signature call).name ∷ others) → ¬ (IsTrue (is_name word) × IsTrue (signature call).is_assignable) → (x : CallLine) → ¬ IsCall names tokens x
+no_assigned names tokens others call o word is parted none x p =
+    let same = name_and_operands names tokens others (signature call).name o x parted p in
+    let this : x.call ≡ call = one_call x.call call same.0 in
+    let may = assigned_may names tokens (Word (signature call).name ∷ others) word x (subst (λ (n : Option (List ℕ)). Parted tokens n (Word (signature call).name ∷ others)) is parted) p.1 p.5 p.0 p.2 p.3 in
+    none (may.0, subst (λ (c : CallName). IsTrue (signature c).is_assignable) this may.1)
 
 -- tokens that are no operands of the call make no call
 pub no_operands : (names : List (List ℕ)) (tokens others : List Token) (call : CallName) (o : Option (List ℕ)) → Parted tokens o (Word (signature call).name ∷ others) → ((xs : List Operand) → ¬ AreOperands names (signature call).operands others xs) → (x : CallLine) → ¬ IsCall names tokens x

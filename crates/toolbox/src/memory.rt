@@ -8,29 +8,28 @@ ghost use Rattle.mac_base.specs.HandleTable.{bytes_of};
 ghost use Rattle.mac_base.specs.ZoneMap.{address_behind};
 ghost use Rattle.linked_zone.specs.Loans.{KeepsLoans};
 ghost use Rattle.mac_calls.specs.declared.memory_call.MemoryCall.TheVariants as call;
-ghost use Rattle.mac_calls.specs.Built.{is_built_memory};
 ghost use Rattle.mac_calls.specs.declared.reply.Results.TheVariants.{TwoNumbers};
 ghost use Rattle.mac_calls.specs.Outcomes.{handle_outcome, pointer_outcome, address_outcome, number_outcome, done_outcome};
 ghost use Rattle.mac_calls.specs.Tests.{refusal};
-ghost use Rattle.toolbox.specs.Steps.{MemorySteps, copies, is_quiet};
+ghost use Rattle.toolbox.specs.Steps.{MemorySteps, copies, is_plain, is_quiet};
 
 use mac_base::block::{Block, Entry, Status};
 use mac_base::bytes::Bytes;
 use mac_base::error::{HostFull, OsErr};
 use mac_base::handle::{Handle, Ptr};
+use mac_base::purge_space::PurgeSpace;
 use mac_calls::{BlockList, GrowZone, MemoryCall, Outcome, Results};
 use mem_calls::MemoryManager;
 use std::alloc::Global;
 
-/// Makes a call that can be made yet; one that finds no room asks the grow-zone procedure.
+/// Makes a call; one that finds no room asks the grow-zone procedure.
 pub(crate) fn make<G: GrowZone>(
     memory: &mut MemoryManager,
     alloc: Global,
     memory_call: &MemoryCall<'_>,
     procedure: &mut G,
 ) -> Result<Outcome, HostFull>
-    requires built { IsTrue (is_built_memory memory_call.now) }
-    requires new_call { G.asks procedure.old ≡ [] }
+    requires { G.asks procedure.old ≡ [] }
     ensures step { IfOk result (λ outcome. MemorySteps memory.old memory_call.now (G.asks procedure.new) outcome memory.new) }
     ensures source { G.source procedure.new ≡ G.source procedure.old }
     ensures loans { KeepsLoans memory.old memory.new }
@@ -40,17 +39,6 @@ pub(crate) fn make<G: GrowZone>(
     ensures late { OnErr result (refusal memory.old.shape memory.old.heap memory_call.now ≡ None) }
 {
     match *memory_call {
-        MemoryCall::NewHandle(size) => Ok(handle(memory.new_handle(size, procedure))),
-        MemoryCall::NewEmptyHandle => Ok(handle(memory.new_empty_handle(procedure))),
-        MemoryCall::NewPtr(size) => Ok(pointer(memory.new_ptr(size, procedure))),
-        MemoryCall::SetHandleSize(handle, size) => Ok(done(memory.set_handle_size(
-            handle, size, procedure,
-        ))),
-        MemoryCall::SetPtrSize(pointer, size) => Ok(done(memory.set_ptr_size(
-            pointer, size, procedure,
-        ))),
-        MemoryCall::ReserveMem(size) => Ok(done(memory.reserve_mem(size, procedure))),
-        MemoryCall::MoreMasters => Ok(done(memory.more_masters(procedure))),
         MemoryCall::Poke {
             block,
             offset,
@@ -62,11 +50,53 @@ pub(crate) fn make<G: GrowZone>(
             count,
         } => peek(memory, alloc, block, offset, count),
         MemoryCall::ZoneMap => zone_map(memory, alloc),
-        _ => Ok(make_quiet(memory, memory_call)),
+        _ => Ok(make_plain(memory, memory_call, procedure)),
     }
 }
 
-/// Makes a call that needs no more room, neither in the zone nor of the host.
+/// Makes a call that neither shows nor is given bytes or blocks; one that finds no room asks the grow-zone procedure.
+fn make_plain<G: GrowZone>(
+    memory: &mut MemoryManager,
+    memory_call: &MemoryCall<'_>,
+    procedure: &mut G,
+) -> Outcome
+    requires plain { IsTrue (is_plain memory_call.now) }
+    requires new_call { G.asks procedure.old ≡ [] }
+    ensures step { MemorySteps memory.old memory_call.now (G.asks procedure.new) result memory.new }
+    ensures source { G.source procedure.new ≡ G.source procedure.old }
+    ensures loans { KeepsLoans memory.old memory.new }
+{
+    match *memory_call {
+        MemoryCall::NewHandle(size) => handle(memory.new_handle(size, procedure)),
+        MemoryCall::NewEmptyHandle => handle(memory.new_empty_handle(procedure)),
+        MemoryCall::NewPtr(size) => pointer(memory.new_ptr(size, procedure)),
+        MemoryCall::SetHandleSize(handle, size) => done(memory.set_handle_size(
+            handle, size, procedure,
+        )),
+        MemoryCall::SetPtrSize(pointer, size) => done(memory.set_ptr_size(
+            pointer, size, procedure,
+        )),
+        MemoryCall::ReserveMem(size) => done(memory.reserve_mem(size, procedure)),
+        MemoryCall::MoreMasters => done(memory.more_masters(procedure)),
+        MemoryCall::ReallocateHandle(handle, size) => done(memory.reallocate_handle(
+            handle, size, procedure,
+        )),
+        MemoryCall::HandToHand(source) => handle(memory.hand_to_hand(source, procedure)),
+        MemoryCall::PtrToHand(pointer, count) => handle(memory.ptr_to_hand(
+            pointer, count, procedure,
+        )),
+        MemoryCall::PtrToXHand(pointer, handle, count) => done(memory.ptr_to_xhand(
+            pointer, handle, count, procedure,
+        )),
+        MemoryCall::PtrAndHand(pointer, handle, count) => done(memory.ptr_and_hand(
+            pointer, handle, count, procedure,
+        )),
+        MemoryCall::HandAndHand(one, other) => done(memory.hand_and_hand(one, other, procedure)),
+        _ => make_quiet(memory, memory_call),
+    }
+}
+
+/// Makes such a call that needs no more room in the zone.
 fn make_quiet(memory: &mut MemoryManager, memory_call: &MemoryCall<'_>) -> Outcome
     requires { IsTrue (is_quiet memory_call.now) }
     ensures step { MemorySteps memory.old memory_call.now [] result memory.new }
@@ -89,6 +119,16 @@ fn make_quiet(memory: &mut MemoryManager, memory_call: &MemoryCall<'_>) -> Outco
         MemoryCall::CompactMem(size) => number(memory.compact_mem(size)),
         MemoryCall::PurgeMem(size) => done(memory.purge_mem(size)),
         MemoryCall::MaxMem => two_numbers(memory.max_mem()),
+        MemoryCall::PurgeSpace => two_sizes(memory.purge_space()),
+        MemoryCall::MaxBlock => number(Ok(memory.max_block())),
+        MemoryCall::FreeMem => number(Ok(memory.free_mem())),
+        MemoryCall::BlockMove {
+            from,
+            start,
+            to,
+            offset,
+            count,
+        } => done(memory.block_move(from, start, to, offset, count)),
         MemoryCall::MaxApplZone => {
             memory.max_appl_zone();
             Ok(Results::Nothing)
@@ -227,6 +267,13 @@ fn two_numbers(given: (u32, u32)) -> Outcome
     ensures { result ≡ Ok (TwoNumbers given.0 given.1) }
 {
     Ok(Results::TwoNumbers(given.0, given.1))
+}
+
+/// The outcome of PurgeSpace.
+fn two_sizes(given: PurgeSpace) -> Outcome
+    ensures { result ≡ Ok (TwoNumbers given.total given.contiguous) }
+{
+    two_numbers((given.total, given.contiguous))
 }
 
 /// The outcome of a call that has no result.

@@ -38,7 +38,6 @@ impl Drop for Toolbox {
 
 impl Toolbox {
     ghost use Rattle.std.specs.Prelude.{◌≡◌, [], None, IfOk, OnErr, IsTrue};
-    ghost use Rattle.mac_calls.specs.Built.{is_built};
     ghost use Rattle.mac_calls.specs.Loans.{all_returned};
     ghost use Rattle.toolbox.specs.Steps.{Gives, LeavesAnswers, Steps, refusal_of, takes_memory};
 
@@ -56,7 +55,7 @@ impl Toolbox {
         }
     }
 
-    /// Makes one call, which is one of those that can be made yet; one that finds no room asks the procedure. A call that is
+    /// Makes one call; one that finds no room asks the procedure. A call that is
     /// refused for its operands changes nothing in the zone nor in the loans, and its reply has the code. MemError gives the code
     /// of the last other call. `HostFull` comes only from Peek, LentPeek and ZoneMap, whose replies take host memory, and only
     /// where the call isn't refused; then nothing has changed.
@@ -65,8 +64,7 @@ impl Toolbox {
         call: &Call<'_>,
         procedure: &mut G,
     ) -> Result<Reply, HostFull>
-        requires built { IsTrue (is_built call.now) }
-        requires new_call { G.asks procedure.old ≡ [] }
+        requires { G.asks procedure.old ≡ [] }
         ensures step { IfOk result (λ reply. Steps self.old call.now (G.asks procedure.new) reply.outcome self.new) }
         ensures source { G.source procedure.new ≡ G.source procedure.old }
         ensures unchanged { OnErr result (self.new ≡ self.old) }
@@ -89,8 +87,7 @@ impl Toolbox {
         call: &Call<'_>,
         procedure: &mut G,
     ) -> Result<Outcome, HostFull>
-        requires built { IsTrue (is_built call.now) }
-        requires new_call { G.asks procedure.old ≡ [] }
+        requires { G.asks procedure.old ≡ [] }
         ensures gives { IfOk result (λ outcome. Gives self.old call.now (G.asks procedure.new) outcome self.new) }
         ensures shape { self.new.shape ≡ self.old.shape }
         ensures refused { self.new.refused ≡ self.old.refused }
@@ -114,7 +111,6 @@ impl Toolbox {
         call: &Call<'_>,
         queue: &mut AnswerQueue,
     ) -> Result<Reply, HostFull>
-        requires { IsTrue (is_built call.now) }
         ensures step { IfOk result (λ reply. Steps self.old call.now queue.new.asks reply.outcome self.new) }
         ensures answers { IfOk result (λ reply. LeavesAnswers self.old queue.old.left call.now queue.new.asks reply.outcome self.new queue.new.left) }
         ensures unchanged { OnErr result (self.new ≡ self.old) }
