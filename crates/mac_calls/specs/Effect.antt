@@ -1,5 +1,5 @@
 -- What a call that is not refused makes of the heap, beside its request.
-use Rattle.std.specs.Prelude.{ℕ, ◌+◌, true, false, List, ◌++◌, length, take, drop, Option, Some, None}
+use Rattle.std.specs.Prelude.{ℕ, ◌+◌, true, false, ◌++◌, length, take, drop, Option, Some, None}
 use Rattle.mac_base.specs.HeadKind.{Shape}
 use Rattle.mac_base.specs.HandleTable.{HandleTable, bytes_of, flags_of, with_bytes, with_flags}
 use Rattle.mac_base.specs.declared.request.Request.{Request}

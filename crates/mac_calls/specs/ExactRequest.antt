@@ -3,10 +3,10 @@ use Rattle.std.specs.Prelude.{ℕ, ◌-◌, ◌==◌, if◌then◌else◌, List,
 use Rattle.mac_base.specs.HeadKind.{Shape}
 use Rattle.mac_base.specs.ZoneMap.{ZoneMap}
 use Rattle.mac_base.specs.declared.request.Request.{Request}
-use Rattle.mac_base.specs.Request.{size_needed, fits, candidates, purged_until}
+use Rattle.mac_base.specs.Request.{size_needed, fits}
 use Rattle.mac_base.specs.Serve.{serve}
 use Rattle.mac_base.specs.Purging.{purged}
-use Rattle.mac_base.specs.Heap.{Heap, grown, front_slot, with_all_emptied, granted}
+use Rattle.mac_base.specs.Heap.{Heap, grown, front_slot, granted}
 use Rattle.mac_calls.specs.GrowZone.{Answer, Ask, Carried, carried_out}
 
 -- the heap in which a trial looks for room: as it is where the request fits, or else grown and purged

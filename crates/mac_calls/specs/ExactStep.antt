@@ -10,7 +10,7 @@ use Rattle.mac_base.specs.declared.request.Request.{Request}
 use Rattle.mac_base.specs.declared.request.Request.TheVariants.{NewMaster}
 use Rattle.mac_base.specs.Request.{makes_handle}
 use Rattle.mac_base.specs.Purging.{purged_for}
-use Rattle.mac_base.specs.Heap.{Heap, with_table, with_map, all_purged, with_all_emptied, has_none}
+use Rattle.mac_base.specs.Heap.{Heap, with_table, with_map, all_purged, has_none}
 use Rattle.mac_calls.specs.declared.memory_call.MemoryCall.{MemoryCall}
 use Rattle.mac_calls.specs.declared.memory_call.MemoryCall.TheVariants as memory_call
 use Rattle.mac_calls.specs.Tests.{refusal, protected_by}

@@ -3,7 +3,7 @@ use Rattle.std.specs.Prelude.{Result, Ok, Err, ℕ, ◌+◌, ◌-◌, [], length
 use Rattle.mac_base.specs.declared.error.OsErr.{OsErr}
 use Rattle.mac_base.specs.HeadKind.{Shape, zone_header}
 use Rattle.mac_base.specs.ZoneMap.{ZoneMap, address_behind, total_size, free_bytes, largest_free, contents_of, handle_at}
-use Rattle.mac_base.specs.HandleTable.{HandleTable, bytes_of, flags_of}
+use Rattle.mac_base.specs.HandleTable.{bytes_of, flags_of}
 use Rattle.mac_base.specs.Reports.{largest_room, purge_space, largest_purge_space}
 use Rattle.mac_base.specs.Heap.{Heap}
 use Rattle.mac_base.specs.FlagState.{state_of}

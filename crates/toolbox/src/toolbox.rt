@@ -55,10 +55,10 @@ impl Toolbox {
         }
     }
 
-    /// Makes one call; one that finds no room asks the procedure. A call that is
-    /// refused for its operands changes nothing in the zone nor in the loans, and its reply has the code. MemError gives the code
-    /// of the last other call. `HostFull` comes only from Peek, LentPeek and ZoneMap, whose replies take host memory, and only
-    /// where the call isn't refused; then nothing has changed.
+    /// Makes one call; one that finds no room asks the procedure. A call that is refused for its operands changes nothing in the
+    /// zone nor in the loans, and its reply has the code. MemError gives the code of the last other call. `HostFull` comes only
+    /// from Peek, LentPeek and ZoneMap, whose replies take host memory, and only where the call isn't refused; then nothing has
+    /// changed.
     pub fn step<G: GrowZone>(
         &mut self,
         call: &Call<'_>,
