@@ -63,7 +63,7 @@ module _ (s : Shape) (heap : Heap) where
 -- ---- calls that make a request
 
 -- the request spares what is lent, and what the call copies goes into no lent block
-pub record AsksSparing (s : Shape) (heap : Heap) (call : MemoryCall) (r : Request) : Type 0 where
+record AsksSparing (s : Shape) (heap : Heap) (call : MemoryCall) (r : Request) : Type 0 where
   pub spares : SparesLent heap r
   pub copied : (x : ℕ) (after : Heap) → KeepsLent s heap after → NewHere r x after → KeepsLent s after (with_table (table_copied call x heap.table after.table) after)
 
@@ -77,7 +77,7 @@ module _ (s : Shape) (heap : Heap) where
   into h bytes here after keeps = keeps-written s after h bytes (still_here s heap after h keeps here)
 
   -- a call that isn't refused asks so
-  pub asks-sparing : (call : MemoryCall) → refusal s heap call ≡ None → MatchOption (request_of heap.table call) ⊤ (AsksSparing s heap call)
+  asks-sparing : (call : MemoryCall) → refusal s heap call ≡ None → MatchOption (request_of heap.table call) ⊤ (AsksSparing s heap call)
   asks-sparing (memory_call.NewHandle n) is = record { spares = tt; copied = λ x after keeps here. lent-refl s after }
   asks-sparing memory_call.NewEmptyHandle is = record { spares = tt; copied = λ x after keeps here. lent-refl s after }
   asks-sparing (memory_call.NewPtr n) is = record { spares = tt; copied = λ x after keeps here. lent-refl s after }

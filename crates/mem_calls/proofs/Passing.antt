@@ -5,8 +5,8 @@ use Rattle.mac_base.specs.declared.error.OsErr.{OsErr}
 use Rattle.mac_base.specs.Heap.{Heap}
 use Rattle.mac_base.specs.declared.error.OsErr.TheVariants.{MemPurErr, ParamErr}
 use Rattle.mac_base.specs.HeadKind.{Shape, max_size}
-use Rattle.mac_calls.specs.Tests.{Test, IsHandle, IsPointer, NotEmpty, NotLent, NotLocked, IsSize, refused_by, first_refusal, refusal, unless_passed}
-use Rattle.mac_calls.specs.declared.memory_call.MemoryCall.TheVariants.{ReallocateHandle, SetHandleSize, SetPtrSize}
+use Rattle.mac_calls.specs.Tests.{Test, IsBlock, IsHandle, IsPointer, NotEmpty, NotLent, NotLocked, IsSize, IsWithin, refused_by, first_refusal, refusal, unless_passed}
+use Rattle.mac_calls.specs.declared.memory_call.MemoryCall.TheVariants.{BlockMove, ReallocateHandle, SetHandleSize, SetPtrSize}
 
 or_or : (a b c : Option OsErr) → option_or a (option_or b c) ≡ option_or (option_or a b) c
 or_or None b c = refl
@@ -42,3 +42,10 @@ pub passed-reallocate_handle : (s : Shape) (heap : Heap) (h n : ℕ) → first_r
     → refusal s heap (ReallocateHandle h n) ≡ None
 passed-reallocate_handle s heap h n live unlocked fits =
     passed-both s heap (IsHandle h ∷ NotLent h ∷ []) (NotLocked MemPurErr h ∷ IsSize n ∷ []) live (passed-both s heap (NotLocked MemPurErr h ∷ []) (IsSize n ∷ []) unlocked (ap (λ o. option_or o None) fits))
+
+-- BlockMove isn't refused
+pub passed-block_move : (s : Shape) (heap : Heap) (x at y to n : ℕ) → first_refusal s heap (IsBlock x ∷ NotEmpty x ∷ NotLent x ∷ []) ≡ None → first_refusal s heap (IsBlock y ∷ NotEmpty y ∷ NotLent y ∷ []) ≡ None
+    → first_refusal s heap (IsWithin x at n ∷ []) ≡ None → first_refusal s heap (IsWithin y to n ∷ []) ≡ None → refusal s heap (BlockMove x at y to n) ≡ None
+passed-block_move s heap x at y to n from into inside within =
+    passed-both s heap (IsBlock x ∷ NotEmpty x ∷ NotLent x ∷ []) (IsBlock y ∷ NotEmpty y ∷ NotLent y ∷ IsWithin x at n ∷ IsWithin y to n ∷ []) from
+    (passed-both s heap (IsBlock y ∷ NotEmpty y ∷ NotLent y ∷ []) (IsWithin x at n ∷ IsWithin y to n ∷ []) into (passed-both s heap (IsWithin x at n ∷ []) (IsWithin y to n ∷ []) inside within))

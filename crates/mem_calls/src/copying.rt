@@ -84,8 +84,9 @@ fn copy_behind<G: GrowZone>(
 
 impl MemoryManager {
     /// HandToHand: a new handle, without flags, whose block has the bytes of this one's. It is placed, and the zone grows, purges (but
-    /// not this handle) and asks, as for NewHandle. nilHandleErr where the handle is 0 or empty, memWZErr where it isn't live, memLockedErr where it is lent;
-    /// memFullErr where there is no room or no master pointer (Inside Macintosh: Memory, Manipulating Blocks of Memory).
+    /// not this handle) and asks, as for NewHandle. nilHandleErr where the handle is 0 or empty, memWZErr where it isn't live,
+    /// memLockedErr where it is lent; memFullErr where there is no room or no master pointer (Inside Macintosh: Memory, Manipulating
+    /// Blocks of Memory).
     pub fn hand_to_hand<G: GrowZone>(
         &mut self,
         handle: Handle,

@@ -16,8 +16,6 @@ impl MemoryManager {
         ensures exact { IsExactStep self.now.shape self.now.heap call.FreeMem [] (Ok (Number result)) self.now.heap }
         ensures step { MemoryStep self.now.shape self.now.heap call.FreeMem [] (Ok (Number result)) self.now.heap }
     {
-        // The address of the first block says that the heap is sound.
-        prove!(self.zone.first_block() > 0);
         self.zone.free_bytes()
     }
 
@@ -27,8 +25,6 @@ impl MemoryManager {
         ensures exact { IsExactStep self.now.shape self.now.heap call.MaxBlock [] (Ok (Number result)) self.now.heap }
         ensures step { MemoryStep self.now.shape self.now.heap call.MaxBlock [] (Ok (Number result)) self.now.heap }
     {
-        // The address of the first block says that the heap is sound.
-        prove!(self.zone.first_block() > 0);
         self.zone.largest_room()
     }
 
@@ -38,8 +34,6 @@ impl MemoryManager {
         ensures exact { IsExactStep self.now.shape self.now.heap call.PurgeSpace [] (Ok (TwoNumbers result.total result.contiguous)) self.now.heap }
         ensures step { MemoryStep self.now.shape self.now.heap call.PurgeSpace [] (Ok (TwoNumbers result.total result.contiguous)) self.now.heap }
     {
-        // The address of the first block says that the heap is sound.
-        prove!(self.zone.first_block() > 0);
         self.zone.purge_space()
     }
 }

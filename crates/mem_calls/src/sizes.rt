@@ -8,7 +8,9 @@ ghost use Rattle.mac_calls.specs.ExactStep.{IsExactStep};
 ghost use Rattle.mac_calls.specs.Outcomes.{number_outcome, done_outcome};
 
 use crate::manager::MemoryManager;
-use crate::operands::{test_full, test_handle_here, test_new_size, test_pointer, test_size, test_unlocked};
+use crate::operands::{
+    test_full, test_handle_here, test_new_size, test_pointer, test_size, test_unlocked,
+};
 use crate::request::request;
 use mac_base::error::OsErr;
 use mac_base::handle::{Handle, Ptr};

@@ -1,5 +1,5 @@
-use Rattle.std.proofs.Common.{◌≡◌, ℕ, ◌+◌, ◌≤◌, ◌<◌, ◌^◌, [], ◌∷◌, ◌++◌, length, take, not, ◌&&◌, Ok, refl, ap, ◌∙◌, arith}
-use Rattle.mac_base.specs.HandleTable.{bytes_of, has_block, is_lent}
+use Rattle.std.proofs.Common.{◌+◌, [], ◌∷◌, ◌++◌, take, not, ◌&&◌, Ok, refl, ap, ◌∙◌, arith}
+use Rattle.mac_base.specs.HandleTable.{bytes_of, is_lent}
 use Rattle.mac_base.specs.declared.request.Request.TheVariants.{Resize}
 use Rattle.call_laws.proofs.Lengths.{bytes-within}
 use Rattle.zone_heap.proofs.Writing.{full-has_block, full-here}

@@ -21,7 +21,7 @@ returns-clause-exact g c =
     (rw c.number-block.ensures at c.copy_to_new.ensures.run) (handle_ends (PtrToHand p n) (λ x. refl) c.copy_to_new.result)
 
 pub returns-clause-step : goal.returns-clause-step
-returns-clause-step g c = step-exact c.args.self.now c.self.inside.zone c.copy_to_new.new.zone c.self.view_is c.copy_to_new.ensures.sound (PtrToHand c.args.pointer c.args.count) 
+returns-clause-step g c = step-exact c.args.self.now c.self.inside.zone c.copy_to_new.new.zone c.self.view_is c.copy_to_new.ensures.sound (PtrToHand c.args.pointer c.args.count)
     (passed-both c.self.inside.zone.shape c.self.inside.zone.heap (IsPointer c.args.pointer ∷ NotLent c.args.pointer ∷ []) (IsWithin c.args.pointer 0 c.args.count ∷ []) c.in_ok-test_pointer_here.ensures
     (rw c.number-block.ensures at c.in_ok-test_within.ensures))
     (g.G.GrowZone.asks c.copy_to_new.new.procedure) (handle_outcome c.copy_to_new.result) (returns-clause-exact g c)
