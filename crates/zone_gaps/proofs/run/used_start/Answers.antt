@@ -29,9 +29,11 @@ loop-low-smaller c =
 pub loop-low-preserved : goal.loop-low-preserved
 loop-low-preserved c =
     let l = c.loop-low in
-    let e = c.in-Some.ensures.there in
-    (λ run. ending_on c.args.zone.now run l.low (l.invariant.0 run) c.requires.sizes c.loop-low-test.true c.in-Some.last e (c.in-Some.ensures.next e)
-    (ap (λ (e : Entry). is_free e.kind) (sym (c.entry_at.ensures e)) ∙ sym c.is_free.ensures ∙ c.if-is_free.false), e)
+    let e = c.in-Some.ensures.there in (
+      λ run. ending_on c.args.zone.now run l.low (l.invariant.0 run) c.requires.sizes c.loop-low-test.true c.in-Some.last e (c.in-Some.ensures.next e)
+          (ap (λ (e : Entry). is_free e.kind) (sym (c.entry_at.ensures e)) ∙ sym c.is_free.ensures ∙ c.if-is_free.false),
+      e,
+    )
 
 pub returns : goal.returns
 returns c run = ending_all c.args.zone.now run c.loop-low.low (c.loop-low.invariant.0 run) c.requires.sizes c.loop-low-test.false
