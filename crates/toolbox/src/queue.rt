@@ -155,9 +155,8 @@ impl AnswerQueue {
         self.answered.as_slice()
     }
 
-    /// A call begins: nothing is asked yet. A program calls this before each call of the Memory Manager whose grow-zone procedure
-    /// the queue is: such a call requires that nothing is asked yet.
-    pub fn begin(&mut self)
+    /// A call begins: nothing is asked yet.
+    pub(crate) fn begin(&mut self)
         ensures { self.new ≡ record { source = self.old.left; left = self.old.left; asks = [] } }
     {
         self.begun = self.taken;
