@@ -1,0 +1,3 @@
+mod Vectors
+mod Steps
+mod Counted

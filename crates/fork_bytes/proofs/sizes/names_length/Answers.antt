@@ -1,0 +1,44 @@
+use Rattle.std.proofs.Common.{length, ℕ, List, sym, ap, subst, arith}
+use Rattle.std.proofs.lemmas.List.{drop_all}
+use Rattle.fork_bytes.specs.declared.table.Row.{Row}
+use Rattle.fork_bytes.specs.Written.{names_text, NamesFit}
+use Rattle.fork_bytes.proofs.Steps.{names_step, some_name, no_name, fit_step, fit_not}
+use Rattle.fork_bytes.proofs.sizes.names_length.Goals.{in-Some+else-next-gt-MAX_NAME_OFFSET, in_default}
+use Rattle.fork_bytes.proofs.sizes.names_length.Goals as goal
+
+pub loop-row-init : goal.loop-row-init
+loop-row-init c = (omega arith, (λ fit. fit, λ fit. fit), omega arith)
+
+pub returns-then-next-gt-MAX_NAME_OFFSET-clause-none : goal.returns-then-next-gt-MAX_NAME_OFFSET-clause-none
+returns-then-next-gt-MAX_NAME_OFFSET-clause-none c fit =
+    fit_not c.args.rows.now c.loop-row.row-index c.loop-row.next c.row-item.result c.in-Some.name c.loop-row-test.true c.row-item.is c.in-Some.is c.if-next-gt-MAX_NAME_OFFSET.true
+    (c.loop-row.invariant.1.0 fit)
+
+pub loop-row-preserved : goal.loop-row-preserved
+loop-row-preserved c =
+    let rows = c.args.rows.now in let i = c.loop-row.row-index in let row = c.row-item.result in
+    let within = c.loop-row-test.true in let is = c.row-item.is in
+    let step = names_step rows i row within is in let all = c.loop-row.invariant.0 in
+    let told = c.loop-row.invariant.1 in let few = c.loop-row.invariant.2 in
+    elim c.match-row.branch [
+      | in-Some+else-next-gt-MAX_NAME_OFFSET w ↦
+          let low = w.if-next-gt-MAX_NAME_OFFSET.false in
+          let named = some_name row.name w.in-Some.name c.loop-row.next w.in-Some.is low in let name_length = named.1 in
+          let long = ap (λ (xs : List ℕ). length xs) w.as_slice.ensures.bytes in let short = w.as_slice.ensures.short in let next = w.next-is in
+          let fits = fit_step rows i c.loop-row.next c.match-row.next row within is named.0 (omega arith) in
+          (omega arith, (λ fit. fits.0 (told.0 fit), λ fit. told.1 (fits.1 fit)), omega arith)
+      | in_default w ↦
+          let named = no_name row.name c.loop-row.next w.in_default.is in let name_length = named.1 in let next = w.next-is in
+          let fits = fit_step rows i c.loop-row.next c.match-row.next row within is named.0 (omega arith) in
+          (omega arith, (λ fit. fits.0 (told.0 fit), λ fit. told.1 (fits.1 fit)), omega arith)
+    ]
+
+pub returns-clause-some : goal.returns-clause-some
+returns-clause-some c =
+    let none = ap (λ (rest : List Row). length (names_text rest)) (drop_all c.loop-row.row-index c.args.rows.now (omega (arith, c.loop-row-test.false))) in
+    let all = c.loop-row.invariant.0 in omega arith
+
+pub returns-clause-fit : goal.returns-clause-fit
+returns-clause-fit c =
+    let Q : List Row → Type 0 = NamesFit c.loop-row.next in
+    c.loop-row.invariant.1.1 (subst Q (sym (drop_all c.loop-row.row-index c.args.rows.now (omega (arith, c.loop-row-test.false)))) tt)

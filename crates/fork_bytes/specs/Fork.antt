@@ -1,0 +1,223 @@
+-- Which bytes are a resource fork, and which table they stand for.
+use Rattle.std.specs.Prelude.{◌≡◌, ◌≢◌, ℕ, zero, suc, ◌+◌, ◌*◌, ◌%◌, ◌<◌, ◌≤◌, ◌==◌, if◌then◌else◌, List, [], ◌∷◌, ◌++◌, length, map, take, drop, replicate, slice_index, sum_by, Option, None, Some, IfSome, AllPairs, ⊤}
+use Rattle.std.specs.List.{flat_map, AllByRecursion}
+use Rattle.std.specs.Int.{w16, cast_signed}
+use Rattle.byteorder.specs.Endian.{big_number}
+use Rattle.fork_bytes.specs.declared.fault.Condition.{Condition}
+use Rattle.fork_bytes.specs.declared.fault.Condition.TheVariants.{Parts, Types, References, RowCount, Names, Places, ByteCount}
+use Rattle.fork_bytes.specs.declared.fault.ForkFault.{ForkFault}
+use Rattle.fork_bytes.specs.declared.fault.ForkFault.TheVariants.{EndOfFile, BadMap, HostFull}
+use Rattle.fork_bytes.specs.declared.layout.Header.{Header}
+use Rattle.fork_bytes.specs.declared.layout.MapRow.{MapRow}
+use Rattle.fork_bytes.specs.declared.table.Row.{Row}
+use Rattle.fork_bytes.specs.declared.table.Table.{Table}
+
+-- the number in n bytes at an offset, the highest first
+abbrev pub number_at : ℕ → ℕ → List ℕ → ℕ
+number_at n at bytes = big_number n (drop at bytes)
+
+-- n bytes at an offset
+abbrev pub bytes_at : ℕ → ℕ → List ℕ → List ℕ
+bytes_at n at bytes = take n (drop at bytes)
+
+-- a count that is written less one, so that $FFFF is none
+abbrev pub count_at : ℕ → List ℕ → ℕ
+count_at at bytes = (number_at 2 at bytes + 1) % 65536
+
+-- the header of a fork
+abbrev pub header_of : List ℕ → Header
+header_of fork = record {
+  data_offset = number_at 4 0 fork;
+  map_offset = number_at 4 4 fork;
+  data_length = number_at 4 8 fork;
+  map_length = number_at 4 12 fork;
+}
+
+-- the data and the map, where the header says that they are
+abbrev pub data_of : List ℕ → List ℕ
+data_of fork = bytes_at (header_of fork).data_length (header_of fork).data_offset fork
+
+abbrev pub map_of : List ℕ → List ℕ
+map_of fork = bytes_at (header_of fork).map_length (header_of fork).map_offset fork
+
+-- the map's attributes, and where the type list and the name list stand in the map
+abbrev pub attributes_of : List ℕ → ℕ
+attributes_of resource_map = number_at 2 22 resource_map
+
+abbrev pub type_list : List ℕ → ℕ
+type_list resource_map = number_at 2 24 resource_map
+
+abbrev pub name_list : List ℕ → ℕ
+name_list resource_map = number_at 2 26 resource_map
+
+-- how many types the type list has
+abbrev pub type_count : List ℕ → ℕ
+type_count resource_map = count_at (type_list resource_map) resource_map
+
+-- so many places, each at this distance behind the one before
+abbrev pub places : ℕ → ℕ → ℕ → List ℕ
+places zero at distance = []
+places (suc count) at distance = at ∷ places count (at + distance) distance
+
+-- an entry of the type list: a type, how many references it has, and where in the map they stand
+pub record TypeEntry : Type 0 where
+  pub kind : List ℕ
+  pub count : ℕ
+  pub start : ℕ
+
+-- the entry at a place of the map
+abbrev pub entry_at : List ℕ → ℕ → TypeEntry
+entry_at resource_map at = record {
+  kind = bytes_at 4 at resource_map;
+  count = count_at (at + 4) resource_map;
+  start = type_list resource_map + number_at 2 (at + 6) resource_map;
+}
+
+-- the entries of the type list
+abbrev pub entries_of : List ℕ → List TypeEntry
+entries_of resource_map = map (entry_at resource_map) (places (type_count resource_map) (type_list resource_map + 2) 8)
+
+-- a reference: its type, and where in the map it stands
+pub record Reference : Type 0 where
+  pub kind : List ℕ
+  pub place : ℕ
+
+-- the references of an entry, of 12 bytes each
+abbrev pub references_in : TypeEntry → List Reference
+references_in entry = map (λ at. record { kind = entry.kind; place = at }) (places entry.count entry.start 12)
+
+-- the references in the order of types
+abbrev pub references_of : List ℕ → List Reference
+references_of resource_map = flat_map references_in (entries_of resource_map)
+
+-- where in the map a reference's name stands, unless it has none
+abbrev pub name_place : List ℕ → ℕ → Option ℕ
+name_place resource_map at = let offset = number_at 2 (at + 2) resource_map in
+    if offset == 65535 then None else Some (name_list resource_map + offset)
+
+-- the name at a place, a byte of length and the bytes
+abbrev pub name_at : List ℕ → Option ℕ → Option (List ℕ)
+name_at resource_map None = None
+name_at resource_map (Some at) = Some (bytes_at (slice_index resource_map at) (at + 1) resource_map)
+
+-- the row of a reference
+abbrev pub map_row : List ℕ → Reference → MapRow
+map_row resource_map reference = let at = reference.place in record {
+  kind = reference.kind;
+  id = cast_signed w16 (number_at 2 at resource_map);
+  name = name_at resource_map (name_place resource_map at);
+  attributes = record { 0 = slice_index resource_map (at + 4) };
+  datum = number_at 3 (at + 5) resource_map;
+}
+
+-- the rows that the map lists
+abbrev pub map_rows : List ℕ → List MapRow
+map_rows resource_map = map (map_row resource_map) (references_of resource_map)
+
+-- how many bytes the resource has whose datum stands at an offset of the data
+abbrev pub datum_length : List ℕ → ℕ → ℕ
+datum_length resource_data datum = number_at 4 datum resource_data
+
+-- a row of the map with its bytes, which stand behind their length
+abbrev pub row_with : List ℕ → MapRow → Row
+row_with resource_data row = record {
+  kind = row.kind;
+  id = row.id;
+  name = row.name;
+  attributes = row.attributes;
+  bytes = bytes_at (datum_length resource_data row.datum) (row.datum + 4) resource_data;
+}
+
+-- the 240 bytes behind the header; those past the end are zero
+abbrev pub extra_of : List ℕ → List ℕ
+extra_of fork = take 240 (drop 16 fork ++ replicate 240 0)
+
+-- the table of a fork, field by field
+abbrev pub table_of : List ℕ → Table
+table_of fork = record {
+  rows = map (row_with (data_of fork)) (map_rows (map_of fork));
+  extra = extra_of fork;
+  map_attributes = attributes_of (map_of fork);
+}
+
+-- the most bytes of a fork, and the most rows
+abbrev pub max_fork : ℕ
+max_fork = 4194304
+
+abbrev pub max_rows : ℕ
+max_rows = 8192
+
+-- The parts lie within a fork of so many bytes.
+pub record HasParts (fork_length : ℕ) (header : Header) : Type 0 where
+  pub small : fork_length ≤ max_fork
+  pub whole_data : header.data_offset + header.data_length ≤ fork_length
+  pub whole_map : header.map_offset + header.map_length ≤ fork_length
+  pub map_header : 28 ≤ header.map_length
+
+-- The type list lies within the map, and no type stands twice.
+pub record HasTypes (resource_map : List ℕ) : Type 0 where
+  pub count : type_list resource_map + 2 ≤ length resource_map
+  pub entries : type_list resource_map + 2 + 8 * type_count resource_map ≤ length resource_map
+  pub distinct : AllPairs (λ (a b : TypeEntry). a.kind ≢ b.kind) (entries_of resource_map)
+
+-- Each reference lies within the map.
+abbrev pub HasReferences : List ℕ → Type 0
+HasReferences resource_map = AllByRecursion (λ (r : Reference). r.place + 12 ≤ length resource_map) (references_of resource_map)
+
+-- There are not too many rows.
+abbrev pub HasFewRows : List ℕ → Type 0
+HasFewRows resource_map = length (references_of resource_map) ≤ max_rows
+
+-- Each name lies within the map.
+abbrev pub HasNames : List ℕ → Type 0
+HasNames resource_map = AllByRecursion (λ (r : Reference).
+    IfSome (name_place resource_map r.place) (λ at. at + 1 + slice_index resource_map at ≤ length resource_map)) (references_of resource_map)
+
+-- The bytes of each row lie within the data, and so does their length before them.
+abbrev pub HasData : List ℕ → List MapRow → Type 0
+HasData resource_data rows = AllByRecursion (λ (r : MapRow).
+    (r.datum + 4 ≤ length resource_data) × (r.datum + 4 + datum_length resource_data r.datum ≤ length resource_data)) rows
+
+-- All rows together have not too many bytes, those of the lengths among them.
+abbrev pub HasFewBytes : List ℕ → List MapRow → Type 0
+HasFewBytes resource_data rows = sum_by (λ (r : MapRow). 4 + datum_length resource_data r.datum) rows ≤ max_fork
+
+-- what each condition says of a fork
+abbrev pub Holds : Condition → List ℕ → Type 0
+Holds Parts fork = HasParts (length fork) (header_of fork)
+Holds Types fork = HasTypes (map_of fork)
+Holds References fork = HasReferences (map_of fork)
+Holds RowCount fork = HasFewRows (map_of fork)
+Holds Names fork = HasNames (map_of fork)
+Holds Places fork = HasData (data_of fork) (map_rows (map_of fork))
+Holds ByteCount fork = HasFewBytes (data_of fork) (map_rows (map_of fork))
+
+-- the bytes are a fork: they have a header, and all conditions hold
+pub record IsFork (fork : List ℕ) : Type 0 where
+  pub header : 16 ≤ length fork
+  pub holds : (condition : Condition) → Holds condition fork
+
+-- the bytes stand for the table
+abbrev pub StandsFor : List ℕ → Table → Type 0
+StandsFor fork table = IsFork fork × (table ≡ table_of fork)
+
+-- how many conditions are looked at before this one
+abbrev pub rank : Condition → ℕ
+rank Parts = 0
+rank Types = 1
+rank References = 2
+rank RowCount = 3
+rank Names = 4
+rank Places = 5
+rank ByteCount = 6
+
+-- the condition doesn't hold, and those before it do
+pub record FailsFirst (fork : List ℕ) (condition : Condition) : Type 0 where
+  pub fails : Holds condition fork → ⊥
+  pub before : (other : Condition) → rank other < rank condition → Holds other fork
+
+-- what a fault says of the bytes
+abbrev pub Refuses : List ℕ → ForkFault → Type 0
+Refuses fork EndOfFile = length fork < 16
+Refuses fork (BadMap condition) = (16 ≤ length fork) × FailsFirst fork condition
+Refuses fork HostFull = ⊤

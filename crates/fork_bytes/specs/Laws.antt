@@ -1,0 +1,35 @@
+-- What reading and writing are to each other.
+use Rattle.std.specs.Prelude.{◌≡◌, ◌≢◌, ℕ, ◌≤◌, ◌<◌, List, length, IfSome, FitsSigned, AllPairs}
+use Rattle.std.specs.List.{AllByRecursion}
+use Rattle.std.specs.Int.{w16}
+use Rattle.fork_bytes.specs.declared.layout.TypeCount.{TypeCount}
+use Rattle.fork_bytes.specs.declared.table.Row.{Row}
+use Rattle.fork_bytes.specs.declared.table.Table.{Table}
+use Rattle.fork_bytes.specs.Fork.{max_fork, StandsFor}
+use Rattle.fork_bytes.specs.Written.{types_of, written, Fits}
+
+-- rows of one type stand together
+abbrev pub IsGrouped : List Row → Type 0
+IsGrouped rows = AllPairs (λ (a b : TypeCount). a.kind ≢ b.kind) (types_of rows)
+
+-- what each row is: four bytes of type, numbers in range, and a name of 255 bytes at most
+pub record IsRow (row : Row) : Type 0 where
+  pub kind : length row.kind ≡ 4
+  pub id : FitsSigned w16 row.id
+  pub name : IfSome row.name (λ name. length name ≤ 255)
+  pub attributes : row.attributes.0 < 256
+
+-- what each table is
+pub record IsTable (table : Table) : Type 0 where
+  pub rows : AllByRecursion IsRow table.rows
+  pub grouped : IsGrouped table.rows
+  pub extra : length table.extra ≡ 240
+  pub map_attributes : table.map_attributes < 65536
+
+-- what is written is read again: the written form of a table that fits stands for it
+abbrev pub IsReadAgain : Type 0
+IsReadAgain = (table : Table) → IsTable table → Fits table → length (written table) ≤ max_fork → StandsFor (written table) table
+
+-- no bytes stand for two tables
+abbrev pub StandsForOne : Type 0
+StandsForOne = (fork : List ℕ) (a b : Table) → StandsFor fork a → StandsFor fork b → a ≡ b

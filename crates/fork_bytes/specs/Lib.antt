@@ -1,0 +1,3 @@
+pub mod Fork
+pub mod Written
+pub mod Laws

@@ -1,0 +1,37 @@
+//! The parts of a resource fork.
+
+use crate::resource::{ResAttrs, ResType};
+use crate::table::Name;
+
+/// The most bytes that a fork has: those of all its parts, and those of all its resources.
+pub const MAX_FORK: usize = 0x40_0000;
+
+/// The most resources that a fork has.
+pub const MAX_ROWS: usize = 8192;
+
+/// The header of a fork: where its data and its map stand, and how many bytes each has.
+#[derive(Clone, Copy, Debug, PartialEq, Eq)]
+pub struct Header {
+    pub data_offset: u32,
+    pub map_offset: u32,
+    pub data_length: u32,
+    pub map_length: u32,
+}
+
+/// A resource as the map lists it: where its bytes stand in the data, and not the bytes.
+#[derive(Debug, Drop)]
+pub struct MapRow {
+    pub kind: ResType,
+    pub id: i16,
+    pub name: Option<Name>,
+    pub attributes: ResAttrs,
+    /// Where the four bytes of length stand, from the start of the data. The resource's bytes follow them.
+    pub datum: u32,
+}
+
+/// An entry of the type list: a type, and how many resources of it stand in a row.
+#[derive(Clone, Copy, Debug, PartialEq, Eq)]
+pub struct TypeCount {
+    pub kind: ResType,
+    pub count: usize,
+}
