@@ -1,3 +1,5 @@
 mod Vectors
 mod Steps
 mod Counted
+mod Entries
+mod Lengths

@@ -7,3 +7,5 @@ pub mod resource;
 mod sizes;
 pub mod table;
 mod write;
+
+pub use write::write_fork;
