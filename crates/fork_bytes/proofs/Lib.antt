@@ -1,5 +1,3 @@
 mod Vectors
 mod Steps
 mod Counted
-mod Entries
-mod Lengths

@@ -76,7 +76,3 @@ appended new old piece rest whole is before = ap (λ (xs : List ℕ). xs ++ rest
 -- nothing follows any more
 pub all_added : (new rest whole : List ℕ) → rest ≡ [] → new ++ rest ≡ whole → new ≡ whole
 all_added new rest whole none before = sym (append-nil new) ∙ ap (λ (xs : List ℕ). new ++ xs) (sym none) ∙ before
-
--- two pieces that were added one after the other
-pub two_added : (a b c p q : List ℕ) → b ≡ a ++ p → c ≡ b ++ q → c ≡ a ++ (p ++ q)
-two_added a b c p q first second = second ∙ ap (λ (xs : List ℕ). xs ++ q) first ∙ append_assoc a p q

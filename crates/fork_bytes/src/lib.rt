@@ -7,5 +7,3 @@ pub mod resource;
 mod sizes;
 pub mod table;
 mod write;
-
-pub use write::write_fork;

@@ -1,2 +1,0 @@
-pub mod LockedBlocks
-pub mod LockedSteps
