@@ -1,10 +1,11 @@
 -- Rows of one type are counted together.
-use Rattle.std.proofs.Common.{◌≡◌, ℕ, zero, suc, ◌+◌, ◌-◌, ◌<◌, ◌≤◌, Bool, true, false, List, [], ◌∷◌, length, get_or, drop, refl, sym, ap, ◌∙◌, arith, bytes_eq, if◌then◌else◌, add_assoc, IfSome, slice_get}
+use Rattle.std.proofs.Common.{◌≡◌, ℕ, zero, suc, ◌+◌, ◌-◌, ◌<◌, ◌≤◌, Bool, true, false, List, [], ◌∷◌, length, get_or, drop, subst, refl, sym, ap, ◌∙◌, arith, bytes_eq, if◌then◌else◌, add_assoc, IfSome, slice_get}
 use Rattle.std.proofs.lemmas.List.{drop_all, drop_more, length-drop}
 use Rattle.std.proofs.lemmas.Bool.Decides.{not_from_Decides}
 use Rattle.std.proofs.lemmas.Slice.Eq.{bytes_eq-Decides}
 use Rattle.fork_bytes.specs.declared.layout.TypeCount.{TypeCount}
-use Rattle.fork_bytes.specs.declared.table.Row.{Row}
+use Rattle.fork_bytes.specs.Rows.{Row}
+use Rattle.fork_bytes.proofs.Lengths.{AreFour}
 use Rattle.fork_bytes.specs.Written.{counted_before, types_of}
 
 -- bytes are the same as themselves
@@ -87,3 +88,10 @@ types_at_run rows i j within run =
     by_case (row ∷ rest) is =
         let at = said_at (λ (r : Row). types_of (drop i rows) ≡ record { kind = r.kind; count = j - i } ∷ types_of (drop j rows)) rows i row within run in
         ap (λ (types : List TypeCount). length types) at ∙ omega arith
+
+-- types are of four bytes from a place on, where the row's there is and those behind its run are
+pub four_at_run : (rows : List Row) (i j : ℕ) (d : Row) → i < length rows →
+    IfSome (slice_get rows i) (λ row. types_of (drop i rows) ≡ record { kind = row.kind; count = j - i } ∷ types_of (drop j rows)) →
+    length (get_or rows i d).kind ≡ 4 → AreFour (types_of (drop j rows)) → AreFour (types_of (drop i rows))
+four_at_run rows i j d within run four others =
+    subst AreFour (sym (said_at (λ (r : Row). types_of (drop i rows) ≡ record { kind = r.kind; count = j - i } ∷ types_of (drop j rows)) rows i d within run)) (four, others)

@@ -1,3 +1,14 @@
 mod Vectors
-mod Steps
-mod Counted
+pub mod Steps
+pub mod Counted
+mod Entries
+mod ReadBack
+mod Front
+mod ReadEntries
+mod ReadData
+mod ReadRows
+mod ReadAgain
+mod Grouped
+mod ReadWhole
+mod Blank
+pub mod Lengths

@@ -1,30 +1,34 @@
 -- Rows one after the other: what each adds to the parts of a fork.
 use Rattle.std.proofs.Common.{◌≡◌, ℕ, ◌+◌, ◌<◌, ◌≤◌, List, [], ◌∷◌, ◌++◌, length, get_or, drop, Option, Some, None, IfSome, ◌↔◌, subst, refl, sym, ap, ◌∙◌, arith}
 use Rattle.std.proofs.lemmas.List.{drop_more, drop_all, length-append, append_assoc, append-nil}
-use Rattle.std.specs.List.{flat_map}
+use Rattle.std.specs.List.{flat_map, AllByRecursion}
 use Rattle.byteorder.specs.Endian.{big_bytes}
 use Rattle.byteorder.specs.Numbers.{length-bytes_high_first}
-use Rattle.fork_bytes.specs.declared.table.Row.{Row}
+use Rattle.fork_bytes.specs.Rows.{Row}
 use Rattle.fork_bytes.specs.Written.{datum, data_text, name_text, names_text, NamesFit}
 
 -- an element, and what follows it
 pub drop_item : {X : Type 0} (xs : List X) (i : ℕ) (x : X) → i < length xs → x ≡ get_or xs i x → drop i xs ≡ x ∷ drop (i + 1) xs
 drop_item xs i x within is = drop_more xs i x within ∙ ap (λ (y : _). y ∷ drop (i + 1) xs) (sym is)
 
+-- what is said of an element, and of those behind it
+pub each_step : {X : Type 0} (P : X → Type 0) (xs : List X) (i : ℕ) (x : X) → i < length xs → x ≡ get_or xs i x → P x → AllByRecursion P (drop (i + 1) xs) → AllByRecursion P (drop i xs)
+each_step P xs i x within is one others = subst (AllByRecursion P) (sym (drop_item xs i x within is)) (one, others)
+
 -- how many bytes a number has
 pub length-big_bytes : (n x : ℕ) → length (big_bytes n x) ≡ n
 length-big_bytes = length-bytes_high_first
 
 -- the data of a row and those behind it
-pub length-data : (row : Row) (rows : List Row) → length (data_text (row ∷ rows)) ≡ 4 + length row.bytes + length (data_text rows)
+pub length-data : (row : Row) (rows : List Row) → length (data_text (row ∷ rows)) ≡ 4 + length row.datum + length (data_text rows)
 length-data row rows =
     let whole = length-append (datum row) (data_text rows) in
-    let one = length-append (big_bytes 4 (length row.bytes)) row.bytes in
-    let four = length-big_bytes 4 (length row.bytes) in omega arith
+    let one = length-append (big_bytes 4 (length row.datum)) row.datum in
+    let four = length-big_bytes 4 (length row.datum) in omega arith
 
 -- the same at a place among rows
 pub data_step : (rows : List Row) (i : ℕ) (row : Row) → i < length rows → row ≡ get_or rows i row →
-    length (data_text (drop i rows)) ≡ 4 + length row.bytes + length (data_text (drop (i + 1) rows))
+    length (data_text (drop i rows)) ≡ 4 + length row.datum + length (data_text (drop (i + 1) rows))
 data_step rows i row within is = ap (λ (rest : List Row). length (data_text rest)) (drop_item rows i row within is) ∙ length-data row (drop (i + 1) rows)
 
 -- behind the last row there is none
@@ -76,3 +80,7 @@ appended new old piece rest whole is before = ap (λ (xs : List ℕ). xs ++ rest
 -- nothing follows any more
 pub all_added : (new rest whole : List ℕ) → rest ≡ [] → new ++ rest ≡ whole → new ≡ whole
 all_added new rest whole none before = sym (append-nil new) ∙ ap (λ (xs : List ℕ). new ++ xs) (sym none) ∙ before
+
+-- two pieces that were added one after the other
+pub two_added : (a b c p q : List ℕ) → b ≡ a ++ p → c ≡ b ++ q → c ≡ a ++ (p ++ q)
+two_added a b c p q first second = second ∙ ap (λ (xs : List ℕ). xs ++ q) first ∙ append_assoc a p q

@@ -4,7 +4,7 @@ use Rattle.std.specs.Prelude.{filter, not}
 use Rattle.std.specs.Char.{digit_value}
 use Rattle.fork_bytes.specs.declared.fault.Condition.{Condition}
 use Rattle.fork_bytes.specs.declared.fault.Condition.TheVariants.{Parts, Types, References, RowCount, Names, Places, ByteCount}
-use Rattle.fork_bytes.specs.declared.table.Row.{Row}
+use Rattle.fork_bytes.specs.Rows.{Row}
 use Rattle.fork_bytes.specs.declared.table.Table.{Table}
 use Rattle.fork_bytes.specs.Fork.{table_of, Holds, StandsFor}
 use Rattle.fork_bytes.specs.Written.{written}
@@ -49,7 +49,7 @@ empty_stands = (record { header = lit≤ tt; holds = empty_holds }, refl)
 
 -- one row: "Hi"
 abbrev hi : Row
-hi = record { kind = codes "TEXT"; id = pos 128; name = None; attributes = record { 0 = 0 }; bytes = codes "Hi" }
+hi = record { kind = codes "TEXT"; id = pos 128; name = None; attributes = record { 0 = 0 }; datum = codes "Hi" }
 
 abbrev hi_map : List ℕ
 hi_map = hex (codes "00000100 00000106 00000006 00000032 00000000 0000 0000 001C 0032 0000 54455854 0000 000A 0080 FFFF 00 000000 00000000")
@@ -84,7 +84,7 @@ map_first_stands = (record { header = lit≤ tt; holds = map_first_holds }, refl
 
 -- two rows with one type and one id
 abbrev letter : List ℕ → Row
-letter bytes = record { kind = codes "TEXT"; id = pos 5; name = None; attributes = record { 0 = 0 }; bytes = bytes }
+letter bytes = record { kind = codes "TEXT"; id = pos 5; name = None; attributes = record { 0 = 0 }; datum = bytes }
 
 abbrev letters_fork : List ℕ
 letters_fork =
@@ -104,7 +104,7 @@ letters_are_read = refl
 
 -- a row with a name, an id below 0 and the attributes without a name
 abbrev named : Row
-named = record { kind = codes "STR "; id = negsuc 0; name = Some (codes "ab"); attributes = record { 0 = 129 }; bytes = codes "Hi" }
+named = record { kind = codes "STR "; id = negsuc 0; name = Some (codes "ab"); attributes = record { 0 = 129 }; datum = codes "Hi" }
 
 abbrev named_fork : List ℕ
 named_fork =

@@ -8,8 +8,7 @@ use Rattle.fork_bytes.specs.declared.fault.Condition.TheVariants.{Parts, Types, 
 use Rattle.fork_bytes.specs.declared.fault.ForkFault.{ForkFault}
 use Rattle.fork_bytes.specs.declared.fault.ForkFault.TheVariants.{EndOfFile, BadMap, HostFull}
 use Rattle.fork_bytes.specs.declared.layout.Header.{Header}
-use Rattle.fork_bytes.specs.declared.layout.MapRow.{MapRow}
-use Rattle.fork_bytes.specs.declared.table.Row.{Row}
+use Rattle.fork_bytes.specs.Rows.{Row, MapRow}
 use Rattle.fork_bytes.specs.declared.table.Table.{Table}
 
 -- the number in n bytes at an offset, the highest first
@@ -125,7 +124,7 @@ row_with resource_data row = record {
   id = row.id;
   name = row.name;
   attributes = row.attributes;
-  bytes = bytes_at (datum_length resource_data row.datum) (row.datum + 4) resource_data;
+  datum = bytes_at (datum_length resource_data row.datum) (row.datum + 4) resource_data;
 }
 
 -- the 240 bytes behind the header; those past the end are zero

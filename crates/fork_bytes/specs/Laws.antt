@@ -1,10 +1,10 @@
 -- What reading and writing are to each other.
-use Rattle.std.specs.Prelude.{◌≡◌, ◌≢◌, ℕ, ◌≤◌, ◌<◌, List, length, IfSome, FitsSigned, AllPairs}
+use Rattle.std.specs.Prelude.{◌≡◌, ◌≢◌, ℕ, ◌≤◌, ◌<◌, List, length, IfSome, FitsSigned, AllPairs, slice_index}
 use Rattle.std.specs.List.{AllByRecursion}
 use Rattle.std.specs.Int.{w16}
 use Rattle.fork_bytes.specs.declared.layout.TypeCount.{TypeCount}
-use Rattle.fork_bytes.specs.declared.table.Row.{Row}
 use Rattle.fork_bytes.specs.declared.table.Table.{Table}
+use Rattle.fork_bytes.specs.Rows.{Row}
 use Rattle.fork_bytes.specs.Fork.{max_fork, StandsFor}
 use Rattle.fork_bytes.specs.Written.{types_of, written, Fits}
 
@@ -33,3 +33,15 @@ IsReadAgain = (table : Table) → IsTable table → Fits table → length (writt
 -- no bytes stand for two tables
 abbrev pub StandsForOne : Type 0
 StandsForOne = (fork : List ℕ) (a b : Table) → StandsFor fork a → StandsFor fork b → a ≡ b
+
+-- numbers below 256
+abbrev pub AreBytes : List ℕ → Type 0
+AreBytes bytes = (k : ℕ) → slice_index bytes k < 256
+
+-- the rows of one type stand together in what bytes stand for
+abbrev pub IsReadGrouped : Type 0
+IsReadGrouped = (fork : List ℕ) (table : Table) → StandsFor fork table → IsGrouped table.rows
+
+-- what bytes stand for is a table, which may be written again
+abbrev pub IsReadWhole : Type 0
+IsReadWhole = (fork : List ℕ) (table : Table) → AreBytes fork → StandsFor fork table → IsTable table

@@ -1,3 +1,5 @@
+pub mod Rows
 pub mod Fork
 pub mod Written
 pub mod Laws
+pub mod Frame

@@ -5,8 +5,8 @@ use Rattle.std.specs.Int.{w16, cast_unsigned}
 use Rattle.byteorder.specs.Endian.{big_bytes}
 use Rattle.fork_bytes.specs.declared.layout.Header.{Header}
 use Rattle.fork_bytes.specs.declared.layout.TypeCount.{TypeCount}
-use Rattle.fork_bytes.specs.declared.table.Row.{Row}
 use Rattle.fork_bytes.specs.declared.table.Table.{Table}
+use Rattle.fork_bytes.specs.Rows.{Row}
 use Rattle.fork_bytes.specs.Fork.{max_fork, max_rows}
 
 -- so many rows of a type before others: counted with the first of these, if they have that type
@@ -27,7 +27,7 @@ count_bytes n = big_bytes 2 ((n + 65535) % 65536)
 
 -- what stands in the data for a row: four bytes of length, and its bytes
 abbrev pub datum : Row → List ℕ
-datum row = big_bytes 4 (length row.bytes) ++ row.bytes
+datum row = big_bytes 4 (length row.datum) ++ row.datum
 
 -- the data
 abbrev pub data_text : List Row → List ℕ
@@ -83,12 +83,11 @@ header_for rows = record {
 abbrev pub header_text : Header → List ℕ
 header_text h = big_bytes 4 h.data_offset ++ (big_bytes 4 h.map_offset ++ (big_bytes 4 h.data_length ++ big_bytes 4 h.map_length))
 
--- the map's own header: that of the fork, zeros for the next map and the file reference, the map attributes, and where the type
--- list and the name list stand
-abbrev pub map_header_text : Table → List ℕ
-map_header_text table =
-    header_text (header_for table.rows) ++ (big_bytes 4 0 ++ (big_bytes 2 0 ++ (big_bytes 2 table.map_attributes
-    ++ (big_bytes 2 28 ++ big_bytes 2 (names_offset table.rows)))))
+-- the first bytes of the map: the fork's header again, zeros for the next map and the file reference, the map attributes, and
+-- where the type list and the name list stand
+abbrev pub map_header_text : Header → ℕ → ℕ → List ℕ
+map_header_text header attributes names =
+    header_text header ++ (big_bytes 4 0 ++ (big_bytes 2 0 ++ (big_bytes 2 attributes ++ (big_bytes 2 28 ++ big_bytes 2 names))))
 
 -- the type list
 abbrev pub types_text : List Row → List ℕ
@@ -96,7 +95,8 @@ types_text rows = count_bytes (length (types_of rows)) ++ entries_text (first_re
 
 -- the map
 abbrev pub map_text : Table → List ℕ
-map_text table = map_header_text table ++ (types_text table.rows ++ (references_text 0 0 table.rows ++ names_text table.rows))
+map_text table = map_header_text (header_for table.rows) table.map_attributes (names_offset table.rows)
+    ++ (types_text table.rows ++ (references_text 0 0 table.rows ++ names_text table.rows))
 
 -- what stands before the data: the header and the extra bytes
 abbrev pub front_text : Table → List ℕ

@@ -1,7 +1,6 @@
 //! The parts of a resource fork.
 
-use crate::resource::{ResAttrs, ResType};
-use crate::table::Name;
+use res_base::resource::{ResType, Resource};
 
 /// The most bytes that a fork has: those of all its parts, and those of all its resources.
 pub const MAX_FORK: usize = 0x40_0000;
@@ -18,16 +17,9 @@ pub struct Header {
     pub map_length: u32,
 }
 
-/// A resource as the map lists it: where its bytes stand in the data, and not the bytes.
-#[derive(Debug, Drop)]
-pub struct MapRow {
-    pub kind: ResType,
-    pub id: i16,
-    pub name: Option<Name>,
-    pub attributes: ResAttrs,
-    /// Where the four bytes of length stand, from the start of the data. The resource's bytes follow them.
-    pub datum: u32,
-}
+/// A resource as the map lists it. The datum is where the four bytes of length stand, from the start of the data; the
+/// resource's bytes follow them.
+pub type MapRow = Resource<u32>;
 
 /// An entry of the type list: a type, and how many resources of it stand in a row.
 #[derive(Clone, Copy, Debug, PartialEq, Eq)]

@@ -2,8 +2,13 @@
 #![tactic(auto)]
 
 pub mod fault;
+pub mod frame;
+mod laws;
 pub mod layout;
-pub mod resource;
 mod sizes;
 pub mod table;
 mod write;
+
+pub use frame::write_frame;
+pub use laws::fork_laws;
+pub use write::write_fork;

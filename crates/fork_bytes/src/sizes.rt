@@ -1,14 +1,24 @@
 //! How many bytes the parts of a fork have that is written for rows.
 
 ghost use Rattle.std.specs.Prelude.{◌≡◌, ◌<◌, ◌≤◌, ◌-◌, ◌∷◌, length, drop, slice_get, IfSome, IfNone};
+ghost use Rattle.std.specs.List.{AllByRecursion};
+ghost use Rattle.fork_bytes.specs.declared.layout.TypeCount.{TypeCount};
 ghost use Rattle.fork_bytes.specs.Fork.{max_fork};
-ghost use Rattle.fork_bytes.specs.Written.{types_of, data_text, names_text, NamesFit};
+ghost use Rattle.fork_bytes.specs.Written.{types_of, data_text, names_text, NamesFit, header_for, written, Fits, IsTooBig};
+ghost use Rattle.fork_bytes.specs.Laws.{IsRow, IsGrouped, IsTable};
 
-use crate::layout::MAX_FORK;
-use crate::table::Row;
+use crate::layout::{Header, MAX_FORK, MAX_ROWS};
+use crate::table::{Row, Table};
+use bitflags::Flags;
 
 /// The largest offset that a name has: one more says that there is none.
 const MAX_NAME_OFFSET: usize = 65534;
+
+/// The largest offset of a list in the map.
+const MAX_OFFSET: usize = 65535;
+
+/// Where the data stand in a fork that is written: behind the header and the extra bytes.
+pub(crate) const DATA_OFFSET: u32 = 256;
 
 /// Where the rows end that have the type of the row at `start` and stand together with it.
 pub(crate) fn run_end(rows: &[Row], start: usize) -> usize
@@ -27,13 +37,15 @@ pub(crate) fn run_end(rows: &[Row], start: usize) -> usize
 }
 
 /// How many types the rows have, where those of one type stand together.
-fn type_count(rows: &[Row]) -> usize
+pub(crate) fn type_count(rows: &[Row]) -> usize
     ensures types { result ≡ length (types_of rows.now) }
     ensures few { result ≤ length rows.now }
+    ensures four { AllByRecursion (λ (t : TypeCount). length t.kind ≡ 4) (types_of rows.now) }
 {
     let mut at = 0;
     let mut count = 0;
     while at < rows.len() {
+        let _four = rows[at].kind.bytes();
         at = run_end(rows, at);
         count += 1;
     }
@@ -43,11 +55,12 @@ fn type_count(rows: &[Row]) -> usize
 /// How many bytes the data has, or None where it has more than a fork.
 fn data_length(rows: &[Row]) -> Option<usize>
     ensures some { IfSome result (λ n. n ≡ length (data_text rows.now)) }
+    ensures small { IfSome result (λ n. n ≤ max_fork) }
     ensures none { IfNone result (max_fork < length (data_text rows.now)) }
 {
     let mut total = 0;
     for row in rows {
-        total += 4 + row.bytes.as_slice().len();
+        total += 4 + row.datum.as_slice().len();
         if total > MAX_FORK {
             return None;
         }
@@ -55,15 +68,29 @@ fn data_length(rows: &[Row]) -> Option<usize>
     Some(total)
 }
 
-/// How many bytes the name list has, or None where two bytes don't hold the offset of a name.
+/// What each row is by its type: four bytes of type, numbers in range, and a name of 255 bytes at most. It computes nothing.
+fn known(row: &Row)
+    ensures { IsRow row.now }
+{
+    let _kind = row.kind.bytes();
+    let _id = row.id;
+    let _attributes = row.attributes.bits();
+    if let Some(name) = &row.name {
+        let _bytes = name.as_slice();
+    }
+}
+
+/// How many bytes the name list has, or None where two bytes don't hold the offset of a name. What each row is comes with it.
 fn names_length(rows: &[Row]) -> Option<usize>
     ensures some { IfSome result (λ n. n ≡ length (names_text rows.now)) }
     ensures fit { IfSome result (λ _. NamesFit 0 rows.now) }
     ensures few { IfSome result (λ n. n ≤ 65790) }
+    ensures rows { IfSome result (λ _. AllByRecursion IsRow rows.now) }
     ensures none { IfNone result (¬ NamesFit 0 rows.now) }
 {
     let mut next = 0;
     for row in rows {
+        known(row);
         if let Some(name) = &row.name {
             if next > MAX_NAME_OFFSET {
                 return None;
@@ -72,4 +99,34 @@ fn names_length(rows: &[Row]) -> Option<usize>
         }
     }
     Some(next)
+}
+
+/// The header of the fork that is written for a table, or None where the table is too big for one.
+pub(crate) fn header_for(table: &Table) -> Option<Header>
+    ensures header { IfSome result (λ header. header ≡ header_for table.now.rows) }
+    ensures fits { IfSome result (λ _. Fits table.now) }
+    ensures small { IfSome result (λ _. length (written table.now) ≤ max_fork) }
+    ensures few { IfSome result (λ _. length (data_text table.now.rows) ≤ max_fork) }
+    ensures table { IfSome result (λ _. IsGrouped table.now.rows → IsTable table.now) }
+    ensures none { IfNone result (IsTooBig table.now) }
+{
+    let rows = table.rows.as_slice();
+    if rows.len() > MAX_ROWS {
+        return None;
+    }
+    let names_offset = 30 + 8 * type_count(rows) + 12 * rows.len();
+    if names_offset > MAX_OFFSET {
+        return None;
+    }
+    let data = data_length(rows)?;
+    let map = names_offset + names_length(rows)?;
+    if 16 + table.extra.len() + data + map > MAX_FORK {
+        return None;
+    }
+    Some(Header {
+        data_offset: DATA_OFFSET,
+        map_offset: DATA_OFFSET + data as u32,
+        data_length: data as u32,
+        map_length: map as u32,
+    })
 }

@@ -3,16 +3,20 @@
 ghost use Rattle.std.specs.Prelude.{◌≡◌, ◌<◌, ◌≤◌, ◌+◌, ◌*◌, ◌++◌, ◌∷◌, ◌^◌, ◌↔◌, length, drop, OnOk, IfOk, IsErrOf, IfSome, IfNone};
 ghost use Rattle.std.specs.Int.{w16, cast_unsigned};
 ghost use Rattle.byteorder.specs.Endian.{big_bytes};
-ghost use Rattle.fork_bytes.specs.Fork.{max_fork, max_rows};
-ghost use Rattle.fork_bytes.specs.Written.{types_of, count_bytes, entries_text, first_references, references_text, data_text, names_text, name_text, name_offset, written, header_text, header_for, map_header_text, front_text, types_text, map_text, NamesFit, IsTooBig};
+ghost use Rattle.fork_bytes.specs.Fork.{max_fork, max_rows, StandsFor};
+ghost use Rattle.fork_bytes.specs.Laws.{IsGrouped};
+ghost use Rattle.fork_bytes.specs.Written.{types_of, count_bytes, entries_text, first_references, references_text, data_text, names_text, name_text, name_offset, written, header_text, header_for, map_header_text, front_text, types_text, map_text, names_offset, NamesFit, Fits, IsTooBig};
 
 use crate::fault::WriteFault;
 use crate::layout::Header;
-use crate::sizes::run_end;
-use crate::table::{Name, Row, Table};
+use crate::sizes::{header_for, run_end, type_count};
+use crate::table::{Row, Table};
 use bitflags::Flags;
 use byteorder::{BigEndian, ByteOrder};
 use mac_base::error::HostFull;
+use res_base::name::Name;
+use res_base::resource::ResType;
+use std::alloc::Global;
 
 /// Adds a number of two bytes.
 fn push_two(fork: &mut Vec<u8>, number: u16) -> Result<(), HostFull>
@@ -21,6 +25,16 @@ fn push_two(fork: &mut Vec<u8>, number: u16) -> Result<(), HostFull>
     let mut bytes = [0; 2];
     BigEndian::write_u16(&mut bytes, number);
     fork.extend_from_slice(&bytes)?;
+    Ok(())
+}
+
+/// Adds the lowest three bytes of a number.
+fn push_three(fork: &mut Vec<u8>, number: u32) -> Result<(), HostFull>
+    ensures { OnOk result (fork.new.items ≡ fork.old.items ++ big_bytes 3 number) }
+{
+    let mut bytes = [0; 4];
+    BigEndian::write_u32(&mut bytes, number);
+    fork.extend_from_slice(&bytes[1..])?;
     Ok(())
 }
 
@@ -51,7 +65,7 @@ fn push_data(fork: &mut Vec<u8>, rows: &[Row]) -> Result<(), HostFull>
     ensures { OnOk result (fork.new.items ≡ fork.old.items ++ data_text rows.now) }
 {
     for row in rows {
-        let bytes = row.bytes.as_slice();
+        let bytes = row.datum.as_slice();
         push_four(fork, bytes.len() as u32)?;
         fork.extend_from_slice(bytes)?;
     }
@@ -80,6 +94,19 @@ fn push_names(fork: &mut Vec<u8>, rows: &[Row]) -> Result<(), HostFull>
     Ok(())
 }
 
+/// Adds the reference of a row, whose name and datum stand at these offsets.
+fn push_reference(fork: &mut Vec<u8>, row: &Row, name: u16, datum: u32) -> Result<(), HostFull>
+    ensures { OnOk result (fork.new.items ≡ fork.old.items
+        ++ (big_bytes 2 (cast_unsigned w16 row.now.id) ++ (big_bytes 2 name ++ (row.now.attributes.0 ∷ (big_bytes 3 datum ++ big_bytes 4 0))))) }
+{
+    push_two(fork, row.id.cast_unsigned())?;
+    push_two(fork, name)?;
+    fork.push(row.attributes.bits())?;
+    push_three(fork, datum)?;
+    push_four(fork, 0)?;
+    Ok(())
+}
+
 /// The offset of a name where the next one stands at this offset: $FFFF says that there is none.
 fn name_offset(next: usize, name: &Option<Name>) -> u16
     requires { IfSome name.now (λ _. next ≤ 65534) }
@@ -99,5 +126,135 @@ fn name_length(name: &Option<Name>) -> usize
     match name {
         Some(name) => 1 + name.as_slice().len(),
         None => 0,
+    }
+}
+
+/// Adds the references of rows, whose bytes and names follow each other.
+fn push_references(fork: &mut Vec<u8>, rows: &[Row]) -> Result<(), HostFull>
+    requires names { NamesFit 0 rows.now }
+    requires small { length (data_text rows.now) ≤ max_fork }
+    ensures { OnOk result (fork.new.items ≡ fork.old.items ++ references_text 0 0 rows.now) }
+{
+    let mut name = 0;
+    let mut datum = 0;
+    for row in rows {
+        push_reference(fork, row, name_offset(name, &row.name), datum)?;
+        name += name_length(&row.name);
+        datum += 4 + row.datum.as_slice().len() as u32;
+    }
+    Ok(())
+}
+
+/// Adds an entry of the type list: a type, how many rows it has, less one, and where its references stand.
+fn push_entry(fork: &mut Vec<u8>, kind: ResType, less_one: u16, at: u16) -> Result<(), HostFull>
+    ensures { OnOk result (fork.new.items
+        ≡ fork.old.items ++ (kind ++ (big_bytes 2 less_one ++ big_bytes 2 at))) }
+{
+    fork.extend_from_slice(&kind.bytes())?;
+    push_two(fork, less_one)?;
+    push_two(fork, at)?;
+    Ok(())
+}
+
+/// Adds the entries of the type list, where the references of the first type stand at this offset.
+fn push_entries(fork: &mut Vec<u8>, rows: &[Row], first: usize) -> Result<(), HostFull>
+    requires few { length rows.now ≤ max_rows }
+    requires low { first + 12 * length rows.now ≤ 65535 }
+    ensures { OnOk result (fork.new.items ≡ fork.old.items ++ entries_text first (types_of rows.now)) }
+{
+    let mut at = 0;
+    while at < rows.len() {
+        let end = run_end(rows, at);
+        push_entry(
+            fork,
+            rows[at].kind,
+            (end - at - 1) as u16,
+            (first + 12 * at) as u16,
+        )?;
+        at = end;
+    }
+    Ok(())
+}
+
+/// Adds the first 28 bytes of a map.
+fn push_map_header(
+    fork: &mut Vec<u8>,
+    header: Header,
+    attributes: u16,
+    names: u16,
+) -> Result<(), HostFull>
+    ensures { OnOk result (fork.new.items ≡ fork.old.items ++ map_header_text header attributes names) }
+{
+    push_header(fork, header)?;
+    push_four(fork, 0)?;
+    push_two(fork, 0)?;
+    push_two(fork, attributes)?;
+    push_two(fork, 28)?;
+    push_two(fork, names)?;
+    Ok(())
+}
+
+/// Adds the type list, which has so many types.
+fn push_types(fork: &mut Vec<u8>, rows: &[Row], types: usize) -> Result<(), HostFull>
+    requires types { types ≡ length (types_of rows.now) }
+    requires few { length rows.now ≤ max_rows }
+    requires low { names_offset rows.now ≤ 65535 }
+    ensures { OnOk result (fork.new.items ≡ fork.old.items ++ types_text rows.now) }
+{
+    push_two(fork, ((types + 65535) % 65536) as u16)?;
+    push_entries(fork, rows, 2 + 8 * types)?;
+    Ok(())
+}
+
+/// Adds a map.
+fn push_map(fork: &mut Vec<u8>, table: &Table, header: Header) -> Result<(), HostFull>
+    requires header { header ≡ header_for table.now.rows }
+    requires fits { Fits table.now }
+    requires small { length (data_text table.now.rows) ≤ max_fork }
+    ensures { OnOk result (fork.new.items ≡ fork.old.items ++ map_text table.now) }
+{
+    let rows = table.rows.as_slice();
+    let types = type_count(rows);
+    let names = 30 + 8 * types + 12 * rows.len();
+    push_map_header(fork, header, table.map_attributes, names as u16)?;
+    push_types(fork, rows, types)?;
+    push_references(fork, rows)?;
+    push_names(fork, rows)?;
+    Ok(())
+}
+
+/// Adds the parts of a fork.
+fn push_fork(fork: &mut Vec<u8>, table: &Table, header: Header) -> Result<(), HostFull>
+    requires header { header ≡ header_for table.now.rows }
+    requires fits { Fits table.now }
+    requires small { length (data_text table.now.rows) ≤ max_fork }
+    ensures { OnOk result (fork.new.items ≡ fork.old.items ++ written table.now) }
+{
+    push_header(fork, header)?;
+    fork.extend_from_slice(&table.extra)?;
+    push_data(fork, table.rows.as_slice())?;
+    push_map(fork, table, header)?;
+    Ok(())
+}
+
+/// The bytes of the fork of a table: the header, the extra bytes, the data of the rows without gaps, and the map, whose
+/// lists follow each other in the order of the rows (Inside Macintosh: More Macintosh Toolbox, chapter 1, "Resource File Format").
+/// Where the rows of each type stand together, the bytes stand for the table: they are read as it.
+/// The fault is TooBig exactly where the fork would have more than 4,194,304 bytes, or the table has more than 8,192 rows, or an
+/// offset in the map is too large for its two bytes.
+pub fn write_fork(alloc: Global, table: &Table) -> Result<Vec<u8>, WriteFault>
+    ensures written { IfOk result (λ fork. fork.items ≡ written table.now) }
+    ensures small { IfOk result (λ _. length (written table.now) ≤ max_fork) }
+    ensures fits { IfOk result (λ _. Fits table.now) }
+    ensures stands { IfOk result (λ fork. IsGrouped table.now.rows → StandsFor fork.items table.now) }
+    ensures too_big { IsErrOf result WriteFault.TooBig ↔ IsTooBig table.now }
+{
+    let Some(header) = header_for(table) else {
+        return Err(WriteFault::TooBig);
+    };
+    let mut fork = Vec::new(alloc);
+    match push_fork(&mut fork, table, header) {
+        Ok(()) => Ok(fork),
+        Err(HostFull) => Err(WriteFault::HostFull),
     }
 }

@@ -1,13 +1,15 @@
-use Rattle.std.proofs.Common.{length, ℕ, List, sym, ap, subst, arith}
+use Rattle.std.proofs.Common.{length, drop, ◌+◌, ℕ, List, sym, ap, subst, arith}
 use Rattle.std.proofs.lemmas.List.{drop_all}
-use Rattle.fork_bytes.specs.declared.table.Row.{Row}
+use Rattle.fork_bytes.specs.Rows.{Row}
+use Rattle.std.specs.List.{AllByRecursion}
+use Rattle.fork_bytes.specs.Laws.{IsRow}
 use Rattle.fork_bytes.specs.Written.{names_text, NamesFit}
-use Rattle.fork_bytes.proofs.Steps.{names_step, some_name, no_name, fit_step, fit_not}
+use Rattle.fork_bytes.proofs.Steps.{names_step, each_step, some_name, no_name, fit_step, fit_not}
 use Rattle.fork_bytes.proofs.sizes.names_length.Goals.{in-Some+else-next-gt-MAX_NAME_OFFSET, in_default}
 use Rattle.fork_bytes.proofs.sizes.names_length.Goals as goal
 
 pub loop-row-init : goal.loop-row-init
-loop-row-init c = (omega arith, (λ fit. fit, λ fit. fit), omega arith)
+loop-row-init c = (omega arith, (λ fit. fit, λ fit. fit), omega arith, λ each. each)
 
 pub returns-then-next-gt-MAX_NAME_OFFSET-clause-none : goal.returns-then-next-gt-MAX_NAME_OFFSET-clause-none
 returns-then-next-gt-MAX_NAME_OFFSET-clause-none c fit =
@@ -20,17 +22,18 @@ loop-row-preserved c =
     let within = c.loop-row-test.true in let is = c.row-item.is in
     let step = names_step rows i row within is in let all = c.loop-row.invariant.0 in
     let told = c.loop-row.invariant.1 in let few = c.loop-row.invariant.2 in
+    let each_with : IsRow row → AllByRecursion IsRow (drop (i + 1) rows) → AllByRecursion IsRow rows = λ one others. c.loop-row.invariant.3 (each_step IsRow rows i row within is one others) in
     elim c.match-row.branch [
       | in-Some+else-next-gt-MAX_NAME_OFFSET w ↦
           let low = w.if-next-gt-MAX_NAME_OFFSET.false in
           let named = some_name row.name w.in-Some.name c.loop-row.next w.in-Some.is low in let name_length = named.1 in
           let long = ap (λ (xs : List ℕ). length xs) w.as_slice.ensures.bytes in let short = w.as_slice.ensures.short in let next = w.next-is in
           let fits = fit_step rows i c.loop-row.next c.match-row.next row within is named.0 (omega arith) in
-          (omega arith, (λ fit. fits.0 (told.0 fit), λ fit. told.1 (fits.1 fit)), omega arith)
+          (omega arith, (λ fit. fits.0 (told.0 fit), λ fit. told.1 (fits.1 fit)), omega arith, each_with c.known.ensures)
       | in_default w ↦
           let named = no_name row.name c.loop-row.next w.in_default.is in let name_length = named.1 in let next = w.next-is in
           let fits = fit_step rows i c.loop-row.next c.match-row.next row within is named.0 (omega arith) in
-          (omega arith, (λ fit. fits.0 (told.0 fit), λ fit. told.1 (fits.1 fit)), omega arith)
+          (omega arith, (λ fit. fits.0 (told.0 fit), λ fit. told.1 (fits.1 fit)), omega arith, each_with c.known.ensures)
     ]
 
 pub returns-clause-some : goal.returns-clause-some
@@ -42,3 +45,8 @@ pub returns-clause-fit : goal.returns-clause-fit
 returns-clause-fit c =
     let Q : List Row → Type 0 = NamesFit c.loop-row.next in
     c.loop-row.invariant.1.1 (subst Q (sym (drop_all c.loop-row.row-index c.args.rows.now (omega (arith, c.loop-row-test.false)))) tt)
+
+pub returns-clause-rows : goal.returns-clause-rows
+returns-clause-rows c =
+    let Q : List Row → Type 0 = AllByRecursion IsRow in
+    c.loop-row.invariant.3 (subst Q (sym (drop_all c.loop-row.row-index c.args.rows.now (omega (arith, c.loop-row-test.false)))) tt)

@@ -1,7 +1,8 @@
-//! What a resource is called, and how it is treated.
+//! A resource: what it is called, how it is treated, and its data.
 
 ghost use Rattle.std.specs.Prelude.{⊤, [], ◌∷◌, codes};
 
+use crate::name::Name;
 use bitflags::{Flag, Flags, bitflag_items};
 use std::marker::Model;
 
@@ -75,4 +76,15 @@ impl Flags for ResAttrs {
     fn from_bits_retain(bits: u8) -> ResAttrs {
         ResAttrs(bits)
     }
+}
+
+/// A resource as a file has it. The datum is its bytes, or says where they are (Inside Macintosh: More Macintosh Toolbox,
+/// chapter 1).
+#[derive(Debug, Drop)]
+pub struct Resource<D> {
+    pub kind: ResType,
+    pub id: i16,
+    pub name: Option<Name>,
+    pub attributes: ResAttrs,
+    pub datum: D,
 }

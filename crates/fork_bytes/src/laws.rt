@@ -1,0 +1,12 @@
+//! What reading and writing are to each other.
+
+ghost use Rattle.fork_bytes.specs.Laws.{IsReadAgain, StandsForOne, IsReadGrouped, IsReadWhole};
+
+/// The laws of forks and tables: the written form of a table stands for it, no bytes stand for two tables, and what bytes stand for
+/// is grouped by type and may be written again. It computes nothing.
+pub fn fork_laws()
+    ensures read_again { IsReadAgain }
+    ensures one { StandsForOne }
+    ensures grouped { IsReadGrouped }
+    ensures whole { IsReadWhole }
+{}

@@ -1,0 +1,142 @@
+-- Which condition fails first, from what the parts of a fork say.
+use Rattle.std.proofs.Common.{◌≡◌, ℕ, ◌<◌, ◌≤◌, List, length, subst, sym, refl, arith}
+use Rattle.fork_bytes.specs.declared.fault.Condition.{Condition}
+use Rattle.fork_bytes.specs.declared.fault.Condition.TheVariants.{Parts, Types, References, RowCount, Names, Places, ByteCount}
+use Rattle.fork_bytes.specs.declared.fault.ForkFault.{ForkFault}
+use Rattle.fork_bytes.specs.declared.fault.ForkFault.TheVariants.{EndOfFile, BadMap, HostFull}
+use Rattle.fork_bytes.specs.Fork.{header_of, data_of, map_of, map_rows, rank, HasParts, HasTypes, HasReferences, HasFewRows, HasNames, HasData, HasFewBytes, Holds, IsFork, FailsFirst, Refuses}
+use Rattle.fork_reader.specs.Reading.{MapHolds, IsMap, MapFailsFirst, RefusesMap, FaultsAt}
+
+-- the conditions of a map below a rank
+map_below : (m : List ℕ) (n : ℕ) → (1 < n → HasTypes m) → (2 < n → HasReferences m) → (3 < n → HasFewRows m) → (4 < n → HasNames m) →
+    (other : Condition) → rank other < n → MapHolds other m
+map_below m n types references rows names Parts low = tt
+map_below m n types references rows names Types low = types low
+map_below m n types references rows names References low = references low
+map_below m n types references rows names RowCount low = rows low
+map_below m n types references rows names Names low = names low
+map_below m n types references rows names Places low = tt
+map_below m n types references rows names ByteCount low = tt
+
+-- which one fails, where those before it hold
+pub types_fail : (m : List ℕ) → (HasTypes m → ⊥) → MapFailsFirst m Types
+types_fail m fails = record {
+  fails = fails;
+  before = map_below m 1 (λ (low : 1 < 1). absurd (omega arith)) (λ (low : 2 < 1). absurd (omega arith)) (λ (low : 3 < 1). absurd (omega arith)) (λ (low : 4 < 1). absurd (omega arith));
+}
+
+pub references_fail : (m : List ℕ) → HasTypes m → (HasReferences m → ⊥) → MapFailsFirst m References
+references_fail m types fails = record {
+  fails = fails;
+  before = map_below m 2 (λ _. types) (λ (low : 2 < 2). absurd (omega arith)) (λ (low : 3 < 2). absurd (omega arith)) (λ (low : 4 < 2). absurd (omega arith));
+}
+
+pub rows_fail : (m : List ℕ) → HasTypes m → HasReferences m → (HasFewRows m → ⊥) → MapFailsFirst m RowCount
+rows_fail m types references fails = record {
+  fails = fails;
+  before = map_below m 3 (λ _. types) (λ _. references) (λ (low : 3 < 3). absurd (omega arith)) (λ (low : 4 < 3). absurd (omega arith));
+}
+
+pub names_fail : (m : List ℕ) → HasTypes m → HasReferences m → HasFewRows m → (HasNames m → ⊥) → MapFailsFirst m Names
+names_fail m types references rows fails = record {
+  fails = fails;
+  before = map_below m 4 (λ _. types) (λ _. references) (λ _. rows) (λ (low : 4 < 4). absurd (omega arith));
+}
+
+pub is_map : (m : List ℕ) → HasTypes m → HasReferences m → HasFewRows m → HasNames m → IsMap m
+is_map m types references rows names Parts = tt
+is_map m types references rows names Types = types
+is_map m types references rows names References = references
+is_map m types references rows names RowCount = rows
+is_map m types references rows names Names = names
+is_map m types references rows names Places = tt
+is_map m types references rows names ByteCount = tt
+
+-- a fault that is of one condition
+pub refuses_at : (m : List ℕ) (condition : Condition) (P : Type 0) → (P → MapFailsFirst m condition) → (fault : ForkFault) → FaultsAt condition P fault → RefusesMap m fault
+refuses_at m condition P told EndOfFile at = at
+refuses_at m condition P told (BadMap other) at = let Q : Condition → Type 0 = MapFailsFirst m in subst Q (sym at.0) (told at.1)
+refuses_at m condition P told HostFull at = tt
+
+-- the conditions of a fork below the rank of its data
+fork_below : (fork : List ℕ) (n : ℕ) → n ≤ 5 → HasParts (length fork) (header_of fork) → ((other : Condition) → rank other < n → MapHolds other (map_of fork)) →
+    (other : Condition) → rank other < n → Holds other fork
+fork_below fork n few parts told Parts low = parts
+fork_below fork n few parts told Types low = told Types low
+fork_below fork n few parts told References low = told References low
+fork_below fork n few parts told RowCount low = told RowCount low
+fork_below fork n few parts told Names low = told Names low
+fork_below fork n few parts told Places low = absurd (omega arith)
+fork_below fork n few parts told ByteCount low = absurd (omega arith)
+
+-- what fails first in the map does so in the fork, where the parts lie within it
+pub map_fails : (fork : List ℕ) → HasParts (length fork) (header_of fork) → (condition : Condition) → MapFailsFirst (map_of fork) condition → FailsFirst fork condition
+map_fails fork parts Parts first = absurd (first.fails tt)
+map_fails fork parts Types first = record { fails = first.fails; before = fork_below fork 1 (omega arith) parts first.before }
+map_fails fork parts References first = record { fails = first.fails; before = fork_below fork 2 (omega arith) parts first.before }
+map_fails fork parts RowCount first = record { fails = first.fails; before = fork_below fork 3 (omega arith) parts first.before }
+map_fails fork parts Names first = record { fails = first.fails; before = fork_below fork 4 (omega arith) parts first.before }
+map_fails fork parts Places first = absurd (first.fails tt)
+map_fails fork parts ByteCount first = absurd (first.fails tt)
+
+pub map_refuses : (fork : List ℕ) → 16 ≤ length fork → HasParts (length fork) (header_of fork) → (fault : ForkFault) → RefusesMap (map_of fork) fault → Refuses fork fault
+map_refuses fork whole parts EndOfFile told = absurd told
+map_refuses fork whole parts (BadMap condition) told = (whole, map_fails fork parts condition told)
+map_refuses fork whole parts HostFull told = tt
+
+-- the parts fail
+pub parts_refuse : (fork : List ℕ) → 16 ≤ length fork → (HasParts (length fork) (header_of fork) → ⊥) → Refuses fork (BadMap Parts)
+parts_refuse fork whole fails = (whole, record { fails = fails; before = λ other low. absurd (omega arith) })
+
+-- the places fail
+pub places_fail : (fork : List ℕ) → HasParts (length fork) (header_of fork) → IsMap (map_of fork) → (HasData (data_of fork) (map_rows (map_of fork)) → ⊥) → FailsFirst fork Places
+places_fail fork parts told fails = record { fails = fails; before = fork_below fork 5 (omega arith) parts (λ other _. told other) }
+
+pub places_refuse : (fork : List ℕ) → 16 ≤ length fork → HasParts (length fork) (header_of fork) → IsMap (map_of fork) →
+    (fault : ForkFault) → FaultsAt Places (HasData (data_of fork) (map_rows (map_of fork)) → ⊥) fault → Refuses fork fault
+places_refuse fork whole parts told EndOfFile at = absurd at
+places_refuse fork whole parts told (BadMap other) at =
+    let Q : Condition → Type 0 = FailsFirst fork in (whole, subst Q (sym at.0) (places_fail fork parts told at.1))
+places_refuse fork whole parts told HostFull at = tt
+
+-- the count of bytes fails
+bytes_below : (fork : List ℕ) → HasParts (length fork) (header_of fork) → IsMap (map_of fork) → HasData (data_of fork) (map_rows (map_of fork)) →
+    (other : Condition) → rank other < 6 → Holds other fork
+bytes_below fork parts told places Parts low = parts
+bytes_below fork parts told places Types low = told Types
+bytes_below fork parts told places References low = told References
+bytes_below fork parts told places RowCount low = told RowCount
+bytes_below fork parts told places Names low = told Names
+bytes_below fork parts told places Places low = places
+bytes_below fork parts told places ByteCount low = absurd (omega arith)
+
+pub bytes_refuse : (fork : List ℕ) → 16 ≤ length fork → HasParts (length fork) (header_of fork) → IsMap (map_of fork) → HasData (data_of fork) (map_rows (map_of fork)) →
+    (HasFewBytes (data_of fork) (map_rows (map_of fork)) → ⊥) → Refuses fork (BadMap ByteCount)
+bytes_refuse fork whole parts told places fails = (whole, record { fails = fails; before = bytes_below fork parts told places })
+
+-- all of them hold
+pub is_fork : (fork : List ℕ) → 16 ≤ length fork → HasParts (length fork) (header_of fork) → IsMap (map_of fork) → HasData (data_of fork) (map_rows (map_of fork)) →
+    HasFewBytes (data_of fork) (map_rows (map_of fork)) → IsFork fork
+is_fork fork whole parts told places few = record { header = whole; holds = all }
+  where
+    all : (condition : Condition) → Holds condition fork
+    all Parts = parts
+    all Types = told Types
+    all References = told References
+    all RowCount = told RowCount
+    all Names = told Names
+    all Places = places
+    all ByteCount = few
+
+-- what is said of a fault at a condition, where less is said of it
+pub faults_less : (condition : Condition) (P Q : Type 0) → (P → Q) → (fault : ForkFault) → FaultsAt condition P fault → FaultsAt condition Q fault
+faults_less condition P Q less EndOfFile at = at
+faults_less condition P Q less (BadMap other) at = (at.0, less at.1)
+faults_less condition P Q less HostFull at = tt
+
+-- a fault that is known
+pub fault_known : (condition : Condition) (P : Type 0) → P → (fault : ForkFault) → fault ≡ BadMap condition → FaultsAt condition P fault
+fault_known condition P holds fault is = let Q : ForkFault → Type 0 = FaultsAt condition P in subst Q (sym is) (refl, holds)
+
+pub fault_of_host : (condition : Condition) (P : Type 0) (fault : ForkFault) → fault ≡ HostFull → FaultsAt condition P fault
+fault_of_host condition P fault is = let Q : ForkFault → Type 0 = FaultsAt condition P in subst Q (sym is) tt

@@ -1,0 +1,6 @@
+pub mod Lists
+pub mod Faults
+pub mod Placing
+pub mod Distinct
+pub mod Whole
+pub mod Pieces

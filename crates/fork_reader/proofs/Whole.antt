@@ -1,0 +1,47 @@
+-- A fork as a whole.
+use Rattle.std.proofs.Common.{◌≡◌, ℕ, ◌<◌, ◌≤◌, List, length, map, ◌↔◌, subst, sym, ap, ◌∙◌, arith}
+use Rattle.std.specs.Prelude.{Result, Err, IfErr}
+use Rattle.fork_bytes.specs.declared.fault.Condition.TheVariants.{Parts, Places}
+use Rattle.fork_bytes.specs.declared.fault.ForkFault.{ForkFault}
+use Rattle.fork_bytes.specs.declared.fault.ForkFault.TheVariants.{EndOfFile}
+use Rattle.fork_bytes.specs.declared.layout.Header.{Header}
+use Rattle.fork_bytes.specs.Rows.{Row}
+use Rattle.fork_bytes.specs.declared.table.Table.{Table}
+use Rattle.fork_bytes.specs.Fork.{bytes_at, header_of, map_of, map_rows, table_of, extra_of, attributes_of, HasParts, IsFork, StandsFor, Refuses}
+use Rattle.fork_reader.specs.Reading.{placed_rows, row_at}
+use Rattle.fork_reader.proofs.Placing.{rows_are_at, length-part}
+
+-- the rows of the table are the placed rows with the bytes at their places
+pub rows_of_table : (fork : List ℕ) → IsFork fork → (table_of fork).rows ≡ map (row_at fork) (placed_rows fork)
+rows_of_table fork is = rows_are_at fork (is.holds Parts) (map_rows (map_of fork)) (is.holds Places)
+
+-- the parts of a table that stand for the fork
+pub stands : (fork : List ℕ) (rows : List Row) (extra : List ℕ) (attributes : ℕ) → IsFork fork → rows ≡ map (row_at fork) (placed_rows fork) →
+    extra ≡ extra_of fork → attributes ≡ attributes_of (map_of fork) → StandsFor fork (record { rows = rows; extra = extra; map_attributes = attributes })
+stands fork rows extra attributes is same behind marks = (
+  is,
+  ap (λ (r : List Row). record { rows = r; extra = extra; map_attributes = attributes }) (same ∙ sym (rows_of_table fork is))
+      ∙ ap (λ (e : List ℕ). record { rows = (table_of fork).rows; extra = e; map_attributes = attributes }) behind
+      ∙ ap (λ (n : ℕ). record { rows = (table_of fork).rows; extra = extra_of fork; map_attributes = n }) marks,
+)
+
+-- the bytes end within the header exactly where that is the fault
+pub ends_early : (fork : List ℕ) (result : Result Table ForkFault) → 16 ≤ length fork → IfErr result (Refuses fork) → (result ≡ Err EndOfFile) ↔ (length fork < 16)
+ends_early fork result whole told = (
+  λ is. (let P : Result Table ForkFault → Type 0 = λ r. IfErr r (Refuses fork) in subst P is told),
+  λ short. absurd (omega arith),
+)
+
+-- what a header that was read says of the fork
+pub parts_of_fork : (fork : List ℕ) (header : Header) → header ≡ header_of fork → HasParts (length fork) header → HasParts (length fork) (header_of fork)
+parts_of_fork fork header is parts = let P : Header → Type 0 = HasParts (length fork) in subst P is parts
+
+-- the map's bytes
+pub map_is : (fork : List ℕ) (header : Header) → header ≡ header_of fork → (bytes : List ℕ) → bytes ≡ bytes_at header.map_length header.map_offset fork → bytes ≡ map_of fork
+map_is fork header is bytes cut = cut ∙ ap (λ (h : Header). bytes_at h.map_length h.map_offset fork) is
+
+pub map_is_long : (fork : List ℕ) (header : Header) → header ≡ header_of fork → HasParts (length fork) header → (bytes : List ℕ) →
+    bytes ≡ bytes_at header.map_length header.map_offset fork → 28 ≤ length bytes
+map_is_long fork header is parts bytes cut =
+    let long = ap (λ (xs : List ℕ). length xs) cut ∙ length-part header.map_length header.map_offset fork parts.whole_map in
+    let least = parts.map_header in omega arith

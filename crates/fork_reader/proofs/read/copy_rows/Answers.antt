@@ -1,0 +1,19 @@
+use Rattle.std.proofs.Common.{◌≡◌, map, sym, ap, ◌∙◌, rules}
+use Rattle.std.proofs.lemmas.List.{map-id}
+use Rattle.std.proofs.lemmas.Iterator.Adapters.{YieldsList-from_vec}
+use Rattle.std.proofs.lemmas.Iterator.Consumers.{YieldsList-turn, YieldsList-end}
+use Rattle.fork_reader.specs.Reading.{row_at, IsWithin}
+use Rattle.fork_reader.proofs.Placing.{all_found}
+use Rattle.fork_reader.proofs.read.copy_rows.Goals as goal
+
+pub copy_row-requires : goal.copy_row-requires
+copy_row-requires c =
+    let rows = c.args.rows.items in
+    let turn = YieldsList-turn (YieldsList-from_vec rows (search rules) (search rules)) c.loop-row.yielded _ c.loop-row.yielded_by _ c.next.new.self c.in-Some.row c.in-Some.is c.next.ensures.steps in
+    all_found (IsWithin c.args.fork.now) rows _ c.in-Some.row c.requires turn
+
+pub returns : goal.returns
+returns c =
+    let all : c.loop-row.yielded ≡ c.args.rows.items =
+    sym (map-id _) ∙ (YieldsList-end (YieldsList-from_vec c.args.rows.items (search rules) (search rules)) c.loop-row.yielded _ c.loop-row.yielded_by _ c.next.new.self c.in-None.is c.next.ensures.steps).0 in
+    c.loop-row.invariant.2 ∙ ap (map (row_at c.args.fork.now)) all

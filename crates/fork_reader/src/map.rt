@@ -1,0 +1,92 @@
+//! The map of a fork.
+
+ghost use Rattle.std.specs.Prelude.{◌≡◌, ◌<◌, ◌≤◌, ◌+◌, ◌*◌, ◌++◌, length, IfOk, IfErr, OnOk};
+ghost use Rattle.std.specs.List.{AllByRecursion};
+ghost use Rattle.fork_bytes.specs.Fork.{attributes_of, map_row, map_rows, references_in, Reference, HasReferences, HasNames};
+ghost use Rattle.fork_reader.specs.Reading.{FaultsAt, HasName, IsMap, IsTypeList, RefusesMap, entry_of, rows_in};
+
+use crate::grow::push;
+use crate::name::read_name;
+use crate::number::{read_signed, read_three, read_two};
+use crate::types::{REFERENCE_LENGTH, TypeEntry, TypeList, check_references, entry, read_types};
+use bitflags::Flags;
+use fork_bytes::fault::{Condition, ForkFault};
+use fork_bytes::layout::MapRow;
+use res_base::resource::{ResAttrs, ResType};
+use std::alloc::Global;
+
+/// The attributes of a map.
+pub fn read_attributes(map: &[u8]) -> u16
+    requires { 28 ≤ length map.now }
+    ensures { result ≡ attributes_of map.now }
+{
+    read_two(map, 22)
+}
+
+/// The row of the reference at a place of the map. The fault is BadMap(Names) where its name ends outside the map.
+fn read_row(alloc: Global, map: &[u8], kind: ResType, at: usize) -> Result<MapRow, ForkFault>
+    requires map { 28 ≤ length map.now }
+    requires within { at + 12 ≤ length map.now }
+    ensures row { IfOk result (λ row. row ≡ map_row map.now (record { kind = kind; place = at })) }
+    ensures has { IfOk result (λ _. HasName map.now (record { kind = kind; place = at })) }
+    ensures refuses { IfErr result (FaultsAt Condition.Names (¬ HasName map.now (record { kind = kind; place = at }))) }
+{
+    let name = read_name(alloc, map, at)?;
+    Ok(MapRow {
+        kind,
+        id: read_signed(map, at),
+        name,
+        attributes: ResAttrs::from_bits_retain(map[at + 4]),
+        datum: read_three(map, at + 5),
+    })
+}
+
+/// Adds the rows of a type. The fault is BadMap(Names) where one of their names ends outside the map.
+fn push_rows(
+    alloc: Global,
+    map: &[u8],
+    entry: TypeEntry,
+    rows: &mut Vec<MapRow>,
+) -> Result<(), ForkFault>
+    requires map { 28 ≤ length map.now }
+    requires few { entry.count < 65536 }
+    requires inside { 0 < entry.count → entry.start + 12 * entry.count ≤ length map.now }
+    ensures rows { OnOk result (rows.new.items ≡ rows.old.items ++ rows_in map.now (entry_of entry)) }
+    ensures names { OnOk result (AllByRecursion (HasName map.now) (references_in (entry_of entry))) }
+    ensures refuses { IfErr result (FaultsAt Condition.Names (¬ AllByRecursion (HasName map.now) (references_in (entry_of entry)))) }
+{
+    for i in 0..entry.count {
+        let row = read_row(alloc, map, entry.kind, entry.start + REFERENCE_LENGTH * i)?;
+        push(rows, row)?;
+    }
+    Ok(())
+}
+
+/// The rows of all types. The fault is BadMap(Names) where a name ends outside the map.
+fn read_rows(alloc: Global, map: &[u8], list: TypeList) -> Result<Vec<MapRow>, ForkFault>
+    requires list { IsTypeList map.now list }
+    requires small { list.offset < 65536 }
+    requires references { HasReferences map.now }
+    ensures rows { IfOk result (λ rows. rows.items ≡ map_rows map.now) }
+    ensures names { IfOk result (λ _. HasNames map.now) }
+    ensures refuses { IfErr result (FaultsAt Condition.Names (¬ HasNames map.now)) }
+{
+    let mut rows = Vec::new(alloc);
+    for i in 0..list.count {
+        push_rows(alloc, map, entry(map, list, i), &mut rows)?;
+    }
+    Ok(rows)
+}
+
+/// The rows of a map of 28 bytes at least, in the order of its types and of their references. The fault is BadMap of the first
+/// condition of Types, References, RowCount and Names that doesn't hold.
+pub fn read_map(alloc: Global, map: &[u8]) -> Result<Vec<MapRow>, ForkFault>
+    requires { 28 ≤ length map.now }
+    ensures rows { IfOk result (λ rows. rows.items ≡ map_rows map.now) }
+    ensures holds { IfOk result (λ _. IsMap map.now) }
+    ensures refuses { IfErr result (RefusesMap map.now) }
+{
+    let list = read_types(alloc, map)?;
+    check_references(map, list)?;
+    read_rows(alloc, map, list)
+}

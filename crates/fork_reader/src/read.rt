@@ -1,0 +1,149 @@
+//! A fork is read whole.
+
+ghost use Rattle.std.specs.Prelude.{◌≡◌, ◌<◌, ◌≤◌, ◌+◌, ◌↔◌, length, map, IfOk, IfErr, OnErr, IsErrOf};
+ghost use Rattle.std.specs.List.{AllByRecursion};
+ghost use Rattle.fork_bytes.specs.Fork.{bytes_at, header_of, data_of, datum_length, HasParts, HasData, IsFork, StandsFor, Refuses};
+ghost use Rattle.fork_reader.specs.Reading.{placed_row, placed_rows, row_at, HasDatum, IsWithin, FaultsAt};
+
+use crate::data::{check_bytes, length_place, place_row};
+use crate::grow::push;
+use crate::header::{HEADER_LENGTH, check_parts, extra_bytes, read_header};
+use crate::map::{read_attributes, read_map};
+use crate::number::read_four;
+use crate::place::PlacedRow;
+use fork_bytes::fault::{Condition, ForkFault};
+use fork_bytes::layout::{Header, MapRow};
+use fork_bytes::table::{Row, Rows, Table};
+use mac_base::bytes::Bytes;
+use mac_base::error::HostFull;
+use res_base::resource::Resource;
+use std::alloc::Global;
+
+/// The row with the place of its bytes.
+fn find_row(fork: &[u8], header: Header, row: MapRow) -> Result<PlacedRow, ForkFault>
+    requires header { header ≡ header_of fork.now }
+    requires parts { HasParts (length fork.now) header }
+    ensures row { IfOk result (λ found. found ≡ placed_row fork.now row) }
+    ensures has { IfOk result (λ _. HasDatum (data_of fork.now) row) }
+    ensures fails { OnErr result (¬ HasDatum (data_of fork.now) row) }
+    ensures fault { IfErr result (λ fault. fault ≡ ForkFault.BadMap Condition.Places) }
+{
+    let at = length_place(header, &row)? as usize;
+    place_row(header, row, read_four(fork, at))
+}
+
+/// The rows with the places of their bytes.
+fn find_rows(
+    alloc: Global,
+    fork: &[u8],
+    header: Header,
+    rows: Vec<MapRow>,
+) -> Result<Vec<PlacedRow>, ForkFault>
+    requires header { header ≡ header_of fork.now }
+    requires parts { HasParts (length fork.now) header }
+    ensures rows { IfOk result (λ found. found.items ≡ map (placed_row fork.now) rows.items) }
+    ensures has { IfOk result (λ _. HasData (data_of fork.now) rows.items) }
+    ensures refuses { IfErr result (FaultsAt Condition.Places (¬ HasData (data_of fork.now) rows.items)) }
+{
+    let mut placed = Vec::new(alloc);
+    for row in rows {
+        push(&mut placed, find_row(fork, header, row)?)?;
+    }
+    Ok(placed)
+}
+
+/// The row with its bytes.
+fn copy_row(alloc: Global, fork: &[u8], row: PlacedRow) -> Result<Row, HostFull>
+    requires { IsWithin fork.now row }
+    ensures { IfOk result (λ copied. copied ≡ row_at fork.now row) }
+{
+    let Resource {
+        kind,
+        id,
+        name,
+        attributes,
+        datum,
+    } = row;
+    let start = datum.offset as usize;
+    let mut bytes = Vec::new(alloc);
+    bytes.extend_from_slice(&fork[start..start + datum.length as usize])?;
+    Ok(Resource {
+        kind,
+        id,
+        name,
+        attributes,
+        datum: Bytes::new(bytes),
+    })
+}
+
+/// The rows with their bytes.
+fn copy_rows(alloc: Global, fork: &[u8], rows: Vec<PlacedRow>) -> Result<Vec<Row>, HostFull>
+    requires { AllByRecursion (IsWithin fork.now) rows.items }
+    ensures { IfOk result (λ copied. copied.items ≡ map (row_at fork.now) rows.items) }
+{
+    let mut copied = Vec::new(alloc);
+    for row in rows {
+        copied.push(copy_row(alloc, fork, row)?)?;
+    }
+    Ok(copied)
+}
+
+/// The rows of a fork with the places of their bytes.
+fn placed_rows(alloc: Global, fork: &[u8], header: Header) -> Result<Vec<PlacedRow>, ForkFault>
+    requires header { header ≡ header_of fork.now }
+    requires whole { 16 ≤ length fork.now }
+    requires parts { HasParts (length fork.now) header }
+    ensures rows { IfOk result (λ rows. rows.items ≡ placed_rows fork.now) }
+    ensures fork { IfOk result (λ _. IsFork fork.now) }
+    ensures refuses { IfErr result (Refuses fork.now) }
+{
+    let rows = read_map(alloc, map_bytes(fork, header))?;
+    let rows = find_rows(alloc, fork, header, rows)?;
+    check_bytes(&rows)?;
+    Ok(rows)
+}
+
+/// The bytes of the map.
+fn map_bytes(fork: &[u8], header: Header) -> &[u8]
+    requires { HasParts (length fork.now) header }
+    ensures { result.now ≡ bytes_at header.map_length header.map_offset fork.now }
+{
+    let start = header.map_offset as usize;
+    &fork[start..start + header.map_length as usize]
+}
+
+/// The table of a fork with these rows.
+fn copy_table(
+    alloc: Global,
+    fork: &[u8],
+    header: Header,
+    rows: Vec<PlacedRow>,
+) -> Result<Table, HostFull>
+    requires header { header ≡ header_of fork.now }
+    requires fork { IsFork fork.now }
+    requires rows { rows.items ≡ placed_rows fork.now }
+    ensures { IfOk result (λ table. StandsFor fork.now table) }
+{
+    let rows = copy_rows(alloc, fork, rows)?;
+    Ok(Table {
+        rows: Rows::new(rows),
+        extra: extra_bytes(&fork[HEADER_LENGTH..]),
+        map_attributes: read_attributes(map_bytes(fork, header)),
+    })
+}
+
+/// The table that the bytes of a fork stand for. The fault is EndOfFile exactly where there are fewer than 16 bytes, and
+/// else BadMap of the first condition that doesn't hold, or HostFull.
+pub fn read_fork(alloc: Global, fork: &[u8]) -> Result<Table, ForkFault>
+    ensures table { IfOk result (λ table. StandsFor fork.now table) }
+    ensures end { IsErrOf result ForkFault.EndOfFile ↔ (length fork.now < 16) }
+    ensures refuses { IfErr result (Refuses fork.now) }
+{
+    let header = read_header(fork)?;
+    check_parts(header, fork.len())?;
+    let rows = placed_rows(alloc, fork, header)?;
+    match copy_table(alloc, fork, header, rows) {
+        Ok(table) => Ok(table),
+        Err(HostFull) => Err(ForkFault::HostFull),
+    }
+}

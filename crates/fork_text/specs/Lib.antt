@@ -1,0 +1,3 @@
+pub mod Attributes
+pub mod Find
+pub mod Listing
