@@ -1,0 +1,3 @@
+pub mod Disk
+pub mod Fork
+pub mod Calls

@@ -1,0 +1,109 @@
+//! Where the fork of a resource file is kept.
+
+ghost use Rattle.std.specs.Prelude.{◌≡◌, ◌+◌, ◌≤◌, ◌↔◌, ⊤, List, ℕ, length, IfOk, OnOk, IsErrOf};
+ghost use Rattle.fork_disk.specs.Disk.{bytes_at, Counts};
+ghost use Rattle.fork_disk.specs.Fork.{IsPartly};
+
+use crate::disk::{DiskFault, ForkDisk};
+use crate::update::replace;
+use thiserror::Error;
+
+/// When the device failed, so that a fork wasn't replaced.
+#[derive(Clone, Copy, Debug, PartialEq, Eq, Error)]
+pub enum ReplaceFault {
+    /// Before the first write: the old fork is there.
+    #[error("the device failed before anything was written")]
+    BeforeFirstWrite,
+    /// In the first write or later: the store says what may be there.
+    #[error("the device failed while the fork was written")]
+    Later,
+}
+
+/// A fork that is read, and replaced as a whole. What is promised of bytes holds where the device is honest.
+pub trait ForkStore {
+    /// The bytes of the fork, where the device is honest.
+    ghost fork: { Self → List ℕ };
+
+    /// The fork can be read and replaced: no replacement has failed since it was made whole.
+    ghost is_ready: { Self → Type 0 };
+
+    /// A crash would leave this fork.
+    ghost is_stable: { Self → Type 0 };
+
+    /// The device returns what was written, and nobody else writes it.
+    ghost is_honest: { Self → Type 0 };
+
+    /// How often the device has failed.
+    ghost failures: { Self → ℕ };
+
+    /// What a replacement may leave that failed behind its first write: by the new fork and the old one.
+    ghost may_leave: { List ℕ → List ℕ → List ℕ → Type 0 };
+
+    /// How many bytes the fork has.
+    fn len(&mut self) -> Result<u64, DiskFault>
+        requires { is_honest self.old → is_ready self.old }
+        ensures value { is_honest self.old → IfOk result (λ n. n ≡ length (fork self.old)) }
+        ensures same { is_honest self.old → fork self.new ≡ fork self.old }
+        ensures ready { is_honest self.old → is_ready self.new }
+        ensures stable { is_honest self.old → is_stable self.old → is_stable self.new }
+        ensures honest { is_honest self.old ↔ is_honest self.new }
+        ensures cause { Counts (failures self.old) (failures self.new) result };
+
+    /// Fills the buffer with the fork's bytes at an offset. After a fault the buffer holds any bytes.
+    fn read_at(&mut self, at: u64, buffer: &mut [u8]) -> Result<(), DiskFault>
+        requires ready { is_honest self.old → is_ready self.old }
+        requires there { is_honest self.old → at + length buffer.old ≤ length (fork self.old) }
+        ensures read { is_honest self.old → OnOk result (buffer.new ≡ bytes_at (length buffer.old) at (fork self.old)) }
+        ensures same { is_honest self.old → fork self.new ≡ fork self.old }
+        ensures ready { is_honest self.old → is_ready self.new }
+        ensures stable { is_honest self.old → is_stable self.old → is_stable self.new }
+        ensures honest { is_honest self.old ↔ is_honest self.new }
+        ensures cause { Counts (failures self.old) (failures self.new) result };
+
+    /// Puts another fork in the place of the one that is there. Where it succeeds, a crash leaves the new one.
+    fn replace(&mut self, new: &[u8]) -> Result<(), ReplaceFault>
+        requires { is_honest self.old → is_ready self.old }
+        ensures replaced { is_honest self.old → OnOk result (fork self.new ≡ new.now) }
+        ensures before { is_honest self.old → IsErrOf result ReplaceFault.BeforeFirstWrite → fork self.new ≡ fork self.old }
+        ensures left { is_honest self.old → IsErrOf result ReplaceFault.Later → may_leave new.now (fork self.old) (fork self.new) }
+        ensures ready { is_honest self.old → OnOk result (is_ready self.new) }
+        ensures still { is_honest self.old → IsErrOf result ReplaceFault.BeforeFirstWrite → is_ready self.new }
+        ensures stable { is_honest self.old → OnOk result (is_stable self.new) }
+        ensures honest { is_honest self.old ↔ is_honest self.new }
+        ensures cause { Counts (failures self.old) (failures self.new) result };
+}
+
+/// A fork on a disk of its own.
+#[derive(Debug, Drop)]
+pub struct PlainStore<D> {
+    pub disk: D,
+}
+
+impl<D: ForkDisk> ForkStore for PlainStore<D> {
+    ghost fork = { λ store. D.seen store.disk };
+
+    ghost is_ready = { λ _. ⊤ };
+
+    ghost is_stable = { λ store. D.is_stable store.disk };
+
+    ghost is_honest = { λ store. D.is_honest store.disk };
+
+    ghost failures = { λ store. D.failures store.disk };
+
+    ghost may_leave = { IsPartly };
+
+    fn len(&mut self) -> Result<u64, DiskFault> {
+        self.disk.len()
+    }
+
+    fn read_at(&mut self, at: u64, buffer: &mut [u8]) -> Result<(), DiskFault> {
+        self.disk.read_at(at, buffer)
+    }
+
+    fn replace(&mut self, new: &[u8]) -> Result<(), ReplaceFault> {
+        match replace(&mut self.disk, new) {
+            Ok(()) => Ok(()),
+            Err(DiskFault) => Err(ReplaceFault::Later),
+        }
+    }
+}

@@ -1,0 +1,52 @@
+-- What a fork is read as that stays on its disk.
+use Rattle.std.specs.Prelude.{◌≡◌, ℕ, ◌+◌, ◌≤◌, List, map, ⊤, Result, MatchResult}
+use Rattle.fork_bytes.specs.declared.fault.Condition.{Condition}
+use Rattle.fork_bytes.specs.declared.table.Table.{Table}
+use Rattle.fork_bytes.specs.Fork.{map_of, extra_of, attributes_of, max_fork, IsFork, Refuses}
+use Rattle.fork_disk.specs.Disk.{Rose}
+use Rattle.fork_reader.specs.Reading.{PlacedRow, placed_rows, row_at, FaultsAt}
+use Rattle.fork_rows.specs.declared.fault.OpenFault.{OpenFault}
+use Rattle.fork_rows.specs.declared.fault.OpenFault.TheVariants.{Fork, Device}
+use Rattle.fork_rows.specs.declared.table.PlacedTable.{PlacedTable}
+
+-- the table of a fork, with the places of the resources' bytes in place of these
+abbrev pub placed_table : List ℕ → PlacedTable
+placed_table fork = record {
+  rows = placed_rows fork;
+  extra = extra_of fork;
+  map_attributes = attributes_of (map_of fork);
+}
+
+-- the table with the bytes that stand at the places
+abbrev pub filled : List ℕ → PlacedTable → Table
+filled fork table = record {
+  rows = map (row_at fork) table.rows;
+  extra = table.extra;
+  map_attributes = table.map_attributes;
+}
+
+-- the bytes of a row end where the longest fork does at the latest
+abbrev pub FitsInFork : PlacedRow → Type 0
+FitsInFork row = row.datum.offset + row.datum.length ≤ max_fork
+
+-- the bytes are a fork, and this is its table with places
+abbrev pub HasPlaces : List ℕ → PlacedTable → Type 0
+HasPlaces fork table = IsFork fork × (table ≡ placed_table fork)
+
+-- what a fault says of the bytes
+abbrev pub RefusesToOpen : List ℕ → OpenFault → Type 0
+RefusesToOpen fork (Fork fault) = Refuses fork fault
+RefusesToOpen fork Device = ⊤
+
+-- a fault of the bytes is of this condition, and then this holds
+abbrev pub FaultsIn : Condition → Type 0 → OpenFault → Type 0
+FaultsIn condition P (Fork fault) = FaultsAt condition P fault
+FaultsIn condition P Device = ⊤
+
+-- the count of failures rose where the fault is the device's, and stayed otherwise
+abbrev pub CountsFault : ℕ → ℕ → OpenFault → Type 0
+CountsFault before now (Fork fault) = now ≡ before
+CountsFault before now Device = Rose before now
+
+abbrev pub CountsDevice : {T : Type 0} → ℕ → ℕ → Result T OpenFault → Type 0
+CountsDevice before now result = MatchResult result (λ _. now ≡ before) (CountsFault before now)

@@ -1,0 +1,9 @@
+//! Resource forks that stay on their disks: which resources there are, and where their bytes stand.
+#![tactic(auto)]
+
+pub mod fault;
+mod open;
+mod part;
+pub mod table;
+
+pub use open::read_rows;

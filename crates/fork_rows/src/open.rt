@@ -1,0 +1,54 @@
+//! A fork is opened on its disk.
+
+ghost use Rattle.std.specs.Prelude.{◌≡◌, ◌<◌, ◌≤◌, ◌↔◌, ◌⊎◌, length, IfOk, IfErr};
+ghost use Rattle.std.specs.List.{AllByRecursion};
+ghost use Rattle.fork_bytes.specs.Fork.{max_rows, StandsFor};
+ghost use Rattle.fork_reader.specs.Reading.{IsWithin, AreFewBytes};
+ghost use Rattle.fork_rows.specs.Opening.{HasPlaces, FitsInFork, filled, RefusesToOpen, CountsDevice};
+
+use crate::fault::OpenFault;
+use crate::part::{find_rows, read_front, read_part};
+use crate::table::{PlacedRows, PlacedTable};
+use fork_bytes::fault::ForkFault;
+use fork_disk::store::ForkStore;
+use fork_reader::{HEADER_LENGTH, check_bytes, check_parts, read_attributes, read_map};
+use std::alloc::Global;
+
+/// The resources of a fork, with the places of their bytes. These aren't read: the device is asked for the fork's length, for its
+/// first 256 bytes, for its map, and for four bytes for each resource. A fault of the bytes is EndOfFile exactly where there are
+/// fewer than 16, and else BadMap of the first condition that doesn't hold; it comes as soon as what was read shows it. HostFull comes
+/// where the host has no memory for the table, and Device where the device failed, which it has counted. The bytes are as before in
+/// any case.
+pub fn read_rows<S: ForkStore>(alloc: Global, store: &mut S) -> Result<PlacedTable, OpenFault>
+    requires { S.is_honest store.old → S.is_ready store.old }
+    ensures rows { S.is_honest store.old → IfOk result (HasPlaces (S.fork store.old)) }
+    ensures table { S.is_honest store.old → IfOk result (λ table. StandsFor (S.fork store.old) (filled (S.fork store.old) table)) }
+    ensures within { S.is_honest store.old → IfOk result (λ table. AllByRecursion (IsWithin (S.fork store.old)) table.rows) }
+    ensures inside { IfOk result (λ table. AllByRecursion FitsInFork table.rows) }
+    ensures most { IfOk result (λ table. length table.rows ≤ max_rows) }
+    ensures few { IfOk result (λ table. AreFewBytes table.rows) }
+    ensures refuses { S.is_honest store.old → IfErr result (RefusesToOpen (S.fork store.old)) }
+    ensures end { S.is_honest store.old → length (S.fork store.old) < 16
+        → IfErr result (λ fault. (fault ≡ OpenFault.Fork ForkFault.EndOfFile) ⊎ (fault ≡ OpenFault.Device)) }
+    ensures same { S.is_honest store.old → S.fork store.new ≡ S.fork store.old }
+    ensures ready { S.is_honest store.old → S.is_ready store.new }
+    ensures stable { S.is_honest store.old → S.is_stable store.old → S.is_stable store.new }
+    ensures honest { S.is_honest store.old ↔ S.is_honest store.new }
+    ensures cause { CountsDevice (S.failures store.old) (S.failures store.new) result }
+{
+    let fork_length = store.len()? as usize;
+    if fork_length < HEADER_LENGTH {
+        return Err(OpenFault::Fork(ForkFault::EndOfFile));
+    }
+    let front = read_front(alloc, store, fork_length)?;
+    let header = front.header;
+    check_parts(header, fork_length)?;
+    let map = read_part(alloc, store, header.map_offset, header.map_length)?;
+    let rows = find_rows(alloc, store, header, read_map(alloc, &map)?)?;
+    check_bytes(&rows)?;
+    Ok(PlacedTable {
+        rows: PlacedRows::new(rows),
+        extra: front.extra,
+        map_attributes: read_attributes(&map),
+    })
+}
