@@ -1,0 +1,44 @@
+-- The disks of the resource files: how a device may fail, what an update leaves on a disk, and what opening reads.
+use Rattle.std.specs.Prelude.{◌≡◌, ℕ, ◌<◌, ◌≤◌, Bool, true, false, List, [], length, replicate, Result, Ok, Err, IsFalse}
+use Rattle.mac_base.specs.declared.error.OsErr.{OsErr}
+use Rattle.mac_base.specs.declared.error.OsErr.TheVariants.{EofErr, MapReadErr, IoErr}
+use Rattle.fork_disk.specs.Disk.{Rose}
+use Rattle.fork_bytes.specs.declared.table.Table.{Table}
+use Rattle.fork_bytes.specs.Fork.{IsFork, StandsFor}
+use Rattle.res_calls.specs.Changes.{FileTable, opened_table}
+
+-- a disk: the bytes that reads give
+abbrev pub Disk : Type 0
+Disk = List ℕ
+
+-- How the device goes in a call: it works, or fails before it writes, or fails later and leaves the disk so.
+pub data Device : Type 0 where
+  Works FailsBefore : Device
+  FailsWriting : Disk → Device
+
+-- whether the device works
+abbrev pub device_works : Device → Bool
+device_works Works = true
+device_works FailsBefore = false
+device_works (FailsWriting left) = false
+
+-- a device that goes so fails only where its count of failures rose
+abbrev pub IsCaused : Device → ℕ → ℕ → Type 0
+IsCaused device before now = IsFalse (device_works device) → Rose before now
+
+-- the table of a file without resources
+abbrev pub empty_table : FileTable
+empty_table = record { rows = []; extra = replicate 240 0; map_attributes = 0 }
+
+-- What opening reads of a disk, or why it can't be opened. No bytes are a file without resources; else they are a fork, or they end
+-- within its header, or they are none.
+pub data Reads (disk : Disk) : Result (FileTable) OsErr → Type 0 where
+  empty : disk ≡ [] → Reads disk (Ok empty_table)
+  fork : (table : Table) → StandsFor disk table → Reads disk (Ok (opened_table table))
+  short : 0 < length disk → length disk < 16 → Reads disk (Err EofErr)
+  damaged : 16 ≤ length disk → (IsFork disk → ⊥) → Reads disk (Err MapReadErr)
+
+-- what opening reads where the device goes so
+abbrev pub ReadsBy : Device → Disk → Result (FileTable) OsErr → Type 0
+ReadsBy Works disk read = Reads disk read
+ReadsBy _ disk read = read ≡ Err IoErr

@@ -1,0 +1,10 @@
+pub mod Changes
+pub mod Attributes
+pub mod Fitting
+pub mod Files
+pub mod Device
+pub mod Tests
+pub mod Updates
+pub mod Loads
+pub mod Quiet
+pub mod Steps

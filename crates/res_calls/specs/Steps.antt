@@ -1,0 +1,101 @@
+-- What a call of the Resource Manager does.
+use Rattle.std.specs.Prelude.{◌≡◌, ℕ, Bool, List, [], filter_map, flat_map, Option, Some, None, is_some, if◌then◌else◌, Result, Ok, Err, ⊤}
+use Rattle.std.specs.Option.{option_map_or}
+use Rattle.mac_base.specs.declared.error.OsErr.{OsErr}
+use Rattle.mac_base.specs.declared.releasing.ReleasingCall.{ReleasingCall}
+use Rattle.mac_base.specs.declared.releasing.ReleasingCall.TheVariants.{DisposesHandle}
+use Rattle.mac_base.specs.HeadKind.{Shape}
+use Rattle.mac_base.specs.Heap.{Heap}
+use Rattle.mac_calls.specs.declared.memory_call.MemoryCall.{MemoryCall}
+use Rattle.mac_calls.specs.GrowZone.{Ask}
+use Rattle.mac_calls.specs.Outcomes.{Outcome}
+use Rattle.fork_bytes.specs.Written.{written}
+use Rattle.fork_disk.specs.Fork.{IsPartly}
+use Rattle.res_table.specs.declared.chain.RowPlace.{RowPlace}
+use Rattle.res_table.specs.OpenFiles.{is_open, file_opened}
+use Rattle.res_calls.specs.Changes.{FileRow, FileTable, row_at, saved_table, handles_forgotten}
+use Rattle.res_calls.specs.declared.resource_call.ResourceCall.{ResourceCall}
+use Rattle.res_calls.specs.declared.resource_call.ResourceCall.TheVariants as call
+use Rattle.res_calls.specs.declared.results.ResourceResults.TheVariants.{Number}
+use Rattle.res_calls.specs.Device.{Device, FailsWriting, Disk, ReadsBy}
+use Rattle.res_calls.specs.Files.{ResState, ResourceEnd, refused_with, with_heap, with_files, disk_of}
+use Rattle.res_calls.specs.Tests.{resource_refusal}
+use Rattle.res_calls.specs.Loads.{row_wanted, loads_bytes, placing, placed_end, found_end}
+use Rattle.res_calls.specs.Updates.{Update, file_update, row_update, update_end}
+use Rattle.res_calls.specs.Quiet.{quiet_end}
+
+-- What a call does that is not refused: it gets the row at a place, makes an update, opens a file, or needs neither the zone's room nor a disk.
+pub data Work : Type 0 where
+  Gets : RowPlace → Work
+  Updates : Update → Work
+  Opens : ℕ → Work
+  Quiet : Work
+
+-- the work of making an update, if there is one
+abbrev pub updating : Option Update → Work
+updating update = option_map_or Updates update Quiet
+
+-- the work of a call
+abbrev pub work_of : ResState → ResourceCall → Work
+work_of state (call.WriteResource h) = updating (row_update state h)
+work_of state (call.UpdateResFile named) = updating (file_update state named)
+work_of state (call.CloseResFile named) = updating (file_update state named)
+work_of state (call.OpenResFile k) = if is_open k state.files then Quiet else Opens k
+work_of state call = option_map_or Gets (row_wanted state call) Quiet
+
+-- the handle that an answer's call disposed of, where it was carried out so
+abbrev pub disposed_by : ReleasingCall × Option OsErr → Option ℕ
+disposed_by (DisposesHandle h, None) = Some h
+disposed_by _ = None
+
+-- the handles that answers disposed of
+abbrev pub disposed_in : List Ask → List ℕ
+disposed_in asks = flat_map (λ (ask : Ask). filter_map disposed_by ask.carried) asks
+
+-- the state behind a call of the Memory Manager that asked so and left this heap: rows have forgotten what answers disposed of
+abbrev pub behind_memory : List Ask → Heap → ResState → ResState
+behind_memory asks heap state = with_heap heap (with_files (handles_forgotten (disposed_in asks) state.files) state)
+
+-- the end of a call that opens a file, of which this was read
+abbrev pub opened_end : ℕ → ResState → Result (FileTable) OsErr → ResourceEnd
+opened_end k state (Ok table) = record { outcome = Ok (Number k); state = with_files (file_opened k table state.files) state }
+opened_end k state (Err code) = refused_with code state
+
+-- what an update may leave on the disk where the device goes so
+abbrev pub LeavesDisk : Device → Update → Disk → Type 0
+LeavesDisk (FailsWriting left) u disk = IsPartly (written (saved_table u.table)) disk left
+LeavesDisk device u disk = ⊤
+
+-- how a call of the Memory Manager may step
+abbrev pub MemoryRelation : Type 1
+MemoryRelation = Shape → Heap → MemoryCall → List Ask → Outcome → Heap → Type 0
+
+module _ (Memory : MemoryRelation) where
+  -- The call gets the row at a place; this call of the Memory Manager makes the place for its bytes, if one is needed.
+  abbrev pub GetsRow : Device → ResState → ResourceCall → List Ask → ResourceEnd → RowPlace → FileRow → Option MemoryCall → Type 0
+  GetsRow device old call asks end p r None = (asks ≡ []) × (end ≡ found_end call r old)
+  GetsRow device old call asks end p r (Some inner) = (outcome : Outcome) × (heap : Heap)
+      × Memory old.shape old.heap inner asks outcome heap
+      × (end ≡ placed_end device (loads_bytes old call) call p r outcome (behind_memory asks heap old))
+
+  -- the same for the row that stands there
+  abbrev pub GetsPlace : Device → ResState → ResourceCall → List Ask → ResourceEnd → RowPlace → Option FileRow → Type 0
+  GetsPlace device old call asks end p (Some r) = GetsRow device old call asks end p r (placing old.heap.table (loads_bytes old call) r)
+  GetsPlace device old call asks end p None = ⊥
+
+  -- A call that is not refused, by its work.
+  abbrev pub Works : Device → ResState → ResourceCall → List Ask → ResourceEnd → Work → Type 0
+  Works device old call asks end (Gets p) = GetsPlace device old call asks end p (row_at p old.files)
+  Works device old call asks end (Updates u) = (asks ≡ []) × LeavesDisk device u (disk_of u.file old) × (end ≡ update_end device call u old)
+  Works device old call asks end (Opens k) = (asks ≡ []) × (read : Result (FileTable) OsErr)
+      × ReadsBy device (disk_of k old) read × (end ≡ opened_end k old read)
+  Works device old call asks end Quiet = (asks ≡ []) × (end ≡ quiet_end call old)
+
+  -- a call by its refusal, if it is refused before anything is asked or changed
+  abbrev pub StepsUnless : Option OsErr → Device → ResState → ResourceCall → List Ask → ResourceEnd → Type 0
+  StepsUnless (Some code) device old call asks end = (asks ≡ []) × (end ≡ refused_with code old)
+  StepsUnless None device old call asks end = Works device old call asks end (work_of old call)
+
+  -- From the old state, and with the device going so, the call may ask so and end so, where the Memory Manager steps so.
+  abbrev pub ResourceStepBy : Device → ResState → ResourceCall → List Ask → ResourceEnd → Type 0
+  ResourceStepBy device old call asks end = StepsUnless (resource_refusal old call) device old call asks end

@@ -1,0 +1,6 @@
+pub mod Adding
+pub mod Forgetting
+pub mod FreeIds
+pub mod Bare
+pub mod Files
+pub mod Pairs

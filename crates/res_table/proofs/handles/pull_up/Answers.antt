@@ -1,0 +1,10 @@
+use Rattle.std.proofs.Common.{ap, ◌∙◌, arith, set}
+use Rattle.std.proofs.lemmas.List.Edits.{map_over_more}
+use Rattle.res_table.specs.declared.handles.Held.{Held}
+use Rattle.res_table.specs.Held.{pulled_up}
+use Rattle.res_table.proofs.handles.pull_up.Goals as goal
+
+pub loop-index-preserved : goal.loop-index-preserved
+loop-index-preserved c =
+    let xs = c.args.pairs.now in let ys = c.loop-index.pairs in let at = c.loop-index.index in let test = c.loop-index-test.true in
+    ap (λ (p : Held). set ys at p) c.pulled_up.ensures ∙ map_over_more (pulled_up c.args.at) xs ys at c.index-pairs-index.result (omega arith) c.loop-index.invariant c.index-pairs-index.is

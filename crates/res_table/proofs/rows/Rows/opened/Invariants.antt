@@ -1,0 +1,7 @@
+use Rattle.std.proofs.Common.{◌≡◌, map}
+use Rattle.res_table.specs.Rows.{opened_row}
+use Rattle.res_table.proofs.rows.Rows.opened.Given as goal
+
+-- the rows so far are those of the resources so far
+abbrev pub invariant-loop-resource : goal.invariant-loop-resource
+invariant-loop-resource g l = l.rows.items ≡ map opened_row l.yielded

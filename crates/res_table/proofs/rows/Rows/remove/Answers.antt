@@ -1,0 +1,27 @@
+use Rattle.std.proofs.Common.{◌<◌, List, length, sym, ap, ◌∙◌, arith, map, slice_get}
+use Rattle.res_table.specs.declared.row.Row.{Row}
+use Rattle.res_table.specs.Held.{pulled_up, without_held, pairs_of}
+use Rattle.res_table.proofs.Pairs.{order_kept, pairs_removed, row_is}
+use Rattle.res_table.proofs.rows.Rows.remove.Goals as goal
+
+pub remove-requires : goal.remove-requires
+remove-requires g c = record { order = order_kept c.self.inside.handles.pairs.items c.self.inside.rows.items c.self.invariant.0 }
+
+pub invariant_of-self : goal.invariant_of-self
+invariant_of-self g c =
+    let rows = c.self.inside.rows.items in let r = c.remove-row.result in let i = c.args.index in
+    let long = ap (λ (rs : List (Row _)). length rs) c.self.view_is in
+    let within : i < length rows = omega arith in
+    let count = c.remove-row.ensures.len in let old = c.self.inside.rows.ok.0 in let new = c.remove-row.new.self.ok.0 in
+    let few = c.self.invariant.1 in let room = c.remove.ensures.room in let then = c.pull_up.ensures.room in (
+      c.pull_up.ensures.pairs ∙ ap (map (pulled_up i)) (c.remove.ensures.pairs ∙ ap (without_held r.handle i) c.self.invariant.0)
+          ∙ pairs_removed i r rows within c.remove-row.ensures.value ∙ ap pairs_of (sym c.remove-row.ensures.items),
+      omega arith,
+    )
+
+pub returns-clause-row : goal.returns-clause-row
+returns-clause-row g c =
+    let rows = c.self.inside.rows.items in
+    let long = ap (λ (rs : List (Row _)). length rs) c.self.view_is in
+    let within : c.args.index < length rows = omega arith in
+    sym (ap (λ (rs : List (Row _)). slice_get rs c.args.index) c.self.view_is) ∙ row_is c.args.index c.remove-row.result rows within c.remove-row.ensures.value

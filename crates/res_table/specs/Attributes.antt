@@ -1,0 +1,15 @@
+-- The attributes of a resource: a set of bits.
+use Rattle.std.specs.Prelude.{ℕ, ◌==◌, Bool, bit_and}
+use Rattle.res_base.specs.declared.resource.ResAttrs.{ResAttrs}
+
+-- resChanged: the resource is to be written
+abbrev pub res_changed : ℕ
+res_changed = 2
+
+-- whether resChanged is set
+abbrev pub is_marked : ResAttrs → Bool
+is_marked attributes = bit_and attributes.0 res_changed == res_changed
+
+-- the attributes without resChanged
+abbrev pub unmarked : ResAttrs → ResAttrs
+unmarked attributes = record { 0 = bit_and attributes.0 253 }

@@ -1,0 +1,7 @@
+pub mod Attributes
+pub mod Rows
+pub mod Saved
+pub mod Behind
+pub mod Marks
+pub mod OpenFiles
+pub mod Held

@@ -1,0 +1,9 @@
+//! The rows of open resource files, and the chain of open files.
+#![tactic(auto)]
+
+pub mod chain;
+mod handles;
+mod ids;
+pub mod row;
+pub mod rows;
+mod runs;

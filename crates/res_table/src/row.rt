@@ -1,0 +1,69 @@
+//! A row: a resource while its file is open.
+
+use bitflags::Flags;
+use mac_base::handle::Handle;
+use res_base::resource::{ResAttrs, ResType, Resource};
+
+/// A resource of an open file, and its handle, if it has one (Inside Macintosh: More Macintosh Toolbox, chapter 1).
+#[derive(Debug, Drop)]
+pub struct Row<D> {
+    pub resource: Resource<D>,
+    pub handle: Option<Handle>,
+}
+
+impl<D> Row<D> {
+    ghost use Rattle.std.specs.Prelude.{◌≡◌};
+    ghost use Rattle.res_table.specs.Rows.{is_of_type, is_resource, is_changed, opened_row};
+
+    /// The row of a resource that was read: it has no handle and is not changed.
+    pub fn opened(resource: Resource<D>) -> Row<D>
+        ensures { result ≡ opened_row resource }
+    {
+        let Resource {
+            kind,
+            id,
+            name,
+            attributes,
+            datum,
+        } = resource;
+        let attributes = ResAttrs::from_bits_retain(attributes.bits() & 253);
+        Row {
+            resource: Resource {
+                kind,
+                id,
+                name,
+                attributes,
+                datum,
+            },
+            handle: None,
+        }
+    }
+
+    /// The row's type.
+    pub fn kind(&self) -> ResType
+        ensures { result ≡ self.now.resource.kind }
+    {
+        self.resource.kind
+    }
+
+    /// Whether the row is of a type.
+    pub fn is_of_type(&self, kind: ResType) -> bool
+        ensures { result ≡ is_of_type kind self.now }
+    {
+        self.resource.kind == kind
+    }
+
+    /// Whether the row has a type and an id.
+    pub fn is_resource(&self, kind: ResType, id: i16) -> bool
+        ensures { result ≡ is_resource kind id self.now }
+    {
+        self.resource.kind == kind && self.resource.id == id
+    }
+
+    /// Whether the row is changed: it is to be written (resChanged).
+    pub fn is_changed(&self) -> bool
+        ensures { result ≡ is_changed self.now }
+    {
+        self.resource.attributes.contains(ResAttrs::CHANGED)
+    }
+}

@@ -1,0 +1,250 @@
+//! The rows of an open file, in order.
+
+use crate::handles::Handles;
+use crate::ids::{first_free, mark_taken};
+use crate::row::Row;
+use crate::runs::{MAX_OFFSET, names_fit, run_end};
+use fork_bytes::layout::MAX_ROWS;
+use mac_base::error::HostFull;
+use mac_base::handle::Handle;
+use res_base::resource::{ResAttrs, ResType, Resource};
+use std::alloc::Global;
+use std::marker::Model;
+
+/// The rows of an open file, in order. A contract sees the list. A row is found by its handle without going through the rows.
+#[derive(Debug, Drop)]
+pub struct Rows<D> {
+    rows: Vec<Row<D>>,
+    handles: Handles,
+}
+
+impl<D> Model for Rows<D> {
+    ghost use Rattle.std.specs.Prelude.{◌≡◌, ◌≤◌, List, length, vec_capacity};
+    ghost use Rattle.res_table.specs.declared.row.Row.{Row};
+    ghost use Rattle.res_table.specs.Held.{pairs_of};
+
+    ghost Value = { List (Row D) };
+
+    ghost view = { λ r. r.rows.items };
+
+    ghost invariant = { λ r. (r.handles.pairs.items ≡ pairs_of r.rows.items) × (length r.rows.items ≤ vec_capacity r.handles.pairs) };
+}
+
+impl<D> Rows<D> {
+    ghost use Rattle.std.specs.Prelude.{◌≡◌, ◌<◌, [], length, position, remove, slice_get, get_or, count_by, ◌≤◌, OnOk, OnErr, IfOk, Some, map, ◌↔◌, pos, IsTrue};
+    ghost use Rattle.fork_bytes.specs.Fork.{max_rows};
+    ghost use Rattle.res_table.specs.Saved.{row_types, kind_of, RowsFit};
+    ghost use Rattle.res_table.specs.Rows.{has_handle, is_resource, is_of_type, added, forgotten, changed_at, with_handle, with_attributes, with_datum, opened_row, count_of_type, index_of_ith, ith, unique_id};
+    ghost use Rattle.res_table.specs.Behind.{end_of_type};
+
+    /// No rows. This takes no memory of the host.
+    pub fn new(alloc: Global) -> Rows<D>
+        ensures { result ≡ [] }
+    {
+        Rows {
+            rows: Vec::new(alloc),
+            handles: Handles::new(alloc),
+        }
+    }
+
+    /// The rows of resources that were read: none has a handle, and none is changed. The only error is that the host has no
+    /// memory.
+    pub fn opened(alloc: Global, resources: Vec<Resource<D>>) -> Result<Rows<D>, HostFull>
+    where
+        D: Drop,
+        ensures { IfOk result (λ rows. rows ≡ map opened_row resources.items) }
+    {
+        let mut rows = Vec::with_capacity(alloc, resources.len())?;
+        for resource in resources {
+            rows.push(Row::opened(resource))?;
+        }
+        let mut handles = Handles::new(alloc);
+        handles.reserve(rows.len())?;
+        Ok(Rows { rows, handles })
+    }
+
+    /// How many rows there are.
+    pub fn len(&self) -> usize
+        ensures { result ≡ length self.now }
+    {
+        self.rows.len()
+    }
+
+    /// The row at an index.
+    pub fn row(&self, index: usize) -> &Row<D>
+        requires { index < length self.now }
+        ensures { slice_get self.now index ≡ Some result.now }
+    {
+        &self.rows[index]
+    }
+
+    /// Where the first row of a type and an id stands.
+    pub fn find(&self, kind: ResType, id: i16) -> Option<usize>
+        ensures { result ≡ position (is_resource kind id) self.now }
+    {
+        self.rows.iter().position(|row| row.is_resource(kind, id))
+    }
+
+    /// Where the first row with a handle stands.
+    pub fn row_of_handle(&self, handle: Handle) -> Option<usize>
+        ensures { result ≡ position (has_handle handle) self.now }
+    {
+        self.handles.find(handle)
+    }
+
+    /// Gives the row at an index this handle, or none.
+    pub fn set_handle(&mut self, index: usize, handle: Option<Handle>)
+        requires { index < length self.old }
+        ensures { self.new ≡ changed_at index (with_handle handle) self.old }
+    {
+        let old = self.rows[index].handle;
+        self.rows[index].handle = handle;
+        self.handles.remove(old, index);
+        self.handles.add(self.rows[index].handle, index);
+    }
+
+    /// Gives the row at an index these attributes.
+    pub fn set_attributes(&mut self, index: usize, attributes: ResAttrs)
+        requires { index < length self.old }
+        ensures { self.new ≡ changed_at index (with_attributes attributes) self.old }
+    {
+        self.rows[index].resource.attributes = attributes;
+    }
+
+    /// Gives the row at an index this datum.
+    pub fn set_datum(&mut self, index: usize, datum: D)
+    where
+        D: Drop,
+        requires { index < length self.old }
+        ensures { self.new ≡ changed_at index (with_datum datum) self.old }
+    {
+        self.rows[index].resource.datum = datum;
+    }
+
+    /// How many rows a type has.
+    pub fn count_of_type(&self, kind: ResType) -> usize
+        ensures { result ≡ count_of_type kind self.now }
+    {
+        self.rows.iter().filter(|row| row.is_of_type(kind)).count()
+    }
+
+    /// Where a new row of a type belongs.
+    fn end_of_type(&self, kind: ResType) -> usize
+        ensures { result ≡ end_of_type kind self.now }
+    {
+        let mut end = self.rows.len();
+        for (index, row) in self.rows.iter().enumerate() {
+            if row.is_of_type(kind) {
+                end = index + 1;
+            }
+        }
+        end
+    }
+
+    /// Adds a row behind the last of its type, or last where there is none. Without host memory nothing is changed.
+    pub fn add(&mut self, row: Row<D>) -> Result<(), HostFull>
+    where
+        D: Drop,
+        ensures added { OnOk result (self.new ≡ added row self.old) }
+        ensures same { OnErr result (self.new ≡ self.old) }
+    {
+        let at = self.end_of_type(row.kind());
+        let handle = row.handle;
+        self.handles.reserve(self.rows.len() + 1)?;
+        self.rows.insert(at, row)?;
+        self.handles.push_back(at);
+        self.handles.add(handle, at);
+        Ok(())
+    }
+
+    /// Takes out the row at an index. Its handle lives on.
+    pub fn remove(&mut self, index: usize) -> Row<D>
+        requires { index < length self.old }
+        ensures row { slice_get self.old index ≡ Some result }
+        ensures rows { self.new ≡ remove self.old index }
+    {
+        let row = self.rows.remove(index);
+        self.handles.remove(row.handle, index);
+        self.handles.pull_up(index);
+        row
+    }
+
+    /// Makes each row forget a handle that is disposed of.
+    pub fn forget(&mut self, handle: Handle)
+        ensures { self.new ≡ forgotten handle self.old }
+    {
+        while let Some(index) = self.row_of_handle(handle) {
+            self.set_handle(index, None);
+        }
+    }
+
+    /// The index of the i-th row of a type, counted from 1.
+    pub fn index_of_ith(&self, kind: ResType, i: usize) -> Option<usize>
+        ensures { result ≡ index_of_ith kind i self.now }
+    {
+        let mut left = i;
+        for (index, row) in self.rows.iter().enumerate() {
+            if row.is_of_type(kind) {
+                if left == 1 {
+                    return Some(index);
+                }
+                left = left.saturating_sub(1);
+            }
+        }
+        None
+    }
+
+    /// How many types there are (CountTypes). Rows of one type stand together.
+    pub fn count_types(&self) -> usize
+        ensures types { result ≡ length (row_types self.now) }
+        ensures few { result ≤ length self.now }
+    {
+        let mut at = 0;
+        let mut count = 0;
+        while at < self.rows.len() {
+            at = run_end(&self.rows, at);
+            count += 1;
+        }
+        count
+    }
+
+    /// The i-th type, counted from 1, or None where there are fewer (GetIndType).
+    pub fn type_of_ith(&self, i: usize) -> Option<ResType>
+        ensures { result ≡ ith i (map kind_of (row_types self.now)) }
+    {
+        let mut at = 0;
+        let mut left = i;
+        while at < self.rows.len() {
+            if left == 1 {
+                return Some(self.rows[at].kind());
+            }
+            at = run_end(&self.rows, at);
+            left = left.saturating_sub(1);
+        }
+        None
+    }
+
+    /// The least id from 128 on that no row of a type has (UniqueID): at most 8,320, since there are at most 8,192 rows.
+    pub fn unique_id(&self, kind: ResType) -> i16
+        requires { length self.now ≤ max_rows }
+        ensures { result ≡ pos (unique_id kind self.now) }
+    {
+        let mut taken = [false; MAX_ROWS + 1];
+        mark_taken(&mut taken, &self.rows, kind);
+        first_free(&taken, &self.rows, kind)
+    }
+
+    /// Whether the table of these rows fits a fork: there are at most 8,192, and two bytes hold each offset in the map.
+    pub fn fits(&self) -> bool
+        ensures { IsTrue result ↔ RowsFit self.now }
+    {
+        if self.rows.len() > MAX_ROWS {
+            return false;
+        }
+        let names = 30 + 8 * self.count_types() + 12 * self.rows.len();
+        if names > MAX_OFFSET {
+            return false;
+        }
+        names_fit(&self.rows)
+    }
+}
