@@ -1,0 +1,2 @@
+pub mod LockedBlocks
+pub mod LockedSteps
