@@ -25,4 +25,5 @@ pub mod Exchanging
 pub mod Rotated
 pub mod Carrying
 pub mod NextFree
+pub mod LastFree
 pub mod Extending

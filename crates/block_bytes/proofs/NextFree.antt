@@ -21,7 +21,7 @@ use Rattle.block_bytes.proofs.Starts.{unmarked, length-unmarked, unmarked-at, le
 use Rattle.block_bytes.proofs.LowestFree.{large-free}
 
 -- the marks behind those of the first block are those of the others
-mark-behind : (heads : HeadKind) (b : RawBlock) (bs : List RawBlock) (i : ℕ) → IsPossible heads b → slice_index (marks_of heads (b ∷ bs)) (size_of heads b / 4 + i) ≡ slice_index (marks_of heads bs) i
+pub mark-behind : (heads : HeadKind) (b : RawBlock) (bs : List RawBlock) (i : ℕ) → IsPossible heads b → slice_index (marks_of heads (b ∷ bs)) (size_of heads b / 4 + i) ≡ slice_index (marks_of heads bs) i
 mark-behind heads b bs i p =
     let n = size_of heads b / 4 - 1 in let large = p.large in let some = smallest-block heads in
     ap (λ (k : ℕ). slice_index (marks_of heads (b ∷ bs)) k) (let e : size_of heads b / 4 + i ≡ suc (n + i) = omega arith in e)
@@ -36,7 +36,7 @@ mark-used heads b p low = ap not (sym (mark-free heads b p) ∙ below (mark_of h
     below m low = grind (arith, nat_tests)
 
 -- where all marks are below 3, no block is free
-used-all : (heads : HeadKind) (bs : List RawBlock) → IsTrue (list_all (is_possible heads) bs) → ((i : ℕ) → i < length (marks_of heads bs) → slice_index (marks_of heads bs) i < 3) → IsTrue (none_free bs)
+pub used-all : (heads : HeadKind) (bs : List RawBlock) → IsTrue (list_all (is_possible heads) bs) → ((i : ℕ) → i < length (marks_of heads bs) → slice_index (marks_of heads bs) i < 3) → IsTrue (none_free bs)
 used-all heads [] possible low = refl
 used-all heads (b ∷ bs) possible low =
     let both = and-true (is_possible heads b) (list_all (is_possible heads) bs) possible in let p = IsPossible-from heads b both.0 in
@@ -90,27 +90,28 @@ free-first heads from (b ∷ bs) (suc j) possible inside large low =
 
 module _ (z : Inside) (whole : IsLayout z) (from : ℕ) (split : SplitAt (layout_of z) from) (first : ℕ) (there : first ≡ (from - z.spec.base) / 4) where
   -- the numbers before those of the blocks
-  abbrev numbers-before : List ℕ
+  abbrev pub numbers-before : List ℕ
   numbers-before = unmarked (zone_header / 4) ++ marks_of z.spec.heads split.before
 
   -- and those behind them
-  abbrev numbers-behind : List ℕ
+  abbrev pub numbers-behind : List ℕ
   numbers-behind = unmarked (length (layout_of z).spare / 4)
 
   -- the index, by where the blocks begin
-  index-split : z.index ≡ numbers-before ++ (marks_of z.spec.heads split.behind ++ numbers-behind)
+  pub index-split : z.index ≡ numbers-before ++ (marks_of z.spec.heads split.behind ++ numbers-behind)
   index-split = whole.marked ∙ ap (λ (bs : List RawBlock). starts_of (with_blocks bs (layout_of z))) split.blocks
       ∙ ap (λ (ms : List ℕ). unmarked (zone_header / 4) ++ (ms ++ numbers-behind)) (marks_of-append z.spec.heads split.before split.behind) ∙ simp append_assoc
 
   -- what the blocks are
-  record AreSplit : Type 0 where
-    long : length numbers-before ≡ first
-    place : from ≡ z.spec.base + 4 * first
-    behind_possible : IsTrue (list_all (is_possible z.spec.heads) split.behind)
-    ends : 4 * (first + length (marks_of z.spec.heads split.behind)) ≡ z.spec.size
-    all : first + length (marks_of z.spec.heads split.behind) ≤ length z.index
+  pub record AreSplit : Type 0 where
+    pub long : length numbers-before ≡ first
+    pub place : from ≡ z.spec.base + 4 * first
+    pub before_possible : IsTrue (list_all (is_possible z.spec.heads) split.before)
+    pub behind_possible : IsTrue (list_all (is_possible z.spec.heads) split.behind)
+    pub ends : 4 * (first + length (marks_of z.spec.heads split.behind)) ≡ z.spec.size
+    pub all : first + length (marks_of z.spec.heads split.behind) ≤ length z.index
 
-  are-split : AreSplit
+  pub are-split : AreSplit
   are-split =
       let heads = z.spec.heads in
       let parts = and-true (list_all (is_possible heads) split.before) (list_all (is_possible heads) split.behind)
@@ -119,7 +120,7 @@ module _ (z : Inside) (whole : IsLayout z) (from : ℕ) (split : SplitAt (layout
       let sum = ap (total_of heads) split.blocks ∙ total_of-append heads split.before split.behind in let ends = total-ends z whole in
       let long = length-before heads split.before first parts.0 (omega arith) in
       let a = ap length index-split in let b = length-append numbers-before (marks_of heads split.behind ++ numbers-behind) in let c = length-append (marks_of heads split.behind) numbers-behind in
-      record { long = long; place = omega arith; behind_possible = parts.1; ends = omega arith; all = omega arith }
+      record { long = long; place = omega arith; before_possible = parts.0; behind_possible = parts.1; ends = omega arith; all = omega arith }
 
   -- a number behind those before
   number-at : (i : ℕ) → slice_index z.index (first + i) ≡ slice_index (marks_of z.spec.heads split.behind ++ numbers-behind) i

@@ -36,6 +36,16 @@ pub record FirstFree (heads : HeadKind) (bs : List RawBlock) (from at : ℕ) : T
   pub free : here.role ≡ Free
   pub place : at ≡ from + total_of heads passed
 
+-- the last free one of these blocks, which begin at an address, stands at another
+pub record LastFree (heads : HeadKind) (bs : List RawBlock) (from at : ℕ) : Type 0 where
+  pub front : List RawBlock
+  pub here : RawBlock
+  pub passed : List RawBlock
+  pub blocks : bs ≡ front ++ here ∷ passed
+  pub used : IsTrue (none_free passed)
+  pub free : here.role ≡ Free
+  pub place : at ≡ from + total_of heads front
+
 -- whether a block is free and has so many bytes, its header among them
 abbrev pub has_room : HeadKind → ℕ → RawBlock → Bool
 has_room heads k b = is_free b.role && nat_le k (size_of heads b)

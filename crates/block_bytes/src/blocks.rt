@@ -26,7 +26,7 @@ use std::marker::Model;
 const LENT_MARK: u32 = 2;
 
 /// Where the first of some blocks has as many bytes, few of their numbers in the index are thought to be above 0.
-const SPARSE_SIZE: u32 = 1024;
+const SPARSE_SIZE: u32 = 4096;
 
 /// The blocks of a zone in one run of bytes, from the zone's start to its limit. A contract sees the list of the
 /// blocks, each with all bytes behind its header, beside the bytes up to the limit and the number in the zone's header that
@@ -104,7 +104,7 @@ impl Blocks {
     ghost use Rattle.raw_region.specs.Bytes.{part, written};
     ghost use Rattle.block_bytes.specs.declared.header.Role.TheVariants.{Free};
     ghost use Rattle.block_bytes.specs.Layout.{RawBlock, Layout, BlockAt, UnlentAt, WordAt, CanBe, CanTurn, CanResize, CanSplit, PairAt, ParcelAt, Carried, ParcelUpTo, Sunk, CanMerge, Exchanged, CanLend, IsLoanOf, NothingLent, in_role, front_of, rest_of, with_word, cleared, cleared_from, CanClear, body, raw_block, free_raw_block, size_of, header_of, is_possible, joint_body, zone_bytes, with_blocks, with_front, extended, address_behind, free_total, lent_count, most_lent, loan_of, lent_block, given_back};
-    ghost use Rattle.block_bytes.specs.Finding.{HoldsByte, LiesOutside, LowestFree, NoneFree, SplitAt, FirstFree, none_free};
+    ghost use Rattle.block_bytes.specs.Finding.{HoldsByte, LiesOutside, LowestFree, NoneFree, SplitAt, FirstFree, LastFree, none_free};
     ghost use Rattle.block_bytes.specs.Copying.{CanCopy, copied_over};
     ghost use Rattle.block_bytes.specs.WritingBack.{WritesBackContents};
     ghost use Rattle.block_bytes.specs.NewLayout.{new_layout};
@@ -441,7 +441,7 @@ impl Blocks {
     fn is_sparse(&self, start: u32, end: u32) -> bool
         requires { start < end → BlockAt self.now start }
         ensures none { end ≤ start → IsFalse result }
-        ensures first { (b : BlockAt self.now start) → start < end → IsTrue result ↔ 1024 ≤ size_of self.now.heads b.here }
+        ensures first { (b : BlockAt self.now start) → start < end → IsTrue result ↔ 4096 ≤ size_of self.now.heads b.here }
     {
         start < end && self.entry_at(start).size >= SPARSE_SIZE
     }
@@ -455,6 +455,18 @@ impl Blocks {
         let base = self.spec.base();
         let first = (from - base) as usize / 4;
         let place = self.index.first_at_least(LENT_MARK + 1, first)?;
+        Some(base + 4 * place as u32)
+    }
+
+    /// The address of the last free block before an address, if there is one. No header is read.
+    pub fn last_free(&self, end: u32) -> Option<u32>
+        requires { SplitAt self.now end }
+        ensures last { IfSome result (λ at. (split : SplitAt self.now end) → LastFree self.now.heads split.before (address_behind self.now []) at) }
+        ensures none { IfNone result ((split : SplitAt self.now end) → IsTrue (none_free split.before)) }
+    {
+        let base = self.spec.base();
+        let behind = (end - base) as usize / 4;
+        let place = self.index.last_at_least(LENT_MARK + 1, behind)?;
         Some(base + 4 * place as u32)
     }
 

@@ -15,10 +15,11 @@ use Rattle.mac_base.specs.ZoneState.{ZoneState}
 use Rattle.zone_laws.proofs.SlotPlaces.{Contains-here, Contains-later, slots_at}
 use Rattle.zone_records.specs.declared.slot.Slot.{Slot}
 use Rattle.zone_records.specs.Records.{BlockRecord, ZoneRecords, block_record, Free, Master, total_of, kind_of}
+use Rattle.zone_records.specs.Records as zone_records
 use Rattle.zone_records.specs.Places.{RecordAt, SlotAt}
 use Rattle.zone_records.specs.Places as records
 use Rattle.linked_zone.specs.Owned.{Owners, owners_of, content_of, record_of, records_from, records_of}
-use Rattle.linked_zone.specs.Places.{EntryAt, LowestAt, SplitAt, FirstFree, none_free}
+use Rattle.linked_zone.specs.Places.{EntryAt, LowestAt, SplitAt, FirstFree, LastFree, none_free}
 use Rattle.linked_zone.specs.Fit.{Fits, HasRooms}
 use Rattle.linked_zone.proofs.Owning.{records_from-append, records-total}
 use Rattle.linked_zone.proofs.ReadNumbers.{slots_at-first}
@@ -232,6 +233,29 @@ module _ (r : ZoneRecords) (z : ZoneState) (is : r ≡ records_of z) (from : ℕ
         used = sym (ap records.none_free a.lower ∙ none_free-same (owners_of z) z.shape start a.low) ∙ f.used;
         place = f.place ∙ ap (λ n. from + n) (ap total_of a.lower ∙ records-total (owners_of z) z.shape start a.low);
       }
+
+  -- the last free one of those before it is that of the map
+  pub last-free : (at : ℕ) → ((s : records.SplitAt r from) → records.LastFree s.before (zone_records.address_behind r.shape []) at) → LastFree split.before (address_behind z.shape []) at
+  last-free at finds =
+      let f = (subst (λ (r : ZoneRecords). (s : records.SplitAt r from) → records.LastFree s.before (zone_records.address_behind r.shape []) at) is finds) split_there in
+      let start = address_behind z.shape [] in
+      let a = apart (owners_of z) z.shape start split.before f.front (block_record Free f.size) f.passed f.blocks in
+      let free : a.e.kind ≡ kind.Free = free-kind (owners_of z) _ a.e.kind (ap (λ (b : BlockRecord). b.content) a.there) in
+      let place = f.place in
+      let total = ap total_of a.lower ∙ records-total (owners_of z) z.shape start a.low in
+      record {
+        front = a.low;
+        size = a.e.size;
+        passed = a.high;
+        splits = a.is ∙ ap (λ k. a.low ++ block k a.e.size ∷ a.high) free;
+        used = sym (ap records.none_free a.higher ∙ none_free-same (owners_of z) z.shape _ a.high) ∙ f.used;
+        place = omega arith;
+      }
+
+  -- none of those before it is free where none of them is
+  pub no-free-before : ((s : records.SplitAt r from) → records.none_free s.before ≡ true) → none_free split.before ≡ true
+  no-free-before none = sym (none_free-same (owners_of z) z.shape (address_behind z.shape []) split.before)
+      ∙ (subst (λ (r : ZoneRecords). (s : records.SplitAt r from) → records.none_free s.before ≡ true) is none) split_there
 
   -- none of the map's is free where none of them is
   pub no-free : ((s : records.SplitAt r from) → records.none_free s.behind ≡ true) → none_free split.behind ≡ true

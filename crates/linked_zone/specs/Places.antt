@@ -166,6 +166,15 @@ pub record SplitAt (z : ZoneState) (at : ℕ) : Type 0 where
 abbrev pub none_free : ZoneMap → Bool
 none_free blocks = list_all (λ (e : Entry). not (is_free e.kind)) blocks
 
+-- the last free one of these blocks, which begin at an address, stands at another
+pub record LastFree (blocks : ZoneMap) (from at : ℕ) : Type 0 where
+  pub front : ZoneMap
+  pub size : ℕ
+  pub passed : ZoneMap
+  pub splits : blocks ≡ front ++ block Free size ∷ passed
+  pub used : IsTrue (none_free passed)
+  pub place : at ≡ from + total_size front
+
 -- the first free one of these blocks, which begin at an address, stands at another
 pub record FirstFree (blocks : ZoneMap) (from at : ℕ) : Type 0 where
   pub passed : ZoneMap

@@ -49,10 +49,10 @@ impl LinkedZone {
     ghost use Rattle.mac_base.specs.Loans.{most_loans, LoansFit};
     ghost use Rattle.mac_base.specs.Suits.{slots, wanted_length};
     ghost use Rattle.mac_base.specs.BlockReport.{report_at, block_flags};
-    ghost use Rattle.mac_base.specs.ZoneMap.{free_bytes, has_free, contents_of};
+    ghost use Rattle.mac_base.specs.ZoneMap.{address_behind, free_bytes, has_free, contents_of};
     ghost use Rattle.linked_zone.specs.Changes.{bare_zone, taken, given_back, pointed, without_block, fixed, unfixed, held_there, enlarged, cut_in_two, joined_pair, with_master, flagged};
     ghost use Rattle.linked_zone.specs.WritingBack.{WritesBackBytes};
-    ghost use Rattle.linked_zone.specs.Places.{EntryAt, HasOwner, FreeAt, BlockOf, NamedAt, LowestAt, RoomFor, CanCut, CanHold, CanGrow, FreePair, SplitAt, FirstFree, none_free};
+    ghost use Rattle.linked_zone.specs.Places.{EntryAt, HasOwner, FreeAt, BlockOf, NamedAt, LowestAt, RoomFor, CanCut, CanHold, CanGrow, FreePair, SplitAt, FirstFree, LastFree, none_free};
     ghost use Rattle.linked_zone.specs.Sizes.{sizes_of};
     ghost use Rattle.linked_zone.specs.Image.{IsImage};
     ghost use Rattle.block_bytes.specs.Walk.{Walks};
@@ -205,6 +205,15 @@ impl LinkedZone {
         ensures none { IfNone result ((split : SplitAt self.now from) → IsTrue (none_free split.behind)) }
     {
         self.records.next_free(from)
+    }
+
+    /// The address of the last free block before an address, if there is one.
+    pub fn last_free(&self, end: u32) -> Option<u32>
+        requires { SplitAt self.now end }
+        ensures last { IfSome result (λ at. (split : SplitAt self.now end) → LastFree split.before (address_behind self.now.shape []) at) }
+        ensures none { IfNone result ((split : SplitAt self.now end) → IsTrue (none_free split.before)) }
+    {
+        self.records.last_free(end)
     }
 
     /// The sum of the sizes of the free blocks.

@@ -1,28 +1,25 @@
-//! Numbers at places, with searches for the first and the last that is large enough. Bounds over each 32, 1,024 and
-//! 32,768 of them let a search pass over those that are too small.
+//! Numbers at places, with searches for the first and the last that is large enough. Those below 255 are kept in a byte each, so
+//! that few bytes move where a run of them moves, and the others beside them.
 #![tactic(auto)]
 
-ghost use Rattle.std.specs.Prelude.{◌≡◌, ℕ, ◌-◌, ◌++◌, ◌≤◌, ◌<◌, ◌*◌, ◌/◌, ◌≢◌, length, replicate, slice_index, vec_capacity};
-ghost use Rattle.place_numbers.specs.Bounds.{AreBounds, AreBoundsBut};
+ghost use Rattle.std.specs.Prelude.{◌≡◌, ◌<◌, length, set};
 
+use place_marks::Marks;
+use place_sizes::Sizes;
 use std::alloc::{AllocError, Global};
 use std::marker::Model;
 
-mod shifts;
+/// The mark of each number that is at least as large.
+const LARGE: u8 = 255;
 
 /// So many numbers, each at its place from 0 on. A contract sees their list. After `create` no call takes memory of the
 /// host.
 #[derive(Drop)]
 pub struct Numbers {
-    /// Those up to the last that was written. From there on all are 0, and their memory isn't touched yet.
-    numbers: Vec<u32>,
-    count: usize,
-    /// For each 32 numbers one that none of them is above.
-    low: Vec<u32>,
-    /// For each 32 of these one that none of them is above.
-    middle: Vec<u32>,
-    /// And so once more.
-    high: Vec<u32>,
+    /// For each number the number itself, or 255 where it is above.
+    marks: Marks,
+    /// For each number of at least 255 the number itself, and else 0.
+    sizes: Sizes,
 }
 
 impl Model for Numbers {
@@ -30,69 +27,25 @@ impl Model for Numbers {
 
     ghost Value = { List ℕ };
 
-    ghost use Rattle.place_numbers.specs.Levels.{numbers_of, IsBounded};
+    ghost use Rattle.place_numbers.specs.Parts.{numbers_of, AreParts};
 
-    ghost view = { numbers_of };
+    ghost view = { λ n. numbers_of n.marks n.sizes };
 
-    ghost invariant = { IsBounded };
+    ghost invariant = { λ n. AreParts n.marks n.sizes };
 }
 
-/// The largest of these numbers.
-fn largest(numbers: &[u32]) -> u32
-    ensures { (j : ℕ) → slice_index numbers.now j ≤ result }
+/// Writes the size at a place, where another stands there.
+fn write(sizes: &mut Sizes, place: usize, size: u32)
+    requires { place < length sizes.old }
+    ensures { sizes.new ≡ set sizes.old place size }
 {
-    let mut most = 0;
-    for number in numbers {
-        most = most.max(*number);
-    }
-    most
-}
-
-/// Puts zeros behind these numbers, up to so many in all. There is room for them.
-fn extend(numbers: &mut Vec<u32>, end: usize)
-    requires { end ≤ vec_capacity numbers.old }
-    ensures zeros { numbers.new.items ≡ numbers.old.items ++ replicate (end - length numbers.old.items) 0 }
-    ensures room { vec_capacity numbers.old ≤ vec_capacity numbers.new }
-{
-    while numbers.len() < end {
-        let Ok(()) = numbers.push(0) else {
-            return;
-        };
-    }
-}
-
-/// The largest of the 32 numbers that have one bound. Behind the last number there may be less of them.
-fn bound_over(numbers: &[u32], chunk: usize) -> u32
-    requires { chunk * 32 < length numbers.now }
-    ensures { (j : ℕ) → j / 32 ≡ chunk → slice_index numbers.now j ≤ result }
-{
-    let start = chunk * 32;
-    if 32 <= numbers.len() - start {
-        largest(&numbers[start..start + 32])
-    } else {
-        largest(&numbers[start..])
-    }
-}
-
-/// Makes the bound over a place right again, where another number stood before.
-fn cover(bounds: &mut [u32], numbers: &[u32], place: usize, before: u32)
-    requires inside { place < length numbers.now }
-    requires others { AreBoundsBut bounds.old numbers.now place }
-    ensures all { AreBounds bounds.new numbers.now }
-    ensures same { (j : ℕ) → j ≢ place / 32 → slice_index bounds.new j ≡ slice_index bounds.old j }
-{
-    let chunk = place / 32;
-    let number = numbers[place];
-    let bound = bounds[chunk];
-    if bound <= number {
-        bounds[chunk] = number;
-    } else if before == bound {
-        bounds[chunk] = bound_over(numbers, chunk);
+    if sizes.get(place) != size {
+        sizes.set(place, size);
     }
 }
 
 impl Numbers {
-    ghost use Rattle.std.specs.Prelude.{◌≡◌, ℕ, ◌+◌, ◌≤◌, ◌<◌, ◌*◌, ◌^◌, length, slice_index, set, replicate, IfOk, IfSome, IfNone};
+    ghost use Rattle.std.specs.Prelude.{◌≡◌, ℕ, ◌+◌, ◌≤◌, ◌<◌, ◌^◌, length, slice_index, set, replicate, IfOk, IfSome, IfNone};
     ghost use Rattle.place_numbers.specs.Numbers.{FirstAtLeast, LastAtLeast};
     ghost use Rattle.place_numbers.specs.Shifted.{shifted_down, shifted_up};
 
@@ -102,11 +55,8 @@ impl Numbers {
         ensures { IfOk result (λ numbers. numbers ≡ replicate count 0) }
     {
         Ok(Numbers {
-            numbers: Vec::with_capacity(alloc, count)?,
-            count,
-            low: vec![in alloc; 0; count / 32 + 1]?,
-            middle: vec![in alloc; 0; count / 0x400 + 1]?,
-            high: vec![in alloc; 0; count / 0x8000 + 1]?,
+            marks: Marks::create(alloc, count)?,
+            sizes: Sizes::create(alloc, count)?,
         })
     }
 
@@ -114,7 +64,7 @@ impl Numbers {
     pub fn len(&self) -> usize
         ensures { result ≡ length self.now }
     {
-        self.count
+        self.marks.len()
     }
 
     /// The number at a place.
@@ -122,10 +72,11 @@ impl Numbers {
         requires { place < length self.now }
         ensures { result ≡ slice_index self.now place }
     {
-        if place < self.numbers.len() {
-            self.numbers[place]
+        let mark = self.marks.get(place);
+        if mark < LARGE {
+            mark as u32
         } else {
-            0
+            self.sizes.get(place)
         }
     }
 
@@ -134,16 +85,13 @@ impl Numbers {
         requires { place < length self.old }
         ensures { self.new ≡ set self.old place number }
     {
-        extend(&mut self.numbers, place + 1);
-        let chunk = place / 32;
-        let group = chunk / 32;
-        let first = self.numbers[place];
-        let second = self.low[chunk];
-        let third = self.middle[group];
-        self.numbers[place] = number;
-        cover(&mut self.low, &self.numbers, place, first);
-        cover(&mut self.middle, &self.low, chunk, second);
-        cover(&mut self.high, &self.middle, group, third);
+        if number < LARGE as u32 {
+            self.marks.set(place, number as u8);
+            write(&mut self.sizes, place, 0);
+        } else {
+            self.marks.set(place, LARGE);
+            write(&mut self.sizes, place, number);
+        }
     }
 
     /// Moves the `count` numbers from `from` on down to `to` and behind. Those that stood between are gone, and as many zeros stand
@@ -153,11 +101,8 @@ impl Numbers {
         requires inside { from + count ≤ length self.old }
         ensures { self.new ≡ shifted_down from to count self.old }
     {
-        if sparse {
-            self.shift_few_down(from, to, count);
-        } else {
-            self.shift_all_down(from, to, count);
-        }
+        self.marks.shift_down(from, to, count, sparse);
+        self.sizes.shift_down(from, to, count);
     }
 
     /// Moves the `count` numbers from `from` on up to `to` and behind. Those that stood there are gone, and as many zeros stand
@@ -167,11 +112,8 @@ impl Numbers {
         requires inside { to + count ≤ length self.old }
         ensures { self.new ≡ shifted_up from to count self.old }
     {
-        if sparse {
-            self.shift_few_up(from, to, count);
-        } else {
-            self.shift_all_up(from, to, count);
-        }
+        self.marks.shift_up(from, to, count, sparse);
+        self.sizes.shift_up(from, to, count);
     }
 
     /// The first place, `from` or behind it, whose number is at least `least`.
@@ -180,22 +122,11 @@ impl Numbers {
         ensures first { IfSome result (λ at. FirstAtLeast self.now least from at) }
         ensures none { IfNone result ((j : ℕ) → from ≤ j → j < length self.now → slice_index self.now j < least) }
     {
-        let len = self.numbers.len();
-        let mut at = from;
-        while at < len {
-            if at % 0x8000 == 0 && self.high[at / 0x8000] < least {
-                at += 0x8000;
-            } else if at % 0x400 == 0 && self.middle[at / 0x400] < least {
-                at += 0x400;
-            } else if at % 32 == 0 && self.low[at / 32] < least {
-                at += 32;
-            } else if self.numbers[at] < least {
-                at += 1;
-            } else {
-                return Some(at);
-            }
+        if least <= LARGE as u32 {
+            self.marks.first_at_least(least as u8, from)
+        } else {
+            self.sizes.first_at_least(least, from)
         }
-        None
     }
 
     /// The last place before `end` whose number is at least `least`.
@@ -205,22 +136,10 @@ impl Numbers {
         ensures last { IfSome result (λ at. LastAtLeast self.now least end at) }
         ensures none { IfNone result ((j : ℕ) → j < end → slice_index self.now j < least) }
     {
-        let len = self.numbers.len();
-        let mut behind = end.min(len);
-        while 0 < behind {
-            let at = behind - 1;
-            if behind % 0x8000 == 0 && self.high[at / 0x8000] < least {
-                behind -= 0x8000;
-            } else if behind % 0x400 == 0 && self.middle[at / 0x400] < least {
-                behind -= 0x400;
-            } else if behind % 32 == 0 && self.low[at / 32] < least {
-                behind -= 32;
-            } else if self.numbers[at] < least {
-                behind -= 1;
-            } else {
-                return Some(at);
-            }
+        if least <= LARGE as u32 {
+            self.marks.last_at_least(least as u8, end)
+        } else {
+            self.sizes.last_at_least(least, end)
         }
-        None
     }
 }

@@ -1,84 +1,104 @@
--- A walk down over the blocks in use with which a run ends.
-use Rattle.std.proofs.Common.{◌≡◌, ℕ, ◌+◌, ◌<◌, ◌≤◌, true, false, not, [], ◌∷◌, ◌++◌, refl, ap, sym, ◌∙◌, subst, append_assoc, append-nil, arith}
-use Rattle.std.proofs.lemmas.Bool.{and_from}
+-- The blocks in use with which a run ends, by the last free one below its end.
+use Rattle.std.proofs.Common.{◌≡◌, ℕ, ◌+◌, ◌<◌, ◌≤◌, true, [], ◌∷◌, ◌++◌, refl, ap, sym, ◌∙◌, append_assoc, arith}
 use Rattle.mac_base.specs.declared.block.Entry.{Entry}
-use Rattle.mac_base.specs.ZoneMap.{ZoneMap, is_free, total_size, address_behind}
+use Rattle.mac_base.specs.declared.block.Kind.TheVariants.{Free}
+use Rattle.mac_base.specs.ZoneMap.{ZoneMap, block, is_free, total_size, address_behind}
 use Rattle.mac_base.specs.ZoneState.{ZoneState}
 use Rattle.zone_laws.proofs.GapAppend.{total_size-append}
-use Rattle.zone_laws.proofs.GapApart.{sizes_possible}
 use Rattle.linked_zone.specs.Fit.{HasSizes}
-use Rattle.linked_zone.specs.Places.{EntryAt, none_free}
-use Rattle.zone_gaps.specs.Runs.{RunAt, UsedFrom}
-use Rattle.zone_gaps.proofs.Backing.{previous_block}
-use Rattle.zone_gaps.proofs.Lasts.{Last, no_last, same_last, some_last}
-use Rattle.zone_gaps.proofs.Pressing.{run_sizes}
-use Rattle.zone_gaps.proofs.Sizes.{all_parts, no_bytes}
+use Rattle.linked_zone.specs.Places as places
+use Rattle.linked_zone.specs.Places.{EntryAt, SplitAt, none_free}
+use Rattle.zone_gaps.specs.Runs.{RunAt, UsedFrom, LastFree}
+use Rattle.zone_gaps.proofs.Entries.{entry_size, entry_within}
+use Rattle.zone_gaps.proofs.Lasts.{no_last, same_last}
+use Rattle.zone_gaps.proofs.Sizes.{all_parts}
 
--- the last blocks of a run are passed, and are in use
-pub record Ending {start end : ℕ} (z : ZoneState) (run : RunAt z start end) (low : ℕ) : Type 0 where
-  pub rest : ZoneMap
-  pub used : ZoneMap
-  pub parts : run.blocks ≡ rest ++ used
-  pub none : none_free used ≡ true
-  pub low_is : low ≡ start + total_size rest
+-- the last free one of some blocks and others, where it isn't below the others
+last_among : (from : ℕ) (low blocks front : ZoneMap) (n : ℕ) (passed : ZoneMap) → low ++ blocks ≡ front ++ block Free n ∷ passed → none_free passed ≡ true → 0 < n → total_size low ≤ total_size front
+    → LastFree blocks (from + total_size low) (from + total_size front)
+last_among from [] blocks front n passed is none some above = record { front = front; size = n; used = passed; parts = is; none = none; place = omega arith }
+last_among from (l ∷ ls) blocks [] n passed is none some above = let same : l ≡ block Free n = cc is in let size = ap (λ (e : Entry). e.size) same in absurd (omega arith)
+last_among from (l ∷ ls) blocks (f ∷ fs) n passed is none some above =
+    let same : l ≡ f = cc is in
+    let tails : ls ++ blocks ≡ fs ++ block Free n ∷ passed = cc is in
+    let size = ap (λ (e : Entry). e.size) same in
+    let last = last_among (from + l.size) ls blocks fs n passed tails none some (omega arith) in
+    let place = last.place in
+    record { front = last.front; size = last.size; used = last.used; parts = last.parts; none = last.none; place = omega arith }
+
+-- and where it is, none of the others is free
+none_among : (low blocks front : ZoneMap) (n : ℕ) (passed : ZoneMap) → low ++ blocks ≡ front ++ block Free n ∷ passed → none_free passed ≡ true → total_size front < total_size low → none_free blocks ≡ true
+none_among [] blocks front n passed is none below = absurd (omega arith)
+none_among (l ∷ ls) blocks [] n passed is none below = (all_parts _ ls blocks (ap none_free (let tails : ls ++ blocks ≡ passed = cc is in tails) ∙ none)).1
+none_among (l ∷ ls) blocks (f ∷ fs) n passed is none below =
+    let same : l ≡ f = cc is in
+    let tails : ls ++ blocks ≡ fs ++ block Free n ∷ passed = cc is in
+    let size = ap (λ (e : Entry). e.size) same in
+    none_among ls blocks fs n passed tails none (omega arith)
 
 module _ {start end : ℕ} (z : ZoneState) (run : RunAt z start end) where
-  -- at first none is
-  pub none_ending : Ending z run end
-  none_ending = record { rest = run.blocks; used = []; parts = sym (append-nil run.blocks); none = refl; low_is = run.long }
+  -- the blocks before the run's end
+  abbrev pub split_end : SplitAt z end
+  split_end = record {
+    before = run.before ++ run.blocks;
+    behind = run.behind;
+    map = run.map ∙ sym (append_assoc run.before run.blocks run.behind);
+    place = (let first = run.place in let long = run.long in let all = total_size-append run.before run.blocks in omega arith);
+  }
 
-  module _ (low : ℕ) (s : Ending z run low) where
-    -- above the start a block lies below
-    pub not_first : start < low → (there : EntryAt z low) → there.before ≡ [] → ⊥
-    not_first above there none = let first = run.place in let here = there.place in let no = ap total_size none in absurd (omega arith)
+  -- where none of them is free, none of the run is
+  pub none_before : none_free (run.before ++ run.blocks) ≡ true → none_free run.blocks ≡ true
+  none_before none = (all_parts _ run.before run.blocks none).1
 
-    -- at the start all are passed
-    pub ending_all : HasSizes z → low ≤ start → UsedFrom run.blocks start low
-    ending_all sizes below =
-        let at = s.low_is in
-        let none = no_bytes z.shape s.rest (all_parts _ s.rest s.used (subst (λ m. sizes_possible z.shape m ≡ true) s.parts (run_sizes z run sizes))).0 (omega arith) in
-        record { rest = s.rest; used = s.used; parts = s.parts; none = s.none; ends = λ front e is. absurd (no_last front e (sym none ∙ is)); place = s.low_is }
+  module _ (at : ℕ) (f : places.LastFree (run.before ++ run.blocks) (address_behind z.shape []) at) where
+    -- it is a block of the zone
+    abbrev entry_found : EntryAt z at
+    entry_found = record {
+      before = f.front;
+      here = block Free f.size;
+      behind = f.passed ++ run.behind;
+      map = (split_end).map ∙ ap (λ m. m ++ run.behind) f.splits ∙ append_assoc f.front (block Free f.size ∷ f.passed) run.behind;
+      place = (let there = f.place in omega arith);
+    }
 
-    module _ (sizes : HasSizes z) (above : start < low) (last : ℕ) (e : EntryAt z last) (there : low ≡ last + (e.here).size) where
-      under : Last s.rest
-      under = some_last s.rest (let at = s.low_is in omega arith)
+    -- from the run's start on it is the last of the run
+    pub last_within : HasSizes z → start ≤ at → LastFree run.blocks start at
+    last_within sizes above =
+        let some : 0 < f.size = entry_size z at entry_found sizes in
+        let there = f.place in
+        let first = run.place in
+        let last = last_among (address_behind z.shape []) run.before run.blocks f.front f.size f.passed f.splits f.used (omega arith) (omega arith) in
+        let place = last.place in
+        record { front = last.front; size = last.size; used = last.used; parts = last.parts; none = last.none; place = omega arith }
 
-      -- the block below is the one that is read
-      is_under : (e.here ≡ (under).here) × (total_size e.before ≡ total_size (run.before ++ (under).front))
-      is_under =
-          let m : Last s.rest = under in
-          let first = run.place in
-          let at = s.low_is in
-          let bytes = ap total_size m.is in
-          let all = total_size-append run.before (m.front ++ m.here ∷ []) in
-          let same : run.before ++ (((m.front ++ m.here ∷ []) ++ s.used) ++ run.behind) ≡ ((run.before ++ m.front) ++ m.here ∷ []) ++ (s.used ++ run.behind) = simp append_assoc in
-          previous_block z low (run.before ++ m.front) m.here (s.used ++ run.behind) sizes
-          (run.map ∙ ap (λ b. run.before ++ (b ++ run.behind)) (s.parts ∙ ap (λ r. r ++ s.used) m.is) ∙ same)
-          ((let here : low ≡ address_behind z.shape (run.before ++ (m.front ++ m.here ∷ [])) = omega arith in here) ∙ ap (address_behind z.shape) (sym (append_assoc run.before m.front (m.here ∷ [])))) last e there
+    -- below it the run has none
+    pub last_below : at < start → none_free run.blocks ≡ true
+    last_below below = let there = f.place in let first = run.place in none_among run.before run.blocks f.front f.size f.passed f.splits f.used (omega arith)
 
-      -- a free one is behind none of them
-      pub ending_free : is_free (e.here).kind ≡ true → UsedFrom run.blocks start low
-      ending_free unused = record {
-        rest = s.rest;
-        used = s.used;
-        parts = s.parts;
-        none = s.none;
-        ends = λ front f is. ap (λ (e : Entry). is_free e.kind) ((same_last front f (under).front (under).here (sym is ∙ (under).is)).1 ∙ sym is_under.0) ∙ unused;
-        place = s.low_is;
-      }
+  -- the blocks in use behind the last free one
+  module _ (at : ℕ) (f : LastFree run.blocks start at) where
+    abbrev pub entry_last : EntryAt z at
+    entry_last = record {
+      before = run.before ++ f.front;
+      here = block Free f.size;
+      behind = f.used ++ run.behind;
+      map = run.map ∙ ap (λ b. run.before ++ (b ++ run.behind)) f.parts ∙ ap (λ m. run.before ++ m) (append_assoc f.front (block Free f.size ∷ f.used) run.behind) ∙ sym (append_assoc run.before f.front (block Free f.size ∷ (f.used ++ run.behind)));
+      place = (let there = f.place in let first = run.place in let all = total_size-append run.before f.front in omega arith);
+    }
 
-      -- one in use is one of them
-      pub ending_on : is_free (e.here).kind ≡ false → Ending z run last
-      ending_on used =
-          let m : Last s.rest = under in
-          record {
-            rest = m.front;
-            used = m.here ∷ s.used;
-            parts = s.parts ∙ ap (λ r. r ++ s.used) m.is ∙ append_assoc m.front (m.here ∷ []) s.used;
-            none = and_from _ _ (ap (λ (e : Entry). not (is_free e.kind)) (sym is_under.0) ∙ ap not used) s.none;
-            low_is =
-                let at = s.low_is in
-                let bytes = ap total_size m.is ∙ total_size-append m.front (m.here ∷ []) in
-                let same = ap (λ (e : Entry). e.size) is_under.0 in
-                omega arith;
-          }
+    pub within_last : at + f.size ≤ end
+    within_last = let there = f.place in let long = run.long in let all = ap total_size f.parts ∙ total_size-append f.front (block Free f.size ∷ f.used) in omega arith
+
+    pub used_behind : (low : ℕ) → low ≡ at + f.size → UsedFrom run.blocks start low
+    used_behind low is = record {
+      rest = f.front ++ block Free f.size ∷ [];
+      used = f.used;
+      parts = f.parts ∙ sym (append_assoc f.front (block Free f.size ∷ []) f.used);
+      none = f.none;
+      ends = λ front e same. ap (λ (e : Entry). is_free e.kind) ((same_last front e f.front (block Free f.size) (sym same)).1);
+      place = (let there = f.place in let all = total_size-append f.front (block Free f.size ∷ []) in omega arith);
+    }
+
+  -- or all
+  pub used_whole : none_free run.blocks ≡ true → UsedFrom run.blocks start start
+  used_whole none = record { rest = []; used = run.blocks; parts = refl; none = none; ends = λ front e is. absurd (no_last front e is); place = omega arith }

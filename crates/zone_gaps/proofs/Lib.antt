@@ -7,7 +7,6 @@ pub mod Squeezing
 pub mod Lasts
 pub mod Walking
 pub mod Backing
-pub mod Stepping
 pub mod Ending
 pub mod Lifting
 pub mod Owning

@@ -5,7 +5,7 @@ ghost use Rattle.mac_base.specs.Arrangement.{down, up, used_blocks};
 ghost use Rattle.mac_base.specs.ZoneMap.{total_size};
 ghost use Rattle.linked_zone.specs.Fit.{HasSizes};
 ghost use Rattle.linked_zone.specs.Changes.{carried_up};
-ghost use Rattle.linked_zone.specs.Places.{EntryAt, ParcelAt, none_free};
+ghost use Rattle.linked_zone.specs.Places.{ParcelAt, none_free};
 ghost use Rattle.zone_gaps.specs.Runs.{RunAt, UsedUpTo, UsedFrom, LastFree, arranged};
 
 use linked_zone::LinkedZone;
@@ -75,39 +75,26 @@ pub(crate) fn press_up(zone: &mut LinkedZone, start: u32, end: u32)
     }
 }
 
-/// The last free block of a run, if there is one. Only the headers of free blocks are read.
+/// The last free block of a run, if there is one. No header is read.
 fn last_free(zone: &LinkedZone, start: u32, end: u32) -> Option<u32>
     requires run { RunAt zone.now start end }
     requires sizes { HasSizes zone.now }
     ensures { (run : RunAt zone.now start end) → MatchOption result (IsTrue (none_free run.blocks)) (λ at. LastFree run.blocks start at) }
 {
-    let mut last = None;
-    let mut next = used_end(zone, start, end);
-    while next < end {
-        last = Some(next);
-        next = used_end(zone, next + zone.entry_at(next).size, end);
-    }
-    last
+    let at = zone.last_free(end)?;
+    if start <= at { Some(at) } else { None }
 }
 
-/// The address of the blocks in use with which a run ends.
+/// The address of the blocks in use with which a run ends. The only header that is read is that of the free block below them.
 fn used_start(zone: &LinkedZone, start: u32, end: u32) -> u32
     requires run { RunAt zone.now start end }
-    requires behind { EntryAt zone.now end }
     requires sizes { HasSizes zone.now }
     ensures { (run : RunAt zone.now start end) → UsedFrom run.blocks start result }
 {
-    let mut low = end;
-    while start < low {
-        let Some(last) = zone.before(low) else {
-            unreachable!();
-        };
-        if zone.entry_at(last).kind.is_free() {
-            return low;
-        }
-        low = last;
+    match last_free(zone, start, end) {
+        Some(at) => at + zone.entry_at(at).size,
+        None => start,
     }
-    low
 }
 
 /// Moves a block up past the blocks between it and an address. Gives the address at which it stands then. The

@@ -15,7 +15,8 @@ use Rattle.zone_laws.proofs.JoinedBlocks.{joined-apart, joined-front, joined-two
 use Rattle.zone_laws.proofs.Maps.{both_true, true_both, total_size-append}
 use Rattle.linked_zone.specs.Changes.{with_map, joined_pair}
 use Rattle.linked_zone.specs.Fit.{HasSizes}
-use Rattle.linked_zone.specs.Places.{EntryAt, FreePair}
+use Rattle.linked_zone.specs.Places as places
+use Rattle.linked_zone.specs.Places.{EntryAt, FreePair, SplitAt}
 use Rattle.zone_gaps.proofs.Sizes.{all_both, all_parts, first_bytes}
 use Rattle.zone_heap.specs.Joins.{all_joined}
 use Rattle.zone_heap.proofs.Places.{all_large, large-sizes, large-first, same-place, total_size-behind}
@@ -213,3 +214,52 @@ module _ (z : ZoneState) where
             let one = length-append (t.so_far).front (block Free ((t.here).size + (two.next).size) ∷ two.behind) in
             let both = ap length map_pair ∙ length-append (t.so_far).front (block Free (t.here).size ∷ block Free (two.next).size ∷ two.behind) in
             omega arith
+
+-- what is not so is false
+no_more : (b : Bool) → not b ≡ true → b ≡ false
+no_more true h = absurd (cc h)
+no_more false h = refl
+
+module _ (z new : ZoneState) where
+  -- the blocks from the address on
+  abbrev pub split_joined : (at : ℕ) (j : JoinedBelow z new at) → SplitAt new at
+  split_joined at j = record {
+    before = j.front;
+    behind = j.more;
+    map = ap (λ (w : ZoneState). w.heap.map) j.is;
+    place = j.at_is ∙ ap (λ (w : ZoneState). address_behind w.shape j.front) (sym j.is);
+  }
+
+  -- a block in use is passed
+  record Past (at : ℕ) (more : ZoneMap) : Type 0 where
+    below : JoinedBelow z new at
+    is : below.more ≡ more
+
+  past : (p : Entry) (ps : ZoneMap) (at : ℕ) (j : JoinedBelow z new at) → j.more ≡ p ∷ ps → not (is_free p.kind) ≡ true → Past (at + p.size) ps
+  unfolding joined_on
+  past p ps at j is used =
+      let t : JoinedTo z new at = record { so_far = j; here = p; rest = ps; some = is } in
+      record { below = joined_on z new at t (used_first (is_free p.kind) (starts_free ps) (no_more (is_free p.kind) used)); is = refl }
+
+  -- so are more, as far as a free one
+  pub passed_to : (passed : ZoneMap) (n : ℕ) (behind : ZoneMap) (at free : ℕ) (j : JoinedBelow z new at) → j.more ≡ passed ++ block Free n ∷ behind → places.none_free passed ≡ true → free ≡ at + total_size passed → JoinedTo z new free
+  passed_to [] n behind at free j is none there = let e : at ≡ free = omega arith in subst (JoinedTo z new) e (record { so_far = j; here = block Free n; rest = behind; some = is })
+  passed_to (p ∷ ps) n behind at free j is none there =
+      let both = both_true (not (is_free p.kind)) (places.none_free ps) none in
+      let past_it = past p (ps ++ block Free n ∷ behind) at j is both.0 in
+      passed_to ps n behind (at + p.size) free past_it.below past_it.is both.1 (omega arith)
+
+  -- where only blocks in use are left, all is joined
+  pub passed_all : (m : ZoneMap) (at : ℕ) (j : JoinedBelow z new at) → j.more ≡ m → places.none_free m ≡ true → new ≡ all_joined z
+  passed_all [] at j is none =
+      joined_whole z new at j (
+      let all = size_joined z new at j in
+      let parts = total_size-append j.front j.more in
+      let bytes = ap total_size is in
+      let here = j.at_is in
+      omega arith
+      )
+  passed_all (p ∷ ps) at j is none =
+      let both = both_true (not (is_free p.kind)) (places.none_free ps) none in
+      let past_it = past p ps at j is both.0 in
+      passed_all ps (at + p.size) past_it.below past_it.is both.1

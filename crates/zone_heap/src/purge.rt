@@ -125,18 +125,20 @@ fn empty_between(zone: &mut LinkedZone, start: u32, end: u32, protected: &[u32])
     }
 }
 
-/// Joins all free neighbours.
+/// Joins all free neighbours. From each free block the walk goes on to the next one: of the blocks in use only those right
+/// behind a free one are read.
 fn join_all(zone: &mut LinkedZone)
     requires { HasSizes zone.old }
     ensures { zone.new ≡ all_joined zone.old }
 {
-    let end = zone_end(zone);
+    prove!(zone_end(zone) <= ADDRESS_END);
     let mut at = zone.spec().base() + ZONE_HEADER;
-    while at < end {
-        if is_free_pair(zone, at) {
-            zone.merge(at);
+    while let Some(free) = zone.next_free(at) {
+        at = free;
+        if is_free_pair(zone, free) {
+            zone.merge(free);
         } else {
-            at += zone.entry_at(at).size;
+            at += zone.entry_at(free).size;
         }
     }
 }

@@ -1,11 +1,11 @@
 -- The first free block from an address on, and how many bytes are free.
-use Rattle.std.proofs.Common.{◌≡◌, ℕ, ◌+◌, cond, not, ◌&&◌, List, [], ◌∷◌, ◌++◌, refl, ap, sym, ◌∙◌, append_assoc, IsTrue}
+use Rattle.std.proofs.Common.{◌≡◌, ℕ, ◌+◌, cond, not, ◌&&◌, List, [], ◌∷◌, ◌++◌, refl, ap, sym, ◌∙◌, append_assoc, IsTrue, arith}
 use Rattle.mac_base.specs.declared.block.HeadKind.{HeadKind}
 use Rattle.block_bytes.specs.Layout as raw
 use Rattle.block_bytes.specs.Layout.{RawBlock, Layout, size_of}
 use Rattle.block_bytes.specs.Finding as finding
-use Rattle.zone_records.specs.Records.{BlockRecord, ZoneRecords}
-use Rattle.zone_records.specs.Places.{SplitAt, FirstFree, none_free, free_total}
+use Rattle.zone_records.specs.Records.{BlockRecord, ZoneRecords, total_of, address_behind}
+use Rattle.zone_records.specs.Places.{SplitAt, FirstFree, LastFree, none_free, free_total}
 use Rattle.zone_records.proofs.Apart.{read, read-append, total-read, InTwo, in-two}
 use Rattle.zone_records.proofs.Held.{Held, address-is, sound-one}
 use Rattle.zone_records.proofs.Looking.{free-same, free-record}
@@ -44,6 +44,27 @@ module _ (l : Layout) (z : ZoneRecords) (held : Held l z) (from : ℕ) (split : 
         used = sym (none-same l.heads l.base found.passed) ∙ found.used;
         place = found.place ∙ ap (λ n. from + n) (sym (total-read l.heads l.base found.passed));
       }
+
+  -- the last free one of those before it
+  pub last-free : (at : ℕ) → finding.LastFree l.heads parts.first (raw.address_behind l []) at → LastFree split.before (address_behind z.shape []) at
+  last-free at found =
+      let sound = sound-one l found.front found.here (found.passed ++ parts.rest) held.sound
+      (parts.blocks ∙ ap (λ (bs : List RawBlock). bs ++ parts.rest) found.blocks ∙ append_assoc found.front (found.here ∷ found.passed) parts.rest) in
+      let front = read l.heads l.base found.front in
+      let passed = read l.heads l.base found.passed in
+      record {
+        front = front;
+        size = size_of l.heads found.here;
+        passed = passed;
+        blocks = sym parts.lower ∙ ap (read l.heads l.base) found.blocks ∙ read-append l.heads l.base found.front (found.here ∷ found.passed)
+            ∙ ap (λ (r : BlockRecord). front ++ r ∷ passed) (free-record l.heads l.base found.here found.free sound);
+        used = sym (none-same l.heads l.base found.passed) ∙ found.used;
+        place = (let there = found.place in let total = total-read l.heads l.base found.front in let start = address-is l z held [] [] refl in omega arith);
+      }
+
+  -- none of them is free where none of bytes is
+  pub none-before : IsTrue (finding.none_free parts.first) → IsTrue (none_free split.before)
+  none-before none = ap none_free (sym parts.lower) ∙ sym (none-same l.heads l.base parts.first) ∙ none
 
   -- none is free where none of bytes is
   pub none-behind : IsTrue (finding.none_free parts.rest) → IsTrue (none_free split.behind)

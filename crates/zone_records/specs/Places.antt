@@ -226,6 +226,15 @@ pub record FirstFree (bs : List BlockRecord) (from at : ℕ) : Type 0 where
   pub used : IsTrue (none_free passed)
   pub place : at ≡ from + total_of passed
 
+-- the last free one of these blocks, which begin at an address, stands at another
+pub record LastFree (bs : List BlockRecord) (from at : ℕ) : Type 0 where
+  pub front : List BlockRecord
+  pub size : ℕ
+  pub passed : List BlockRecord
+  pub blocks : bs ≡ front ++ block_record Free size ∷ passed
+  pub used : IsTrue (none_free passed)
+  pub place : at ≡ from + total_of front
+
 -- the sum of the sizes of the free blocks
 abbrev pub free_total : List BlockRecord → ℕ
 free_total [] = 0

@@ -49,9 +49,9 @@ impl Records {
     ghost use Rattle.mac_base.specs.HeadKind.{head_size, master_length, slot_count};
     ghost use Rattle.mac_base.specs.HandleTable.{zeros, no_flags};
     ghost use Rattle.mac_base.specs.ZoneMap.{block};
-    ghost use Rattle.zone_records.specs.Records.{ZoneRecords, Fixed, Master, Relocatable, sizes_of, kind_of, length_of, bytes_of, lent_count, NothingLent};
+    ghost use Rattle.zone_records.specs.Records.{ZoneRecords, Fixed, Master, Relocatable, sizes_of, kind_of, length_of, bytes_of, lent_count, address_behind, NothingLent};
     ghost use Rattle.mac_base.specs.Loans.{most_loans};
-    ghost use Rattle.zone_records.specs.Places.{RecordAt, FreeAt, HeldAt, HandleBlockAt, SlotAt, RoomFor, CanCut, FreePair, CanHold, CanGrow, PairAt, ParcelAt, IsLoanOf, LowestAt, has_free, can_say, can_flag, ParcelUpTo, SplitAt, FirstFree, none_free, free_total};
+    ghost use Rattle.zone_records.specs.Places.{RecordAt, FreeAt, HeldAt, HandleBlockAt, SlotAt, RoomFor, CanCut, FreePair, CanHold, CanGrow, PairAt, ParcelAt, IsLoanOf, LowestAt, has_free, can_say, can_flag, ParcelUpTo, SplitAt, FirstFree, LastFree, none_free, free_total};
     ghost use Rattle.zone_records.specs.Changes.{new_records, with_front, extended, filled, chained, emptied, flagged, with_slot, cut_in_two, joined_pair, held_there, enlarged, exchanged, carried, sunk, lent_out, loan_of, taken_back};
     ghost use Rattle.zone_records.specs.Fitting.{fitted, CanKeep};
     ghost use Rattle.zone_records.specs.Copying.{CanCopy, copied};
@@ -355,6 +355,15 @@ impl Records {
         ensures none { IfNone result ((split : SplitAt self.now from) → IsTrue (none_free split.behind)) }
     {
         self.blocks.next_free(from)
+    }
+
+    /// The address of the last free block before an address, if there is one.
+    pub fn last_free(&self, end: u32) -> Option<u32>
+        requires { SplitAt self.now end }
+        ensures last { IfSome result (λ at. (split : SplitAt self.now end) → LastFree split.before (address_behind self.now.shape []) at) }
+        ensures none { IfNone result ((split : SplitAt self.now end) → IsTrue (none_free split.before)) }
+    {
+        self.blocks.last_free(end)
     }
 
     /// The sum of the sizes of the free blocks.

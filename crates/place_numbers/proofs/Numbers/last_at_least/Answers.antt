@@ -1,48 +1,26 @@
-use Rattle.std.proofs.Common.{ℕ, inl, inr, List, get_or, subst, ◌-◌, ◌/◌, ◌<◌, arith, rules}
-use Rattle.std.proofs.lemmas.Bool.{cases_lt}
-use Rattle.place_numbers.proofs.Bounds.{read-below, under-low, under-middle, under-high}
+use Rattle.std.proofs.Common.{◌≤◌, ◌<◌, arith}
+use Rattle.std.proofs.lemmas.Option.{IfSome_then}
+use Rattle.place_numbers.proofs.Parts.{long, none-then, last-mark, no-last-mark, last-size, no-last-size}
 use Rattle.place_numbers.proofs.Numbers.last_at_least.Goals as goal
 
-pub loop-behind-preserved-then-index-least : goal.loop-behind-preserved-then-index-least
-loop-behind-preserved-then-index-least c = record {
-  inside = omega arith;
-  written = omega arith;
-  passed = λ j from to. elim (cases_lt j c.loop-behind.behind) [
-    | inl low ↦ subst (λ (xs : List ℕ). get_or xs j 0 < c.args.least) c.self.view_is
-        (under-high c.self.inside c.self.invariant c.args.least ((c.loop-behind.behind - 1) / 32768) c.index.result.now j (omega arith) (search rules) c.index.ensures (omega arith))
-    | inr high ↦ c.loop-behind.invariant.passed j high to
-  ];
-}
+pub last_at_least-requires-clause-inside : goal.last_at_least-requires-clause-inside
+last_at_least-requires-clause-inside c = let l = long c.self.inside.marks c.self.inside.sizes c.args.self.now c.self.invariant c.self.view_is in omega (arith, l, c.requires.inside)
 
-pub loop-behind-preserved-then-index-least-2 : goal.loop-behind-preserved-then-index-least-2
-loop-behind-preserved-then-index-least-2 c = record {
-  inside = omega arith;
-  written = omega arith;
-  passed = λ j from to. elim (cases_lt j c.loop-behind.behind) [
-    | inl low ↦ subst (λ (xs : List ℕ). get_or xs j 0 < c.args.least) c.self.view_is
-        (under-middle c.self.inside c.self.invariant c.args.least ((c.loop-behind.behind - 1) / 1024) c.index-then-behind-eq0-2.result.now j (omega arith) (search rules) c.index-then-behind-eq0-2.ensures (omega arith))
-    | inr high ↦ c.loop-behind.invariant.passed j high to
-  ];
-}
+pub last_at_least-requires-else-least-clause-inside : goal.last_at_least-requires-else-least-clause-inside
+last_at_least-requires-else-least-clause-inside c = let l = long c.self.inside.marks c.self.inside.sizes c.args.self.now c.self.invariant c.self.view_is in omega (arith, l, c.requires.inside, c.self.invariant.count)
 
-pub loop-behind-preserved-then-index-least-3 : goal.loop-behind-preserved-then-index-least-3
-loop-behind-preserved-then-index-least-3 c = record {
-  inside = omega arith;
-  written = omega arith;
-  passed = λ j from to. elim (cases_lt j c.loop-behind.behind) [
-    | inl low ↦ subst (λ (xs : List ℕ). get_or xs j 0 < c.args.least) c.self.view_is
-        (under-low c.self.inside c.self.invariant c.args.least ((c.loop-behind.behind - 1) / 32) c.index-then-behind-eq0-3.result.now j (omega arith) (search rules) c.index-then-behind-eq0-3.ensures (omega arith))
-    | inr high ↦ c.loop-behind.invariant.passed j high to
-  ];
-}
+pub returns-then-least-clause-last : goal.returns-then-least-clause-last
+returns-then-least-clause-last c = IfSome_then c.last_at_least.result c.last_at_least.ensures.last
+    (λ at it. last-mark c.self.inside.marks c.self.inside.sizes c.args.self.now c.self.invariant c.self.view_is c.args.least c.args.end at (omega arith) it)
 
-pub loop-behind-preserved : goal.loop-behind-preserved
-loop-behind-preserved c = record {
-  inside = omega arith;
-  written = omega arith;
-  passed = λ j from to. elim (cases_lt j c.loop-behind.behind) [
-    | inl low ↦ subst (λ (xs : List ℕ). get_or xs j 0 < c.args.least) c.self.view_is
-        (read-below c.self.inside c.self.invariant c.args.least (c.loop-behind.behind - 1) c.index-else-behind-eq0-3.result.now j (omega arith) (search rules) c.index-else-behind-eq0-3.ensures (omega arith))
-    | inr high ↦ c.loop-behind.invariant.passed j high to
-  ];
-}
+pub returns-then-least-clause-none : goal.returns-then-least-clause-none
+returns-then-least-clause-none c = none-then c.last_at_least.result c.last_at_least.ensures.none
+    (λ none. no-last-mark c.self.inside.marks c.self.inside.sizes c.args.self.now c.self.invariant c.self.view_is c.args.least c.args.end (omega arith) none)
+
+pub returns-else-least-clause-last : goal.returns-else-least-clause-last
+returns-else-least-clause-last c = IfSome_then c.last_at_least-else-least.result c.last_at_least-else-least.ensures.last
+    (λ at it. last-size c.self.inside.marks c.self.inside.sizes c.args.self.now c.self.invariant c.self.view_is c.args.least c.args.end at (omega arith) it)
+
+pub returns-else-least-clause-none : goal.returns-else-least-clause-none
+returns-else-least-clause-none c = none-then c.last_at_least-else-least.result c.last_at_least-else-least.ensures.none
+    (λ none. no-last-size c.self.inside.marks c.self.inside.sizes c.args.self.now c.self.invariant c.self.view_is c.args.least c.args.end (omega arith) none)

@@ -1,23 +1,33 @@
-use Rattle.std.proofs.Common.{◌+◌, ◌*◌, ap, sym, ◌∙◌, length, arith}
-use Rattle.place_numbers.proofs.Bounds.{length-numbers, set-padded, but-written, extended}
+use Rattle.std.proofs.Common.{◌≡◌, ◌+◌, ◌-◌, ◌<◌, ◌≤◌, ℕ, inl, inr, refl, ap, ◌∙◌, arith}
+use Rattle.std.proofs.Math.ListN.{set}
+use Rattle.place_numbers.specs.Parts.{numbers_of}
+use Rattle.place_numbers.proofs.Parts.{long, set-view}
 use Rattle.place_numbers.proofs.Numbers.set.Goals as goal
 
-pub returns : goal.returns
-returns c = set-padded c.self.inside.numbers.items c.extend.new.numbers.items c.args.self.now c.args.place c.args.number c.self.inside.count c.extend.ensures.zeros c.requires
-    (ap length (sym c.self.view_is) ∙ length-numbers c.self.inside c.self.invariant) c.self.invariant.fits c.self.view_is
+pub set-requires : goal.set-requires
+set-requires c = let l = long c.self.inside.marks c.self.inside.sizes c.args.self.now c.self.invariant c.self.view_is in omega (arith, l, c.requires)
 
-pub index-second-requires : goal.index-second-requires
-index-second-requires c =
-    let whole = ap length (sym c.self.view_is) ∙ length-numbers c.self.inside c.self.invariant in
-    omega (arith, whole, c.requires, c.self.invariant.covers)
+pub write-requires : goal.write-requires
+write-requires c = let l = long c.self.inside.marks c.self.inside.sizes c.args.self.now c.self.invariant c.self.view_is in omega (arith, l, c.requires, c.self.invariant.count)
 
-pub index-third-requires : goal.index-third-requires
-index-third-requires c =
-    let whole = ap length (sym c.self.view_is) ∙ length-numbers c.self.inside c.self.invariant in
-    omega (arith, whole, c.requires, c.self.invariant.covers, c.self.invariant.middle.count)
+pub set-requires-else-number : goal.set-requires-else-number
+set-requires-else-number c = let l = long c.self.inside.marks c.self.inside.sizes c.args.self.now c.self.invariant c.self.view_is in omega (arith, l, c.requires)
 
-pub cover-requires-clause-others : goal.cover-requires-clause-others
-cover-requires-clause-others c =
-    let whole = ap length (sym c.self.view_is) ∙ length-numbers c.self.inside c.self.invariant in
-    but-written c.deref_mut.result.now c.self.inside.low.items c.self.inside.numbers.items c.extend.new.numbers.items c.deref.result.now _ c.args.place c.args.number c.self.invariant.low c.deref_mut.ensures.value c.extend.ensures.zeros c.deref.ensures.value
-    (extended c.self.inside.numbers.items c.extend.new.numbers.items (c.args.place + 1) c.extend.ensures.zeros c.self.inside.count (32 * length c.self.inside.low.items) c.self.invariant.fits (omega (arith, whole, c.requires)) c.self.invariant.covers)
+pub write-requires-else-number : goal.write-requires-else-number
+write-requires-else-number c = let l = long c.self.inside.marks c.self.inside.sizes c.args.self.now c.self.invariant c.self.view_is in omega (arith, l, c.requires, c.self.invariant.count)
+
+pub returns-then-number : goal.returns-then-number
+returns-then-number c =
+    let fewer : (c.args.number < 255) × (0 ≡ 0) = (omega arith, refl) in
+    let all : c.args.number + (0 - 255) ≡ c.args.number = omega arith in
+    (λ i. numbers_of (c.set.ensures i) (c.write.ensures i))
+    ∙ set-view c.self.inside.marks c.self.inside.sizes c.args.self.now c.self.invariant c.self.view_is c.args.place c.args.number 0 c.requires (inl fewer)
+    ∙ ap (λ (k : ℕ). set c.args.self.now c.args.place k) all
+
+pub returns-else-number : goal.returns-else-number
+returns-else-number c =
+    let more : (255 ≡ 255) × (255 ≤ c.args.number) = (refl, omega arith) in
+    let all : 255 + (c.args.number - 255) ≡ c.args.number = omega arith in
+    (λ i. numbers_of (c.set-else-number.ensures i) (c.write-else-number.ensures i))
+    ∙ set-view c.self.inside.marks c.self.inside.sizes c.args.self.now c.self.invariant c.self.view_is c.args.place 255 c.args.number c.requires (inr more)
+    ∙ ap (λ (k : ℕ). set c.args.self.now c.args.place k) all

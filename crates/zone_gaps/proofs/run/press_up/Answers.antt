@@ -20,7 +20,7 @@ used_start-bottom-requires c =
     let z = c.args.zone.now in
     let run = c.requires.run in
     let l = c.loop-low in
-    record { run = run_low z run l.zone l.low (l.invariant run); behind = entry_low z run l.zone l.low (l.invariant run); sizes = sizes_low z run l.zone l.low (l.invariant run) c.requires.sizes }
+    record { run = run_low z run l.zone l.low (l.invariant run); sizes = sizes_low z run l.zone l.low (l.invariant run) c.requires.sizes }
 
 pub sink-requires : goal.sink-requires
 sink-requires c =

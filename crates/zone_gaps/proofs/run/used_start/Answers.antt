@@ -1,39 +1,24 @@
-use Rattle.std.proofs.Common.{ap, sym, ◌∙◌, arith}
+use Rattle.std.proofs.Common.{◌≡◌, ◌+◌, ap, arith}
 use Rattle.mac_base.specs.declared.block.Entry.{Entry}
-use Rattle.mac_base.specs.ZoneMap.{is_free}
-use Rattle.zone_gaps.proofs.Entries.{entry_size}
-use Rattle.zone_gaps.proofs.Ending.{none_ending, not_first, ending_all, ending_free, ending_on}
+use Rattle.zone_gaps.specs.Runs.{RunAt}
+use Rattle.zone_gaps.proofs.Ending.{entry_last, within_last, used_behind}
 use Rattle.zone_gaps.proofs.run.used_start.Goals as goal
+use Rattle.zone_gaps.proofs.run.used_start.Goals.{After-entry_at}
 
-pub loop-low-init : goal.loop-low-init
-loop-low-init c = (λ run. none_ending c.args.zone.now run, c.requires.behind)
+-- the size that was read is the free block's
+size : (c : After-entry_at) (run : RunAt c.args.zone.now c.args.start c.args.end) → c.in-Some.at + c.entry_at.result.size ≡ c.in-Some.at + (c.in-Some.ensures run).size
+size c run = ap (λ (e : Entry). c.in-Some.at + e.size) (c.entry_at.ensures (entry_last c.args.zone.now run c.in-Some.at (c.in-Some.ensures run)))
 
-pub unreachable-requires : goal.unreachable-requires
-unreachable-requires c =
+pub entry_at-requires : goal.entry_at-requires
+entry_at-requires c = entry_last c.args.zone.now c.requires.run c.in-Some.at (c.in-Some.ensures c.requires.run)
+
+pub overflow_add-result : goal.overflow_add-result
+overflow_add-result c =
     let run = c.requires.run in
-    let l = c.loop-low in
-    not_first c.args.zone.now run l.low (l.invariant.0 run) c.loop-low-test.true l.invariant.1 (c.in_default.ensures.first l.invariant.1)
+    let w = (goal.at.overflow_add-result c).After-entry_at in
+    omega (arith, size w run, within_last c.args.zone.now run c.in-Some.at (c.in-Some.ensures run), c.ranges.end.fits)
 
-pub returns-then-is_free : goal.returns-then-is_free
-returns-then-is_free c run =
-    let l = c.loop-low in
-    let e = c.in-Some.ensures.there in
-    ending_free c.args.zone.now run l.low (l.invariant.0 run) c.requires.sizes c.loop-low-test.true c.in-Some.last e (c.in-Some.ensures.next e)
-    (ap (λ (e : Entry). is_free e.kind) (sym (c.entry_at.ensures e)) ∙ sym c.is_free.ensures ∙ c.if-is_free.true)
-
-pub loop-low-smaller : goal.loop-low-smaller
-loop-low-smaller c =
-    let e = c.in-Some.ensures.there in
-    omega (arith, c.in-Some.ensures.next e, entry_size c.args.zone.now c.in-Some.last e c.requires.sizes)
-
-pub loop-low-preserved : goal.loop-low-preserved
-loop-low-preserved c =
-    let l = c.loop-low in
-    let e = c.in-Some.ensures.there in (
-      λ run. ending_on c.args.zone.now run l.low (l.invariant.0 run) c.requires.sizes c.loop-low-test.true c.in-Some.last e (c.in-Some.ensures.next e)
-          (ap (λ (e : Entry). is_free e.kind) (sym (c.entry_at.ensures e)) ∙ sym c.is_free.ensures ∙ c.if-is_free.false),
-      e,
-    )
-
-pub returns : goal.returns
-returns c run = ending_all c.args.zone.now run c.loop-low.low (c.loop-low.invariant.0 run) c.requires.sizes c.loop-low-test.false
+pub returns-in-Some : goal.returns-in-Some
+returns-in-Some c run =
+    let w = (goal.at.returns-in-Some c).After-entry_at in
+    used_behind c.args.zone.now run c.in-Some.at (c.in-Some.ensures run) (c.in-Some.at + c.entry_at.result.size) (size w run)

@@ -1,11 +1,12 @@
 use Rattle.std.proofs.Common.{◌+◌, ◌-◌, length}
+use Rattle.mac_base.specs.ZoneMap.{address_behind}
 use Rattle.zone_heap.proofs.JoiningAll.{JoinedBelow}
 use Rattle.zone_heap.proofs.purge.join_all.Given as goal
 
 -- the zone is joined so far
-abbrev pub invariant-loop-at : goal.invariant-loop-at
-invariant-loop-at l = JoinedBelow l.fn.zone l.zone l.at
+abbrev pub invariant-loop-free : goal.invariant-loop-free
+invariant-loop-free l = JoinedBelow l.fn.zone l.zone l.at
 
 -- the blocks, and the bytes that are left
-abbrev pub decreases-loop-at : goal.decreases-loop-at
-decreases-loop-at l = length l.zone.heap.map + (l.end - l.at)
+abbrev pub decreases-loop-free : goal.decreases-loop-free
+decreases-loop-free l = length l.zone.heap.map + (address_behind l.fn.zone.shape l.fn.zone.heap.map - l.at)

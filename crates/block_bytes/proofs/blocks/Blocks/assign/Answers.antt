@@ -26,6 +26,10 @@ pub overflow_sub-header : goal.overflow_sub-header
 overflow_sub-header c = let h = IsHere-from c.self.inside c.self.invariant c.args.self.now c.self.view_is c.args.at c.entry_at-old.result c.requires.block (c.entry_at-old.ensures c.requires.block) in
     let e = c.head_size.ensures ∙ ap head_size c.heads-heads.ensures in omega arith
 
+pub overflow_sub-header-2 : goal.overflow_sub-header-2
+overflow_sub-header-2 c = let o = over c.args.self.now c.args.at c.args.role c.args.length c.requires c.entry_at-old.result (c.entry_at-old.ensures c.requires.block) in let rest = o.0 in
+    let heads = c.heads-heads.ensures ∙ ap (λ (l : Layout). l.heads) c.self.view_is in let e = c.head_size.ensures ∙ ap head_size heads in let some = head_size-positive c.args.self.now.heads in omega arith
+
 pub set_header-requires-clause-inside : goal.set_header-requires-clause-inside
 set_header-requires-clause-inside c = let h = IsHere-from c.self.inside c.self.invariant c.args.self.now c.self.view_is c.args.at c.entry_at-old.result c.requires.block (c.entry_at-old.ensures c.requires.block) in
     let e = ap head_size c.heads-heads.ensures in omega arith

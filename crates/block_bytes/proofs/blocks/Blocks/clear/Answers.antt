@@ -1,4 +1,4 @@
-use Rattle.std.proofs.Common.{◌≡◌, ◌+◌, ◌-◌, ◌∷◌, ◌++◌, false, replicate, ap, sym, subst, arith}
+use Rattle.std.proofs.Common.{◌≡◌, ◌+◌, ◌-◌, ◌∷◌, ◌++◌, false, replicate, ap, sym, ◌∙◌, subst, arith}
 use Rattle.mac_base.specs.HeadKind.{head_size}
 use Rattle.raw_region.specs.State.{State, with_bytes}
 use Rattle.block_bytes.specs.Layout.{Layout, BlockAt, header_of, cleared, with_blocks}
@@ -7,6 +7,16 @@ use Rattle.block_bytes.proofs.Here.{IsHere-from, unlent-here}
 use Rattle.block_bytes.proofs.Same.{same-lent}
 use Rattle.block_bytes.proofs.WrittenBack.{cleared-read}
 use Rattle.block_bytes.proofs.blocks.Blocks.clear.Goals as goal
+
+pub overflow_sub-length : goal.overflow_sub-length
+overflow_sub-length c =
+    let h = IsHere-from c.self.inside c.self.invariant c.args.self.now c.self.view_is c.args.at c.entry_at-header.result c.requires.block (c.entry_at-header.ensures c.requires.block) in
+    let e = c.head_size-head_size.ensures ∙ ap head_size c.heads.ensures in omega arith
+
+pub overflow_sub-length-2 : goal.overflow_sub-length-2
+overflow_sub-length-2 c =
+    let h = IsHere-from c.self.inside c.self.invariant c.args.self.now c.self.view_is c.args.at c.entry_at-header.result c.requires.block (c.entry_at-header.ensures c.requires.block) in
+    let e = c.head_size-head_size.ensures ∙ ap head_size c.heads.ensures in omega arith
 
 pub clear-requires-clause-inside : goal.clear-requires-clause-inside
 clear-requires-clause-inside c =

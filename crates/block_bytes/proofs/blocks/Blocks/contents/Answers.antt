@@ -6,6 +6,16 @@ use Rattle.block_bytes.proofs.Here.{IsHere-from, unlent-here}
 use Rattle.block_bytes.proofs.ReadParts.{contents-read}
 use Rattle.block_bytes.proofs.blocks.Blocks.contents.Goals as goal
 
+pub overflow_sub-length : goal.overflow_sub-length
+overflow_sub-length c =
+    let h = IsHere-from c.self.inside c.self.invariant c.args.self.now c.self.view_is c.args.at c.entry_at-header.result c.requires.block (c.entry_at-header.ensures c.requires.block) in
+    let e = c.head_size-head_size.ensures ∙ ap head_size c.heads.ensures in omega arith
+
+pub overflow_sub-length-2 : goal.overflow_sub-length-2
+overflow_sub-length-2 c =
+    let h = IsHere-from c.self.inside c.self.invariant c.args.self.now c.self.view_is c.args.at c.entry_at-header.result c.requires.block (c.entry_at-header.ensures c.requires.block) in
+    let e = c.head_size-head_size.ensures ∙ ap head_size c.heads.ensures in omega arith
+
 pub bytes-requires-clause-inside : goal.bytes-requires-clause-inside
 bytes-requires-clause-inside c =
     let h = IsHere-from c.self.inside c.self.invariant c.args.self.now c.self.view_is c.args.at c.entry_at-header.result c.requires.block (c.entry_at-header.ensures c.requires.block) in

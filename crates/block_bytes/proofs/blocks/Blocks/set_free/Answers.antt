@@ -3,9 +3,15 @@ use Rattle.std.specs.List.{list_all}
 use Rattle.mac_base.specs.HeadKind.{head_size}
 use Rattle.block_bytes.specs.declared.header.Role.TheVariants.{Free}
 use Rattle.block_bytes.specs.Layout.{Layout, CanBe, body, raw_block, is_possible, with_blocks}
+use Rattle.block_bytes.proofs.Here.{IsHere-from}
 use Rattle.block_bytes.proofs.Same.{same-lent}
 use Rattle.block_bytes.proofs.Walking.{block-passes, held-free, possible-free, length-body}
 use Rattle.block_bytes.proofs.blocks.Blocks.set_free.Goals as goal
+
+pub overflow_sub-length : goal.overflow_sub-length
+overflow_sub-length c =
+    let h = IsHere-from c.self.inside c.self.invariant c.args.self.now c.self.view_is c.args.at c.entry_at.result c.requires.block (c.entry_at.ensures c.requires.block) in
+    let e = c.head_size.ensures ∙ ap head_size c.heads.ensures in omega arith
 
 pub assign-requires : goal.assign-requires
 assign-requires c =

@@ -1,0 +1,4 @@
+pub mod Bounds
+pub mod Levels
+pub mod Sizes
+pub mod Shifted
