@@ -1,7 +1,7 @@
 #!/usr/bin/env python3
 """Checks that the clauses and edits that docs/PROMISES.md names are there.
 
-Below a heading '## `CRATE`: ..' each table's second column names clauses of that crate, as `function: clause`,
+Below a heading '## `CRATE`: ..', or one that names several crates, each table's second column names clauses of these, as `function: clause`,
 `Type::function: clause` or `function` (for one without a name), and its third column edits of crates/CRATE/must-fail.
 """
 import os
@@ -9,7 +9,7 @@ import re
 import sys
 
 PAGE = "docs/PROMISES.md"
-HEADING = re.compile(r"## `(\w+)`")
+HEADING = re.compile(r"## (`\w+`(?:, `\w+`)*)")
 CARRIER = re.compile(r"(?:(\w+)::)?(\w+)(?:: (\w+))?")
 FUNCTION = re.compile(r"^\s*(?:pub(?:\(crate\))? )?(?:const )?(?:unsafe )?fn (\w+)")
 
@@ -53,7 +53,7 @@ def cells(line):
 def main():
     with open(PAGE, encoding="utf-8") as it:
         lines = it.read().split("\n")
-    faults, crate, known, named = [], "", [], 0
+    faults, crates, known, named = [], [], [], 0
 
     def fault(text):
         faults.append(f"{PAGE}:{number}: {text}")
@@ -61,12 +61,14 @@ def main():
     for number, line in enumerate(lines, 1):
         if line.startswith("## "):
             heading = HEADING.match(line)
-            crate = heading[1] if heading else ""
-            known = contracts(crate) if crate else []
-            if crate and not known:
-                fault(f"there is no crate {crate} with functions")
-                crate = ""
-        if not crate or not line.startswith("|") or line.startswith("|---") or cells(line)[0] == "Promise":
+            crates = heading[1].strip("`").split("`, `") if heading else []
+            known = []
+            for crate in crates:
+                functions = contracts(crate)
+                if not functions:
+                    fault(f"there is no crate {crate} with functions")
+                known += functions
+        if not known or not line.startswith("|") or line.startswith("|---") or cells(line)[0] == "Promise":
             continue
         row = cells(line)
         if len(row) != 3:
@@ -81,13 +83,13 @@ def main():
             kind, function, clause = parts[1] or "", parts[2], parts[3] or ""
             of_name = [it for it in known if it[0] == function and re.search(rf"\b{kind}\b" if kind else "", it[1])]
             if not of_name:
-                fault(f"{crate} has no function {carrier.partition(': ')[0]}")
+                fault(f"{' or '.join(crates)} has no function {carrier.partition(': ')[0]}")
             elif not any(clause in it[2] for it in of_name):
-                fault(f"{function} of {crate} has no clause {clause or 'without a name'}")
+                fault(f"{function} of {' or '.join(crates)} has no clause {clause or 'without a name'}")
         for edit in re.findall(r"`([^`]+)`", row[2]):
             named += 1
-            if not os.path.isfile(f"crates/{crate}/must-fail/{edit}.edit"):
-                fault(f"there is no crates/{crate}/must-fail/{edit}.edit")
+            if not any(os.path.isfile(f"crates/{crate}/must-fail/{edit}.edit") for crate in crates):
+                fault(f"there is no crates/{' or '.join(crates)}/must-fail/{edit}.edit")
     if not named:
         faults.append(f"{PAGE}: it names no clause")
     for it in faults:

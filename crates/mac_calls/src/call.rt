@@ -4,7 +4,7 @@ use crate::loan_call::LoanCall;
 use crate::memory_call::MemoryCall;
 
 /// A call of the toolbox with its operands.
-#[derive(Debug, Drop)]
+#[derive(Drop)]
 pub enum Call<'a> {
     /// A call of the Memory Manager.
     Memory(MemoryCall<'a>),

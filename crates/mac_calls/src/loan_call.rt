@@ -6,7 +6,7 @@ use crate::memory_call::Span;
 /// the zone reads and writes none of them until they come back. Offsets and counts are bytes. The Macintosh has no such
 /// calls: a loan is what a program does that works on the bytes of a locked block itself (Inside Macintosh: Memory,
 /// Relocatable Blocks).
-#[derive(Debug, Drop)]
+#[derive(Drop)]
 pub enum LoanCall<'a> {
     /// Lends a nonrelocatable block or that of a locked handle.
     Lend(u32),

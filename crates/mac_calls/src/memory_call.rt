@@ -4,7 +4,7 @@ use mac_base::handle::{Handle, Ptr};
 use std::marker::Model;
 
 /// Bytes that a call is given. A contract sees the list.
-#[derive(Debug, Drop)]
+#[derive(Drop)]
 pub struct Span<'a> {
     bytes: &'a [u8],
 }
@@ -37,7 +37,7 @@ impl<'a> Span<'a> {
 
 /// A call of the Memory Manager with its operands. Sizes, offsets and counts are bytes. A block that a call only reads
 /// or writes is given by its number, which is that of a handle or a pointer (Inside Macintosh: Memory).
-#[derive(Debug, Drop)]
+#[derive(Drop)]
 pub enum MemoryCall<'a> {
     /// A new relocatable block of so many zero bytes (Allocating and Releasing Relocatable Blocks of Memory).
     NewHandle(u32),

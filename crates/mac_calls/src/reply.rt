@@ -7,7 +7,7 @@ use mac_base::handle::{Handle, Ptr};
 use std::marker::Model;
 
 /// The blocks of a zone, lowest first. A contract sees the list.
-#[derive(Debug, Drop)]
+#[derive(Drop)]
 pub struct BlockList {
     blocks: Vec<Block>,
 }
@@ -40,7 +40,7 @@ impl BlockList {
 }
 
 /// What a call gives that isn't refused.
-#[derive(Debug, Drop)]
+#[derive(Drop)]
 pub enum Results {
     /// The call has no result.
     Nothing,
@@ -66,7 +66,7 @@ pub enum Results {
 pub type Outcome = Result<Results, OsErr>;
 
 /// The reply to a call.
-#[derive(Debug, Drop)]
+#[derive(Drop)]
 pub struct Reply {
     pub outcome: Outcome,
 }

@@ -17,7 +17,8 @@ use Rattle.mac_calls.specs.ExactStep.{StepEnd, rearranged, quiet_outcome, reques
 use Rattle.mac_calls.specs.Effect.{request_of, table_copied, effect_of}
 use Rattle.mac_calls.specs.declared.reply.Results.TheVariants.{Handle, Nothing}
 use Rattle.mac_calls.specs.Outcomes.{Outcome, done_outcome, given_results, handle_outcome}
-use Rattle.mac_calls.specs.MemoryStep.{MemoryStep}
+use Rattle.mac_calls.specs.MemoryStep.{MemoryStep, StepUnless}
+use Rattle.mac_calls.specs.RequestRun.{RequestRun}
 use Rattle.call_laws.proofs.StepPermitted.{exact-permitted}
 use Rattle.zone_heap.specs.Attempts.{lacks_slot}
 use Rattle.mem_calls.specs.Requesting.{IsCallRun, IsCopyRun, block_given, call_run, done, filled, given_or_full}
@@ -101,6 +102,19 @@ done_ends call gives result (Err code) is = ap done_outcome is
 pub refused_outcome : {A : Type 0} (outcome : Result A OsErr → Outcome) → ((code : OsErr) → outcome (Err code) ≡ Err code) → (result : Result A OsErr) (code : OsErr) → IsErrAnd result (λ e. e ≡ code) → outcome result ≡ Err code
 refused_outcome outcome gives (Ok x) code h = absurd h
 refused_outcome outcome gives (Err e) code h = gives e ∙ ap Err h
+
+-- a refused call asks nothing and changes nothing
+pub exact-refused : (old zone : ZoneState) → zone ≡ old → (call : MemoryCall) (code : OsErr) (asks : List Ask) (outcome : Outcome) → refusal zone.shape zone.heap call ≡ Some code → asks ≡ [] → outcome ≡ Err code
+    → IsExactStep old.shape old.heap call asks outcome old.heap
+exact-refused old zone is call code asks outcome refused quiet ends = subst (λ (z : ZoneState). IsExactStep z.shape z.heap call asks outcome z.heap) is
+    (subst (λ asks. IsExactStep zone.shape zone.heap call asks outcome zone.heap) (sym quiet)
+    (subst (λ o. IsExactStep zone.shape zone.heap call [] o zone.heap) (sym ends) (ap (step_unless zone.shape [] zone.heap call) refused)))
+
+-- and so it may
+pub step-refused : (old zone : ZoneState) → zone ≡ old → (call : MemoryCall) (code : OsErr) (asks : List Ask) (outcome : Outcome) → refusal zone.shape zone.heap call ≡ Some code → asks ≡ [] → outcome ≡ Err code
+    → MemoryStep old.shape old.heap call asks outcome old.heap
+step-refused old zone is call code asks outcome refused quiet ends = subst (λ (z : ZoneState). MemoryStep z.shape z.heap call asks outcome z.heap) is
+    (subst (λ (o : Option OsErr). StepUnless RequestRun o zone.shape zone.heap call asks outcome zone.heap) (sym refused) (quiet, ends, record { table = refl; map = refl }))
 
 module _ (old zone new : ZoneState) (is : zone ≡ old) (sound : Sound zone.shape zone.heap) (call : MemoryCall) (passed : refusal zone.shape zone.heap call ≡ None) where
   passes : refusal old.shape old.heap call ≡ None

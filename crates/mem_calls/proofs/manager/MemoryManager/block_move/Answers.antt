@@ -1,10 +1,12 @@
-use Rattle.std.proofs.Common.{[], Ok, refl, ap}
+use Rattle.std.proofs.Common.{[], ◌∷◌, Ok, refl, ap}
 use Rattle.mac_base.specs.ZoneState.{ZoneState}
 use Rattle.mac_calls.specs.declared.memory_call.MemoryCall.TheVariants.{BlockMove}
 use Rattle.mac_calls.specs.declared.reply.Results.TheVariants.{Nothing}
+use Rattle.mac_calls.specs.Outcomes.{done_outcome}
+use Rattle.mac_calls.specs.Tests.{IsBlock, NotEmpty, NotLent, IsWithin}
 use Rattle.mem_calls.proofs.KeptLoans.{kept}
-use Rattle.mem_calls.proofs.Passing.{passed-block_move}
-use Rattle.mem_calls.proofs.Stepping.{exact-done, step-exact}
+use Rattle.mem_calls.proofs.Passing.{passed-block_move, refused-first, refused-later}
+use Rattle.mem_calls.proofs.Stepping.{exact-done, exact-refused, refused_outcome, step-exact, step-refused}
 use Rattle.mem_calls.proofs.manager.MemoryManager.block_move.Goals as goal
 
 pub returns-clause-exact : goal.returns-clause-exact
@@ -21,3 +23,55 @@ returns-clause-step c =
 
 pub returns-clause-loans : goal.returns-clause-loans
 returns-clause-loans c = kept c.copy.ensures.loans c.self.view_is
+
+pub returns-in_err-test_block_here-clause-exact : goal.returns-in_err-test_block_here-clause-exact
+returns-in_err-test_block_here-clause-exact c = let end = c.from_residual in
+    exact-refused c.args.self.now c.self.inside.zone c.self.view_is (BlockMove c.args.from c.args.start c.args.to c.args.offset c.args.count) c.in_err-test_block_here.field-0.0 [] (done_outcome end.result)
+    (refused-first c.self.inside.zone.shape c.self.inside.zone.heap (IsBlock c.args.from ∷ NotEmpty c.args.from ∷ NotLent c.args.from ∷ []) (IsBlock c.args.to ∷ NotEmpty c.args.to ∷ NotLent c.args.to ∷ IsWithin c.args.from c.args.start c.args.count ∷ IsWithin c.args.to c.args.offset c.args.count ∷ []) c.in_err-test_block_here.field-0.0 c.in_err-test_block_here.ensures)
+    refl (refused_outcome done_outcome (λ code. refl) end.result c.in_err-test_block_here.field-0.0 end.ensures.1)
+
+pub returns-in_err-test_block_here-clause-step : goal.returns-in_err-test_block_here-clause-step
+returns-in_err-test_block_here-clause-step c = let end = c.from_residual in
+    step-refused c.args.self.now c.self.inside.zone c.self.view_is (BlockMove c.args.from c.args.start c.args.to c.args.offset c.args.count) c.in_err-test_block_here.field-0.0 [] (done_outcome end.result)
+    (refused-first c.self.inside.zone.shape c.self.inside.zone.heap (IsBlock c.args.from ∷ NotEmpty c.args.from ∷ NotLent c.args.from ∷ []) (IsBlock c.args.to ∷ NotEmpty c.args.to ∷ NotLent c.args.to ∷ IsWithin c.args.from c.args.start c.args.count ∷ IsWithin c.args.to c.args.offset c.args.count ∷ []) c.in_err-test_block_here.field-0.0 c.in_err-test_block_here.ensures)
+    refl (refused_outcome done_outcome (λ code. refl) end.result c.in_err-test_block_here.field-0.0 end.ensures.1)
+
+pub returns-in_err-test_block_here-2-clause-exact : goal.returns-in_err-test_block_here-2-clause-exact
+returns-in_err-test_block_here-2-clause-exact c = let end = c.from_residual-in_err-test_block_here-2 in
+    exact-refused c.args.self.now c.self.inside.zone c.self.view_is (BlockMove c.args.from c.args.start c.args.to c.args.offset c.args.count) c.in_err-test_block_here-2.field-0.0 [] (done_outcome end.result)
+    (refused-later c.self.inside.zone.shape c.self.inside.zone.heap (IsBlock c.args.from ∷ NotEmpty c.args.from ∷ NotLent c.args.from ∷ []) (IsBlock c.args.to ∷ NotEmpty c.args.to ∷ NotLent c.args.to ∷ IsWithin c.args.from c.args.start c.args.count ∷ IsWithin c.args.to c.args.offset c.args.count ∷ []) c.in_err-test_block_here-2.field-0.0 c.in_ok-test_block_here.ensures (refused-first c.self.inside.zone.shape c.self.inside.zone.heap (IsBlock c.args.to ∷ NotEmpty c.args.to ∷ NotLent c.args.to ∷ []) (IsWithin c.args.from c.args.start c.args.count ∷ IsWithin c.args.to c.args.offset c.args.count ∷ []) c.in_err-test_block_here-2.field-0.0 c.in_err-test_block_here-2.ensures))
+    refl (refused_outcome done_outcome (λ code. refl) end.result c.in_err-test_block_here-2.field-0.0 end.ensures.1)
+
+pub returns-in_err-test_block_here-2-clause-step : goal.returns-in_err-test_block_here-2-clause-step
+returns-in_err-test_block_here-2-clause-step c = let end = c.from_residual-in_err-test_block_here-2 in
+    step-refused c.args.self.now c.self.inside.zone c.self.view_is (BlockMove c.args.from c.args.start c.args.to c.args.offset c.args.count) c.in_err-test_block_here-2.field-0.0 [] (done_outcome end.result)
+    (refused-later c.self.inside.zone.shape c.self.inside.zone.heap (IsBlock c.args.from ∷ NotEmpty c.args.from ∷ NotLent c.args.from ∷ []) (IsBlock c.args.to ∷ NotEmpty c.args.to ∷ NotLent c.args.to ∷ IsWithin c.args.from c.args.start c.args.count ∷ IsWithin c.args.to c.args.offset c.args.count ∷ []) c.in_err-test_block_here-2.field-0.0 c.in_ok-test_block_here.ensures (refused-first c.self.inside.zone.shape c.self.inside.zone.heap (IsBlock c.args.to ∷ NotEmpty c.args.to ∷ NotLent c.args.to ∷ []) (IsWithin c.args.from c.args.start c.args.count ∷ IsWithin c.args.to c.args.offset c.args.count ∷ []) c.in_err-test_block_here-2.field-0.0 c.in_err-test_block_here-2.ensures))
+    refl (refused_outcome done_outcome (λ code. refl) end.result c.in_err-test_block_here-2.field-0.0 end.ensures.1)
+
+pub returns-in_err-test_within-clause-exact : goal.returns-in_err-test_within-clause-exact
+returns-in_err-test_within-clause-exact c = let end = c.from_residual-in_err-test_within in
+    exact-refused c.args.self.now c.self.inside.zone c.self.view_is (BlockMove c.args.from c.args.start c.args.to c.args.offset c.args.count) c.in_err-test_within.field-0.0 [] (done_outcome end.result)
+    (refused-later c.self.inside.zone.shape c.self.inside.zone.heap (IsBlock c.args.from ∷ NotEmpty c.args.from ∷ NotLent c.args.from ∷ []) (IsBlock c.args.to ∷ NotEmpty c.args.to ∷ NotLent c.args.to ∷ IsWithin c.args.from c.args.start c.args.count ∷ IsWithin c.args.to c.args.offset c.args.count ∷ []) c.in_err-test_within.field-0.0 c.in_ok-test_block_here.ensures (refused-later c.self.inside.zone.shape c.self.inside.zone.heap (IsBlock c.args.to ∷ NotEmpty c.args.to ∷ NotLent c.args.to ∷ []) (IsWithin c.args.from c.args.start c.args.count ∷ IsWithin c.args.to c.args.offset c.args.count ∷ []) c.in_err-test_within.field-0.0 c.in_ok-test_block_here-2.ensures
+    (refused-first c.self.inside.zone.shape c.self.inside.zone.heap (IsWithin c.args.from c.args.start c.args.count ∷ []) (IsWithin c.args.to c.args.offset c.args.count ∷ []) c.in_err-test_within.field-0.0 c.in_err-test_within.ensures)))
+    refl (refused_outcome done_outcome (λ code. refl) end.result c.in_err-test_within.field-0.0 end.ensures.1)
+
+pub returns-in_err-test_within-clause-step : goal.returns-in_err-test_within-clause-step
+returns-in_err-test_within-clause-step c = let end = c.from_residual-in_err-test_within in
+    step-refused c.args.self.now c.self.inside.zone c.self.view_is (BlockMove c.args.from c.args.start c.args.to c.args.offset c.args.count) c.in_err-test_within.field-0.0 [] (done_outcome end.result)
+    (refused-later c.self.inside.zone.shape c.self.inside.zone.heap (IsBlock c.args.from ∷ NotEmpty c.args.from ∷ NotLent c.args.from ∷ []) (IsBlock c.args.to ∷ NotEmpty c.args.to ∷ NotLent c.args.to ∷ IsWithin c.args.from c.args.start c.args.count ∷ IsWithin c.args.to c.args.offset c.args.count ∷ []) c.in_err-test_within.field-0.0 c.in_ok-test_block_here.ensures (refused-later c.self.inside.zone.shape c.self.inside.zone.heap (IsBlock c.args.to ∷ NotEmpty c.args.to ∷ NotLent c.args.to ∷ []) (IsWithin c.args.from c.args.start c.args.count ∷ IsWithin c.args.to c.args.offset c.args.count ∷ []) c.in_err-test_within.field-0.0 c.in_ok-test_block_here-2.ensures
+    (refused-first c.self.inside.zone.shape c.self.inside.zone.heap (IsWithin c.args.from c.args.start c.args.count ∷ []) (IsWithin c.args.to c.args.offset c.args.count ∷ []) c.in_err-test_within.field-0.0 c.in_err-test_within.ensures)))
+    refl (refused_outcome done_outcome (λ code. refl) end.result c.in_err-test_within.field-0.0 end.ensures.1)
+
+pub returns-in_err-test_within-2-clause-exact : goal.returns-in_err-test_within-2-clause-exact
+returns-in_err-test_within-2-clause-exact c = let end = c.from_residual-in_err-test_within-2 in
+    exact-refused c.args.self.now c.self.inside.zone c.self.view_is (BlockMove c.args.from c.args.start c.args.to c.args.offset c.args.count) c.in_err-test_within-2.field-0.0 [] (done_outcome end.result)
+    (refused-later c.self.inside.zone.shape c.self.inside.zone.heap (IsBlock c.args.from ∷ NotEmpty c.args.from ∷ NotLent c.args.from ∷ []) (IsBlock c.args.to ∷ NotEmpty c.args.to ∷ NotLent c.args.to ∷ IsWithin c.args.from c.args.start c.args.count ∷ IsWithin c.args.to c.args.offset c.args.count ∷ []) c.in_err-test_within-2.field-0.0 c.in_ok-test_block_here.ensures (refused-later c.self.inside.zone.shape c.self.inside.zone.heap (IsBlock c.args.to ∷ NotEmpty c.args.to ∷ NotLent c.args.to ∷ []) (IsWithin c.args.from c.args.start c.args.count ∷ IsWithin c.args.to c.args.offset c.args.count ∷ []) c.in_err-test_within-2.field-0.0 c.in_ok-test_block_here-2.ensures
+    (refused-later c.self.inside.zone.shape c.self.inside.zone.heap (IsWithin c.args.from c.args.start c.args.count ∷ []) (IsWithin c.args.to c.args.offset c.args.count ∷ []) c.in_err-test_within-2.field-0.0 c.in_ok-test_within.ensures c.in_err-test_within-2.ensures)))
+    refl (refused_outcome done_outcome (λ code. refl) end.result c.in_err-test_within-2.field-0.0 end.ensures.1)
+
+pub returns-in_err-test_within-2-clause-step : goal.returns-in_err-test_within-2-clause-step
+returns-in_err-test_within-2-clause-step c = let end = c.from_residual-in_err-test_within-2 in
+    step-refused c.args.self.now c.self.inside.zone c.self.view_is (BlockMove c.args.from c.args.start c.args.to c.args.offset c.args.count) c.in_err-test_within-2.field-0.0 [] (done_outcome end.result)
+    (refused-later c.self.inside.zone.shape c.self.inside.zone.heap (IsBlock c.args.from ∷ NotEmpty c.args.from ∷ NotLent c.args.from ∷ []) (IsBlock c.args.to ∷ NotEmpty c.args.to ∷ NotLent c.args.to ∷ IsWithin c.args.from c.args.start c.args.count ∷ IsWithin c.args.to c.args.offset c.args.count ∷ []) c.in_err-test_within-2.field-0.0 c.in_ok-test_block_here.ensures (refused-later c.self.inside.zone.shape c.self.inside.zone.heap (IsBlock c.args.to ∷ NotEmpty c.args.to ∷ NotLent c.args.to ∷ []) (IsWithin c.args.from c.args.start c.args.count ∷ IsWithin c.args.to c.args.offset c.args.count ∷ []) c.in_err-test_within-2.field-0.0 c.in_ok-test_block_here-2.ensures
+    (refused-later c.self.inside.zone.shape c.self.inside.zone.heap (IsWithin c.args.from c.args.start c.args.count ∷ []) (IsWithin c.args.to c.args.offset c.args.count ∷ []) c.in_err-test_within-2.field-0.0 c.in_ok-test_within.ensures c.in_err-test_within-2.ensures)))
+    refl (refused_outcome done_outcome (λ code. refl) end.result c.in_err-test_within-2.field-0.0 end.ensures.1)

@@ -6,8 +6,8 @@ use Rattle.mac_calls.specs.Outcomes.{done_outcome}
 use Rattle.mac_calls.specs.Tests.{IsHandle, NotEmpty, NotLent}
 use Rattle.mem_calls.proofs.Copies.{whole}
 use Rattle.mem_calls.proofs.KeptLoans.{kept}
-use Rattle.mem_calls.proofs.Passing.{passed-both}
-use Rattle.mem_calls.proofs.Stepping.{exact-copied, done_ends, step-exact}
+use Rattle.mem_calls.proofs.Passing.{passed-both, refused-first, refused-later}
+use Rattle.mem_calls.proofs.Stepping.{exact-copied, exact-refused, refused_outcome, done_ends, step-exact, step-refused}
 use Rattle.mem_calls.proofs.manager.MemoryManager.hand_and_hand.Goals as goal
 
 pub returns-clause-exact : goal.returns-clause-exact
@@ -35,3 +35,27 @@ returns-clause-step g c = step-exact c.args.self.now c.self.inside.zone c.copy_b
 
 pub returns-clause-loans : goal.returns-clause-loans
 returns-clause-loans g c = kept c.copy_behind.ensures.loans c.self.view_is
+
+pub returns-in_err-test_full_here-clause-exact : goal.returns-in_err-test_full_here-clause-exact
+returns-in_err-test_full_here-clause-exact g c = let end = c.from_residual in
+    exact-refused c.args.self.now c.self.inside.zone c.self.view_is (HandAndHand c.args.one c.args.other) c.in_err-test_full_here.field-0.0 _ (done_outcome end.result)
+    (refused-first c.self.inside.zone.shape c.self.inside.zone.heap (IsHandle c.args.one ∷ NotEmpty c.args.one ∷ NotLent c.args.one ∷ []) (IsHandle c.args.other ∷ NotEmpty c.args.other ∷ NotLent c.args.other ∷ []) c.in_err-test_full_here.field-0.0 c.in_err-test_full_here.ensures)
+    c.requires (refused_outcome done_outcome (λ code. refl) end.result c.in_err-test_full_here.field-0.0 end.ensures.1)
+
+pub returns-in_err-test_full_here-clause-step : goal.returns-in_err-test_full_here-clause-step
+returns-in_err-test_full_here-clause-step g c = let end = c.from_residual in
+    step-refused c.args.self.now c.self.inside.zone c.self.view_is (HandAndHand c.args.one c.args.other) c.in_err-test_full_here.field-0.0 _ (done_outcome end.result)
+    (refused-first c.self.inside.zone.shape c.self.inside.zone.heap (IsHandle c.args.one ∷ NotEmpty c.args.one ∷ NotLent c.args.one ∷ []) (IsHandle c.args.other ∷ NotEmpty c.args.other ∷ NotLent c.args.other ∷ []) c.in_err-test_full_here.field-0.0 c.in_err-test_full_here.ensures)
+    c.requires (refused_outcome done_outcome (λ code. refl) end.result c.in_err-test_full_here.field-0.0 end.ensures.1)
+
+pub returns-in_err-test_full_here-2-clause-exact : goal.returns-in_err-test_full_here-2-clause-exact
+returns-in_err-test_full_here-2-clause-exact g c = let end = c.from_residual-in_err-test_full_here-2 in
+    exact-refused c.args.self.now c.self.inside.zone c.self.view_is (HandAndHand c.args.one c.args.other) c.in_err-test_full_here-2.field-0.0 _ (done_outcome end.result)
+    (refused-later c.self.inside.zone.shape c.self.inside.zone.heap (IsHandle c.args.one ∷ NotEmpty c.args.one ∷ NotLent c.args.one ∷ []) (IsHandle c.args.other ∷ NotEmpty c.args.other ∷ NotLent c.args.other ∷ []) c.in_err-test_full_here-2.field-0.0 c.in_ok-test_full_here.ensures c.in_err-test_full_here-2.ensures)
+    c.requires (refused_outcome done_outcome (λ code. refl) end.result c.in_err-test_full_here-2.field-0.0 end.ensures.1)
+
+pub returns-in_err-test_full_here-2-clause-step : goal.returns-in_err-test_full_here-2-clause-step
+returns-in_err-test_full_here-2-clause-step g c = let end = c.from_residual-in_err-test_full_here-2 in
+    step-refused c.args.self.now c.self.inside.zone c.self.view_is (HandAndHand c.args.one c.args.other) c.in_err-test_full_here-2.field-0.0 _ (done_outcome end.result)
+    (refused-later c.self.inside.zone.shape c.self.inside.zone.heap (IsHandle c.args.one ∷ NotEmpty c.args.one ∷ NotLent c.args.one ∷ []) (IsHandle c.args.other ∷ NotEmpty c.args.other ∷ NotLent c.args.other ∷ []) c.in_err-test_full_here-2.field-0.0 c.in_ok-test_full_here.ensures c.in_err-test_full_here-2.ensures)
+    c.requires (refused_outcome done_outcome (λ code. refl) end.result c.in_err-test_full_here-2.field-0.0 end.ensures.1)

@@ -1,11 +1,13 @@
-use Rattle.std.proofs.Common.{refl, ap, sym, ◌∙◌, Ok}
-use Rattle.mem_calls.proofs.Passing.{passed-reallocate_handle}
+use Rattle.std.proofs.Common.{[], ◌∷◌, refl, ap, sym, ◌∙◌, Ok}
+use Rattle.mem_calls.proofs.Passing.{passed-reallocate_handle, refused-first, refused-later}
 use Rattle.mac_calls.specs.declared.memory_call.MemoryCall.TheVariants.{ReallocateHandle}
 use Rattle.mac_base.specs.declared.request.Request.TheVariants.{Replace}
 use Rattle.mac_calls.specs.declared.reply.Results.TheVariants.{Nothing}
 use Rattle.mac_calls.specs.Outcomes.{done_outcome}
+use Rattle.mac_base.specs.declared.error.OsErr.TheVariants.{MemPurErr}
+use Rattle.mac_calls.specs.Tests.{IsHandle, NotLent, NotLocked, IsSize}
 use Rattle.mem_calls.proofs.KeptLoans.{kept}
-use Rattle.mem_calls.proofs.Stepping.{request_outcome, refused_outcome, exact-requested, step-exact}
+use Rattle.mem_calls.proofs.Stepping.{request_outcome, refused_outcome, exact-refused, exact-requested, step-exact, step-refused}
 use Rattle.mem_calls.proofs.manager.MemoryManager.reallocate_handle.Goals as goal
 
 pub returns-in_err-request-clause-exact : goal.returns-in_err-request-clause-exact
@@ -39,3 +41,27 @@ returns-clause-step g c =
 
 pub returns-clause-loans : goal.returns-clause-loans
 returns-clause-loans g c = kept c.request.ensures.loans c.self.view_is
+
+pub returns-in_err-test_handle_here-clause-exact : goal.returns-in_err-test_handle_here-clause-exact
+returns-in_err-test_handle_here-clause-exact g c = let end = c.from_residual in
+    exact-refused c.args.self.now c.self.inside.zone c.self.view_is (ReallocateHandle c.args.handle c.args.size) c.in_err-test_handle_here.field-0.0 _ (done_outcome end.result)
+    (refused-first c.self.inside.zone.shape c.self.inside.zone.heap (IsHandle c.args.handle ∷ NotLent c.args.handle ∷ []) (NotLocked MemPurErr c.args.handle ∷ IsSize c.args.size ∷ []) c.in_err-test_handle_here.field-0.0 c.in_err-test_handle_here.ensures)
+    c.requires (refused_outcome done_outcome (λ code. refl) end.result c.in_err-test_handle_here.field-0.0 end.ensures.1)
+
+pub returns-in_err-test_handle_here-clause-step : goal.returns-in_err-test_handle_here-clause-step
+returns-in_err-test_handle_here-clause-step g c = let end = c.from_residual in
+    step-refused c.args.self.now c.self.inside.zone c.self.view_is (ReallocateHandle c.args.handle c.args.size) c.in_err-test_handle_here.field-0.0 _ (done_outcome end.result)
+    (refused-first c.self.inside.zone.shape c.self.inside.zone.heap (IsHandle c.args.handle ∷ NotLent c.args.handle ∷ []) (NotLocked MemPurErr c.args.handle ∷ IsSize c.args.size ∷ []) c.in_err-test_handle_here.field-0.0 c.in_err-test_handle_here.ensures)
+    c.requires (refused_outcome done_outcome (λ code. refl) end.result c.in_err-test_handle_here.field-0.0 end.ensures.1)
+
+pub returns-in_err-test_unlocked-clause-exact : goal.returns-in_err-test_unlocked-clause-exact
+returns-in_err-test_unlocked-clause-exact g c = let end = c.from_residual-in_err-test_unlocked in
+    exact-refused c.args.self.now c.self.inside.zone c.self.view_is (ReallocateHandle c.args.handle c.args.size) c.in_err-test_unlocked.field-0.0 _ (done_outcome end.result)
+    (refused-later c.self.inside.zone.shape c.self.inside.zone.heap (IsHandle c.args.handle ∷ NotLent c.args.handle ∷ []) (NotLocked MemPurErr c.args.handle ∷ IsSize c.args.size ∷ []) c.in_err-test_unlocked.field-0.0 c.in_ok-test_handle_here.ensures (refused-first c.self.inside.zone.shape c.self.inside.zone.heap (NotLocked MemPurErr c.args.handle ∷ []) (IsSize c.args.size ∷ []) c.in_err-test_unlocked.field-0.0 c.in_err-test_unlocked.ensures))
+    c.requires (refused_outcome done_outcome (λ code. refl) end.result c.in_err-test_unlocked.field-0.0 end.ensures.1)
+
+pub returns-in_err-test_unlocked-clause-step : goal.returns-in_err-test_unlocked-clause-step
+returns-in_err-test_unlocked-clause-step g c = let end = c.from_residual-in_err-test_unlocked in
+    step-refused c.args.self.now c.self.inside.zone c.self.view_is (ReallocateHandle c.args.handle c.args.size) c.in_err-test_unlocked.field-0.0 _ (done_outcome end.result)
+    (refused-later c.self.inside.zone.shape c.self.inside.zone.heap (IsHandle c.args.handle ∷ NotLent c.args.handle ∷ []) (NotLocked MemPurErr c.args.handle ∷ IsSize c.args.size ∷ []) c.in_err-test_unlocked.field-0.0 c.in_ok-test_handle_here.ensures (refused-first c.self.inside.zone.shape c.self.inside.zone.heap (NotLocked MemPurErr c.args.handle ∷ []) (IsSize c.args.size ∷ []) c.in_err-test_unlocked.field-0.0 c.in_err-test_unlocked.ensures))
+    c.requires (refused_outcome done_outcome (λ code. refl) end.result c.in_err-test_unlocked.field-0.0 end.ensures.1)

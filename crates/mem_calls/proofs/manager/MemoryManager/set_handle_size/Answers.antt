@@ -1,11 +1,12 @@
-use Rattle.std.proofs.Common.{refl, ap, sym, ◌∙◌, Ok}
-use Rattle.mem_calls.proofs.Passing.{passed-set_handle_size}
+use Rattle.std.proofs.Common.{[], ◌∷◌, refl, ap, sym, ◌∙◌, Ok}
+use Rattle.mem_calls.proofs.Passing.{passed-set_handle_size, refused-first, refused-later}
 use Rattle.mac_calls.specs.declared.memory_call.MemoryCall.TheVariants.{SetHandleSize}
 use Rattle.mac_base.specs.declared.request.Request.TheVariants.{Resize}
 use Rattle.mac_calls.specs.declared.reply.Results.TheVariants.{Nothing}
 use Rattle.mac_calls.specs.Outcomes.{done_outcome}
+use Rattle.mac_calls.specs.Tests.{IsHandle, NotEmpty, NotLent, IsSize}
 use Rattle.mem_calls.proofs.KeptLoans.{kept}
-use Rattle.mem_calls.proofs.Stepping.{request_outcome, refused_outcome, exact-requested, step-exact}
+use Rattle.mem_calls.proofs.Stepping.{request_outcome, refused_outcome, exact-refused, exact-requested, step-exact, step-refused}
 use Rattle.mem_calls.proofs.manager.MemoryManager.set_handle_size.Goals as goal
 
 pub returns-in_err-request-clause-exact : goal.returns-in_err-request-clause-exact
@@ -35,3 +36,27 @@ returns-clause-step g c =
 
 pub returns-clause-loans : goal.returns-clause-loans
 returns-clause-loans g c = kept c.request.ensures.loans c.self.view_is
+
+pub returns-in_err-test_full-clause-exact : goal.returns-in_err-test_full-clause-exact
+returns-in_err-test_full-clause-exact g c = let end = c.from_residual in
+    exact-refused c.args.self.now c.self.inside.zone c.self.view_is (SetHandleSize c.args.handle c.args.size) c.in_err-test_full.field-0.0 _ (done_outcome end.result)
+    (refused-first c.self.inside.zone.shape c.self.inside.zone.heap (IsHandle c.args.handle ∷ NotEmpty c.args.handle ∷ []) (NotLent c.args.handle ∷ IsSize c.args.size ∷ []) c.in_err-test_full.field-0.0 c.in_err-test_full.ensures)
+    c.requires (refused_outcome done_outcome (λ code. refl) end.result c.in_err-test_full.field-0.0 end.ensures.1)
+
+pub returns-in_err-test_full-clause-step : goal.returns-in_err-test_full-clause-step
+returns-in_err-test_full-clause-step g c = let end = c.from_residual in
+    step-refused c.args.self.now c.self.inside.zone c.self.view_is (SetHandleSize c.args.handle c.args.size) c.in_err-test_full.field-0.0 _ (done_outcome end.result)
+    (refused-first c.self.inside.zone.shape c.self.inside.zone.heap (IsHandle c.args.handle ∷ NotEmpty c.args.handle ∷ []) (NotLent c.args.handle ∷ IsSize c.args.size ∷ []) c.in_err-test_full.field-0.0 c.in_err-test_full.ensures)
+    c.requires (refused_outcome done_outcome (λ code. refl) end.result c.in_err-test_full.field-0.0 end.ensures.1)
+
+pub returns-in_err-test_new_size-clause-exact : goal.returns-in_err-test_new_size-clause-exact
+returns-in_err-test_new_size-clause-exact g c = let end = c.from_residual-in_err-test_new_size in
+    exact-refused c.args.self.now c.self.inside.zone c.self.view_is (SetHandleSize c.args.handle c.args.size) c.in_err-test_new_size.field-0.0 _ (done_outcome end.result)
+    (refused-later c.self.inside.zone.shape c.self.inside.zone.heap (IsHandle c.args.handle ∷ NotEmpty c.args.handle ∷ []) (NotLent c.args.handle ∷ IsSize c.args.size ∷ []) c.in_err-test_new_size.field-0.0 c.in_ok-test_full.ensures (rw c.number-block.ensures at c.in_err-test_new_size.ensures))
+    c.requires (refused_outcome done_outcome (λ code. refl) end.result c.in_err-test_new_size.field-0.0 end.ensures.1)
+
+pub returns-in_err-test_new_size-clause-step : goal.returns-in_err-test_new_size-clause-step
+returns-in_err-test_new_size-clause-step g c = let end = c.from_residual-in_err-test_new_size in
+    step-refused c.args.self.now c.self.inside.zone c.self.view_is (SetHandleSize c.args.handle c.args.size) c.in_err-test_new_size.field-0.0 _ (done_outcome end.result)
+    (refused-later c.self.inside.zone.shape c.self.inside.zone.heap (IsHandle c.args.handle ∷ NotEmpty c.args.handle ∷ []) (NotLent c.args.handle ∷ IsSize c.args.size ∷ []) c.in_err-test_new_size.field-0.0 c.in_ok-test_full.ensures (rw c.number-block.ensures at c.in_err-test_new_size.ensures))
+    c.requires (refused_outcome done_outcome (λ code. refl) end.result c.in_err-test_new_size.field-0.0 end.ensures.1)

@@ -1,11 +1,12 @@
-use Rattle.std.proofs.Common.{refl, ap, sym, ◌∙◌, Ok}
-use Rattle.mem_calls.proofs.Passing.{passed-set_ptr_size}
+use Rattle.std.proofs.Common.{[], ◌∷◌, refl, ap, sym, ◌∙◌, Ok}
+use Rattle.mem_calls.proofs.Passing.{passed-set_ptr_size, refused-first, refused-later}
 use Rattle.mac_calls.specs.declared.memory_call.MemoryCall.TheVariants.{SetPtrSize}
 use Rattle.mac_base.specs.declared.request.Request.TheVariants.{Resize}
 use Rattle.mac_calls.specs.declared.reply.Results.TheVariants.{Nothing}
 use Rattle.mac_calls.specs.Outcomes.{done_outcome}
+use Rattle.mac_calls.specs.Tests.{IsPointer, NotLent, IsSize}
 use Rattle.mem_calls.proofs.KeptLoans.{kept}
-use Rattle.mem_calls.proofs.Stepping.{request_outcome, refused_outcome, exact-requested, step-exact}
+use Rattle.mem_calls.proofs.Stepping.{request_outcome, refused_outcome, exact-refused, exact-requested, step-exact, step-refused}
 use Rattle.mem_calls.proofs.manager.MemoryManager.set_ptr_size.Goals as goal
 
 pub returns-in_err-request-clause-exact : goal.returns-in_err-request-clause-exact
@@ -35,3 +36,27 @@ returns-clause-step g c =
 
 pub returns-clause-loans : goal.returns-clause-loans
 returns-clause-loans g c = kept c.request.ensures.loans c.self.view_is
+
+pub returns-in_err-test_pointer-clause-exact : goal.returns-in_err-test_pointer-clause-exact
+returns-in_err-test_pointer-clause-exact g c = let end = c.from_residual in
+    exact-refused c.args.self.now c.self.inside.zone c.self.view_is (SetPtrSize c.args.pointer c.args.size) c.in_err-test_pointer.field-0.0 _ (done_outcome end.result)
+    (refused-first c.self.inside.zone.shape c.self.inside.zone.heap (IsPointer c.args.pointer ∷ []) (NotLent c.args.pointer ∷ IsSize c.args.size ∷ []) c.in_err-test_pointer.field-0.0 c.in_err-test_pointer.ensures)
+    c.requires (refused_outcome done_outcome (λ code. refl) end.result c.in_err-test_pointer.field-0.0 end.ensures.1)
+
+pub returns-in_err-test_pointer-clause-step : goal.returns-in_err-test_pointer-clause-step
+returns-in_err-test_pointer-clause-step g c = let end = c.from_residual in
+    step-refused c.args.self.now c.self.inside.zone c.self.view_is (SetPtrSize c.args.pointer c.args.size) c.in_err-test_pointer.field-0.0 _ (done_outcome end.result)
+    (refused-first c.self.inside.zone.shape c.self.inside.zone.heap (IsPointer c.args.pointer ∷ []) (NotLent c.args.pointer ∷ IsSize c.args.size ∷ []) c.in_err-test_pointer.field-0.0 c.in_err-test_pointer.ensures)
+    c.requires (refused_outcome done_outcome (λ code. refl) end.result c.in_err-test_pointer.field-0.0 end.ensures.1)
+
+pub returns-in_err-test_new_size-clause-exact : goal.returns-in_err-test_new_size-clause-exact
+returns-in_err-test_new_size-clause-exact g c = let end = c.from_residual-in_err-test_new_size in
+    exact-refused c.args.self.now c.self.inside.zone c.self.view_is (SetPtrSize c.args.pointer c.args.size) c.in_err-test_new_size.field-0.0 _ (done_outcome end.result)
+    (refused-later c.self.inside.zone.shape c.self.inside.zone.heap (IsPointer c.args.pointer ∷ []) (NotLent c.args.pointer ∷ IsSize c.args.size ∷ []) c.in_err-test_new_size.field-0.0 c.in_ok-test_pointer.ensures (rw c.number-block.ensures at c.in_err-test_new_size.ensures))
+    c.requires (refused_outcome done_outcome (λ code. refl) end.result c.in_err-test_new_size.field-0.0 end.ensures.1)
+
+pub returns-in_err-test_new_size-clause-step : goal.returns-in_err-test_new_size-clause-step
+returns-in_err-test_new_size-clause-step g c = let end = c.from_residual-in_err-test_new_size in
+    step-refused c.args.self.now c.self.inside.zone c.self.view_is (SetPtrSize c.args.pointer c.args.size) c.in_err-test_new_size.field-0.0 _ (done_outcome end.result)
+    (refused-later c.self.inside.zone.shape c.self.inside.zone.heap (IsPointer c.args.pointer ∷ []) (NotLent c.args.pointer ∷ IsSize c.args.size ∷ []) c.in_err-test_new_size.field-0.0 c.in_ok-test_pointer.ensures (rw c.number-block.ensures at c.in_err-test_new_size.ensures))
+    c.requires (refused_outcome done_outcome (λ code. refl) end.result c.in_err-test_new_size.field-0.0 end.ensures.1)
