@@ -1,8 +1,14 @@
 //! Forks whose bytes are known, read and written.
 
 use crate::given::{bytes_of, read_as_text};
+use bitflags::Flags;
+use fork_bytes::table::{Row, Rows, Table};
 use fork_bytes::write_fork;
 use fork_reader::read_fork;
+use mac_base::bytes::Bytes;
+use res_base::name::Name;
+use res_base::resource::{ResAttrs, ResType};
+use std::alloc::{AllocError, Global};
 use std::test::Fail;
 
 /// The fork without resources.
@@ -88,5 +94,55 @@ fn what_is_read_is_written_again(rt: HostRuntime) -> Result<(), Fail> {
         let fork = write_fork(alloc, &table)?;
         assert!(rt; fork == bytes_of(alloc, written)?, "{text}");
     }
+    Ok(())
+}
+
+/// A row without attributes.
+fn row_of(
+    alloc: Global,
+    kind: [u8; 4],
+    id: i16,
+    name: Option<Name>,
+    bytes: &[u8],
+) -> Result<Row, AllocError> {
+    Ok(Row {
+        kind: ResType::new(kind),
+        id,
+        name,
+        attributes: ResAttrs::from_bits_retain(0),
+        datum: Bytes::new(bytes.to_vec(alloc)?),
+    })
+}
+
+/// A table of these rows, with zeros for the extra bytes.
+fn table_of(rows: Vec<Row>) -> Table {
+    Table {
+        rows: Rows::new(rows),
+        extra: [0; 240],
+        map_attributes: 0,
+    }
+}
+
+#[test]
+fn two_rows_of_one_id_are_written(rt: HostRuntime) -> Result<(), Fail> {
+    let alloc = rt.alloc();
+    let mut rows = Vec::new(alloc);
+    rows.push(row_of(alloc, *b"TEXT", 5, None, b"a")?)?;
+    rows.push(row_of(alloc, *b"TEXT", 5, None, b"b")?)?;
+    let fork = write_fork(alloc, &table_of(rows))?;
+    assert_eq!(rt; fork.len(), 328);
+    assert!(rt; fork == bytes_of(alloc, TWO)?, "the fork of two rows");
+    Ok(())
+}
+
+#[test]
+fn a_row_with_a_name_is_written(rt: HostRuntime) -> Result<(), Fail> {
+    let alloc = rt.alloc();
+    let name = Name::new(b"ab".to_vec(alloc)?);
+    let mut rows = Vec::new(alloc);
+    rows.push(row_of(alloc, *b"STR ", -1, name, b"Hi")?)?;
+    let fork = write_fork(alloc, &table_of(rows))?;
+    assert_eq!(rt; fork.len(), 315);
+    assert!(rt; fork == bytes_of(alloc, NAMED)?, "the fork of a row with a name");
     Ok(())
 }

@@ -27,6 +27,21 @@ pub(crate) fn one(alloc: Global) -> Result<Vec<u8>, AllocError> {
     Ok(fork)
 }
 
+/// A fork of 334 bytes of two resources: 'TEXT' 1 with the bytes "abc" and 'TEXT' 2 with "de". The data has those of the second at 0
+/// and those of the first at 9, and between them three bytes of no one's.
+pub(crate) fn two(alloc: Global) -> Result<Vec<u8>, AllocError> {
+    let header = b"\x00\x00\x01\x00\x00\x00\x01\x10\x00\x00\x00\x10\x00\x00\x00\x3e";
+    let mut fork = header.to_vec(alloc)?;
+    fork.resize(256, 0)?;
+    fork.extend_from_slice(b"\x00\x00\x00\x02dexyz\x00\x00\x00\x03abc")?;
+    fork.extend_from_slice(header)?;
+    fork.extend_from_slice(b"\x00\x00\x00\x00\x00\x00\x00\x00\x00\x1c\x00\x3e")?;
+    fork.extend_from_slice(b"\x00\x00TEXT\x00\x01\x00\x0a")?;
+    fork.extend_from_slice(b"\x00\x01\xff\xff\x00\x00\x00\x09\x00\x00\x00\x00")?;
+    fork.extend_from_slice(b"\x00\x02\xff\xff\x00\x00\x00\x00\x00\x00\x00\x00")?;
+    Ok(fork)
+}
+
 /// A fork of so many bytes without resources, which has no more than a header and a map with the attributes $0080.
 pub(crate) fn small(alloc: Global) -> Result<Vec<u8>, AllocError> {
     let mut fork = b"\x00\x00\x00\x10\x00\x00\x00\x10\x00\x00\x00\x00\x00\x00\x00\x1e".to_vec(

@@ -1,6 +1,6 @@
 //! Where the bytes of resources are found.
 
-use crate::given::{one, small, store_of};
+use crate::given::{one, small, store_of, two};
 use fork_reader::place::Place;
 use fork_rows::read_rows;
 use std::test::Fail;
@@ -25,6 +25,26 @@ fn one_resource_is_found(rt: HostRuntime) -> Result<(), Fail> {
     assert_eq!(rt; table.map_attributes, 0);
     assert!(rt; table.extra == [0; 240]);
     assert_eq!(rt; store.disk.calls(), 4);
+    Ok(())
+}
+
+/// The bytes of two resources, which stand apart and in the reverse order: the device has each at the place that is found for it.
+#[test]
+fn each_resource_has_its_bytes(rt: HostRuntime) -> Result<(), Fail> {
+    let mut store = store_of(two(rt.alloc())?, 0);
+    let table = read_rows(rt.alloc(), &mut store)?;
+    let rows = table.rows.as_slice();
+    assert_eq!(rt; rows.len(), 2);
+    for (row, (id, offset, want)) in rows.iter().zip([(1, 269, "abc"), (2, 260, "de")]) {
+        assert_eq!(rt; row.id, id);
+        assert_eq!(rt; row.datum.offset, offset, "{id}");
+        let start = row.datum.offset as usize;
+        let end = start + row.datum.length as usize;
+        let bytes = store.disk.disk().bytes();
+        assert!(rt; end <= bytes.len());
+        assert_eq!(rt; &bytes[start..end], want.as_bytes(), "{id}");
+    }
+    assert_eq!(rt; store.disk.calls(), 5);
     Ok(())
 }
 
