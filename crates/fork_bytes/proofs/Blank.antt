@@ -1,6 +1,6 @@
 -- A fork with zeros for its data, and the same once they are put in.
-use Rattle.std.proofs.Common.{◌≡◌, ℕ, zero, suc, slice_index, ◌+◌, ◌*◌, ◌<◌, ◌≤◌, List, [], ◌∷◌, ◌++◌, length, map, drop, ◌↔◌, inl, inr, ⊎_elim, Err, refl, sym, subst, ap, ◌∙◌, arith}
-use Rattle.std.specs.Prelude.{IsErrOf, slice_index_or}
+use Rattle.std.proofs.Common.{◌≡◌, ℕ, zero, suc, slice_index, ◌+◌, ◌*◌, ◌<◌, ◌≤◌, List, [], ◌∷◌, ◌++◌, length, map, drop, ◌↔◌, inl, inr, ⊎_elim, refl, sym, subst, ap, ◌∙◌, arith}
+use Rattle.std.specs.Prelude.{slice_index_or}
 use Rattle.std.proofs.lemmas.List.{drop_at, take_at, length-append, append_assoc, length-replicate}
 use Rattle.byteorder.specs.Endian.{big_bytes}
 use Rattle.fork_bytes.specs.declared.layout.Header.{Header}
@@ -163,20 +163,9 @@ too_big_same table =
 pub too_big_of : (outline : Outline) (table : Table) → HasOutline outline table → IsTooBig (blank_table outline) ↔ IsTooBig table
 too_big_of outline table has = subst (λ (t : Table). IsTooBig t ↔ IsTooBig table) (sym (blank_is outline table has)) (too_big_same table)
 
--- too much data is too much
-pub data_over : (table : Table) → max_fork < length (data_text table.rows) → IsTooBig table
-data_over table large =
-    let whole = length-append (front_text table) (data_text table.rows ++ map_text table) in
-    let rest = length-append (data_text table.rows) (map_text table) in
-    let over : max_fork < length (written table) = omega arith in inl over
-
 -- what fits isn't too big
 pub not_too_big : (table : Table) → length (written table) ≤ max_fork → Fits table → ¬ IsTooBig table
 not_too_big table small fits = ⊎_elim (λ large. absurd (omega arith)) (λ no. no fits)
-
--- one error of two results
-pub other_result : {A B E : Type 0} (fault told : E) → IsErrOf {T = A} (Err fault) told → IsErrOf {T = B} (Err fault) told
-other_result fault told is = let same : fault ≡ told = cc in ap (λ (e : _). Err e) same
 
 -- there is a place for each row
 length-data_places : (at : ℕ) (rows : List MapRow) → length (data_places at rows) ≡ length rows

@@ -4,7 +4,7 @@ use Rattle.std.proofs.lemmas.List.{drop_all, drop_more, length-drop}
 use Rattle.std.proofs.lemmas.Bool.Decides.{not_from_Decides}
 use Rattle.std.proofs.lemmas.Slice.Eq.{bytes_eq-Decides}
 use Rattle.fork_bytes.specs.declared.layout.TypeCount.{TypeCount}
-use Rattle.fork_bytes.specs.Rows.{Row}
+use Rattle.res_base.specs.declared.resource.Resource.{Resource}
 use Rattle.fork_bytes.proofs.Lengths.{AreFour}
 use Rattle.fork_bytes.specs.Written.{counted_before, types_of}
 
@@ -44,24 +44,24 @@ counted_apart kind other m n (first ∷ others) apart = by_case (bytes_eq other 
     by_case false = rw apart refl
 
 -- a further row of the type
-pub run_more : (rows : List Row) (n i : ℕ) (d : Row) (kind : List ℕ) → i < length rows → bytes_eq (get_or rows i d).kind kind ≡ true →
+pub run_more : {X : Type 0} (rows : List (Resource X)) (n i : ℕ) (d : Resource X) (kind : List ℕ) → i < length rows → bytes_eq (get_or rows i d).kind kind ≡ true →
     counted_before kind n (types_of (drop i rows)) ≡ counted_before kind (n + 1) (types_of (drop (i + 1) rows))
 run_more rows n i d kind within alike =
-    ap (λ (rest : List Row). counted_before kind n (types_of rest)) (drop_more rows i d within)
+    ap (λ (rest : List (Resource _)). counted_before kind n (types_of rest)) (drop_more rows i d within)
     ∙ ap (λ (k : List ℕ). counted_before kind n (counted_before k 1 (types_of (drop (i + 1) rows)))) ((bytes_eq-Decides (get_or rows i d).kind kind).0 alike)
     ∙ counted_twice kind n 1 (types_of (drop (i + 1) rows))
 
 -- a row of another type ends the run
-pub run_apart : (rows : List Row) (n i : ℕ) (d : Row) (kind : List ℕ) → i < length rows → bytes_eq (get_or rows i d).kind kind ≡ false →
+pub run_apart : {X : Type 0} (rows : List (Resource X)) (n i : ℕ) (d : Resource X) (kind : List ℕ) → i < length rows → bytes_eq (get_or rows i d).kind kind ≡ false →
     counted_before kind n (types_of (drop i rows)) ≡ record { kind = kind; count = n } ∷ types_of (drop i rows)
 run_apart rows n i d kind within apart =
     let next = drop_more rows i d within in
-    ap (λ (rest : List Row). counted_before kind n (types_of rest)) next
+    ap (λ (rest : List (Resource _)). counted_before kind n (types_of rest)) next
     ∙ counted_apart kind (get_or rows i d).kind n 1 (types_of (drop (i + 1) rows)) (differ (get_or rows i d).kind kind apart)
-    ∙ ap (λ (rest : List Row). record { kind = kind; count = n } ∷ types_of rest) (sym next)
+    ∙ ap (λ (rest : List (Resource _)). record { kind = kind; count = n } ∷ types_of rest) (sym next)
 
 -- so does the end
-pub run_last : (rows : List Row) (n i : ℕ) (kind : List ℕ) → length rows ≤ i →
+pub run_last : {X : Type 0} (rows : List (Resource X)) (n i : ℕ) (kind : List ℕ) → length rows ≤ i →
     counted_before kind n (types_of (drop i rows)) ≡ record { kind = kind; count = n } ∷ types_of (drop i rows)
 run_last rows n i kind past = rw (drop_all i rows past) refl
 
@@ -77,21 +77,21 @@ said_at P (x ∷ xs) zero d within holds = holds
 said_at P (x ∷ xs) (suc i) d within holds = said_at P xs i d (omega arith) holds
 
 -- the types from a place on, where a run ends at another
-pub types_at_run : (rows : List Row) (i j : ℕ) → i < length rows →
+pub types_at_run : {X : Type 0} (rows : List (Resource X)) (i j : ℕ) → i < length rows →
     IfSome (slice_get rows i) (λ row. types_of (drop i rows) ≡ record { kind = row.kind; count = j - i } ∷ types_of (drop j rows)) →
     length (types_of (drop i rows)) ≡ 1 + length (types_of (drop j rows))
 types_at_run rows i j within run =
     by_case (drop i rows) refl
   where
-    by_case : (rest : List Row) → drop i rows ≡ rest → length (types_of (drop i rows)) ≡ 1 + length (types_of (drop j rows))
-    by_case [] is = let none = ap (λ (xs : List Row). length xs) is in let long = length-drop i rows in absurd (omega arith)
+    by_case : (rest : List (Resource _)) → drop i rows ≡ rest → length (types_of (drop i rows)) ≡ 1 + length (types_of (drop j rows))
+    by_case [] is = let none = ap (λ (xs : List (Resource _)). length xs) is in let long = length-drop i rows in absurd (omega arith)
     by_case (row ∷ rest) is =
-        let at = said_at (λ (r : Row). types_of (drop i rows) ≡ record { kind = r.kind; count = j - i } ∷ types_of (drop j rows)) rows i row within run in
+        let at = said_at (λ (r : Resource _). types_of (drop i rows) ≡ record { kind = r.kind; count = j - i } ∷ types_of (drop j rows)) rows i row within run in
         ap (λ (types : List TypeCount). length types) at ∙ omega arith
 
 -- types are of four bytes from a place on, where the row's there is and those behind its run are
-pub four_at_run : (rows : List Row) (i j : ℕ) (d : Row) → i < length rows →
+pub four_at_run : {X : Type 0} (rows : List (Resource X)) (i j : ℕ) (d : Resource X) → i < length rows →
     IfSome (slice_get rows i) (λ row. types_of (drop i rows) ≡ record { kind = row.kind; count = j - i } ∷ types_of (drop j rows)) →
     length (get_or rows i d).kind ≡ 4 → AreFour (types_of (drop j rows)) → AreFour (types_of (drop i rows))
 four_at_run rows i j d within run four others =
-    subst AreFour (sym (said_at (λ (r : Row). types_of (drop i rows) ≡ record { kind = r.kind; count = j - i } ∷ types_of (drop j rows)) rows i d within run)) (four, others)
+    subst AreFour (sym (said_at (λ (r : Resource _). types_of (drop i rows) ≡ record { kind = r.kind; count = j - i } ∷ types_of (drop j rows)) rows i d within run)) (four, others)

@@ -12,3 +12,4 @@ mod Grouped
 mod ReadWhole
 mod Blank
 pub mod Lengths
+mod Sized

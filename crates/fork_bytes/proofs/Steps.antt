@@ -4,8 +4,10 @@ use Rattle.std.proofs.lemmas.List.{drop_more, drop_all, length-append, append_as
 use Rattle.std.specs.List.{flat_map, AllByRecursion}
 use Rattle.byteorder.specs.Endian.{big_bytes}
 use Rattle.byteorder.specs.Numbers.{length-bytes_high_first}
+use Rattle.res_base.specs.declared.resource.Resource.{Resource}
 use Rattle.fork_bytes.specs.Rows.{Row}
 use Rattle.fork_bytes.specs.Written.{datum, data_text, name_text, names_text, NamesFit}
+use Rattle.fork_bytes.specs.Sizes.{data_size}
 
 -- an element, and what follows it
 pub drop_item : {X : Type 0} (xs : List X) (i : ℕ) (x : X) → i < length xs → x ≡ get_or xs i x → drop i xs ≡ x ∷ drop (i + 1) xs
@@ -31,18 +33,22 @@ pub data_step : (rows : List Row) (i : ℕ) (row : Row) → i < length rows → 
     length (data_text (drop i rows)) ≡ 4 + length row.datum + length (data_text (drop (i + 1) rows))
 data_step rows i row within is = ap (λ (rest : List Row). length (data_text rest)) (drop_item rows i row within is) ∙ length-data row (drop (i + 1) rows)
 
--- behind the last row there is none
-pub data_end : (rows : List Row) (i : ℕ) → length rows ≤ i → length (data_text (drop i rows)) ≡ 0
-data_end rows i past = ap (λ (rest : List Row). length (data_text rest)) (drop_all i rows past)
+-- how many bytes the data have from a place among rows on
+pub size_step : {X : Type 0} (long : X → ℕ) (rows : List (Resource X)) (i : ℕ) (row : Resource X) → i < length rows → row ≡ get_or rows i row →
+    data_size long (drop i rows) ≡ 4 + long row.datum + data_size long (drop (i + 1) rows)
+size_step long rows i row within is = ap (data_size long) (drop_item rows i row within is)
+
+pub size_end : {X : Type 0} (long : X → ℕ) (rows : List (Resource X)) (i : ℕ) → length rows ≤ i → data_size long (drop i rows) ≡ 0
+size_end long rows i past = ap (data_size long) (drop_all i rows past)
 
 -- the names of a row and those behind it
-pub length-names : (row : Row) (rows : List Row) → length (names_text (row ∷ rows)) ≡ length (name_text row.name) + length (names_text rows)
+pub length-names : {X : Type 0} (row : Resource X) (rows : List (Resource X)) → length (names_text (row ∷ rows)) ≡ length (name_text row.name) + length (names_text rows)
 length-names row rows = length-append (name_text row.name) (names_text rows)
 
 -- the name list from a place among rows on
-pub names_step : (rows : List Row) (i : ℕ) (row : Row) → i < length rows → row ≡ get_or rows i row →
+pub names_step : {X : Type 0} (rows : List (Resource X)) (i : ℕ) (row : Resource X) → i < length rows → row ≡ get_or rows i row →
     length (names_text (drop i rows)) ≡ length (name_text row.name) + length (names_text (drop (i + 1) rows))
-names_step rows i row within is = ap (λ (rest : List Row). length (names_text rest)) (drop_item rows i row within is) ∙ length-names row (drop (i + 1) rows)
+names_step rows i row within is = ap (λ (rest : List (Resource _)). length (names_text rest)) (drop_item rows i row within is) ∙ length-names row (drop (i + 1) rows)
 
 -- how many bytes a name takes, and that two bytes hold its offset
 pub some_name : (found : Option (List ℕ)) (name : List ℕ) (at : ℕ) → found ≡ Some name → at ≤ 65534 → IfSome found (λ _. at ≤ 65534) × (length (name_text found) ≡ 1 + length name)
@@ -54,18 +60,18 @@ no_name None at is = (tt, refl)
 no_name (Some other) at is = absurd (cc is)
 
 -- the offsets of names fit from a row on where its own does, and those of the others
-pub fit_step : (rows : List Row) (i at next : ℕ) (row : Row) → i < length rows → row ≡ get_or rows i row → IfSome row.name (λ _. at ≤ 65534) → next ≡ at + length (name_text row.name) →
+pub fit_step : {X : Type 0} (rows : List (Resource X)) (i at next : ℕ) (row : Resource X) → i < length rows → row ≡ get_or rows i row → IfSome row.name (λ _. at ≤ 65534) → next ≡ at + length (name_text row.name) →
     NamesFit at (drop i rows) ↔ NamesFit next (drop (i + 1) rows)
 fit_step rows i at next row within is low behind =
     let item = drop_item rows i row within is in
     let P : ℕ → Type 0 = λ n. NamesFit n (drop (i + 1) rows) in
-    let Q : List Row → Type 0 = NamesFit at in
+    let Q : List (Resource _) → Type 0 = NamesFit at in
     (λ fit. subst P (sym behind) (subst Q item fit).1, λ fit. subst Q (sym item) (low, subst P behind fit))
 
 -- they don't fit where a name's offset is too large
-pub fit_not : (rows : List Row) (i at : ℕ) (row : Row) (name : List ℕ) → i < length rows → row ≡ get_or rows i row → row.name ≡ Some name → 65534 < at → ¬ NamesFit at (drop i rows)
+pub fit_not : {X : Type 0} (rows : List (Resource X)) (i at : ℕ) (row : Resource X) (name : List ℕ) → i < length rows → row ≡ get_or rows i row → row.name ≡ Some name → 65534 < at → ¬ NamesFit at (drop i rows)
 fit_not rows i at row name within is named high fit =
-    let Q : List Row → Type 0 = NamesFit at in
+    let Q : List (Resource _) → Type 0 = NamesFit at in
     let R : Option (List ℕ) → Type 0 = λ found. IfSome found (λ _. at ≤ 65534) in
     let low = subst R named (subst Q (drop_item rows i row within is) fit).0 in omega arith
 

@@ -4,6 +4,7 @@ use Rattle.std.specs.List.{AllByRecursion}
 use Rattle.std.specs.Int.{w16}
 use Rattle.fork_bytes.specs.declared.layout.TypeCount.{TypeCount}
 use Rattle.fork_bytes.specs.declared.table.Table.{Table}
+use Rattle.res_base.specs.declared.resource.Resource.{Resource}
 use Rattle.fork_bytes.specs.Rows.{Row}
 use Rattle.fork_bytes.specs.Fork.{max_fork, StandsFor}
 use Rattle.fork_bytes.specs.Written.{types_of, written, Fits}
@@ -12,8 +13,8 @@ use Rattle.fork_bytes.specs.Written.{types_of, written, Fits}
 abbrev pub IsGrouped : List Row → Type 0
 IsGrouped rows = AllPairs (λ (a b : TypeCount). a.kind ≢ b.kind) (types_of rows)
 
--- what each row is: four bytes of type, numbers in range, and a name of 255 bytes at most
-pub record IsRow (row : Row) : Type 0 where
+-- what each row is but for its datum: four bytes of type, numbers in range, and a name of 255 bytes at most
+pub record IsRow {X : Type 0} (row : Resource X) : Type 0 where
   pub kind : length row.kind ≡ 4
   pub id : FitsSigned w16 row.id
   pub name : IfSome row.name (λ name. length name ≤ 255)

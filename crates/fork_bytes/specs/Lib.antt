@@ -2,4 +2,5 @@ pub mod Rows
 pub mod Fork
 pub mod Written
 pub mod Laws
+pub mod Sizes
 pub mod Frame

@@ -6,6 +6,7 @@ use Rattle.byteorder.specs.Endian.{big_bytes}
 use Rattle.fork_bytes.specs.declared.layout.Header.{Header}
 use Rattle.fork_bytes.specs.declared.layout.TypeCount.{TypeCount}
 use Rattle.fork_bytes.specs.declared.table.Table.{Table}
+use Rattle.res_base.specs.declared.resource.Resource.{Resource}
 use Rattle.fork_bytes.specs.Rows.{Row}
 use Rattle.fork_bytes.specs.Fork.{max_fork, max_rows}
 
@@ -17,7 +18,7 @@ counted_before kind count (first ∷ others) =
     else record { kind = kind; count = count } ∷ first ∷ others
 
 -- the types in the order of their first rows, each with how many rows of it stand together
-abbrev pub types_of : List Row → List TypeCount
+abbrev pub types_of : {X : Type 0} → List (Resource X) → List TypeCount
 types_of [] = []
 types_of (row ∷ rows) = counted_before row.kind 1 (types_of rows)
 
@@ -39,7 +40,7 @@ name_text None = []
 name_text (Some name) = length name ∷ name
 
 -- the name list
-abbrev pub names_text : List Row → List ℕ
+abbrev pub names_text : {X : Type 0} → List (Resource X) → List ℕ
 names_text rows = flat_map (λ row. name_text row.name) rows
 
 -- the entries of these types, where the references of the first stand so far behind the start of the type list
@@ -64,11 +65,11 @@ references_text next_name next_datum (row ∷ rows) =
     reference_text next_name next_datum row ++ references_text (next_name + length (name_text row.name)) (next_datum + length (datum row)) rows
 
 -- where the references of the first type stand, from the start of the type list
-abbrev pub first_references : List Row → ℕ
+abbrev pub first_references : {X : Type 0} → List (Resource X) → ℕ
 first_references rows = 2 + 8 * length (types_of rows)
 
 -- where the name list stands in the map
-abbrev pub names_offset : List Row → ℕ
+abbrev pub names_offset : {X : Type 0} → List (Resource X) → ℕ
 names_offset rows = 28 + first_references rows + 12 * length rows
 
 -- the header, which stands at the fork's start and at the map's
@@ -107,7 +108,7 @@ abbrev pub written : Table → List ℕ
 written table = front_text table ++ (data_text table.rows ++ map_text table)
 
 -- two bytes hold the offset of each name, where the first stands at this one ($FFFF says that there is none)
-abbrev pub NamesFit : ℕ → List Row → Type 0
+abbrev pub NamesFit : {X : Type 0} → ℕ → List (Resource X) → Type 0
 NamesFit at [] = Unit {0}
 NamesFit at (row ∷ rows) = IfSome row.name (λ _. at ≤ 65534) × NamesFit (at + length (name_text row.name)) rows
 

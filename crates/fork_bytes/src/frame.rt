@@ -1,16 +1,17 @@
 //! A fork with zeros where the bytes of its resources go, for a disk that keeps them: they are put in afterwards.
 
-ghost use Rattle.std.specs.Prelude.{◌≡◌, ◌<◌, ◌≤◌, map, length, IfOk, IsErrOf};
+ghost use Rattle.std.specs.Prelude.{◌≡◌, ◌≤◌, ◌↔◌, map, length, IfOk, IsErrOf};
 ghost use Rattle.fork_bytes.specs.Fork.{max_fork};
-ghost use Rattle.fork_bytes.specs.Written.{written, data_text, IsTooBig};
+ghost use Rattle.fork_bytes.specs.Written.{written, header_for, Fits, IsTooBig};
+ghost use Rattle.fork_bytes.specs.Sizes.{data_size};
 ghost use Rattle.fork_bytes.specs.declared.table.Table.{Table};
 ghost use Rattle.fork_bytes.specs.Frame.{blank_row, blank_table, data_places, HavePlaces, HasOutline, IsFrame};
 
 use crate::fault::WriteFault;
-use crate::layout::MAX_FORK;
-use crate::sizes::DATA_OFFSET;
+use crate::layout::Header;
+use crate::sizes::{DATA_OFFSET, header_of_rows};
 use crate::table::{Row, Rows, Table};
-use crate::write::write_fork;
+use crate::write::push_fork;
 use mac_base::bytes::Bytes;
 use mac_base::error::HostFull;
 use res_base::name::Name;
@@ -94,45 +95,52 @@ fn blank_table(alloc: Global, outline: &Outline) -> Result<Table, HostFull>
     })
 }
 
-/// Where the bytes of rows go, or TooBig where the data have more bytes than a fork.
-fn data_places(alloc: Global, rows: &[SizedRow]) -> Result<Vec<u32>, WriteFault>
-    ensures places { IfOk result (λ places. places.items ≡ data_places 256 rows.now) }
-    ensures too_big { IsErrOf result WriteFault.TooBig → max_fork < length (data_text (map blank_row rows.now)) }
+/// Where the bytes of rows go, whose data have no more bytes than a fork.
+fn data_places(alloc: Global, rows: &[SizedRow]) -> Result<Vec<u32>, HostFull>
+    requires { data_size (λ count. count) rows.now ≤ max_fork }
+    ensures { IfOk result (λ places. places.items ≡ data_places 256 rows.now) }
 {
     let mut places = Vec::new(alloc);
-    let mut at = DATA_OFFSET as usize;
+    let mut at = DATA_OFFSET;
     for row in rows {
-        if places.push(at as u32 + 4).is_err() {
-            return Err(WriteFault::HostFull);
-        }
-        at += 4 + row.datum as usize;
-        if at > DATA_OFFSET as usize + MAX_FORK {
-            return Err(WriteFault::TooBig);
-        }
+        places.push(at + 4)?;
+        at += 4 + row.datum;
     }
     Ok(places)
 }
 
+/// The frame of an outline that fits a fork with this header.
+fn frame_of(alloc: Global, outline: &Outline, header: Header) -> Result<Frame, HostFull>
+    requires header { header ≡ header_for (blank_table outline.now).rows }
+    requires fits { Fits (blank_table outline.now) }
+    requires small { data_size (λ count. count) outline.now.rows.items ≤ max_fork }
+    ensures fork { IfOk result (λ frame. frame.fork.items ≡ written (blank_table outline.now)) }
+    ensures places { IfOk result (λ frame. frame.places.items ≡ data_places 256 outline.now.rows.items) }
+{
+    let places = data_places(alloc, &outline.rows)?;
+    let table = blank_table(alloc, outline)?;
+    let mut fork = Vec::new(alloc);
+    push_fork(&mut fork, &table, header)?;
+    Ok(Frame { fork, places })
+}
+
 /// The fork of a table with this outline, with zeros in place of the bytes of its resources, and where those go: once the bytes of
 /// each row of a table with this outline are put in at its place, the fork is what `write_fork` writes for the table. The fault is
-/// TooBig only where it is that of `write_fork`, and there is no frame where that is TooBig; HostFull may come first.
+/// TooBig exactly where that of `write_fork` is, for each such table.
 pub fn write_frame(alloc: Global, outline: &Outline) -> Result<Frame, WriteFault>
     ensures fork { IfOk result (λ frame. frame.fork.items ≡ written (blank_table outline.now)) }
     ensures places { IfOk result (λ frame. frame.places.items ≡ data_places 256 outline.now.rows.items) }
     ensures within { IfOk result (λ frame. HavePlaces (length frame.fork.items) frame.places.items outline.now.rows.items) }
     ensures filled { IfOk result (λ frame. IsFrame outline.now frame.places.items frame.fork.items) }
     ensures fits { IfOk result (λ _. (table : Table) → HasOutline outline.now table → ¬ IsTooBig table) }
-    ensures too_big { IsErrOf result WriteFault.TooBig → (table : Table) → HasOutline outline.now table → IsTooBig table }
+    ensures too_big { IsErrOf result WriteFault.TooBig ↔ ((table : Table) → HasOutline outline.now table → IsTooBig table) }
+    ensures full { IsErrOf result WriteFault.HostFull → (table : Table) → HasOutline outline.now table → ¬ IsTooBig table }
 {
-    let places = match data_places(alloc, &outline.rows) {
-        Ok(places) => places,
-        Err(fault) => return Err(fault),
+    let Some(header) = header_of_rows(&outline.rows) else {
+        return Err(WriteFault::TooBig);
     };
-    let Ok(table) = blank_table(alloc, outline) else {
-        return Err(WriteFault::HostFull);
-    };
-    match write_fork(alloc, &table) {
-        Ok(fork) => Ok(Frame { fork, places }),
-        Err(fault) => Err(fault),
+    match frame_of(alloc, outline, header) {
+        Ok(frame) => Ok(frame),
+        Err(HostFull) => Err(WriteFault::HostFull),
     }
 }

@@ -1,6 +1,7 @@
 //! Resource forks: the bytes of a fork to a table of resources, and back.
 #![tactic(auto)]
 
+mod datum;
 pub mod fault;
 pub mod frame;
 mod laws;

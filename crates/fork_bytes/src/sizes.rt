@@ -6,10 +6,13 @@ ghost use Rattle.fork_bytes.specs.declared.layout.TypeCount.{TypeCount};
 ghost use Rattle.fork_bytes.specs.Fork.{max_fork};
 ghost use Rattle.fork_bytes.specs.Written.{types_of, data_text, names_text, NamesFit, header_for, written, Fits, IsTooBig};
 ghost use Rattle.fork_bytes.specs.Laws.{IsRow, IsGrouped, IsTable};
+ghost use Rattle.fork_bytes.specs.Sizes.{data_size, sized_header, FitSizes};
 
+use crate::datum::Datum;
 use crate::layout::{Header, MAX_FORK, MAX_ROWS};
-use crate::table::{Row, Table};
+use crate::table::Table;
 use bitflags::Flags;
+use res_base::resource::Resource;
 
 /// The largest offset that a name has: one more says that there is none.
 const MAX_NAME_OFFSET: usize = 65534;
@@ -21,7 +24,7 @@ const MAX_OFFSET: usize = 65535;
 pub(crate) const DATA_OFFSET: u32 = 256;
 
 /// Where the rows end that have the type of the row at `start` and stand together with it.
-pub(crate) fn run_end(rows: &[Row], start: usize) -> usize
+pub(crate) fn run_end<D>(rows: &[Resource<D>], start: usize) -> usize
     requires { start < length rows.now }
     ensures some { start < result }
     ensures within { result ≤ length rows.now }
@@ -37,7 +40,7 @@ pub(crate) fn run_end(rows: &[Row], start: usize) -> usize
 }
 
 /// How many types the rows have, where those of one type stand together.
-pub(crate) fn type_count(rows: &[Row]) -> usize
+pub(crate) fn type_count<D>(rows: &[Resource<D>]) -> usize
     ensures types { result ≡ length (types_of rows.now) }
     ensures few { result ≤ length rows.now }
     ensures four { AllByRecursion (λ (t : TypeCount). length t.kind ≡ 4) (types_of rows.now) }
@@ -53,14 +56,18 @@ pub(crate) fn type_count(rows: &[Row]) -> usize
 }
 
 /// How many bytes the data has, or None where it has more than a fork.
-fn data_length(rows: &[Row]) -> Option<usize>
-    ensures some { IfSome result (λ n. n ≡ length (data_text rows.now)) }
+fn data_length<D: Datum>(rows: &[Resource<D>]) -> Option<usize>
+    ensures some { IfSome result (λ n. n ≡ data_size D.long rows.now) }
     ensures small { IfSome result (λ n. n ≤ max_fork) }
-    ensures none { IfNone result (max_fork < length (data_text rows.now)) }
+    ensures none { IfNone result (max_fork < data_size D.long rows.now) }
 {
     let mut total = 0;
     for row in rows {
-        total += 4 + row.datum.as_slice().len();
+        let count = row.datum.count();
+        if count > MAX_FORK {
+            return None;
+        }
+        total += 4 + count;
         if total > MAX_FORK {
             return None;
         }
@@ -69,7 +76,7 @@ fn data_length(rows: &[Row]) -> Option<usize>
 }
 
 /// What each row is by its type: four bytes of type, numbers in range, and a name of 255 bytes at most. It computes nothing.
-fn known(row: &Row)
+fn known<D>(row: &Resource<D>)
     ensures { IsRow row.now }
 {
     let _kind = row.kind.bytes();
@@ -81,7 +88,7 @@ fn known(row: &Row)
 }
 
 /// How many bytes the name list has, or None where two bytes don't hold the offset of a name. What each row is comes with it.
-fn names_length(rows: &[Row]) -> Option<usize>
+fn names_length<D>(rows: &[Resource<D>]) -> Option<usize>
     ensures some { IfSome result (λ n. n ≡ length (names_text rows.now)) }
     ensures fit { IfSome result (λ _. NamesFit 0 rows.now) }
     ensures few { IfSome result (λ n. n ≤ 65790) }
@@ -101,26 +108,25 @@ fn names_length(rows: &[Row]) -> Option<usize>
     Some(next)
 }
 
-/// The header of the fork that is written for a table, or None where the table is too big for one.
-pub(crate) fn header_for(table: &Table) -> Option<Header>
-    ensures header { IfSome result (λ header. header ≡ header_for table.now.rows) }
-    ensures fits { IfSome result (λ _. Fits table.now) }
-    ensures small { IfSome result (λ _. length (written table.now) ≤ max_fork) }
-    ensures few { IfSome result (λ _. length (data_text table.now.rows) ≤ max_fork) }
-    ensures table { IfSome result (λ _. IsGrouped table.now.rows → IsTable table.now) }
-    ensures none { IfNone result (IsTooBig table.now) }
+/// The header of the fork that is written for rows, or None where they are too big for one.
+pub(crate) fn header_of_rows<D: Datum>(rows: &[Resource<D>]) -> Option<Header>
+    ensures header { IfSome result (λ header. header ≡ sized_header D.long rows.now) }
+    ensures fit { IfSome result (λ _. FitSizes D.long rows.now) }
+    ensures rows { IfSome result (λ _. AllByRecursion IsRow rows.now) }
+    ensures none { IfNone result (¬ FitSizes D.long rows.now) }
+    ensures four { AllByRecursion (λ (t : TypeCount). length t.kind ≡ 4) (types_of rows.now) }
 {
-    let rows = table.rows.as_slice();
+    let types = type_count(rows);
     if rows.len() > MAX_ROWS {
         return None;
     }
-    let names_offset = 30 + 8 * type_count(rows) + 12 * rows.len();
+    let names_offset = 30 + 8 * types + 12 * rows.len();
     if names_offset > MAX_OFFSET {
         return None;
     }
     let data = data_length(rows)?;
     let map = names_offset + names_length(rows)?;
-    if 16 + table.extra.len() + data + map > MAX_FORK {
+    if DATA_OFFSET as usize + data + map > MAX_FORK {
         return None;
     }
     Some(Header {
@@ -129,4 +135,17 @@ pub(crate) fn header_for(table: &Table) -> Option<Header>
         data_length: data as u32,
         map_length: map as u32,
     })
+}
+
+/// The header of the fork that is written for a table, or None where the table is too big for one. What the table is comes with it.
+pub(crate) fn header_for(table: &Table) -> Option<Header>
+    ensures header { IfSome result (λ header. header ≡ header_for table.now.rows) }
+    ensures fits { IfSome result (λ _. Fits table.now) }
+    ensures small { IfSome result (λ _. length (written table.now) ≤ max_fork) }
+    ensures few { IfSome result (λ _. length (data_text table.now.rows) ≤ max_fork) }
+    ensures table { IfSome result (λ _. IsGrouped table.now.rows → IsTable table.now) }
+    ensures none { IfNone result (IsTooBig table.now) }
+{
+    let _attributes = table.map_attributes;
+    header_of_rows(table.rows.as_slice())
 }

@@ -224,7 +224,7 @@ fn push_map(fork: &mut Vec<u8>, table: &Table, header: Header) -> Result<(), Hos
 }
 
 /// Adds the parts of a fork.
-fn push_fork(fork: &mut Vec<u8>, table: &Table, header: Header) -> Result<(), HostFull>
+pub(crate) fn push_fork(fork: &mut Vec<u8>, table: &Table, header: Header) -> Result<(), HostFull>
     requires header { header ≡ header_for table.now.rows }
     requires fits { Fits table.now }
     requires small { length (data_text table.now.rows) ≤ max_fork }

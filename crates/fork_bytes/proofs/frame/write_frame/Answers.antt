@@ -1,44 +1,68 @@
-use Rattle.std.proofs.Common.{rules, ◌≡◌, ◌<◌, List, ℕ, length, map, subst, sym, ap, ◌∙◌}
+use Rattle.std.proofs.Common.{rules, ◌≡◌, List, ℕ, length, subst, sym, ap, ◌∙◌, refl}
 use Rattle.fork_bytes.specs.Rows.{MapRow}
-use Rattle.fork_bytes.specs.Fork.{max_fork}
-use Rattle.fork_bytes.specs.Written.{written, data_text, IsTooBig}
-use Rattle.fork_bytes.specs.Frame.{blank_row, blank_table, data_places, HavePlaces, IsFrame}
-use Rattle.fork_bytes.proofs.Blank.{frame_is, have_places, too_big_of, not_too_big, data_over, other_result}
+use Rattle.fork_bytes.specs.Written.{types_of}
+use Rattle.fork_bytes.specs.Frame.{blank_table, data_places, HavePlaces, IsFrame}
+use Rattle.fork_bytes.specs.Sizes.{sized_header, FitSizes}
+use Rattle.fork_bytes.proofs.Lengths.{AreFour}
+use Rattle.fork_bytes.proofs.Blank.{frame_is, have_places}
+use Rattle.fork_bytes.proofs.Sized.{told, none_at, blank_header, blank_fits, none_big, all_big, blank_has}
 use Rattle.fork_bytes.proofs.frame.write_frame.Goals as goal
 
+pub frame_of-requires-clause-header : goal.frame_of-requires-clause-header
+frame_of-requires-clause-header c =
+    c.in-Some.ensures.header ∙ ap (sized_header told) c.deref.ensures.value ∙ blank_header c.args.outline.now.rows.items
+
+pub frame_of-requires-clause-fits : goal.frame_of-requires-clause-fits
+frame_of-requires-clause-fits c = blank_fits c.args.outline.now (subst (FitSizes told) c.deref.ensures.value c.in-Some.ensures.fit)
+
+pub returns-in_default-clause-too_big : goal.returns-in_default-clause-too_big
+returns-in_default-clause-too_big c =
+    let outline = c.args.outline.now in let extra : length outline.extra ≡ 240 = search rules in
+    let P : List MapRow → Type 0 = λ rows. AreFour (types_of rows) in
+    let Q : List MapRow → Type 0 = λ rows. ¬ FitSizes told rows in
+    let four = subst P c.deref.ensures.value c.header_of_rows.ensures.four in
+    let none = subst Q c.deref.ensures.value (none_at c.header_of_rows.result c.in_default.is c.header_of_rows.ensures.none) in
+    (λ is. all_big outline extra four none, λ all. refl)
+
+pub returns-in-Ok-clause-too_big : goal.returns-in-Ok-clause-too_big
+returns-in-Ok-clause-too_big c =
+    let outline = c.args.outline.now in let extra : length outline.extra ≡ 240 = search rules in
+    let P : List MapRow → Type 0 = λ rows. AreFour (types_of rows) in
+    let four = subst P c.deref.ensures.value c.header_of_rows.ensures.four in
+    let fit = subst (FitSizes told) c.deref.ensures.value c.in-Some.ensures.fit in
+    (λ is. absurd (cc is), λ all. absurd (none_big outline extra four fit (blank_table outline) (blank_has outline) (all (blank_table outline) (blank_has outline))))
+
 pub returns-in-Err-clause-too_big : goal.returns-in-Err-clause-too_big
-returns-in-Err-clause-too_big c is table has =
-    let outline = c.args.outline.now in
-    let P : List MapRow → Type 0 = λ rows. max_fork < length (data_text (map blank_row rows)) in
-    (too_big_of outline table has).0 (data_over (blank_table outline) (subst P c.deref.ensures.value (c.in-Err.ensures.too_big (other_result _ _ is))))
+returns-in-Err-clause-too_big c =
+    let outline = c.args.outline.now in let extra : length outline.extra ≡ 240 = search rules in
+    let P : List MapRow → Type 0 = λ rows. AreFour (types_of rows) in
+    let four = subst P c.deref.ensures.value c.header_of_rows.ensures.four in
+    let fit = subst (FitSizes told) c.deref.ensures.value c.in-Some.ensures.fit in
+    (λ is. absurd (cc is), λ all. absurd (none_big outline extra four fit (blank_table outline) (blank_has outline) (all (blank_table outline) (blank_has outline))))
 
-pub returns-in-Err-write_fork-clause-too_big : goal.returns-in-Err-write_fork-clause-too_big
-returns-in-Err-write_fork-clause-too_big c is table has =
-    (too_big_of c.args.outline.now table has).0 (subst IsTooBig c.in-Ok-blank_table.ensures (c.in-Err-write_fork.ensures.too_big.0 (other_result _ _ is)))
+pub returns-in-Ok-clause-fits : goal.returns-in-Ok-clause-fits
+returns-in-Ok-clause-fits c =
+    let outline = c.args.outline.now in let extra : length outline.extra ≡ 240 = search rules in
+    let P : List MapRow → Type 0 = λ rows. AreFour (types_of rows) in
+    none_big outline extra (subst P c.deref.ensures.value c.header_of_rows.ensures.four) (subst (FitSizes told) c.deref.ensures.value c.in-Some.ensures.fit)
 
-pub returns-in-Ok-write_fork-clause-fits : goal.returns-in-Ok-write_fork-clause-fits
-returns-in-Ok-write_fork-clause-fits c table has large =
-    not_too_big c.in-Ok-blank_table.table c.in-Ok-write_fork.ensures.small c.in-Ok-write_fork.ensures.fits
-    (subst IsTooBig (sym c.in-Ok-blank_table.ensures) ((too_big_of c.args.outline.now table has).1 large))
+pub returns-in-Err-clause-full : goal.returns-in-Err-clause-full
+returns-in-Err-clause-full c is =
+    let outline = c.args.outline.now in let extra : length outline.extra ≡ 240 = search rules in
+    let P : List MapRow → Type 0 = λ rows. AreFour (types_of rows) in
+    none_big outline extra (subst P c.deref.ensures.value c.header_of_rows.ensures.four) (subst (FitSizes told) c.deref.ensures.value c.in-Some.ensures.fit)
 
-pub returns-in-Ok-write_fork-clause-fork : goal.returns-in-Ok-write_fork-clause-fork
-returns-in-Ok-write_fork-clause-fork c = c.in-Ok-write_fork.ensures.written ∙ ap written c.in-Ok-blank_table.ensures
-
-pub returns-in-Ok-write_fork-clause-filled : goal.returns-in-Ok-write_fork-clause-filled
-returns-in-Ok-write_fork-clause-filled c =
-    let outline = c.args.outline.now in
-    let extra : length outline.extra ≡ 240 = search rules in
-    let places = c.in-Ok.ensures.places ∙ ap (data_places 256) c.deref.ensures.value in
-    let fork = c.in-Ok-write_fork.ensures.written ∙ ap written c.in-Ok-blank_table.ensures in
-    let P : List ℕ → Type 0 = λ at. IsFrame outline at c.in-Ok-write_fork.fork.items in
-    subst P (sym places) (subst (IsFrame outline (data_places 256 outline.rows.items)) (sym fork) (frame_is outline extra))
-
-pub returns-in-Ok-write_fork-clause-within : goal.returns-in-Ok-write_fork-clause-within
-returns-in-Ok-write_fork-clause-within c =
+pub returns-in-Ok-clause-filled : goal.returns-in-Ok-clause-filled
+returns-in-Ok-clause-filled c =
     let outline = c.args.outline.now in
     let extra : length outline.extra ≡ 240 = search rules in
-    let places = c.in-Ok.ensures.places ∙ ap (data_places 256) c.deref.ensures.value in
-    let fork = c.in-Ok-write_fork.ensures.written ∙ ap written c.in-Ok-blank_table.ensures in
-    let P : List ℕ → Type 0 = λ at. HavePlaces (length c.in-Ok-write_fork.fork.items) at outline.rows.items in
+    let P : List ℕ → Type 0 = λ at. IsFrame outline at c.in-Ok.frame.fork.items in
+    subst P (sym c.in-Ok.ensures.places) (subst (IsFrame outline (data_places 256 outline.rows.items)) (sym c.in-Ok.ensures.fork) (frame_is outline extra))
+
+pub returns-in-Ok-clause-within : goal.returns-in-Ok-clause-within
+returns-in-Ok-clause-within c =
+    let outline = c.args.outline.now in
+    let extra : length outline.extra ≡ 240 = search rules in
+    let P : List ℕ → Type 0 = λ at. HavePlaces (length c.in-Ok.frame.fork.items) at outline.rows.items in
     let Q : List ℕ → Type 0 = λ bytes. HavePlaces (length bytes) (data_places 256 outline.rows.items) outline.rows.items in
-    subst P (sym places) (subst Q (sym fork) (have_places outline extra))
+    subst P (sym c.in-Ok.ensures.places) (subst Q (sym c.in-Ok.ensures.fork) (have_places outline extra))

@@ -1,6 +1,6 @@
 use Rattle.std.proofs.Common.{length, drop, ◌+◌, ℕ, List, sym, ap, subst, arith}
 use Rattle.std.proofs.lemmas.List.{drop_all}
-use Rattle.fork_bytes.specs.Rows.{Row}
+use Rattle.res_base.specs.declared.resource.Resource.{Resource}
 use Rattle.std.specs.List.{AllByRecursion}
 use Rattle.fork_bytes.specs.Laws.{IsRow}
 use Rattle.fork_bytes.specs.Written.{names_text, NamesFit}
@@ -9,15 +9,15 @@ use Rattle.fork_bytes.proofs.sizes.names_length.Goals.{in-Some+else-next-gt-MAX_
 use Rattle.fork_bytes.proofs.sizes.names_length.Goals as goal
 
 pub loop-row-init : goal.loop-row-init
-loop-row-init c = (omega arith, (λ fit. fit, λ fit. fit), omega arith, λ each. each)
+loop-row-init g c = (omega arith, (λ fit. fit, λ fit. fit), omega arith, λ each. each)
 
 pub returns-then-next-gt-MAX_NAME_OFFSET-clause-none : goal.returns-then-next-gt-MAX_NAME_OFFSET-clause-none
-returns-then-next-gt-MAX_NAME_OFFSET-clause-none c fit =
+returns-then-next-gt-MAX_NAME_OFFSET-clause-none g c fit =
     fit_not c.args.rows.now c.loop-row.row-index c.loop-row.next c.row-item.result c.in-Some.name c.loop-row-test.true c.row-item.is c.in-Some.is c.if-next-gt-MAX_NAME_OFFSET.true
     (c.loop-row.invariant.1.0 fit)
 
 pub loop-row-preserved : goal.loop-row-preserved
-loop-row-preserved c =
+loop-row-preserved g c =
     let rows = c.args.rows.now in let i = c.loop-row.row-index in let row = c.row-item.result in
     let within = c.loop-row-test.true in let is = c.row-item.is in
     let step = names_step rows i row within is in let all = c.loop-row.invariant.0 in
@@ -37,16 +37,16 @@ loop-row-preserved c =
     ]
 
 pub returns-clause-some : goal.returns-clause-some
-returns-clause-some c =
-    let none = ap (λ (rest : List Row). length (names_text rest)) (drop_all c.loop-row.row-index c.args.rows.now (omega (arith, c.loop-row-test.false))) in
+returns-clause-some g c =
+    let none = ap (λ (rest : List (Resource _)). length (names_text rest)) (drop_all c.loop-row.row-index c.args.rows.now (omega (arith, c.loop-row-test.false))) in
     let all = c.loop-row.invariant.0 in omega arith
 
 pub returns-clause-fit : goal.returns-clause-fit
-returns-clause-fit c =
-    let Q : List Row → Type 0 = NamesFit c.loop-row.next in
+returns-clause-fit g c =
+    let Q : List (Resource _) → Type 0 = NamesFit c.loop-row.next in
     c.loop-row.invariant.1.1 (subst Q (sym (drop_all c.loop-row.row-index c.args.rows.now (omega (arith, c.loop-row-test.false)))) tt)
 
 pub returns-clause-rows : goal.returns-clause-rows
-returns-clause-rows c =
-    let Q : List Row → Type 0 = AllByRecursion IsRow in
+returns-clause-rows g c =
+    let Q : List (Resource _) → Type 0 = AllByRecursion IsRow in
     c.loop-row.invariant.3 (subst Q (sym (drop_all c.loop-row.row-index c.args.rows.now (omega (arith, c.loop-row-test.false)))) tt)

@@ -1,0 +1,31 @@
+-- Which rows fit a fork, by how many bytes each has.
+use Rattle.std.specs.Prelude.{ℕ, ◌+◌, ◌≤◌, List, [], ◌∷◌, length}
+use Rattle.res_base.specs.declared.resource.Resource.{Resource}
+use Rattle.fork_bytes.specs.declared.layout.Header.{Header}
+use Rattle.fork_bytes.specs.Fork.{max_fork, max_rows}
+use Rattle.fork_bytes.specs.Written.{names_offset, names_text, NamesFit}
+
+-- how many bytes the data have, where the datum of each row stands for so many
+abbrev pub data_size : {X : Type 0} → (X → ℕ) → List (Resource X) → ℕ
+data_size long [] = 0
+data_size long (row ∷ rows) = 4 + long row.datum + data_size long rows
+
+-- how many bytes the map has
+abbrev pub map_size : {X : Type 0} → List (Resource X) → ℕ
+map_size rows = names_offset rows + length (names_text rows)
+
+-- the header of their fork
+abbrev pub sized_header : {X : Type 0} → (X → ℕ) → List (Resource X) → Header
+sized_header long rows = record {
+  data_offset = 256;
+  map_offset = 256 + data_size long rows;
+  data_length = data_size long rows;
+  map_length = map_size rows;
+}
+
+-- the rows fit a fork: not too many, offsets that two bytes hold, and not too many bytes
+pub record FitSizes {X : Type 0} (long : X → ℕ) (rows : List (Resource X)) : Type 0 where
+  pub few_rows : length rows ≤ max_rows
+  pub lists : names_offset rows ≤ 65535
+  pub names : NamesFit 0 rows
+  pub whole : 256 + data_size long rows + map_size rows ≤ max_fork
