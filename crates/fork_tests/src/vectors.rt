@@ -143,6 +143,9 @@ fn a_row_with_a_name_is_written(rt: HostRuntime) -> Result<(), Fail> {
     rows.push(row_of(alloc, *b"STR ", -1, name, b"Hi")?)?;
     let fork = write_fork(alloc, &table_of(rows))?;
     assert_eq!(rt; fork.len(), 315);
-    assert!(rt; fork == bytes_of(alloc, NAMED)?, "the fork of a row with a name");
+    assert!(rt;
+        fork == bytes_of(alloc, NAMED)?,
+        "the fork of a row with a name"
+    );
     Ok(())
 }
