@@ -8,8 +8,8 @@ use Rattle.mac_calls.specs.declared.memory_call.MemoryCall.{MemoryCall}
 use Rattle.mac_calls.specs.Outcomes.{Outcome}
 use Rattle.mac_calls.specs.ExactStep.{exact_step, IsExactStep}
 use Rattle.res_table.specs.declared.chain.RowPlace.{RowPlace}
-use Rattle.res_table.specs.OpenFiles.{no_files}
-use Rattle.res_calls.specs.Changes.{FileRow, FileTable, row_at}
+use Rattle.res_table.specs.OpenFiles.{no_files, row_at}
+use Rattle.res_calls.specs.Changes.{FileRow, FileTable}
 use Rattle.res_calls.specs.declared.resource_call.ResourceCall.{ResourceCall}
 use Rattle.res_calls.specs.Device.{Device, Disk}
 use Rattle.res_calls.specs.Device as device

@@ -1,13 +1,12 @@
 -- The open files, looked up and changed.
-use Rattle.std.specs.Prelude.{ℕ, ℤ, List, [], map, fold, slice_get, find, Option, None, option_and_then, if◌then◌else◌}
+use Rattle.std.specs.Prelude.{ℕ, List, [], map, fold, Option, option_and_then}
 use Rattle.std.specs.Option.{option_map_or}
 use Rattle.fork_bytes.specs.declared.table.Table.{Table}
 use Rattle.res_table.specs.declared.row.Row.{Row}
 use Rattle.res_table.specs.declared.chain.ResourceTable.{ResourceTable}
-use Rattle.res_table.specs.declared.chain.OpenFile.{OpenFile}
 use Rattle.res_table.specs.declared.chain.RowPlace.{RowPlace}
-use Rattle.res_table.specs.OpenFiles.{OpenFiles, is_numbered, table_of, place_in, place_of_handle, handle_forgotten}
-use Rattle.res_table.specs.Rows.{is_resource, changed_at, opened_row}
+use Rattle.res_table.specs.OpenFiles.{OpenFiles, table_of, place_of_handle, handle_forgotten, row_at, rows_changed}
+use Rattle.res_table.specs.Rows.{changed_at, opened_row}
 use Rattle.res_table.specs.Saved.{saved}
 
 -- a row whose bytes on the disk are known
@@ -34,33 +33,13 @@ rows_of k files = option_map_or rows_in (table_of k files) []
 abbrev pub current_rows : Files → List FileRow
 current_rows files = option_map_or (λ k. rows_of k files) files.current []
 
--- where the resource of a type and an id stands in the current file
-abbrev pub place_here : List ℕ → ℤ → Files → Option RowPlace
-place_here kind id files = option_and_then (λ k. option_and_then (place_in (is_resource kind id)) (find (is_numbered k) files.files)) files.current
-
--- the row at a place
-abbrev pub row_at : RowPlace → Files → Option FileRow
-row_at p files = slice_get (rows_of p.file files) p.index
-
 -- the row with the handle
 abbrev pub row_of_handle : ℕ → Files → Option FileRow
 row_of_handle h files = option_and_then (λ p. row_at p files) (place_of_handle h files)
 
--- a file with its table changed so, if it has the number
-abbrev pub changed_if_numbered : ℕ → (FileTable → FileTable) → OpenFile (List ℕ) → OpenFile (List ℕ)
-changed_if_numbered k change f = if is_numbered k f then record f { table = change f.table } else f
-
--- the files with the table of one changed so
-abbrev pub table_changed : ℕ → (FileTable → FileTable) → Files → Files
-table_changed k change files = record files { files = map (changed_if_numbered k change) files.files }
-
 -- a table with its rows changed so
 abbrev pub with_changed_rows : (List FileRow → List FileRow) → FileTable → FileTable
 with_changed_rows change table = record table { rows = change table.rows }
-
--- the files with the rows of one changed so
-abbrev pub rows_changed : ℕ → (List FileRow → List FileRow) → Files → Files
-rows_changed k change files = table_changed k (with_changed_rows change) files
 
 -- the files with the row at a place changed so
 abbrev pub row_changed : RowPlace → (FileRow → FileRow) → Files → Files

@@ -14,8 +14,8 @@ use Rattle.mac_calls.specs.Outcomes.{Outcome}
 use Rattle.res_calls.specs.Attributes.{has_bit, res_locked, res_purgeable}
 use Rattle.res_table.specs.Rows.{with_handle, index_of_ith}
 use Rattle.res_table.specs.declared.chain.RowPlace.{RowPlace}
-use Rattle.res_table.specs.OpenFiles.{place_of_handle, place_of_resource}
-use Rattle.res_calls.specs.Changes.{FileRow, current_rows, place_here, row_changed}
+use Rattle.res_table.specs.OpenFiles.{place_of_handle, place_of_resource, place_here}
+use Rattle.res_calls.specs.Changes.{FileRow, current_rows, row_changed}
 use Rattle.res_calls.specs.declared.resource_call.ResourceCall.{ResourceCall}
 use Rattle.res_calls.specs.declared.resource_call.ResourceCall.TheVariants as call
 use Rattle.res_calls.specs.declared.results.ResourceResults.{ResourceResults}

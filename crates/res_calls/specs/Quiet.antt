@@ -1,14 +1,16 @@
 -- The Resource Manager's calls that need neither room in the zone nor a disk.
-use Rattle.std.specs.Prelude.{ℕ, ◌==◌, Bool, true, false, not, length, unwrap_or, if◌then◌else◌, Ok, remove}
+use Rattle.std.specs.Prelude.{ℕ, ◌==◌, not, [], ◌∷◌, length, unwrap_or, if◌then◌else◌, Ok}
 use Rattle.std.specs.Option.{option_map_or}
-use Rattle.mac_base.specs.HandleTable.{is_full, flags_of, with_flags}
-use Rattle.mac_base.specs.Heap.{Heap, with_table}
+use Rattle.mac_base.specs.HeadKind.{Shape}
+use Rattle.mac_base.specs.Heap.{Heap}
 use Rattle.res_base.specs.declared.resource.ResAttrs.{ResAttrs}
 use Rattle.res_calls.specs.Attributes.{marked, replaced_attributes}
-use Rattle.res_table.specs.Rows.{is_changed, with_attributes, added, ith, count_of_type, unique_id}
+use Rattle.res_table.specs.Rows.{is_changed, with_attributes, added, removed_at, ith, count_of_type, unique_id}
 use Rattle.res_table.specs.declared.chain.RowPlace.{RowPlace}
-use Rattle.res_table.specs.OpenFiles.{place_of_handle, handle_forgotten, file_used}
-use Rattle.res_calls.specs.Changes.{Files, FileRow, current_rows, row_of_handle, rows_changed, row_changed}
+use Rattle.res_table.specs.OpenFiles.{place_of_handle, handle_forgotten, file_used, rows_changed}
+use Rattle.res_calls.specs.Changes.{Files, FileRow, current_rows, row_of_handle, row_changed}
+use Rattle.mac_calls.specs.declared.memory_call.MemoryCall.TheVariants.{HSetRBit, HClrRBit}
+use Rattle.mac_calls.specs.ExactStep.{heap_after}
 use Rattle.res_calls.specs.declared.resource_call.ResourceCall.{ResourceCall}
 use Rattle.res_calls.specs.declared.resource_call.ResourceCall.TheVariants as call
 use Rattle.res_calls.specs.declared.results.ResourceResults.{ResourceResults}
@@ -16,9 +18,13 @@ use Rattle.res_calls.specs.declared.results.ResourceResults.TheVariants.{Nothing
 use Rattle.res_calls.specs.Files.{ResState, ResourceEnd, with_heap, with_files, current_types}
 use Rattle.res_calls.specs.Updates.{row_passes, disposed, new_row}
 
--- the heap with the resource flag of a handle so; an empty one has none
-abbrev pub with_resource_flag : Bool → ℕ → Heap → Heap
-with_resource_flag b h heap = if is_full heap.table h then with_table (with_flags h (record (flags_of heap.table h) { resource = b }) heap.table) heap else heap
+-- the heap with the resource flag of a handle set; an empty one has none
+abbrev pub flagged : Shape → ℕ → Heap → Heap
+flagged s h heap = heap_after s heap (HSetRBit h ∷ [])
+
+-- the heap with it cleared
+abbrev pub unflagged : Shape → ℕ → Heap → Heap
+unflagged s h heap = heap_after s heap (HClrRBit h ∷ [])
 
 -- the files with the attributes of a handle's row changed so
 abbrev pub attributes_changed : (ResAttrs → ResAttrs) → ℕ → Files → Files
@@ -26,14 +32,14 @@ attributes_changed change h files = option_map_or (λ p. row_changed p (λ r. wi
 
 -- the files without the row of a handle
 abbrev pub row_removed : ℕ → Files → Files
-row_removed h files = option_map_or (λ (p : RowPlace). rows_changed p.file (λ rows. remove rows p.index) files) (place_of_handle h files) files
+row_removed h files = option_map_or (λ (p : RowPlace). rows_changed p.file (removed_at p.index) files) (place_of_handle h files) files
 
 -- what the call makes of the state
 abbrev pub quiet_state : ResourceCall → ResState → ResState
-quiet_state (call.ReleaseResource h) state = if row_passes is_changed h state.files then state else with_heap (disposed state.heap h) (with_files (handle_forgotten h state.files) state)
-quiet_state (call.DetachResource h) state = with_heap (with_resource_flag false h state.heap) (with_files (handle_forgotten h state.files) state)
-quiet_state (call.RemoveResource h) state = with_heap (with_resource_flag false h state.heap) (with_files (row_removed h state.files) state)
-quiet_state (call.AddResource h kind id name) state = with_heap (with_resource_flag true h state.heap) (with_files (option_map_or (λ k. rows_changed k (added (new_row h kind id name)) state.files) state.files.current state.files) state)
+quiet_state (call.ReleaseResource h) state = if row_passes is_changed h state.files then state else with_heap (disposed state.shape (h ∷ []) state.heap) (with_files (handle_forgotten h state.files) state)
+quiet_state (call.DetachResource h) state = with_heap (unflagged state.shape h state.heap) (with_files (handle_forgotten h state.files) state)
+quiet_state (call.RemoveResource h) state = with_heap (unflagged state.shape h state.heap) (with_files (row_removed h state.files) state)
+quiet_state (call.AddResource h kind id name) state = with_heap (flagged state.shape h state.heap) (with_files (option_map_or (λ k. rows_changed k (added (new_row h kind id name)) state.files) state.files.current state.files) state)
 quiet_state (call.ChangedResource h) state = with_files (attributes_changed marked h state.files) state
 quiet_state (call.SetResAttrs h n) state = with_files (attributes_changed (replaced_attributes n) h state.files) state
 quiet_state (call.SetResLoad n) state = record state { loads = not (n == 0) }

@@ -10,10 +10,9 @@ use Rattle.mac_calls.specs.declared.memory_call.MemoryCall.{MemoryCall}
 use Rattle.mac_calls.specs.GrowZone.{Ask}
 use Rattle.mac_calls.specs.Outcomes.{Outcome}
 use Rattle.fork_bytes.specs.Written.{written}
-use Rattle.fork_disk.specs.Fork.{IsPartly}
 use Rattle.res_table.specs.declared.chain.RowPlace.{RowPlace}
-use Rattle.res_table.specs.OpenFiles.{is_open, file_opened}
-use Rattle.res_calls.specs.Changes.{FileRow, FileTable, row_at, saved_table, handles_forgotten}
+use Rattle.res_table.specs.OpenFiles.{is_open, file_opened, row_at}
+use Rattle.res_calls.specs.Changes.{FileRow, FileTable, saved_table, handles_forgotten}
 use Rattle.res_calls.specs.declared.resource_call.ResourceCall.{ResourceCall}
 use Rattle.res_calls.specs.declared.resource_call.ResourceCall.TheVariants as call
 use Rattle.res_calls.specs.declared.results.ResourceResults.TheVariants.{Number}
@@ -61,16 +60,20 @@ abbrev pub opened_end : ℕ → ResState → Result (FileTable) OsErr → Resour
 opened_end k state (Ok table) = record { outcome = Ok (Number k); state = with_files (file_opened k table state.files) state }
 opened_end k state (Err code) = refused_with code state
 
--- what an update may leave on the disk where the device goes so
-abbrev pub LeavesDisk : Device → Update → Disk → Type 0
-LeavesDisk (FailsWriting left) u disk = IsPartly (written (saved_table u.table)) disk left
-LeavesDisk device u disk = ⊤
-
 -- how a call of the Memory Manager may step
 abbrev pub MemoryRelation : Type 1
 MemoryRelation = Shape → Heap → MemoryCall → List Ask → Outcome → Heap → Type 0
 
-module _ (Memory : MemoryRelation) where
+-- what a replacement that failed may leave: by the new fork and the old one
+abbrev pub LeaveRelation : Type 1
+LeaveRelation = Disk → Disk → Disk → Type 0
+
+module _ (Memory : MemoryRelation) (MayLeave : LeaveRelation) where
+  -- what an update may leave on the disk where the device goes so
+  abbrev pub LeavesDisk : Device → Update → Disk → Type 0
+  LeavesDisk (FailsWriting left) u disk = MayLeave (written (saved_table u.table)) disk left
+  LeavesDisk device u disk = ⊤
+
   -- The call gets the row at a place; this call of the Memory Manager makes the place for its bytes, if one is needed.
   abbrev pub GetsRow : Device → ResState → ResourceCall → List Ask → ResourceEnd → RowPlace → FileRow → Option MemoryCall → Type 0
   GetsRow device old call asks end p r None = (asks ≡ []) × (end ≡ found_end call r old)
@@ -96,6 +99,7 @@ module _ (Memory : MemoryRelation) where
   StepsUnless (Some code) device old call asks end = (asks ≡ []) × (end ≡ refused_with code old)
   StepsUnless None device old call asks end = Works device old call asks end (work_of old call)
 
-  -- From the old state, and with the device going so, the call may ask so and end so, where the Memory Manager steps so.
+  -- From the old state, and with the device going so, the call may ask so and end so, where the Memory Manager steps so, and what a
+  -- replacement that failed may leave is this.
   abbrev pub ResourceStepBy : Device → ResState → ResourceCall → List Ask → ResourceEnd → Type 0
   ResourceStepBy device old call asks end = StepsUnless (resource_refusal old call) device old call asks end

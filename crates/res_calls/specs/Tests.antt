@@ -6,13 +6,14 @@ use Rattle.mac_base.specs.declared.error.OsErr.{OsErr}
 use Rattle.mac_base.specs.declared.error.OsErr.TheVariants.{ParamErr, MemLockedErr, ResNotFound, ResFNotFound, AddResFailed, RmvResFailed, ResAttrErr, DskFulErr, FnfErr}
 use Rattle.mac_base.specs.HandleTable.{HandleTable, is_full, is_lent}
 use Rattle.mac_calls.specs.Tests.{unless_passed}
+use Rattle.res_table.specs.declared.row.Row.{Row}
 use Rattle.res_table.specs.Attributes.{res_changed}
 use Rattle.res_table.specs.Saved.{bare}
 use Rattle.res_calls.specs.Attributes.{has_bit, res_protected}
 use Rattle.res_calls.specs.Fitting.{rows_fit}
 use Rattle.res_table.specs.Rows.{is_changed, added, index_of_ith, ith}
-use Rattle.res_table.specs.OpenFiles.{is_open, place_of_handle, place_of_resource}
-use Rattle.res_calls.specs.Changes.{Files, FileRow, rows_of, current_rows, place_here}
+use Rattle.res_table.specs.OpenFiles.{is_open, place_of_handle, place_of_resource, place_here}
+use Rattle.res_calls.specs.Changes.{Files, FileRow, rows_of, current_rows}
 use Rattle.res_calls.specs.declared.resource_call.ResourceCall.{ResourceCall}
 use Rattle.res_calls.specs.declared.resource_call.ResourceCall.TheVariants as call
 use Rattle.res_calls.specs.Files.{ResState, current_types, file_named}
@@ -60,7 +61,7 @@ abbrev pub rows_named : Option ℕ → Files → List FileRow
 rows_named named files = option_map_or (λ k. rows_of k files) (file_named named files) []
 
 -- whether the handle of a row is lent
-abbrev pub is_lent_row : HandleTable → FileRow → Bool
+abbrev pub is_lent_row : {D : Type 0} → HandleTable → Row D → Bool
 is_lent_row t r = option_map_or (is_lent t) r.handle false
 
 -- the code by which a failed test refuses the call

@@ -1,21 +1,22 @@
 -- Updates of resource files: what is written, and what they leave.
-use Rattle.std.specs.Prelude.{ℕ, ℤ, Bool, true, ◌&&◌, nat_le, List, [], length, map, filter_map, fold, Option, Some, None, option_map, option_and_then, if◌then◌else◌, Ok}
+use Rattle.std.specs.Prelude.{ℕ, ℤ, Bool, true, ◌&&◌, nat_le, List, [], length, map, filter_map, Option, Some, None, option_map, option_and_then, if◌then◌else◌, Ok}
 use Rattle.std.specs.Option.{option_map_or}
 use Rattle.mac_base.specs.declared.error.OsErr.TheVariants.{IoErr}
-use Rattle.mac_base.specs.declared.releasing.ReleasingCall.TheVariants.{DisposesHandle}
 use Rattle.mac_base.specs.HandleTable.{HandleTable}
 use Rattle.mac_base.specs.Heap.{Heap}
-use Rattle.mac_base.specs.Releasing.{heap_released}
+use Rattle.mac_base.specs.HeadKind.{Shape}
 use Rattle.fork_bytes.specs.Fork.{max_fork}
 use Rattle.fork_bytes.specs.Written.{written}
 use Rattle.res_table.specs.Attributes.{unmarked, res_changed}
 use Rattle.res_table.specs.Rows.{is_changed, with_datum, with_attributes, contents, changed_at}
 use Rattle.res_table.specs.declared.chain.RowPlace.{RowPlace}
-use Rattle.res_table.specs.OpenFiles.{table_of, place_of_handle, file_closed}
-use Rattle.res_calls.specs.Changes.{Files, FileRow, FileTable, rows_of, row_of_handle, with_changed_rows, table_changed, saved_table}
+use Rattle.res_table.specs.OpenFiles.{table_of, place_of_handle, file_closed, rows_changed}
+use Rattle.res_calls.specs.Changes.{Files, FileRow, FileTable, rows_of, row_of_handle, with_changed_rows, saved_table}
 use Rattle.res_calls.specs.declared.resource_call.ResourceCall.{ResourceCall}
 use Rattle.res_calls.specs.declared.resource_call.ResourceCall.TheVariants as call
 use Rattle.res_calls.specs.declared.results.ResourceResults.TheVariants.{Nothing}
+use Rattle.mac_calls.specs.declared.memory_call.MemoryCall.TheVariants.{DisposeHandle}
+use Rattle.mac_calls.specs.ExactStep.{heap_after}
 use Rattle.res_calls.specs.Fitting.{rows_fit}
 use Rattle.res_calls.specs.Device.{Device, Works, FailsBefore, FailsWriting, Disk}
 use Rattle.res_calls.specs.Files.{ResState, ResourceEnd, refused_with, with_heap, with_files, with_disk, disk_of, file_named}
@@ -63,28 +64,32 @@ row_update state h = if row_passes is_changed h state.files
     then option_map_or (λ (p : RowPlace). update_of p.file (updated_at state.heap.table p.index) state.files) (place_of_handle h state.files) None
     else None
 
+-- whether a fork can hold a table as it is saved
+abbrev pub fits_fork : FileTable → Bool
+fits_fork table = rows_fit (saved_table table).rows && nat_le (length (written (saved_table table))) max_fork
+
 -- whether a fork can hold what an update writes
 abbrev pub can_be_made : Option Update → Bool
-can_be_made update = option_map_or (λ (u : Update). rows_fit (saved_table u.table).rows && nat_le (length (written (saved_table u.table))) max_fork) update true
+can_be_made update = option_map_or (λ (u : Update). fits_fork u.table) update true
 
 -- the handles of rows, in order
 abbrev pub handles_of : List FileRow → List ℕ
 handles_of rows = filter_map (λ (r : FileRow). r.handle) rows
 
--- the heap once a handle is disposed of
-abbrev pub disposed : Heap → ℕ → Heap
-disposed heap h = heap_released (DisposesHandle h) heap
+-- the heap once these handles are disposed of, in order
+abbrev pub disposed : Shape → List ℕ → Heap → Heap
+disposed s hs heap = heap_after s heap (map DisposeHandle hs)
 
 -- the state behind an update: CloseResFile disposes of the handles of the file's rows, in order, and closes it
 abbrev pub behind_update : ResourceCall → ℕ → ResState → ResState
-behind_update (call.CloseResFile named) k state = with_heap (fold disposed state.heap (handles_of (rows_of k state.files))) (with_files (file_closed k state.files) state)
+behind_update (call.CloseResFile named) k state = with_heap (disposed state.shape (handles_of (rows_of k state.files)) state.heap) (with_files (file_closed k state.files) state)
 behind_update _ k state = state
 
 -- The end of a call that makes an update. A fault before the first write changes nothing; a later one closes the file, and its handles live on.
 abbrev pub update_end : Device → ResourceCall → Update → ResState → ResourceEnd
 update_end Works call u state = record {
   outcome = Ok Nothing;
-  state = behind_update call u.file (with_disk u.file (written (saved_table u.table)) (with_files (table_changed u.file (λ old. u.table) state.files) state));
+  state = behind_update call u.file (with_disk u.file (written (saved_table u.table)) (with_files (rows_changed u.file (λ _. u.table.rows) state.files) state));
 }
 update_end FailsBefore call u state = refused_with IoErr state
 update_end (FailsWriting left) call u state = refused_with IoErr (with_disk u.file left (with_files (file_closed u.file state.files) state))
