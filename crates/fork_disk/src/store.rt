@@ -39,6 +39,16 @@ pub trait ForkStore {
     /// What a replacement may leave that failed behind its first write: by the new fork and the old one.
     ghost may_leave: { List ℕ → List ℕ → List ℕ → Type 0 };
 
+    /// Makes the fork ready: a store with a journal finishes, or drops, what a crash or a failed replacement left. The fork is the
+    /// same.
+    fn recover(&mut self) -> Result<(), DiskFault>
+        ensures same { is_honest self.old → fork self.new ≡ fork self.old }
+        ensures ready { is_honest self.old → OnOk result (is_ready self.new) }
+        ensures still { is_honest self.old → is_ready self.old → is_ready self.new }
+        ensures stable { is_honest self.old → is_stable self.old → is_stable self.new }
+        ensures honest { is_honest self.old ↔ is_honest self.new }
+        ensures cause { Counts (failures self.old) (failures self.new) result };
+
     /// How many bytes the fork has.
     fn len(&mut self) -> Result<u64, DiskFault>
         requires { is_honest self.old → is_ready self.old }
@@ -91,6 +101,10 @@ impl<D: ForkDisk> ForkStore for PlainStore<D> {
     ghost failures = { λ store. D.failures store.disk };
 
     ghost may_leave = { IsPartly };
+
+    fn recover(&mut self) -> Result<(), DiskFault> {
+        Ok(())
+    }
 
     fn len(&mut self) -> Result<u64, DiskFault> {
         self.disk.len()
