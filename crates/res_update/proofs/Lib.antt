@@ -1,0 +1,6 @@
+pub mod Selecting
+pub mod Saving
+pub mod Shaping
+pub mod Placing
+pub mod Measuring
+pub mod Listing

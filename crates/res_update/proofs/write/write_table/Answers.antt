@@ -1,0 +1,154 @@
+use Rattle.std.proofs.Common.{◌≡◌, ◌∙◌, List, [], ℕ, Err, true, length, map, refl, sym, ap, subst, arith}
+use Rattle.std.specs.Prelude.{All, IsErrOf}
+use Rattle.fork_disk.specs.declared.store.ReplaceFault.{ReplaceFault}
+use Rattle.fork_disk.specs.declared.store.ReplaceFault.TheVariants.{Later}
+use Rattle.res_calls.specs.Updates.{fits_fork}
+use Rattle.res_update.specs.declared.fault.UpdateFault.{UpdateFault}
+use Rattle.res_update.specs.declared.fault.UpdateFault.TheVariants.{Device}
+use Rattle.res_update.specs.Placed.{table_on, bytes_on, IsInside}
+use Rattle.res_update.specs.Selected.{updated}
+use Rattle.res_update.proofs.Placing.{IsDraft, kept_within, places_near, places_each, fits_is, kept_found, gathered_is, places_read, places_within}
+use Rattle.res_update.proofs.write.write_table.Goals as goal
+
+-- the device's fault in the answer is that of the replacement
+device_fault : {A B : Type 0} (fault told : ReplaceFault) → IsErrOf {T = A} {E = UpdateFault} (Err (Device fault)) (Device told) → IsErrOf {T = B} {E = ReplaceFault} (Err fault) told
+device_fault fault told is = let same : fault ≡ told = cc in ap (λ (e : _). Err e) same
+
+pub returns-then-not-fits-clause-too_big : goal.returns-then-not-fits-clause-too_big
+returns-then-not-fits-clause-too_big g c =
+    let t = g.C.Contents.table c.args.contents.now in let s = c.args.selection in let table = c.args.table.now in let old = g.S.ForkStore.fork c.args.store.now in
+    λ honest. (
+      (λ _. sym (fits_is t s table [] [] [] old (c.requires.inside honest)) ∙ (sym c.fits.ensures ∙ c.if-not-fits.true)),
+      (λ _. refl),
+    )
+
+pub returns-in_default-clause-too_big : goal.returns-in_default-clause-too_big
+returns-in_default-clause-too_big g c =
+    let t = g.C.Contents.table c.args.contents.now in let s = c.args.selection in let table = c.args.table.now in let old = g.S.ForkStore.fork c.args.store.now in
+    λ honest. (
+    let fit : fits_fork (updated t s (table_on old table)) ≡ true = sym (fits_is t s table [] [] [] old (c.requires.inside honest)) ∙ (sym c.fits.ensures ∙ c.if-not-fits.false) in
+    ((λ told. absurd (cc told)), (λ unfit. absurd (cc (unfit, fit)))))
+
+pub returns-in-Ok-update-clause-too_big : goal.returns-in-Ok-update-clause-too_big
+returns-in-Ok-update-clause-too_big g c =
+    let t = g.C.Contents.table c.args.contents.now in let s = c.args.selection in let table = c.args.table.now in let old = g.S.ForkStore.fork c.args.store.now in
+    λ honest. (
+    let fit : fits_fork (updated t s (table_on old table)) ≡ true = sym (fits_is t s table [] [] [] old (c.requires.inside honest)) ∙ (sym c.fits.ensures ∙ c.if-not-fits.false) in
+    ((λ told. absurd (cc told)), (λ unfit. absurd (cc (unfit, fit)))))
+
+pub returns-in-Err-clause-too_big : goal.returns-in-Err-clause-too_big
+returns-in-Err-clause-too_big g c =
+    let t = g.C.Contents.table c.args.contents.now in let s = c.args.selection in let table = c.args.table.now in let old = g.S.ForkStore.fork c.args.store.now in
+    λ honest. (
+    let fit : fits_fork (updated t s (table_on old table)) ≡ true = sym (fits_is t s table [] [] [] old (c.requires.inside honest)) ∙ (sym c.fits.ensures ∙ c.if-not-fits.false) in
+    ((λ told. absurd (cc told)), (λ unfit. absurd (cc (unfit, fit)))))
+
+pub update-requires-clause-inside : goal.update-requires-clause-inside
+update-requires-clause-inside g c =
+    let t = g.C.Contents.table c.args.contents.now in let s = c.args.selection in let table = c.args.table.now in let old = g.S.ForkStore.fork c.args.store.now in
+    let long = ap (λ (xs : List ℕ). length xs) c.deref_mut.ensures.value in let low = c.in-Ok.ensures.small in
+    let is : IsDraft (g.C.Contents.table c.args.contents.now) c.args.selection c.args.table.now c.deref_mut.result.now c.in-Ok.draft.places.items c.deref.result.now = record {
+      extra = c.in-Ok.ensures.extra;
+      bytes_are = c.deref_mut.ensures.value ∙ c.in-Ok.ensures.fork;
+      small = omega arith;
+      places_are = c.in-Ok.ensures.places;
+      kept_are = c.deref.ensures.value ∙ c.in-Ok.ensures.kept;
+    } in
+    kept_within t s table c.deref_mut.result.now c.in-Ok.draft.places.items c.deref.result.now is
+
+pub update-requires-clause-there : goal.update-requires-clause-there
+update-requires-clause-there g c =
+    let t = g.C.Contents.table c.args.contents.now in let s = c.args.selection in let table = c.args.table.now in let old = g.S.ForkStore.fork c.args.store.now in
+    let long = ap (λ (xs : List ℕ). length xs) c.deref_mut.ensures.value in let low = c.in-Ok.ensures.small in
+    let is : IsDraft (g.C.Contents.table c.args.contents.now) c.args.selection c.args.table.now c.deref_mut.result.now c.in-Ok.draft.places.items c.deref.result.now = record {
+      extra = c.in-Ok.ensures.extra;
+      bytes_are = c.deref_mut.ensures.value ∙ c.in-Ok.ensures.fork;
+      small = omega arith;
+      places_are = c.in-Ok.ensures.places;
+      kept_are = c.deref.ensures.value ∙ c.in-Ok.ensures.kept;
+    } in
+    λ honest. kept_found t s table c.deref_mut.result.now c.in-Ok.draft.places.items c.deref.result.now old (c.requires.inside honest) is
+
+pub returns-in-Ok-update-clause-written : goal.returns-in-Ok-update-clause-written
+returns-in-Ok-update-clause-written g c =
+    let t = g.C.Contents.table c.args.contents.now in let s = c.args.selection in let table = c.args.table.now in let old = g.S.ForkStore.fork c.args.store.now in
+    let long = ap (λ (xs : List ℕ). length xs) c.deref_mut.ensures.value in let low = c.in-Ok.ensures.small in
+    let is : IsDraft (g.C.Contents.table c.args.contents.now) c.args.selection c.args.table.now c.deref_mut.result.now c.in-Ok.draft.places.items c.deref.result.now = record {
+      extra = c.in-Ok.ensures.extra;
+      bytes_are = c.deref_mut.ensures.value ∙ c.in-Ok.ensures.fork;
+      small = omega arith;
+      places_are = c.in-Ok.ensures.places;
+      kept_are = c.deref.ensures.value ∙ c.in-Ok.ensures.kept;
+    } in
+    λ honest. (c.in-Ok-update.ensures.replaced honest ∙ gathered_is t s table c.deref_mut.result.now c.in-Ok.draft.places.items c.deref.result.now old (c.requires.inside honest) is)
+
+pub returns-in-Ok-update-clause-places : goal.returns-in-Ok-update-clause-places
+returns-in-Ok-update-clause-places g c =
+    let t = g.C.Contents.table c.args.contents.now in let s = c.args.selection in let table = c.args.table.now in let old = g.S.ForkStore.fork c.args.store.now in
+    let long = ap (λ (xs : List ℕ). length xs) c.deref_mut.ensures.value in let low = c.in-Ok.ensures.small in
+    let is : IsDraft (g.C.Contents.table c.args.contents.now) c.args.selection c.args.table.now c.deref_mut.result.now c.in-Ok.draft.places.items c.deref.result.now = record {
+      extra = c.in-Ok.ensures.extra;
+      bytes_are = c.deref_mut.ensures.value ∙ c.in-Ok.ensures.fork;
+      small = omega arith;
+      places_are = c.in-Ok.ensures.places;
+      kept_are = c.deref.ensures.value ∙ c.in-Ok.ensures.kept;
+    } in
+    λ honest. (
+    ap (λ (fork : List ℕ). map (bytes_on fork) c.in-Ok.draft.places.items) (c.in-Ok-update.ensures.replaced honest ∙ gathered_is t s table c.deref_mut.result.now c.in-Ok.draft.places.items c.deref.result.now old (c.requires.inside honest) is)
+    ∙ places_read t s table c.deref_mut.result.now c.in-Ok.draft.places.items c.deref.result.now old (c.requires.inside honest) is)
+
+pub returns-in-Ok-update-clause-inside : goal.returns-in-Ok-update-clause-inside
+returns-in-Ok-update-clause-inside g c =
+    let t = g.C.Contents.table c.args.contents.now in let s = c.args.selection in let table = c.args.table.now in let old = g.S.ForkStore.fork c.args.store.now in
+    let long = ap (λ (xs : List ℕ). length xs) c.deref_mut.ensures.value in let low = c.in-Ok.ensures.small in
+    let is : IsDraft (g.C.Contents.table c.args.contents.now) c.args.selection c.args.table.now c.deref_mut.result.now c.in-Ok.draft.places.items c.deref.result.now = record {
+      extra = c.in-Ok.ensures.extra;
+      bytes_are = c.deref_mut.ensures.value ∙ c.in-Ok.ensures.fork;
+      small = omega arith;
+      places_are = c.in-Ok.ensures.places;
+      kept_are = c.deref.ensures.value ∙ c.in-Ok.ensures.kept;
+    } in
+    λ honest. (
+    let P : List ℕ → Type 0 = λ fork. All (IsInside fork) c.in-Ok.draft.places.items in
+    subst P (sym (c.in-Ok-update.ensures.replaced honest ∙ gathered_is t s table c.deref_mut.result.now c.in-Ok.draft.places.items c.deref.result.now old (c.requires.inside honest) is)) (places_within t s table c.deref_mut.result.now c.in-Ok.draft.places.items c.deref.result.now old (c.requires.inside honest) is))
+
+pub returns-in-Ok-update-clause-near : goal.returns-in-Ok-update-clause-near
+returns-in-Ok-update-clause-near g c =
+    let t = g.C.Contents.table c.args.contents.now in let s = c.args.selection in let table = c.args.table.now in let old = g.S.ForkStore.fork c.args.store.now in
+    let long = ap (λ (xs : List ℕ). length xs) c.deref_mut.ensures.value in let low = c.in-Ok.ensures.small in
+    let is : IsDraft (g.C.Contents.table c.args.contents.now) c.args.selection c.args.table.now c.deref_mut.result.now c.in-Ok.draft.places.items c.deref.result.now = record {
+      extra = c.in-Ok.ensures.extra;
+      bytes_are = c.deref_mut.ensures.value ∙ c.in-Ok.ensures.fork;
+      small = omega arith;
+      places_are = c.in-Ok.ensures.places;
+      kept_are = c.deref.ensures.value ∙ c.in-Ok.ensures.kept;
+    } in
+    places_near t s table c.deref_mut.result.now c.in-Ok.draft.places.items c.deref.result.now is
+
+pub returns-in-Ok-update-clause-each : goal.returns-in-Ok-update-clause-each
+returns-in-Ok-update-clause-each g c =
+    let t = g.C.Contents.table c.args.contents.now in let s = c.args.selection in let table = c.args.table.now in let old = g.S.ForkStore.fork c.args.store.now in
+    let long = ap (λ (xs : List ℕ). length xs) c.deref_mut.ensures.value in let low = c.in-Ok.ensures.small in
+    let is : IsDraft (g.C.Contents.table c.args.contents.now) c.args.selection c.args.table.now c.deref_mut.result.now c.in-Ok.draft.places.items c.deref.result.now = record {
+      extra = c.in-Ok.ensures.extra;
+      bytes_are = c.deref_mut.ensures.value ∙ c.in-Ok.ensures.fork;
+      small = omega arith;
+      places_are = c.in-Ok.ensures.places;
+      kept_are = c.deref.ensures.value ∙ c.in-Ok.ensures.kept;
+    } in
+    places_each t s table c.deref_mut.result.now c.in-Ok.draft.places.items c.deref.result.now is
+
+pub returns-in-Err-clause-left : goal.returns-in-Err-clause-left
+returns-in-Err-clause-left g c =
+    let t = g.C.Contents.table c.args.contents.now in let s = c.args.selection in let table = c.args.table.now in let old = g.S.ForkStore.fork c.args.store.now in
+    let long = ap (λ (xs : List ℕ). length xs) c.deref_mut.ensures.value in let low = c.in-Ok.ensures.small in
+    let is : IsDraft (g.C.Contents.table c.args.contents.now) c.args.selection c.args.table.now c.deref_mut.result.now c.in-Ok.draft.places.items c.deref.result.now = record {
+      extra = c.in-Ok.ensures.extra;
+      bytes_are = c.deref_mut.ensures.value ∙ c.in-Ok.ensures.fork;
+      small = omega arith;
+      places_are = c.in-Ok.ensures.places;
+      kept_are = c.deref.ensures.value ∙ c.in-Ok.ensures.kept;
+    } in
+    λ honest told. (
+    let P : List ℕ → Type 0 = λ fork. g.S.ForkStore.may_leave fork old (g.S.ForkStore.fork c.update.new.store) in
+    subst P (gathered_is t s table c.deref_mut.result.now c.in-Ok.draft.places.items c.deref.result.now old (c.requires.inside honest) is) (c.in-Err.ensures.left honest (device_fault c.in-Err.fault Later told)))

@@ -1,0 +1,103 @@
+//! A table is written over the fork of which it was read.
+
+ghost use Rattle.std.specs.Prelude.{◌≡◌, ◌≤◌, ◌↔◌, length, map, All, IsTrue, IsFalse, OnOk, IfOk, IsErrOf};
+ghost use Rattle.fork_bytes.specs.Fork.{max_fork, max_rows};
+ghost use Rattle.fork_bytes.specs.Written.{written};
+ghost use Rattle.res_calls.specs.Changes.{saved_table};
+ghost use Rattle.res_calls.specs.Updates.{fits_fork};
+ghost use Rattle.res_update.specs.Drafts.{draft_table, new_places, kept_ranges};
+ghost use Rattle.res_update.specs.Placed.{table_on, rows_on, bytes_on, AreInside, AreNear, IsInside, IsNear};
+ghost use Rattle.res_update.specs.Selected.{updated, reads_lent, CountsUpdate};
+
+use crate::contents::Contents;
+use crate::draft::draft_table;
+use crate::fault::UpdateFault;
+use crate::ranges::{kept_ranges, new_places};
+use crate::selection::Selection;
+use crate::sizes::fits;
+use fork_bytes::write_fork;
+use fork_disk::store::{ForkStore, ReplaceFault};
+use fork_disk::update::{Kept, update};
+use fork_reader::place::Place;
+use mac_base::error::HostFull;
+use res_table::chain::ResourceTable;
+use std::alloc::Global;
+
+/// What an update needs of the host's memory: the new fork without the bytes that it keeps of the old one, where these stand, and
+/// where the bytes of each row stand in the new fork.
+#[derive(Drop)]
+struct Draft {
+    fork: Vec<u8>,
+    kept: Vec<Kept>,
+    places: Vec<Place>,
+}
+
+/// Makes the draft of an update.
+fn make_draft<C: Contents>(
+    alloc: Global,
+    table: &ResourceTable<Place>,
+    selection: Selection,
+    handles: &C,
+) -> Result<Draft, HostFull>
+    requires { IsFalse (reads_lent (C.table handles.now) selection table.now.rows) }
+    ensures fork { IfOk result (λ draft. draft.fork.items ≡ written (draft_table (C.table handles.now) selection table.now)) }
+    ensures extra { IfOk result (λ _. length table.now.extra ≡ 240) }
+    ensures small { IfOk result (λ draft. length draft.fork.items ≤ max_fork) }
+    ensures places { IfOk result (λ draft. draft.places.items ≡ new_places 256 (draft_table (C.table handles.now) selection table.now).rows) }
+    ensures kept { IfOk result (λ draft. draft.kept.items ≡ kept_ranges selection 0 table.now.rows draft.places.items) }
+{
+    let saved = draft_table(alloc, table, selection, handles)?;
+    let Ok(fork) = write_fork(alloc, &saved) else {
+        return Err(HostFull);
+    };
+    let places = new_places(alloc, saved.rows.as_slice())?;
+    let kept = kept_ranges(alloc, &table.rows, selection, &places)?;
+    Ok(Draft { fork, kept, places })
+}
+
+/// Writes the fork of a table in which the selected rows have the bytes of their handles and all others those at their places in the
+/// old fork, and answers where the bytes of each row stand then. All that the new fork keeps is read before the first write. TooBig
+/// comes exactly where no fork holds the table, and HostFull where the host has no memory for it; the device is not asked then.
+pub fn write_table<S: ForkStore, C: Contents>(
+    alloc: Global,
+    store: &mut S,
+    table: &ResourceTable<Place>,
+    selection: Selection,
+    contents: &C,
+) -> Result<Vec<Place>, UpdateFault>
+    requires ready { S.is_honest store.old → S.is_ready store.old }
+    requires inside { S.is_honest store.old → AreInside (S.fork store.old) table.now.rows }
+    requires near { AreNear table.now.rows }
+    requires few { length table.now.rows ≤ max_rows }
+    requires unlent { IsFalse (reads_lent (C.table contents.now) selection table.now.rows) }
+    ensures written { S.is_honest store.old → OnOk result
+        (S.fork store.new ≡ written (saved_table (updated (C.table contents.now) selection (table_on (S.fork store.old) table.now)))) }
+    ensures places { S.is_honest store.old → IfOk result (λ places. map (bytes_on (S.fork store.new)) places.items
+        ≡ map (λ r. r.resource.datum) (updated (C.table contents.now) selection (table_on (S.fork store.old) table.now)).rows) }
+    ensures inside { S.is_honest store.old → IfOk result (λ places. All (IsInside (S.fork store.new)) places.items) }
+    ensures near { IfOk result (λ places. All IsNear places.items) }
+    ensures each { IfOk result (λ places. length places.items ≡ length table.now.rows) }
+    ensures too_big { S.is_honest store.old → (IsErrOf result UpdateFault.TooBig
+        ↔ IsFalse (fits_fork (updated (C.table contents.now) selection (table_on (S.fork store.old) table.now)))) }
+    ensures untouched { IsErrOf result UpdateFault.TooBig → store.new ≡ store.old }
+    ensures unasked { IsErrOf result UpdateFault.HostFull → store.new ≡ store.old }
+    ensures before { S.is_honest store.old → IsErrOf result (UpdateFault.Device ReplaceFault.BeforeFirstWrite) → S.fork store.new ≡ S.fork store.old }
+    ensures left { S.is_honest store.old → IsErrOf result (UpdateFault.Device ReplaceFault.Later)
+        → S.may_leave (written (saved_table (updated (C.table contents.now) selection (table_on (S.fork store.old) table.now)))) (S.fork store.old) (S.fork store.new) }
+    ensures ready { S.is_honest store.old → OnOk result (S.is_ready store.new) }
+    ensures still { S.is_honest store.old → IsErrOf result (UpdateFault.Device ReplaceFault.BeforeFirstWrite) → S.is_ready store.new }
+    ensures stable { S.is_honest store.old → OnOk result (S.is_stable store.new) }
+    ensures honest { S.is_honest store.old ↔ S.is_honest store.new }
+    ensures cause { CountsUpdate (S.failures store.old) (S.failures store.new) result }
+{
+    if !fits(table, selection, contents) {
+        return Err(UpdateFault::TooBig);
+    }
+    let Ok(mut draft) = make_draft(alloc, table, selection, contents) else {
+        return Err(UpdateFault::HostFull);
+    };
+    match update(store, &mut draft.fork, &draft.kept) {
+        Ok(()) => Ok(draft.places),
+        Err(fault) => Err(UpdateFault::Device(fault)),
+    }
+}
