@@ -1,0 +1,11 @@
+pub mod Mapped
+pub mod Stands
+pub mod On
+pub mod Stores
+pub mod Using
+pub mod RowBytes
+pub mod Found
+pub mod NextHandle
+pub mod Room
+pub mod TablesRead
+pub mod Opened

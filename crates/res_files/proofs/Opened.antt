@@ -1,0 +1,107 @@
+-- A file is opened on its store: how the files stand then, and how they are seen.
+use Rattle.std.proofs.Common.{◌≡◌, refl, sym, ap, ◌∙◌, subst, arith, ℕ, ◌-◌, ◌<◌, ◌≤◌, List, [], length, map, set, get_or, slice_get, unwrap_or, Bool, false, Option, Some, Result, Ok, Err, OnErr, All, ◌⊎◌, inl, inr}
+use Rattle.std.specs.Prelude.{◌↔◌, IsFalse}
+use Rattle.std.specs.Option.{option_map, option_map_or}
+use Rattle.std.proofs.Math.Seq.{map-set_same}
+use Rattle.std.proofs.lemmas.List.{length-set}
+use Rattle.std.proofs.lemmas.Option.{slice_get-map, slice_get_read}
+use Rattle.mac_base.specs.declared.error.OsErr.{OsErr}
+use Rattle.mac_base.specs.declared.error.OsErr.TheVariants.{IoErr}
+use Rattle.fork_disk.specs.Disk.{Rose}
+use Rattle.fork_reader.specs.declared.place.Place.{Place}
+use Rattle.fork_rows.specs.declared.fault.OpenFault.{OpenFault}
+use Rattle.fork_rows.specs.Opening.{CountsFault}
+use Rattle.res_table.specs.declared.chain.ResourceTable.{ResourceTable}
+use Rattle.res_table.specs.OpenFiles.{OpenFiles, is_open, file_opened}
+use Rattle.res_calls.specs.Changes.{Files, FileTable}
+use Rattle.res_calls.specs.Device.{Reads}
+use Rattle.res_update.specs.Placed.{table_on, AreInside}
+use Rattle.res_files.specs.FilesOn.{FilesOn, fork_of, SomeFailed}
+use Rattle.res_files.specs.Opening.{RefusesFile, code_of}
+use Rattle.res_files.specs.Standing.{fork_at, files_on, AreSmall, Holds, StandOn}
+use Rattle.res_files.proofs.Mapped.{open-mapped, opened-mapped}
+use Rattle.res_files.proofs.On.{seen, bytes_in, asked}
+use Rattle.res_files.proofs.Stands.{stand_opened}
+use Rattle.res_files.proofs.Stores.{new_set, stand_set}
+use Rattle.res_files.proofs.TablesRead.{told_by_code}
+use Rattle.res_files.proofs.Using.{mine, same_forks, same_files, same_honest, some_failed}
+
+module _ {S : Type 0} (fork : S → List ℕ) (is_ready is_honest : S → Type 0) (chain : OpenFiles Place) (loads : Bool) (stores : List S) (now : FilesOn S) (view_is : seen fork chain loads stores ≡ now)
+    (k : ℕ) (low : 1 ≤ k) (high : k ≤ length now.stores) (old new : S) (value : old ≡ get_or stores (k - 1) old)
+    (same : is_honest old ↔ is_honest new) (forks : is_honest old → fork new ≡ fork old) where
+  stores_are : now.stores ≡ stores
+  stores_are = ap (λ (v : FilesOn S). v.stores) (sym view_is)
+
+  there : k ≤ length stores
+  there = subst (λ (xs : List S). k ≤ length xs) stores_are high
+
+  within : k - 1 < length stores
+  within = omega (arith, low, there)
+
+  here : slice_get stores (k - 1) ≡ Some old
+  here = slice_get_read stores (length stores) (k - 1) old refl within value
+
+  -- the files stand on the stores still
+  pub stand_kept : (is_honest old → is_ready old → is_ready new) → StandOn fork is_ready is_honest stores chain → StandOn fork is_ready is_honest (set stores (k - 1) new) chain
+  stand_kept still stand = stand_set fork is_ready is_honest stores (k - 1) new old
+      (λ h. let was = same.1 h in (subst is_honest value was, forks was ∙ ap fork value, λ ready. still was (subst is_ready (sym value) ready))) chain stand
+
+  -- so does the one that is opened
+  pub stand_more : (table : ResourceTable Place) → is_open k chain ≡ false → AreSmall table.rows → (is_honest old → AreInside (fork old) table.rows) → (is_honest old → is_ready new)
+      → StandOn fork is_ready is_honest stores chain → StandOn fork is_ready is_honest (set stores (k - 1) new) (file_opened k table chain)
+  stand_more table closed small inside ready stand =
+      let held : Holds fork is_ready is_honest table.rows new = λ h. let was = same.1 h in (ready was, subst (λ (bytes : List ℕ). AreInside bytes table.rows) (sym (forks was)) (inside was)) in
+      stand_opened fork is_ready is_honest (set stores (k - 1) new) k table chain closed low (subst (λ (n : ℕ). k ≤ n) (sym (length-set stores (k - 1) new)) there) small
+      (new_set (Holds fork is_ready is_honest table.rows) stores (k - 1) new held)
+      (stand_kept (λ h _. ready h) stand)
+
+  -- a file that isn't seen open isn't
+  pub closed_there : IsFalse (is_open k now.files) → is_open k chain ≡ false
+  closed_there closed = asked fork chain loads stores now view_is (is_open k) (is_open k chain) (sym (open-mapped (bytes_in (map fork stores)) k chain)) ∙ closed
+
+  -- the files that are open are seen as before
+  pub files_kept : All is_honest now.stores → files_on (map fork (set stores (k - 1) new)) chain ≡ now.files
+  files_kept = same_files fork is_honest chain loads stores now view_is (k - 1) within old new value forks
+
+  pub forks_kept : All is_honest now.stores → map fork (set stores (k - 1) new) ≡ map fork now.stores
+  forks_kept = same_forks fork is_honest chain loads stores now view_is (k - 1) within old new value forks
+
+  pub honest_kept : All is_honest now.stores ↔ All is_honest (set stores (k - 1) new)
+  honest_kept = same_honest fork is_honest chain loads stores now view_is (k - 1) within old new value same
+
+  fork_is : fork_of fork k now.stores ≡ fork old
+  fork_is = ap (λ (xs : List S). fork_of fork k xs) stores_are ∙ ap (λ (found : Option S). option_map_or fork found []) here
+
+  fork_there : fork_at (map fork stores) k ≡ fork old
+  fork_there = ap (λ (o : Option (List ℕ)). unwrap_or o []) (slice_get-map fork stores (k - 1) ∙ ap (option_map fork) here)
+
+  -- what is seen of the one that is opened
+  pub seen_more : (table : ResourceTable Place) (more : OpenFiles Place) → more ≡ file_opened k table chain → (is_honest old → Reads (fork old) (Ok (table_on (fork old) table))) → All is_honest now.stores
+      → (t : FileTable) × Reads (fork_of fork k now.stores) (Ok t) × (files_on (map fork (set stores (k - 1) new)) more ≡ file_opened k t now.files)
+  seen_more table more is reads honest =
+      let was = mine fork is_honest chain loads stores now view_is (k - 1) within old new value honest in
+      let kept = map-set_same fork stores (k - 1) new old (forks was ∙ ap fork value) in (
+        table_on (fork old) table,
+        subst (λ (bytes : List ℕ). Reads bytes (Ok (table_on (fork old) table))) (sym fork_is) (reads was),
+        ap (files_on (map fork (set stores (k - 1) new))) is
+            ∙ ap (λ (all : List (List ℕ)). files_on all (file_opened k table chain)) kept
+            ∙ sym (opened-mapped (bytes_in (map fork stores)) k table chain)
+            ∙ ap (λ (bytes : List ℕ). file_opened k (table_on bytes table) (files_on (map fork stores) chain)) fork_there
+            ∙ ap (λ (v : FilesOn S). file_opened k (table_on (fork old) table) v.files) view_is,
+      )
+
+  -- what the code of a fault says
+  pub seen_refused : (failures : S → ℕ) (fault : OpenFault) (c : OsErr) → Ok c ≡ code_of fault → (is_honest old → RefusesFile (fork old) fault) → CountsFault (failures old) (failures new) fault
+      → All is_honest now.stores → Reads (fork_of fork k now.stores) (Err c) ⊎ ((c ≡ IoErr) × SomeFailed failures now.stores (set stores (k - 1) new))
+  seen_refused failures fault c is told counts honest =
+      let was = mine fork is_honest chain loads stores now view_is (k - 1) within old new value honest in
+      by (told_by_code (fork old) (failures old) (failures new) fault c is (told was) counts)
+    where
+      by : Reads (fork old) (Err c) ⊎ ((c ≡ IoErr) × Rose (failures old) (failures new)) → Reads (fork_of fork k now.stores) (Err c) ⊎ ((c ≡ IoErr) × SomeFailed failures now.stores (set stores (k - 1) new))
+      by (inl reads) = inl (subst (λ (bytes : List ℕ). Reads bytes (Err c)) (sym fork_is) reads)
+      by (inr failed) = inr (failed.0, some_failed fork is_honest chain loads stores now view_is (k - 1) within old new value failures failed.1)
+
+-- what holds in any case holds where there is an error
+pub on_err : {A E : Type 0} (r : Result A E) (P : Type 0) → P → OnErr r P
+on_err (Ok x) P holds = tt
+on_err (Err e) P holds = holds

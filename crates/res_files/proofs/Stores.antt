@@ -1,0 +1,82 @@
+-- One of the stores is another: what stays the same of all.
+use Rattle.std.proofs.Common.{◌≡◌, refl, sym, ap, ◌∙◌, subst, arith, ℕ, zero, suc, ◌+◌, ◌-◌, ◌<◌, ◌≤◌, List, [], ◌∷◌, length, map, set, get_or, slice_get, Option, None, Some, IfSome, All}
+use Rattle.std.specs.Prelude.{◌↔◌}
+use Rattle.std.specs.List.{AllByRecursion}
+use Rattle.std.specs.Option.{option_map_or}
+use Rattle.std.proofs.lemmas.List.{length-set}
+use Rattle.std.proofs.lemmas.List.Elements.{All-head, All-tail, All-from_recursion}
+use Rattle.fork_disk.specs.Disk.{Rose}
+use Rattle.fork_reader.specs.declared.place.Place.{Place}
+use Rattle.res_table.specs.declared.chain.OpenFile.{OpenFile}
+use Rattle.res_table.specs.OpenFiles.{OpenFiles}
+use Rattle.res_update.specs.Placed.{AreInside}
+use Rattle.res_files.specs.FilesOn.{SomeFailed}
+use Rattle.res_files.specs.Standing.{Holds, StandsOn, StandOn}
+
+-- what holds at an index holds there still
+held_set : {S : Type 0} (P : S → Type 0) (xs : List S) (i n : ℕ) (y d : S) → (P (get_or xs i d) → P y) → IfSome (slice_get xs n) P → IfSome (slice_get (set xs i y) n) P
+held_set P [] i n y d step held = held
+held_set P (x ∷ xs) zero zero y d step held = step held
+held_set P (x ∷ xs) zero (suc n) y d step held = held
+held_set P (x ∷ xs) (suc i) zero y d step held = held
+held_set P (x ∷ xs) (suc i) (suc n) y d step held = held_set P xs i n y d step held
+
+-- what holds of the new one holds there
+pub new_set : {S : Type 0} (P : S → Type 0) (xs : List S) (i : ℕ) (y : S) → P y → IfSome (slice_get (set xs i y) i) P
+new_set P [] i y mine = tt
+new_set P (x ∷ xs) zero y mine = mine
+new_set P (x ∷ xs) (suc i) y mine = new_set P xs i y mine
+
+-- all are honest where they were
+all_back : {S : Type 0} (P : S → Type 0) (xs : List S) (i : ℕ) (y d : S) → i < length xs → (P y → P (get_or xs i d)) → AllByRecursion P (set xs i y) → AllByRecursion P xs
+all_back P [] i y d within step all = all
+all_back P (x ∷ xs) zero y d within step all = (step all.0, all.1)
+all_back P (x ∷ xs) (suc i) y d within step all = (all.0, all_back P xs i y d (omega arith) step all.1)
+
+all_on : {S : Type 0} (P : S → Type 0) (xs : List S) (i : ℕ) (y d : S) → i < length xs → (P (get_or xs i d) → P y) → AllByRecursion P xs → AllByRecursion P (set xs i y)
+all_on P [] i y d within step all = all
+all_on P (x ∷ xs) zero y d within step all = (step all.0, all.1)
+all_on P (x ∷ xs) (suc i) y d within step all = (all.0, all_on P xs i y d (omega arith) step all.1)
+
+by_recursion : {S : Type 0} (P : S → Type 0) (xs : List S) → All P xs → AllByRecursion P xs
+by_recursion P [] all = tt
+by_recursion P (x ∷ xs) all = (All-head P x xs all, by_recursion P xs (All-tail P x xs all))
+
+pub all_same : {S : Type 0} (P : S → Type 0) (xs : List S) (i : ℕ) (y d : S) → i < length xs → (P (get_or xs i d) ↔ P y) → All P xs ↔ All P (set xs i y)
+all_same P xs i y d within same = (
+  λ all. All-from_recursion P (set xs i y) (all_on P xs i y d within same.0 (by_recursion P xs all)),
+  λ all. All-from_recursion P xs (all_back P xs i y d within same.1 (by_recursion P (set xs i y) all)),
+)
+
+-- a count of failures that rose
+pub one_failed : {S : Type 0} (failures : S → ℕ) (xs : List S) (i : ℕ) (y d : S) → i < length xs → Rose (failures (get_or xs i d)) (failures y) → SomeFailed failures xs (set xs i y)
+one_failed failures xs i y d within rose = (i, within, by xs i within rose)
+  where
+    by : (xs : List _) (i : ℕ) → i < length xs → Rose (failures (get_or xs i d)) (failures y) → Rose (option_map_or failures (slice_get xs i) 0) (option_map_or failures (slice_get (set xs i y) i) 0)
+    by [] i within rose = absurd (omega arith)
+    by (x ∷ xs) zero within rose = rose
+    by (x ∷ xs) (suc i) within rose = by xs i (omega arith) rose
+
+-- the files stand on the stores still
+module _ {S : Type 0} (fork : S → List ℕ) (is_ready is_honest : S → Type 0) (stores : List S) (i : ℕ) (y d : S)
+    (kept : is_honest y → is_honest (get_or stores i d) × (fork y ≡ fork (get_or stores i d)) × (is_ready (get_or stores i d) → is_ready y)) where
+  each_set : (files : List (OpenFile Place)) → AllByRecursion (StandsOn fork is_ready is_honest stores) files → AllByRecursion (StandsOn fork is_ready is_honest (set stores i y)) files
+  each_set [] each = each
+  each_set (f ∷ files) each = (
+    record {
+      from_one = each.0.from_one;
+      to_count = subst (λ (n : ℕ). f.number ≤ n) (sym (length-set stores i y)) each.0.to_count;
+      small = each.0.small;
+      held = held_set (Holds fork is_ready is_honest f.table.rows) stores i (f.number - 1) y d
+          (λ held honest. ((kept honest).2 (held (kept honest).0).0, subst (λ (bytes : List ℕ). AreInside bytes f.table.rows) (sym (kept honest).1) (held (kept honest).0).1)) each.0.held;
+    },
+    each_set files each.1,
+  )
+
+  pub stand_set : (chain : OpenFiles Place) → StandOn fork is_ready is_honest stores chain → StandOn fork is_ready is_honest (set stores i y) chain
+  stand_set chain stand = record {
+    few = subst (λ (n : ℕ). n ≤ 8) (sym (length-set stores i y)) stand.few;
+    each = each_set chain.files stand.each;
+    apart = stand.apart;
+    current = stand.current;
+  }

@@ -1,0 +1,88 @@
+-- The table of a file that was read, and why it isn't.
+use Rattle.std.proofs.Common.{◌≡◌, refl, sym, ap, ◌∙◌, subst, arith, ℕ, ◌≤◌, ◌<◌, List, [], ◌∷◌, length, map, Result, Ok, Err, All, ◌⊎◌, inl, inr}
+use Rattle.std.specs.List.{AllByRecursion}
+use Rattle.std.proofs.lemmas.List.{length-map}
+use Rattle.std.proofs.lemmas.List.Elements.{All-cons, All-nil}
+use Rattle.mac_base.specs.declared.error.HostFull.{HostFull}
+use Rattle.mac_base.specs.declared.error.OsErr.{OsErr}
+use Rattle.mac_base.specs.declared.error.OsErr.TheVariants.{EofErr, MapReadErr, IoErr}
+use Rattle.fork_disk.specs.Disk.{Rose}
+use Rattle.fork_bytes.specs.Fork.{max_rows, StandsFor}
+use Rattle.fork_bytes.specs.declared.fault.ForkFault.TheVariants as bytes
+use Rattle.fork_reader.specs.declared.place.Place.{Place}
+use Rattle.fork_reader.specs.Reading.{PlacedRow, row_at, IsWithin}
+use Rattle.fork_rows.specs.declared.fault.OpenFault.{OpenFault}
+use Rattle.fork_rows.specs.declared.fault.OpenFault.TheVariants.{Fork, Device}
+use Rattle.fork_rows.specs.declared.table.PlacedTable.{PlacedTable}
+use Rattle.fork_rows.specs.Opening.{FitsInFork, filled, RefusesToOpen, CountsFault}
+use Rattle.res_table.specs.declared.row.Row.{Row}
+use Rattle.res_table.specs.Rows.{opened_row}
+use Rattle.res_calls.specs.Changes.{FileRow, FileTable}
+use Rattle.res_calls.specs.Device.{Reads}
+use Rattle.res_calls.specs.Device as device
+use Rattle.res_update.specs.Placed.{row_on, rows_on, table_on, AreInside, IsInside, IsNear}
+use Rattle.res_files.specs.Opening.{RefusesFile, code_of}
+use Rattle.res_files.specs.Standing.{AreSmall}
+
+-- the rows that were read, with their bytes
+rows_read : (disk : List ℕ) (rows : List PlacedRow) → rows_on disk (map opened_row rows) ≡ map opened_row (map (row_at disk) rows)
+rows_read disk [] = refl
+rows_read disk (r ∷ rows) = ap (λ (rs : List FileRow). row_on disk (opened_row r) ∷ rs) (rows_read disk rows)
+
+-- a fork is read
+pub reads_fork : (disk : List ℕ) (placed : PlacedTable) (rows : List (Row Place)) → rows ≡ map opened_row placed.rows → StandsFor disk (filled disk placed)
+    → Reads disk (Ok (table_on disk (record { rows = rows; extra = placed.extra; map_attributes = placed.map_attributes })))
+reads_fork disk placed rows is stands =
+    let P : List FileRow → Type 0 = λ rs. Reads disk (Ok (record { rows = rs; extra = placed.extra; map_attributes = placed.map_attributes })) in
+    subst P (sym (ap (rows_on disk) is ∙ rows_read disk placed.rows)) (device.fork (filled disk placed) stands)
+
+-- what is said of the places of all that was read
+all_opened : (P : Place → Type 0) (rows : List PlacedRow) → AllByRecursion (λ (r : PlacedRow). P r.datum) rows → All (λ (r : Row Place). P r.resource.datum) (map opened_row rows)
+all_opened P [] all = All-nil (λ (r : Row Place). P r.resource.datum)
+all_opened P (r ∷ rows) all = All-cons (λ (x : Row Place). P x.resource.datum) (opened_row r) (map opened_row rows) all.0 (all_opened P rows all.1)
+
+pub inside_opened : (disk : List ℕ) (placed : List PlacedRow) (rows : List (Row Place)) → rows ≡ map opened_row placed → AllByRecursion (IsWithin disk) placed → AreInside disk rows
+inside_opened disk placed rows is all = subst (AreInside disk) (sym is) (all_opened (IsInside disk) placed all)
+
+pub small_opened : (placed : List PlacedRow) (rows : List (Row Place)) → rows ≡ map opened_row placed → AllByRecursion FitsInFork placed → length placed ≤ max_rows → AreSmall rows
+small_opened placed rows is all few = subst AreSmall (sym is) (record {
+  few = subst (λ (n : ℕ). n ≤ max_rows) (sym (length-map placed opened_row)) few;
+  near = all_opened IsNear placed all;
+})
+
+-- no bytes are read as no rows
+no_bytes : (disk : List ℕ) → length disk ≡ 0 → disk ≡ []
+no_bytes [] none = refl
+no_bytes (b ∷ disk) none = absurd (omega (arith, none))
+
+pub reads_empty : (disk : List ℕ) → length disk ≡ 0 → Reads disk (Ok device.empty_table)
+reads_empty disk none = device.empty (no_bytes disk none)
+
+pub no_rows_small : AreSmall []
+no_rows_small = record { few = omega arith; near = All-nil (λ (r : Row Place). IsNear r.resource.datum) }
+
+pub no_rows_inside : (disk : List ℕ) → AreInside disk []
+no_rows_inside disk = All-nil (λ (r : Row Place). IsInside disk r.resource.datum)
+
+-- a fork that isn't opened is a file that isn't
+pub refused : (disk : List ℕ) (fault : OpenFault) → (length disk ≡ 0 → ⊥) → RefusesToOpen disk fault → RefusesFile disk fault
+refused disk (Fork bytes.EndOfFile) some told = device.short (more disk some) told
+  where
+    more : (disk : List ℕ) → (length disk ≡ 0 → ⊥) → 0 < length disk
+    more [] some = absurd (some refl)
+    more (b ∷ disk) some = omega arith
+refused disk (Fork (bytes.BadMap condition)) some told = device.damaged told.0 (λ is. told.1.fails (is.holds condition))
+refused disk (Fork bytes.HostFull) some told = tt
+refused disk Device some told = tt
+
+-- the code of a fault says what the fault does
+abbrev code : Result OsErr HostFull → OsErr → OsErr
+code (Ok c) other = c
+code (Err e) other = other
+
+pub told_by_code : (disk : List ℕ) (before now : ℕ) (fault : OpenFault) (c : OsErr) → Ok c ≡ code_of fault → RefusesFile disk fault → CountsFault before now fault
+    → Reads disk (Err c) ⊎ ((c ≡ IoErr) × Rose before now)
+told_by_code disk before now (Fork bytes.EndOfFile) c is told counts = inl (subst (λ (e : OsErr). Reads disk (Err e)) (sym (ap (λ r. code r IoErr) is)) told)
+told_by_code disk before now (Fork (bytes.BadMap condition)) c is told counts = inl (subst (λ (e : OsErr). Reads disk (Err e)) (sym (ap (λ r. code r IoErr) is)) told)
+told_by_code disk before now (Fork bytes.HostFull) c is told counts = absurd (cc is)
+told_by_code disk before now Device c is told counts = inr (ap (λ r. code r IoErr) is, counts)

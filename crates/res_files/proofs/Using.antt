@@ -1,0 +1,62 @@
+-- A call of the store on which a row stands, that leaves the fork as it is: what follows of all files.
+use Rattle.std.proofs.Common.{◌≡◌, refl, sym, ap, ◌∙◌, subst, arith, ℕ, ◌+◌, ◌-◌, ◌<◌, ◌≤◌, List, length, map, set, get_or, take, drop, Bool, Option, None, Some, Result, Ok, Err, MatchResult, IfSome, All}
+use Rattle.std.specs.Prelude.{◌↔◌}
+use Rattle.std.specs.Option.{option_map}
+use Rattle.std.proofs.Math.Seq.{map-set_same}
+use Rattle.fork_disk.specs.Disk.{Rose}
+use Rattle.fork_reader.specs.declared.place.Place.{Place}
+use Rattle.res_table.specs.declared.row.Row.{Row}
+use Rattle.res_table.specs.declared.chain.RowPlace.{RowPlace}
+use Rattle.res_table.specs.OpenFiles.{OpenFiles, row_at}
+use Rattle.res_calls.specs.Changes.{Files, FileRow}
+use Rattle.res_update.specs.Placed.{row_on}
+use Rattle.res_files.specs.FilesOn.{FilesOn, NoneFailed, SomeFailed}
+use Rattle.res_files.specs.Standing.{fork_at, files_on, StandOn}
+use Rattle.res_files.proofs.Mapped.{row-mapped}
+use Rattle.res_files.proofs.Stands.{row_stands}
+use Rattle.res_files.proofs.Stores.{all_same, one_failed, stand_set}
+use Rattle.res_files.proofs.On.{seen, bytes_in, asked}
+
+pub match_then : {A E : Type 0} (r : Result A E) (P Q P' Q' : Type 0) → MatchResult r (λ _. P) (λ _. Q) → (P → P') → (Q → Q') → MatchResult r (λ _. P') (λ _. Q')
+match_then (Ok x) P Q P' Q' is ok err = ok is
+match_then (Err e) P Q P' Q' is ok err = err is
+
+module _ {S : Type 0} (fork : S → List ℕ) (is_honest : S → Type 0) (chain : OpenFiles Place) (loads : Bool) (stores : List S) (now : FilesOn S) (view_is : seen fork chain loads stores ≡ now)
+    (at : ℕ) (within : at < length stores) (old new : S) (value : old ≡ get_or stores at old) where
+  stores_are : now.stores ≡ stores
+  stores_are = ap (λ (v : FilesOn S). v.stores) (sym view_is)
+
+  -- the store is honest where all are
+  pub mine : All is_honest now.stores → is_honest old
+  mine honest = let all = subst (λ (xs : List S). All is_honest xs) stores_are honest in subst is_honest (sym value) (all at old within)
+
+  -- the forks are the same
+  pub same_forks : (is_honest old → fork new ≡ fork old) → All is_honest now.stores → map fork (set stores at new) ≡ map fork now.stores
+  same_forks same honest = map-set_same fork stores at new old (same (mine honest) ∙ ap fork value) ∙ ap (map fork) (sym stores_are)
+
+  -- so are the files
+  pub same_files : (is_honest old → fork new ≡ fork old) → All is_honest now.stores → files_on (map fork (set stores at new)) chain ≡ now.files
+  same_files same honest =
+      ap (λ (forks : List (List ℕ)). files_on forks chain) (map-set_same fork stores at new old (same (mine honest) ∙ ap fork value)) ∙ ap (λ (v : FilesOn S). v.files) view_is
+
+  -- all are honest where all were
+  pub same_honest : (is_honest old ↔ is_honest new) → All is_honest now.stores ↔ All is_honest (set stores at new)
+  same_honest same =
+      let here : is_honest (get_or stores at old) ↔ is_honest new = (λ h. same.0 (subst is_honest (sym value) h), λ h. subst is_honest value (same.1 h)) in
+      let all = all_same is_honest stores at new old within here in
+      (λ h. all.0 (subst (λ (xs : List S). All is_honest xs) stores_are h), λ h. subst (λ (xs : List S). All is_honest xs) (sym stores_are) (all.1 h))
+
+  -- the files stand still
+  pub stand_still : (is_ready : S → Type 0) → (is_honest old ↔ is_honest new) → (is_honest old → fork new ≡ fork old) → (is_honest old → is_ready new)
+      → StandOn fork is_ready is_honest stores chain → StandOn fork is_ready is_honest (set stores at new) chain
+  stand_still is_ready same forks ready stand =
+      stand_set fork is_ready is_honest stores at new old (λ h. let was = same.1 h in (subst is_honest value was, forks was ∙ ap fork value, λ _. ready was)) chain stand
+
+  -- what failed
+  pub none_failed : (failures : S → ℕ) → failures new ≡ failures old → NoneFailed failures now.stores (set stores at new)
+  none_failed failures same = map-set_same failures stores at new old (same ∙ ap failures value) ∙ ap (map failures) (sym stores_are)
+
+  pub some_failed : (failures : S → ℕ) → Rose (failures old) (failures new) → SomeFailed failures now.stores (set stores at new)
+  some_failed failures rose =
+      let here = subst (λ (s : S). Rose (failures s) (failures new)) value rose in
+      subst (λ (xs : List S). SomeFailed failures xs (set stores at new)) (sym stores_are) (one_failed failures stores at new old within here)

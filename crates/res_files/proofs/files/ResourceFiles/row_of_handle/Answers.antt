@@ -1,0 +1,12 @@
+use Rattle.std.proofs.Common.{sym, ◌∙◌, map}
+use Rattle.res_table.specs.OpenFiles.{place_of_handle}
+use Rattle.res_files.proofs.Mapped.{handle-mapped}
+use Rattle.res_files.proofs.Found.{handle_there}
+use Rattle.res_files.proofs.On.{bytes_in, asked}
+use Rattle.res_files.proofs.files.ResourceFiles.row_of_handle.Goals as goal
+
+pub returns-clause-value : goal.returns-clause-value
+returns-clause-value g c = asked g.S.ForkStore.fork c.self.inside.chain c.self.inside.loads c.self.inside.stores.items c.args.self.now c.self.view_is (place_of_handle c.args.handle) c.row_of_handle.result (c.row_of_handle.ensures ∙ sym (handle-mapped (bytes_in (map g.S.ForkStore.fork c.self.inside.stores.items)) c.args.handle c.self.inside.chain))
+
+pub returns-clause-there : goal.returns-clause-there
+returns-clause-there g c = handle_there g.S.ForkStore.fork g.S.ForkStore.is_ready g.S.ForkStore.is_honest c.self.inside.chain c.self.inside.loads c.self.inside.stores.items c.args.self.now c.self.view_is c.self.invariant c.args.handle c.row_of_handle.result c.row_of_handle.ensures

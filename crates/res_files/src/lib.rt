@@ -1,0 +1,14 @@
+//! Resource files on their disks: the open ones, with the bytes that their resources have there.
+#![tactic(auto)]
+
+mod changes;
+mod current;
+mod files;
+mod fitting;
+mod handles;
+mod opening;
+mod queries;
+mod reading;
+mod tables;
+
+pub use files::ResourceFiles;

@@ -1,0 +1,40 @@
+//! A resource file is opened.
+
+ghost use Rattle.std.specs.Prelude.{◌≡◌, ◌≤◌, ◌⊎◌, ◌↔◌, length, map, All, IsFalse, IfOk, IfErr, OnOk, OnErr, Ok, Err};
+ghost use Rattle.res_table.specs.OpenFiles.{is_open, file_opened};
+ghost use Rattle.res_calls.specs.Changes.{FileTable};
+ghost use Rattle.res_calls.specs.Device.{Reads};
+ghost use Rattle.res_files.specs.FilesOn.{fork_of, SomeFailed};
+
+use crate::files::ResourceFiles;
+use crate::tables::{code_of, read_table};
+use fork_disk::store::ForkStore;
+use mac_base::error::{HostFull, OsErr};
+
+impl<S: ForkStore> ResourceFiles<S> {
+    /// Opens the file of a number, which isn't open, behind the others, and makes it the current one. Without bytes it has no resources.
+    /// The code is eofErr where there are fewer than 16, mapReadErr where they are no fork, and ioErr where the device failed; then, and
+    /// without host memory, no file is opened.
+    pub fn open(&mut self, number: u8) -> Result<Result<(), OsErr>, HostFull>
+        requires there { (1 ≤ number) × (number ≤ length self.old.stores) }
+        requires closed { IsFalse (is_open number self.old.files) }
+        ensures opened { All S.is_honest self.old.stores → IfOk result (λ done. OnOk done ((table : FileTable)
+            × Reads (fork_of S.fork number self.old.stores) (Ok table) × (self.new.files ≡ file_opened number table self.old.files))) }
+        ensures refused { All S.is_honest self.old.stores → IfOk result (λ done. IfErr done (λ code.
+            Reads (fork_of S.fork number self.old.stores) (Err code) ⊎ ((code ≡ OsErr.IoErr) × SomeFailed S.failures self.old.stores self.new.stores))) }
+        ensures same { All S.is_honest self.old.stores → IfOk result (λ done. OnErr done (self.new.files ≡ self.old.files)) }
+        ensures full { All S.is_honest self.old.stores → OnErr result (self.new.files ≡ self.old.files) }
+        ensures forks { All S.is_honest self.old.stores → map S.fork self.new.stores ≡ map S.fork self.old.stores }
+        ensures loads { self.new.loads ≡ self.old.loads }
+        ensures honest { All S.is_honest self.old.stores ↔ All S.is_honest self.new.stores }
+        ensures count { length self.new.stores ≡ length self.old.stores }
+    {
+        let store = &mut self.stores[number as usize - 1];
+        let table = match read_table(self.alloc, store) {
+            Ok(table) => table,
+            Err(fault) => return Ok(Err(code_of(fault)?)),
+        };
+        self.chain.open(number, table)?;
+        Ok(Ok(()))
+    }
+}
