@@ -1,5 +1,3 @@
-pub mod Disks
-pub mod Stores
 pub mod Options
 pub mod Asking
 pub mod Program

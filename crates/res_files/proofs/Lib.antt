@@ -9,5 +9,3 @@ pub mod NextHandle
 pub mod Room
 pub mod TablesRead
 pub mod Opened
-pub mod Written
-pub mod Updated

@@ -1,4 +1,3 @@
 pub mod FilesOn
 pub mod Opening
 pub mod Standing
-pub mod Updating

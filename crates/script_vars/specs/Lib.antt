@@ -1,4 +1,3 @@
 pub mod Taken
 pub mod Variables
-pub mod Managers
 pub mod Answers

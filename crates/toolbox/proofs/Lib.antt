@@ -3,5 +3,4 @@ pub mod Lent
 pub mod Places
 pub mod Queued
 pub mod Quiet
-pub mod Resources
 pub mod Walk

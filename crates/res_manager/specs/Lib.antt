@@ -1,5 +1,0 @@
-pub mod Steps
-pub mod Tests
-pub mod Ends
-pub mod Watching
-pub mod Loading
