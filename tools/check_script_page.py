@@ -2,7 +2,7 @@
 """Checks that docs/SCRIPT.md has each call of the program's table of calls, and no other.
 
 The table is the source file, of those in crates/*/src that aren't tests, that has most names in the form b"NewHandle". On the
-page a call stands in the first column of a table whose header begins with 'Call', as `NewHandle n`.
+page a call stands in the first column of a table whose header begins with 'Call', as `NewHandle n` or `CloseResFile [k]`.
 """
 import glob
 import os
@@ -11,7 +11,7 @@ import sys
 
 PAGE = "docs/SCRIPT.md"
 NAME = re.compile(r'\bb"([A-Z][A-Za-z0-9]*)"')
-ROW = re.compile(r"\| `([A-Z][A-Za-z0-9]*)((?: [a-z]+)*)` \|")
+ROW = re.compile(r"\| `([A-Z][A-Za-z0-9]*)((?: [a-z]+| \[[a-z]+\])*)` \|")
 
 
 def table():

@@ -5,7 +5,7 @@ use Rattle.mac_calls.specs.declared.table.TheConstants.{ALL_CALLS}
 use Rattle.mac_calls.specs.declared.table.CallName.{CallName}
 use Rattle.mac_calls.specs.declared.table.CallName.TheVariants as call_name
 use Rattle.mac_calls.specs.declared.table.OperandKind.{OperandKind}
-use Rattle.mac_calls.specs.declared.table.OperandKind.TheVariants.{Number, Bytes, OptionalBytes, OptionalNumber}
+use Rattle.mac_calls.specs.declared.table.OperandKind.TheVariants.{Number, Bytes, Id, «Type» as TypeKind, OptionalBytes, OptionalNumber}
 
 -- whether an operand of this kind may be missing, behind the last one that is written
 abbrev pub may_be_missing : OperandKind → Bool
@@ -75,6 +75,32 @@ signature call_name.LentPeek = does (codes "LentPeek") (Number ∷ Number ∷ Nu
 signature call_name.LentPoke = does (codes "LentPoke") (Number ∷ Number ∷ Bytes ∷ [])
 signature call_name.Return = does (codes "Return") (Number ∷ [])
 signature call_name.MemError = does (codes "MemError") []
+signature call_name.GetResource = gives (codes "GetResource") (TypeKind ∷ Id ∷ [])
+signature call_name.Get1Resource = gives (codes "Get1Resource") (TypeKind ∷ Id ∷ [])
+signature call_name.GetIndResource = gives (codes "GetIndResource") (TypeKind ∷ Number ∷ [])
+signature call_name.LoadResource = does (codes "LoadResource") (Number ∷ [])
+signature call_name.ReleaseResource = does (codes "ReleaseResource") (Number ∷ [])
+signature call_name.DetachResource = does (codes "DetachResource") (Number ∷ [])
+signature call_name.AddResource = does (codes "AddResource") (Number ∷ TypeKind ∷ Id ∷ OptionalBytes ∷ [])
+signature call_name.ChangedResource = does (codes "ChangedResource") (Number ∷ [])
+signature call_name.RemoveResource = does (codes "RemoveResource") (Number ∷ [])
+signature call_name.WriteResource = does (codes "WriteResource") (Number ∷ [])
+signature call_name.UpdateResFile = does (codes "UpdateResFile") (OptionalNumber ∷ [])
+signature call_name.CloseResFile = does (codes "CloseResFile") (OptionalNumber ∷ [])
+signature call_name.GetResAttrs = gives (codes "GetResAttrs") (Number ∷ [])
+signature call_name.SetResAttrs = does (codes "SetResAttrs") (Number ∷ Number ∷ [])
+signature call_name.GetResInfo = does (codes "GetResInfo") (Number ∷ [])
+signature call_name.SizeResource = gives (codes "SizeResource") (Number ∷ [])
+signature call_name.HomeResFile = gives (codes "HomeResFile") (Number ∷ [])
+signature call_name.UniqueID = gives (codes "UniqueID") (TypeKind ∷ [])
+signature call_name.CountTypes = gives (codes "CountTypes") []
+signature call_name.CountResources = gives (codes "CountResources") (TypeKind ∷ [])
+signature call_name.GetIndType = does (codes "GetIndType") (Number ∷ [])
+signature call_name.SetResLoad = does (codes "SetResLoad") (Number ∷ [])
+signature call_name.OpenResFile = gives (codes "OpenResFile") (Number ∷ [])
+signature call_name.UseResFile = does (codes "UseResFile") (Number ∷ [])
+signature call_name.CurResFile = gives (codes "CurResFile") []
+signature call_name.ResError = does (codes "ResError") []
 
 -- the calls whose names have so many bytes
 abbrev pub of_length : ℕ → List CallName

@@ -2,6 +2,7 @@
 
 use crate::loan_call::LoanCall;
 use crate::memory_call::MemoryCall;
+use crate::resource_call::ResourceCall;
 
 /// A call of the toolbox with its operands.
 #[derive(Drop)]
@@ -10,6 +11,11 @@ pub enum Call<'a> {
     Memory(MemoryCall<'a>),
     /// A call on blocks that are lent.
     Loan(LoanCall<'a>),
-    /// The code of the last call other than MemError (Inside Macintosh: Memory, Errors).
+    /// A call of the Resource Manager.
+    Resource(ResourceCall<'a>),
+    /// The code of the last call of the Memory Manager, or on a loan (Inside Macintosh: Memory, Errors).
     MemError,
+    /// The code of the last call of the Resource Manager (Inside Macintosh: More Macintosh Toolbox, chapter 1, Checking for
+    /// Errors).
+    ResError,
 }

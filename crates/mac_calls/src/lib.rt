@@ -1,5 +1,5 @@
-//! The vocabulary of calls: the calls of the Memory Manager with their operands, what a call gives, and how each call
-//! is written.
+//! The vocabulary of calls: the calls of the Memory Manager and of the Resource Manager with their operands, what a call
+//! gives, and how each call is written.
 #![tactic(auto)]
 
 mod call;
@@ -7,11 +7,13 @@ mod grow_zone;
 mod loan_call;
 mod memory_call;
 mod reply;
+mod resource_call;
 mod table;
 
 pub use call::Call;
 pub use grow_zone::{Answer, Asked, GrowZone};
 pub use loan_call::LoanCall;
 pub use memory_call::{MemoryCall, Span};
-pub use reply::{BlockList, Outcome, Reply, Results};
+pub use reply::{BlockList, Outcome, Reply, ResourceInfo, Results};
+pub use resource_call::ResourceCall;
 pub use table::{ALL_CALLS, CallName, OperandKind, Signature};

@@ -4,6 +4,8 @@ use mac_base::block::Block;
 use mac_base::bytes::Bytes;
 use mac_base::error::OsErr;
 use mac_base::handle::{Handle, Ptr};
+use res_base::name::Name;
+use res_base::resource::ResType;
 use std::marker::Model;
 
 /// The blocks of a zone, lowest first. A contract sees the list.
@@ -39,6 +41,14 @@ impl BlockList {
     }
 }
 
+/// What a resource is called.
+#[derive(Drop)]
+pub struct ResourceInfo {
+    pub id: i16,
+    pub kind: ResType,
+    pub name: Option<Name>,
+}
+
 /// What a call gives that isn't refused.
 #[derive(Drop)]
 pub enum Results {
@@ -50,7 +60,7 @@ pub enum Results {
     Pointer(Ptr),
     /// Where contents begin.
     Address(u32),
-    /// A size in bytes, or a state.
+    /// A size in bytes, a state, a count, an id, attributes, or the number of a file.
     Number(u32),
     /// Two sizes in bytes.
     TwoNumbers(u32, u32),
@@ -60,6 +70,10 @@ pub enum Results {
     Bytes(Bytes),
     /// The blocks of the zone.
     Blocks(BlockList),
+    /// The type of a resource.
+    Kind(ResType),
+    /// What a resource is called.
+    Info(ResourceInfo),
 }
 
 /// How a call ends: with its results, or with the code of its refusal. A refusal has no results.

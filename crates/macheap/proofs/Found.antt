@@ -1,24 +1,25 @@
 -- What the words ask for, from what `clap` found in them.
-use Rattle.std.proofs.Common.{◌≡◌, ℕ, true, List, [], Option, Result, Ok, Err, refl, sym, ap, subst, ◌∙◌, inl, inr, false, ◌∷◌, ◌<◌, arith}
+use Rattle.std.proofs.Common.{◌≡◌, ℕ, true, List, [], codes, Option, option_map, unwrap_or, Result, Ok, Err, refl, sym, ap, subst, ◌∙◌, inl, inr, false, ◌∷◌, ◌<◌, ◌≤◌, ◌⊎◌, length, map, Some, None, arith}
 use Rattle.std.specs.List.{list_all}
 use Rattle.std.specs.Char.{is_ascii_digit, digit_value}
 use Rattle.std.specs.Str.Parse.{AllDigits}
 use Rattle.std.proofs.lemmas.Str.Parse.{digit_from_value}
 use Rattle.std.proofs.lemmas.Bool.Decides.{nat_tests}
+use Rattle.std.proofs.lemmas.List.{length-map}
 use Rattle.std.specs.Result.{IsErrAnd}
 use Rattle.clap.specs.declared.builder.command.Command.{Command}
 use Rattle.clap.specs.declared.error.Error.{Error}
 use Rattle.clap.specs.declared.error.kind.ErrorKind.{ErrorKind}
 use Rattle.clap.specs.declared.parser.matches.ArgMatches.{ArgMatches}
-use Rattle.clap.specs.Words.{App, Text, HasKind, HasMatchesOf, IsAmong, app_of, fault_of, first_of, first_value, found_of, is_simple, is_simple_and_free, kind_of, matches_of}
+use Rattle.clap.specs.Words.{App, Text, HasKind, HasMatchesOf, IsAmong, all_of, app_of, fault_of, first_of, first_value, found_of, matched_of, raw_values, is_simple, is_simple_and_free, kind_of, matches_of}
 use Rattle.clap.proofs.OnLiterals.{clap_on_literals}
-use Rattle.clap.proofs.WalkLemmas.{first_value-rows}
+use Rattle.clap.proofs.WalkLemmas.{first_value-rows, raw_values-rows}
 use Rattle.macheap.specs.declared.asked.Asked.{Asked}
 use Rattle.macheap.specs.declared.asked.Asked.TheVariants.{Run, Help}
 use Rattle.macheap.specs.declared.asked.NotAsked.{NotAsked}
-use Rattle.macheap.specs.declared.asked.NotAsked.TheVariants.{Words, NoNumber, Mode, Spec, HostFull}
-use Rattle.macheap.specs.Options.{options, faults, value_of, IsDecimal, IsNumberOf, IsNoNumber}
-use Rattle.macheap.specs.Asking.{Asks, GivesNoNumber, MeansNoRun, IsNoNumberFault}
+use Rattle.macheap.specs.declared.asked.NotAsked.TheVariants.{Words, TooManyForks, NoNumber, Mode, Spec, HostFull}
+use Rattle.macheap.specs.Options.{options, faults, forks_of, value_of, IsDecimal, IsNumberOf, IsNoNumber}
+use Rattle.macheap.specs.Asking.{Asks, Match, NamesTooMany, most_forks, GivesNoNumber, MeansNoRun, IsNoNumberFault}
 
 pub options_free : is_simple_and_free options ≡ true
 unfolding clap_on_literals
@@ -32,6 +33,31 @@ options_simple = refl
 pub value_found : (command : Command) (words : List Text) (m : ArgMatches) (name : Text) (got : Option Text) → app_of command ≡ options → HasMatchesOf (app_of command) words m → got ≡ first_value (found_of m) name → got ≡ value_of name words
 value_found command words m name got is has found =
     found ∙ first_value-rows (found_of m) name ∙ ap (first_of name) ((has (ap is_simple is ∙ options_simple)).0 ∙ ap (λ (a : App). matches_of a words) is)
+
+-- what `get_strs` gives is the names that the words give
+pub forks_found : (command : Command) (words : List Text) (m : ArgMatches) (got : Option (List Text)) → app_of command ≡ options → HasMatchesOf (app_of command) words m → got ≡ option_map raw_values (matched_of (found_of m) (codes "fork")) → unwrap_or got [] ≡ forks_of words
+forks_found command words m got is has found =
+    ap (λ (o : Option (List Text)). unwrap_or o []) (found ∙ raw_values-rows (found_of m) (codes "fork") ∙ ap (all_of (codes "fork")) ((has (ap is_simple is ∙ options_simple)).0 ∙ ap (λ (a : App). matches_of a words) is))
+
+names_given : {A B : Type 0} (o : Option A) (all : A → List B) (now : B → Text) → map now (unwrap_or (option_map all o) []) ≡ unwrap_or (option_map (λ (a : A). map now (all a)) o) []
+names_given None all now = refl
+names_given (Some a) all now = refl
+
+-- so they are the names that a run has
+pub forks_given : {A B : Type 0} (command : Command) (words : List Text) (m : ArgMatches) (names : Option A) (forks : List B) (all : A → List B) (now : B → Text) → app_of command ≡ options → HasMatchesOf (app_of command) words m
+    → option_map (λ (a : A). map now (all a)) names ≡ option_map raw_values (matched_of (found_of m) (codes "fork")) → forks ≡ unwrap_or (option_map all names) [] → map now forks ≡ forks_of words
+forks_given {A = A} command words m names forks all now is has found are =
+    ap (map now) are ∙ names_given names all now ∙ forks_found command words m (option_map (λ (a : A). map now (all a)) names) is has found
+
+-- and the words match the options, where these are few
+pub match_of : {B : Type 0} (words : List Text) (forks : List B) (now : B → Text) → faults words ≡ [] → map now forks ≡ forks_of words → length forks ≤ most_forks → Match words
+match_of words forks now none are few = (none, subst (λ (n : ℕ). n ≤ most_forks) (sym (length-map forks now) ∙ ap length are) few)
+
+-- too many names, or no host memory for them
+pub forks_asks : (words : List Text) (r : Result Asked NotAsked) (e : NotAsked) → IsErrAnd r (λ x. x ≡ e) → (e ≡ TooManyForks) ⊎ (e ≡ HostFull) → (e ≡ TooManyForks → NamesTooMany words) → Asks words r
+forks_asks words (Ok asked) e fails which many = absurd fails
+forks_asks words (Err x) e fails (inl same) many = subst (λ (y : NotAsked). Asks words (Err y)) (sym (fails ∙ same)) (many same)
+forks_asks words (Err x) e fails (inr same) many = subst (λ (y : NotAsked). Asks words (Err y)) (sym (fails ∙ same)) tt
 
 -- where the words match, they have no fault
 pub matched : (command : Command) (words : List Text) → app_of command ≡ options → (is_simple_and_free (app_of command) ≡ true → fault_of (app_of command) words ≡ []) → faults words ≡ []
@@ -47,11 +73,12 @@ no_number_found command words m name got is has found none = subst IsNoNumber (v
 
 -- an error of the parse asks for help, or says that the words don't match
 pub unmatched : (words : List Text) (e : Error) (r : Result Asked NotAsked) → HasKind (faults words) e → MeansNoRun (kind_of e) r → Asks words r
-unmatched words e (Ok (Run sizes)) has means = absurd means
+unmatched words e (Ok (Run sizes forks)) has means = absurd means
 unmatched words e (Ok (Help text)) (inl full) means = let is = means.0 in absurd (cc)
 unmatched words e (Ok (Help text)) (inr among) means = (subst (λ (k : ErrorKind). IsAmong k (faults words)) means.0 among, means.1 ∙ means.0)
 unmatched words e (Err (Words fault)) (inl full) means = absurd (means.1 full)
 unmatched words e (Err (Words fault)) (inr among) means = (subst (λ (k : ErrorKind). IsAmong k (faults words)) (sym means.2) among, λ same. means.0 (sym means.2 ∙ same))
+unmatched words e (Err TooManyForks) has means = absurd means
 unmatched words e (Err (NoNumber option)) has means = absurd means
 unmatched words e (Err (Mode mode)) has means = absurd means
 unmatched words e (Err (Spec fault)) has means = absurd means
@@ -68,6 +95,7 @@ full_asks words (Err e) full = subst (λ (x : NotAsked). Asks words (Err x)) (sy
 pub no_number_asks : (words : List Text) (e : NotAsked) (name : Text) → IsNoNumberFault name e → GivesNoNumber words name → Asks words (Err e)
 no_number_asks words (NoNumber option) name is none = subst (λ (t : Text). GivesNoNumber words t) (sym is) none
 no_number_asks words (Words fault) name is none = absurd is
+no_number_asks words TooManyForks name is none = absurd is
 no_number_asks words (Mode mode) name is none = absurd is
 no_number_asks words (Spec fault) name is none = absurd is
 no_number_asks words HostFull name is none = absurd is

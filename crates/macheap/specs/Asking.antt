@@ -1,5 +1,5 @@
 -- What the words of the command line ask for.
-use Rattle.std.specs.Prelude.{◌≡◌, ◌≢◌, ℕ, List, [], Some, None, Result, Ok, Err, codes}
+use Rattle.std.specs.Prelude.{◌≡◌, ◌≢◌, ◌<◌, ◌≤◌, ℕ, List, [], length, map, Some, None, Result, Ok, Err, codes}
 use Rattle.clap.specs.Words.{Text, IsAmong, kind_of}
 use Rattle.clap.specs.declared.error.kind.ErrorKind.{ErrorKind}
 use Rattle.clap.specs.declared.error.kind.ErrorKind.TheVariants.{DisplayHelp, OutOfMemory}
@@ -9,20 +9,28 @@ use Rattle.mac_base.specs.ZoneSizes.{ZoneSizes, ArePossible, first_fault}
 use Rattle.macheap.specs.declared.asked.Asked.{Asked}
 use Rattle.macheap.specs.declared.asked.Asked.TheVariants.{Run, Help}
 use Rattle.macheap.specs.declared.asked.NotAsked.{NotAsked}
-use Rattle.macheap.specs.declared.asked.NotAsked.TheVariants.{Words, NoNumber, Mode, Spec, HostFull}
-use Rattle.macheap.specs.Options.{faults, heads_of, value_of, IsNumberOf, IsNoNumber}
+use Rattle.macheap.specs.declared.asked.NotAsked.TheVariants.{Words, TooManyForks, NoNumber, Mode, Spec, HostFull}
+use Rattle.macheap.specs.Options.{faults, forks_of, heads_of, value_of, IsNumberOf, IsNoNumber}
+
+-- the most files that a run may have
+abbrev pub most_forks : ℕ
+most_forks = 8
+
+-- the words match the options, and name no more files than a run may have
+abbrev pub Match : List Text → Type 0
+Match words = (faults words ≡ []) × (length (forks_of words) ≤ most_forks)
 
 -- the words match the options, and give these numbers: the zone's first address, its size in bytes, the size that it may grow to,
 -- which is its own where none is given, and the mode
 pub record GivesNumbers (words : List Text) (base size limit mode : ℕ) : Type 0 where
-  pub matched : faults words ≡ []
+  pub matched : Match words
   pub size_given : IsNumberOf (value_of (codes "zone") words) 4096 size
   pub limit_given : IsNumberOf (value_of (codes "limit") words) size limit
   pub base_given : IsNumberOf (value_of (codes "base") words) 0x10_0000 base
   pub mode_given : IsNumberOf (value_of (codes "mode") words) 24 mode
 
--- the words ask for a run on a zone of these sizes, of blocks as the mode has them
-pub record AsksForRun (words : List Text) (sizes : ZoneSizes) : Type 0 where
+-- the words ask for a run on a zone of these sizes, of blocks as the mode has them, over the files of these names
+pub record AsksForRun (words : List Text) (sizes : ZoneSizes) (forks : List Text) : Type 0 where
   pub base : ℕ
   pub size : ℕ
   pub limit : ℕ
@@ -32,6 +40,7 @@ pub record AsksForRun (words : List Text) (sizes : ZoneSizes) : Type 0 where
   pub headed : heads_of mode ≡ Some heads
   pub is : sizes ≡ record { heads = heads; base = base; size = size; limit = limit }
   pub possible : ArePossible sizes
+  pub forks_are : forks ≡ forks_of words
 
 -- the words ask for help
 abbrev pub AsksForHelp : List Text → Type 0
@@ -41,14 +50,18 @@ AsksForHelp words = IsAmong DisplayHelp (faults words)
 abbrev pub DontMatch : List Text → Type 0
 DontMatch words = (fault : ErrorKind) × IsAmong fault (faults words) × (fault ≢ DisplayHelp)
 
+-- the words match the options, and name more files than a run may have
+abbrev pub NamesTooMany : List Text → Type 0
+NamesTooMany words = (faults words ≡ []) × (most_forks < length (forks_of words))
+
 -- the words match the options, and this is the first of `zone`, `limit`, `base` and `mode` whose value is no number
 pub data GivesNoNumber (words : List Text) (option : Text) : Type 0 where
-  of_zone : option ≡ codes "zone" → faults words ≡ [] → IsNoNumber (value_of (codes "zone") words) → GivesNoNumber words option
-  of_limit : option ≡ codes "limit" → faults words ≡ [] → (size : ℕ) → IsNumberOf (value_of (codes "zone") words) 4096 size
+  of_zone : option ≡ codes "zone" → Match words → IsNoNumber (value_of (codes "zone") words) → GivesNoNumber words option
+  of_limit : option ≡ codes "limit" → Match words → (size : ℕ) → IsNumberOf (value_of (codes "zone") words) 4096 size
       → IsNoNumber (value_of (codes "limit") words) → GivesNoNumber words option
-  of_base : option ≡ codes "base" → faults words ≡ [] → (size limit : ℕ) → IsNumberOf (value_of (codes "zone") words) 4096 size
+  of_base : option ≡ codes "base" → Match words → (size limit : ℕ) → IsNumberOf (value_of (codes "zone") words) 4096 size
       → IsNumberOf (value_of (codes "limit") words) size limit → IsNoNumber (value_of (codes "base") words) → GivesNoNumber words option
-  of_mode : option ≡ codes "mode" → faults words ≡ [] → (size limit base : ℕ) → IsNumberOf (value_of (codes "zone") words) 4096 size
+  of_mode : option ≡ codes "mode" → Match words → (size limit base : ℕ) → IsNumberOf (value_of (codes "zone") words) 4096 size
       → IsNumberOf (value_of (codes "limit") words) size limit → IsNumberOf (value_of (codes "base") words) 0x10_0000 base
       → IsNoNumber (value_of (codes "mode") words) → GivesNoNumber words option
 
@@ -63,17 +76,18 @@ GivesNoZone words fault = (base : ℕ) × (size : ℕ) × (limit : ℕ) × (mode
 
 -- What the words ask for, or why they ask for nothing; what is shown or told of it is of that kind. Want of memory may come at any time.
 abbrev pub Asks : List Text → Result Asked NotAsked → Type 0
-Asks words (Ok (Run sizes)) = AsksForRun words sizes
+Asks words (Ok (Run sizes forks)) = AsksForRun words sizes (map (λ name. name.now) forks.items)
 Asks words (Ok (Help text)) = AsksForHelp words × (kind_of text ≡ DisplayHelp)
 Asks words (Err (Words fault)) = IsAmong (kind_of fault) (faults words) × (kind_of fault ≢ DisplayHelp)
 Asks words (Err (NoNumber option)) = GivesNoNumber words option.now
+Asks words (Err TooManyForks) = NamesTooMany words
 Asks words (Err (Mode mode)) = GivesNoMode words mode
 Asks words (Err (Spec fault)) = GivesNoZone words fault
 Asks words (Err HostFull) = Unit {0}
 
 -- what an error of this kind means: a question for help, want of memory, or words that don't match; the error is handed on
 abbrev pub MeansNoRun : ErrorKind → Result Asked NotAsked → Type 0
-MeansNoRun kind (Ok (Run sizes)) = ⊥
+MeansNoRun kind (Ok (Run sizes forks)) = ⊥
 MeansNoRun kind (Ok (Help text)) = (kind ≡ DisplayHelp) × (kind_of text ≡ kind)
 MeansNoRun kind (Err (Words fault)) = (kind ≢ DisplayHelp) × (kind ≢ OutOfMemory) × (kind_of fault ≡ kind)
 MeansNoRun kind (Err HostFull) = kind ≡ OutOfMemory

@@ -1,3 +1,5 @@
+pub mod Disks
+pub mod Stores
 pub mod Options
 pub mod Asking
 pub mod Program

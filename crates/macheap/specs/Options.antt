@@ -1,18 +1,22 @@
 -- The options of the command line, and the numbers that they give.
-use Rattle.std.specs.Prelude.{◌≡◌, ℕ, ◌<◌, ◌^◌, ◌==◌, if◌then◌else◌, List, Option, Some, None, codes}
+use Rattle.std.specs.Prelude.{◌≡◌, ℕ, ◌<◌, ◌^◌, ◌==◌, if◌then◌else◌, List, [], Option, Some, None, unwrap_or, codes}
 use Rattle.std.specs.Str.Parse.{IsNumeral, digits_value}
-use Rattle.clap.specs.Words.{App, Rule, Text, Kinds, new_app, new_rule, with_rule, matches_of, first_of, fault_of}
+use Rattle.clap.specs.Words.{App, Rule, Text, Kinds, new_app, new_rule, with_rule, matches_of, all_of, first_of, fault_of}
 use Rattle.mac_base.specs.declared.block.HeadKind.{HeadKind}
 use Rattle.mac_base.specs.declared.block.HeadKind.TheVariants.{Bits24, Bits32}
-use Rattle.clap.specs.declared.builder.ArgAction.TheVariants.{Set}
+use Rattle.clap.specs.declared.builder.ArgAction.TheVariants.{Set, Append}
 
 -- an option that stands once at most, as `--name`, and takes a value
 abbrev pub option_named : Text → Rule
 option_named name = record (new_rule name) { long = Some name; action = Some Set; value_names = 1 }
 
+-- the option `--fork`, which may stand several times and takes a value each time
+abbrev pub fork_option : Rule
+fork_option = record (new_rule (codes "fork")) { long = Some (codes "fork"); action = Some Append; value_names = 1 }
+
 -- the program and its options
 abbrev pub options : App
-options = with_rule (with_rule (with_rule (with_rule (new_app (codes "macheap")) (option_named (codes "zone"))) (option_named (codes "limit"))) (option_named (codes "base"))) (option_named (codes "mode"))
+options = with_rule (with_rule (with_rule (with_rule (with_rule (new_app (codes "macheap")) (option_named (codes "zone"))) (option_named (codes "limit"))) (option_named (codes "base"))) (option_named (codes "mode"))) fork_option
 
 -- the ways in which the words don't match the options, of which `--help` is one; none where they do
 abbrev pub faults : List Text → Kinds
@@ -21,6 +25,10 @@ faults words = fault_of options words
 -- the value that the words give an option
 abbrev pub value_of : Text → List Text → Option Text
 value_of name words = first_of name (matches_of options words)
+
+-- the names of the files that the words give, in order
+abbrev pub forks_of : List Text → List Text
+forks_of words = unwrap_or (all_of (codes "fork") (matches_of options words)) []
 
 -- decimal digits, one or more, of a number below 2 ^ 32
 pub record IsDecimal (text : List ℕ) : Type 0 where

@@ -1,11 +1,11 @@
 //! The words of the command line.
 
-ghost use Rattle.std.specs.Prelude.{◌≡◌, IfOk, IfErr, OnErr, false, map, option_map};
+ghost use Rattle.std.specs.Prelude.{◌≡◌, ◌<◌, ◌≤◌, ◌⊎◌, [], IfOk, IfErr, OnErr, false, length, map, option_map, unwrap_or};
 ghost use Rattle.std.specs.Char.{is_ascii_digit};
 ghost use Rattle.std.specs.List.{list_all};
 ghost use Rattle.clap.specs.Words.{app_of, kind_of, rule_of};
 ghost use Rattle.macheap.specs.Asking.{Asks, MeansNoRun, IsNoNumberFault};
-ghost use Rattle.macheap.specs.Options.{heads_of, option_named, options, IsNumberOf, IsNoNumber};
+ghost use Rattle.macheap.specs.Options.{fork_option, heads_of, option_named, options, IsNumberOf, IsNoNumber};
 
 use clap::error::ErrorKind;
 use clap::{Arg, ArgAction, Command};
@@ -24,11 +24,14 @@ pub const DEFAULT_BASE: u32 = 0x10_0000;
 /// The mode where `--mode` doesn't give one.
 pub const DEFAULT_MODE: u32 = 24;
 
+/// The most files that a run may have.
+const MOST_FORKS: usize = 8;
+
 /// What the words ask for.
 #[derive(Debug, Drop)]
-pub enum Asked {
-    /// To run the script of standard input on such a zone.
-    Run(ZoneSpec),
+pub enum Asked<'a> {
+    /// To run the script of standard input on such a zone, over the files of these names.
+    Run(ZoneSpec, Vec<&'a str>),
     /// To show this help text, and to run nothing.
     Help(clap::Error),
 }
@@ -39,6 +42,9 @@ pub enum NotAsked {
     /// A word is no option, an option stands twice or has no value.
     #[error("{0}")]
     Words(clap::Error),
+    /// There are more files than a run may have.
+    #[error("error: --fork may stand 8 times; see 'macheap --help'")]
+    TooManyForks,
     /// An option's value is no number.
     #[error("error: --{0} takes decimal digits for a number up to 4294967295; see 'macheap --help'")]
     NoNumber(&'static str),
@@ -76,6 +82,18 @@ fn number_option<'a>(alloc: Global, name: &'a str, help: &'a str) -> Arg<'a>
         .help(help)
 }
 
+/// The option that names the file of a resource fork. It may stand several times.
+fn fork_option<'a>(alloc: Global, help: &'a str) -> Arg<'a>
+    ensures rule { rule_of result ≡ fork_option }
+    ensures local { result.global ≡ false }
+{
+    Arg::new(alloc, "fork")
+        .long("fork")
+        .value_name("FILE")
+        .action(ArgAction::Append)
+        .help(help)
+}
+
 /// The command line's options.
 fn command<'a>(alloc: Global) -> Result<Command<'a>, AllocError>
     ensures { IfOk result (λ command. app_of command ≡ options) }
@@ -85,22 +103,26 @@ fn command<'a>(alloc: Global) -> Result<Command<'a>, AllocError>
     let base_help = "The address of its first byte, a multiple of 4 from 4096 on (default 1048576)";
     let mode_help =
         "The headers of its blocks: 24 for those of 8 bytes, 32 for those of 12 (default 24)";
+    let fork_help =
+        "A file with a resource fork, made where it is missing; up to 8 times (default: none in a file)";
     Command::new(alloc, "macheap")
         .about("Runs the script of standard input on a new heap zone, and writes each call's reply")
         .arg(number_option(alloc, "zone", zone_help))?
         .arg(number_option(alloc, "limit", limit_help))?
         .arg(number_option(alloc, "base", base_help))?
-        .arg(number_option(alloc, "mode", mode_help))
+        .arg(number_option(alloc, "mode", mode_help))?
+        .arg(fork_option(alloc, fork_help))
 }
 
 /// What the words ask for, of which the first is the program's name.
-pub fn asked_by<S: AsStr>(alloc: Global, words: &[S]) -> Result<Asked, NotAsked>
+pub fn asked_by<'a, S: AsStr>(alloc: Global, words: &'a [S]) -> Result<Asked<'a>, NotAsked>
     ensures { Asks (map S.text words.now) result }
 {
     let matches = match command(alloc)?.try_get_matches_from(words) {
         Ok(matches) => matches,
         Err(error) => return not_matched(error),
     };
+    let forks = forks_in(alloc, matches.get_strs("fork"))?;
     let zone = number("zone", matches.get_str("zone"), DEFAULT_ZONE)?;
     let limit = number("limit", matches.get_str("limit"), zone)?;
     let base = number("base", matches.get_str("base"), DEFAULT_BASE)?;
@@ -109,9 +131,23 @@ pub fn asked_by<S: AsStr>(alloc: Global, words: &[S]) -> Result<Asked, NotAsked>
         return Err(NotAsked::Mode(mode));
     };
     match ZoneSpec::with_kind(base, zone, limit, heads) {
-        Ok(spec) => Ok(Asked::Run(spec)),
+        Ok(spec) => Ok(Asked::Run(spec, forks)),
         Err(fault) => Err(NotAsked::Spec(fault)),
     }
+}
+
+/// The names that `--fork` gives, in order: none where it doesn't stand.
+fn forks_in<'a>(alloc: Global, names: Option<&[&'a str]>) -> Result<Vec<&'a str>, NotAsked>
+    ensures forks { IfOk result (λ forks. forks.items ≡ unwrap_or (option_map (λ names. names.now) names.entry) []) }
+    ensures few { IfOk result (λ forks. length forks.items ≤ 8) }
+    ensures many { IfErr result (λ fault. fault ≡ NotAsked.TooManyForks → 8 < length (unwrap_or (option_map (λ names. names.now) names.entry) [])) }
+    ensures faults { IfErr result (λ fault. (fault ≡ NotAsked.TooManyForks) ⊎ (fault ≡ NotAsked.HostFull)) }
+{
+    let names = names.unwrap_or(&[]);
+    if names.len() > MOST_FORKS {
+        return Err(NotAsked::TooManyForks);
+    }
+    Ok(Vec::from_slice(alloc, names)?)
 }
 
 /// How blocks are headed in this mode, if there is such a mode.
@@ -126,7 +162,7 @@ fn heads_of(mode: u32) -> Option<HeadKind>
 }
 
 /// What it means that the words don't match the options.
-fn not_matched(error: clap::Error) -> Result<Asked, NotAsked>
+fn not_matched<'a>(error: clap::Error) -> Result<Asked<'a>, NotAsked>
     ensures { MeansNoRun (kind_of error) result }
 {
     match error.kind() {

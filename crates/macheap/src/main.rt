@@ -1,14 +1,17 @@
-//! Runs a script of calls on a heap zone: `macheap [--zone N] [--limit N] [--base N] [--mode 24|32] < script`.
+//! Runs a script of calls on a heap zone: `macheap [--zone N] [--limit N] [--base N] [--mode 24|32] [--fork FILE].. < script`.
 #![tactic(auto)]
 
 mod asked;
+mod disk;
 mod program;
+mod stores;
 
 use program::{BAD_WORDS, program};
 use script_run::{Counted, status, tell_no_memory};
 use std::io::ErrorKind;
 use std::process::ExitCode;
 use std::{env, io};
+use stores::HostDisks;
 
 fn main(rt: HostRuntime) -> ExitCode {
     let alloc = rt.alloc();
@@ -23,7 +26,15 @@ fn main(rt: HostRuntime) -> ExitCode {
     let mut output = Counted::new(rt.stdout());
     let mut messages = rt.stderr();
     let words = words.as_slice();
-    ExitCode::from(program(alloc, words, &mut input, &mut output, &mut messages))
+    let opener = HostDisks { runtime: &rt };
+    ExitCode::from(program(
+        alloc,
+        words,
+        &opener,
+        &mut input,
+        &mut output,
+        &mut messages,
+    ))
 }
 
 /// Ends a program whose words can't be read: they are no text, or the host has no memory for them.

@@ -1,13 +1,13 @@
 -- Worked examples of printed texts, computed.
-use Rattle.std.proofs.Common.{◌≡◌, refl, [], ◌∷◌, None, Some, Ok, Err, codes}
+use Rattle.std.proofs.Common.{◌≡◌, refl, [], ◌∷◌, pos, negsuc, None, Some, Ok, Err, codes}
 use Rattle.std.specs.Fmt.{digits}
 use Rattle.mac_base.specs.HandleTable.{no_flags}
-use Rattle.mac_base.specs.declared.error.OsErr.TheVariants.{MemFullErr, NilHandleErr}
+use Rattle.mac_base.specs.declared.error.OsErr.TheVariants.{MemFullErr, NilHandleErr, MapReadErr}
 use Rattle.mac_base.specs.ZoneMap.{block}
 use Rattle.mac_base.specs.declared.block.Kind.TheVariants.{Free, Master, Ptr, Rel}
-use Rattle.mac_calls.specs.declared.reply.Results.TheVariants.{Handle, Pointer, Address, Number, TwoNumbers, Code, Blocks}
-use Rattle.mac_calls.specs.declared.table.CallName.TheVariants.{NewHandle, NewPtr, HGetState, Deref, MaxMem, ZoneMap, MemError}
-use Rattle.reply_text.specs.Text.{address, reply_text, fault_text}
+use Rattle.mac_calls.specs.declared.reply.Results.TheVariants.{Handle, Pointer, Address, Number, TwoNumbers, Code, Blocks, Kind, Info}
+use Rattle.mac_calls.specs.declared.table.CallName.TheVariants.{NewHandle, NewPtr, HGetState, Deref, MaxMem, ZoneMap, MemError, GetResInfo, GetIndType, OpenResFile}
+use Rattle.reply_text.specs.Text.{address, reply_text, type_text, fault_text}
 
 handle_text : reply_text 1 NewHandle (record { outcome = Ok (Handle 0x0010_003C) }) [] ≡ codes "1 NewHandle $0010003C 0\n"
 unfolding address digits
@@ -59,3 +59,22 @@ asks_text = refl
 most_text : reply_text 3 MaxMem (record { outcome = Ok (TwoNumbers 3660 0) }) [] ≡ codes "3 MaxMem 3660 0 0\n"
 unfolding digits
 most_text = refl
+
+nameless_text : reply_text 6 GetResInfo (record { outcome = Ok (Info (record { id = pos 128; kind = codes "TEXT"; name = None })) }) [] ≡ codes "6 GetResInfo 128 'TEXT' none 0\n"
+unfolding digits
+nameless_text = refl
+
+named_text : reply_text 10 GetResInfo (record { outcome = Ok (Info (record { id = negsuc 127; kind = codes "TEXT"; name = Some (codes "n") })) }) [] ≡ codes "10 GetResInfo -128 'TEXT' \"n\" 0\n"
+unfolding digits
+named_text = refl
+
+type_alone_text : reply_text 6 GetIndType (record { outcome = Ok (Kind (codes "TEXT")) }) [] ≡ codes "6 GetIndType 'TEXT' 0\n"
+unfolding digits
+type_alone_text = refl
+
+type_with_quote : type_text (codes "it's") ≡ codes "$\"69742773\""
+type_with_quote = refl
+
+opening_text : reply_text 0 OpenResFile (record { outcome = Err MapReadErr }) [] ≡ codes "0 OpenResFile -199\n"
+unfolding digits
+opening_text = refl

@@ -12,6 +12,7 @@ use Rattle.mac_base.specs.Codes.{code_of}
 use Rattle.mac_calls.specs.declared.grow_zone.Asked.{Asked}
 use Rattle.mac_calls.specs.declared.reply.Results.{Results}
 use Rattle.mac_calls.specs.declared.reply.Results.TheVariants as results
+use Rattle.mac_calls.specs.declared.reply.ResourceInfo.{ResourceInfo}
 use Rattle.mac_calls.specs.declared.reply.Reply.{Reply}
 use Rattle.mac_calls.specs.declared.table.CallName.{CallName}
 use Rattle.mac_calls.specs.Calls.{signature}
@@ -32,13 +33,30 @@ in_digits bytes = flat_map two_digits bytes
 unfoldable pub address : ℕ → List ℕ
 address n = 36 ∷ in_digits (to_be_bytes w32 n)
 
--- a byte that stands for itself in double quotes: of ASCII, no control character, and not `"`
-abbrev pub is_plain : ℕ → Bool
-is_plain byte = nat_le 32 byte && nat_le byte 126 && not (byte == 34)
+-- a byte that stands for itself between these quotes: of ASCII, no control character, and not the quote
+abbrev pub is_plain : ℕ → ℕ → Bool
+is_plain quote byte = nat_le 32 byte && nat_le byte 126 && not (byte == quote)
 
--- bytes in double quotes where each can stand there, else as `$"` hexadecimal digits `"`
-abbrev pub in_quotes : List ℕ → List ℕ
-in_quotes bytes = if list_all is_plain bytes then 34 ∷ bytes ++ 34 ∷ [] else 36 ∷ 34 ∷ in_digits bytes ++ 34 ∷ []
+-- bytes between these quotes where each can stand there, else as `$"` hexadecimal digits `"`
+abbrev pub between : ℕ → List ℕ → List ℕ
+between quote bytes = if list_all (is_plain quote) bytes then quote ∷ bytes ++ quote ∷ [] else 36 ∷ 34 ∷ in_digits bytes ++ 34 ∷ []
+
+-- bytes in double quotes
+abbrev pub bytes_text : List ℕ → List ℕ
+bytes_text bytes = between 34 bytes
+
+-- a type in single quotes
+abbrev pub type_text : List ℕ → List ℕ
+type_text kind = between 39 kind
+
+-- the name of a resource, or `none`
+abbrev pub name_text : Option (List ℕ) → List ℕ
+name_text None = codes "none"
+name_text (Some name) = bytes_text name
+
+-- what a resource is called: its id, its type and its name
+abbrev pub info_text : ResourceInfo → List ℕ
+info_text info = signed_decimal info.id ++ spaced (type_text info.kind) ++ spaced (name_text info.name)
 
 -- the number of the code of a call, and 0 where it was not refused
 abbrev pub number_of : Option OsErr → ℤ
@@ -54,8 +72,10 @@ results_text (results.Address at) = spaced (address at)
 results_text (results.Number n) = spaced (decimal n)
 results_text (results.TwoNumbers one other) = spaced (decimal one) ++ spaced (decimal other)
 results_text (results.Code refused) = spaced (signed_decimal (number_of refused))
-results_text (results.Bytes bytes) = spaced (in_quotes bytes)
+results_text (results.Bytes bytes) = spaced (bytes_text bytes)
 results_text (results.Blocks blocks) = spaced (decimal (length blocks))
+results_text (results.Kind kind) = spaced (type_text kind)
+results_text (results.Info info) = spaced (info_text info)
 
 -- the results, and the code behind them; a refusal has no results
 abbrev pub outcome_text : Result Results OsErr → List ℕ

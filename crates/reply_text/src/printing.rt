@@ -1,106 +1,19 @@
 //! What a run prints.
 
-ghost use Rattle.std.specs.Prelude.{◌≡◌, ◌<◌, ◌*◌, ◌++◌, ◌∷◌, [], true, decimal, codes, length, IfOk, OnOk};
-ghost use Rattle.std.specs.Fmt.{digit_glyph, signed_decimal};
-ghost use Rattle.std.specs.List.{flat_map, list_all};
+ghost use Rattle.std.specs.Prelude.{◌≡◌, ◌++◌, IfOk, OnOk};
+ghost use Rattle.std.specs.List.{flat_map};
+ghost use Rattle.std.specs.Option.{option_copied};
 ghost use Rattle.reply_text.specs.Text as texts;
 
-use itoa::{Buffer, Integer};
+use crate::literal::{push_address, push_bytes, push_number, push_type};
 use mac_base::block::{Block, Flags, Kind};
 use mac_base::error::{HostFull, NO_ERR, OsErr};
-use mac_calls::{Asked, CallName, Reply, Results};
+use mac_calls::{Asked, CallName, Reply, ResourceInfo, Results};
+use res_base::name::Name;
 use std::alloc::Global;
 
 /// The last line of a run for which the host had no memory.
 pub const NO_MEMORY: &[u8] = b"no memory\n";
-
-/// Adds a number in decimal, with a minus where it is negative.
-fn push_number<I: Integer>(text: &mut Vec<u8>, number: I) -> Result<(), HostFull>
-    ensures { OnOk result (text.new.items ≡ text.old.items ++ I.text number) }
-{
-    let mut buffer = Buffer::new();
-    text.extend_from_slice(buffer.format(number).as_bytes())?;
-    Ok(())
-}
-
-/// A digit below 16, in upper case.
-fn hexadecimal_digit(digit: u8) -> u8
-    requires { digit < 16 }
-    ensures { result ≡ digit_glyph true digit }
-{
-    if digit < 10 {
-        b'0' + digit
-    } else {
-        b'A' - 10 + digit
-    }
-}
-
-/// Writes bytes as upper-case hexadecimal digits, two for each, over other bytes.
-fn write_digits(digits: &mut [u8], bytes: &[u8])
-    requires { length digits.old ≡ 2 * length bytes.now }
-    ensures { digits.new ≡ texts.in_digits bytes.now }
-{
-    for (index, byte) in bytes.iter().enumerate() {
-        digits[2 * index] = hexadecimal_digit(*byte / 16);
-        digits[2 * index + 1] = hexadecimal_digit(*byte % 16);
-    }
-}
-
-/// Adds bytes as upper-case hexadecimal digits, two for each.
-fn push_digits(text: &mut Vec<u8>, bytes: &[u8]) -> Result<(), HostFull>
-    ensures { OnOk result (text.new.items ≡ text.old.items ++ texts.in_digits bytes.now) }
-{
-    let start = text.len();
-    let count = bytes.len().checked_mul(2).ok_or(HostFull)?;
-    let end = start.checked_add(count).ok_or(HostFull)?;
-    text.resize(end, 0)?;
-    write_digits(&mut text[start..], bytes);
-    Ok(())
-}
-
-/// Adds a handle or an address: `$` and eight hexadecimal digits.
-fn push_address(text: &mut Vec<u8>, address: u32) -> Result<(), HostFull>
-    ensures { OnOk result (text.new.items ≡ text.old.items ++ texts.address address) }
-{
-    let mut digits = [0u8; 8];
-    write_digits(&mut digits, &address.to_be_bytes());
-    text.push(b'$')?;
-    text.extend_from_slice(&digits)?;
-    Ok(())
-}
-
-/// Whether a byte stands for itself in double quotes.
-fn is_plain(byte: u8) -> bool
-    ensures { result ≡ texts.is_plain byte }
-{
-    matches!(byte, b' '..=b'~') && byte != b'"'
-}
-
-/// Whether all bytes stand for themselves in double quotes.
-fn are_plain(bytes: &[u8]) -> bool
-    ensures { result ≡ list_all texts.is_plain bytes.now }
-{
-    let mut all = true;
-    for byte in bytes {
-        all &= is_plain(*byte);
-    }
-    all
-}
-
-/// Adds bytes in double quotes where each can stand there, else as `$"`, hexadecimal digits and `"`.
-fn push_bytes(text: &mut Vec<u8>, bytes: &[u8]) -> Result<(), HostFull>
-    ensures { OnOk result (text.new.items ≡ text.old.items ++ texts.in_quotes bytes.now) }
-{
-    if are_plain(bytes) {
-        text.push(b'"')?;
-        text.extend_from_slice(bytes)?;
-    } else {
-        text.extend_from_slice(b"$\"")?;
-        push_digits(text, bytes)?;
-    }
-    text.push(b'"')?;
-    Ok(())
-}
 
 /// The number of the code of a call, which is noErr where it wasn't refused.
 fn code_number(refused: Option<OsErr>) -> i16
@@ -110,6 +23,30 @@ fn code_number(refused: Option<OsErr>) -> i16
         Some(error) => error.code(),
         None => NO_ERR,
     }
+}
+
+/// Adds the name of a resource: its bytes, or `none`.
+fn push_name(text: &mut Vec<u8>, name: Option<&Name>) -> Result<(), HostFull>
+    ensures { OnOk result (text.new.items ≡ text.old.items ++ texts.name_text (option_copied name.entry)) }
+{
+    match name {
+        Some(name) => push_bytes(text, name.as_slice()),
+        None => {
+            text.extend_from_slice(b"none")?;
+            Ok(())
+        }
+    }
+}
+
+/// Adds what a resource is called: its id, its type and its name.
+fn push_info(text: &mut Vec<u8>, info: &ResourceInfo) -> Result<(), HostFull>
+    ensures { OnOk result (text.new.items ≡ text.old.items ++ texts.info_text info.now) }
+{
+    push_number(text, info.id)?;
+    text.push(b' ')?;
+    push_type(text, info.kind)?;
+    text.push(b' ')?;
+    push_name(text, info.name.as_ref())
 }
 
 /// Adds a space and what a call gave, if it gave something.
@@ -134,6 +71,8 @@ fn push_results(text: &mut Vec<u8>, results: &Results) -> Result<(), HostFull>
         Results::Code(refused) => push_number(text, code_number(*refused)),
         Results::Bytes(bytes) => push_bytes(text, bytes.as_slice()),
         Results::Blocks(blocks) => push_number(text, blocks.as_slice().len()),
+        Results::Kind(kind) => push_type(text, *kind),
+        Results::Info(info) => push_info(text, info),
     }
 }
 

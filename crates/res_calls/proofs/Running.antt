@@ -10,10 +10,10 @@ use Rattle.mac_calls.specs.ExactStep.{exact_step, IsExactStep}
 use Rattle.res_table.specs.declared.chain.RowPlace.{RowPlace}
 use Rattle.res_table.specs.OpenFiles.{no_files, row_at}
 use Rattle.res_calls.specs.Changes.{FileRow, FileTable}
-use Rattle.res_calls.specs.declared.resource_call.ResourceCall.{ResourceCall}
+use Rattle.mac_calls.specs.declared.resource_call.ResourceCall.{ResourceCall}
 use Rattle.res_calls.specs.Device.{Device, Disk}
 use Rattle.res_calls.specs.Device as device
-use Rattle.res_calls.specs.Files.{ResState, ResourceEnd, ResourceOutcome, refused_with, with_heap, with_files, disk_of}
+use Rattle.res_calls.specs.Files.{ResState, ResourceEnd, refused_with, with_heap, with_files, disk_of}
 use Rattle.res_calls.specs.Loads.{placing, loads_bytes, placed_end, found_end}
 use Rattle.res_calls.specs.Quiet.{quiet_end}
 use Rattle.res_calls.specs.Steps.{Work, Gets, Updates, Opens, Quiet, work_of, behind_memory, opened_end}
@@ -60,7 +60,7 @@ pub data AnyCall : Type 0 where
 -- how it ends
 pub data AnyOutcome : Type 0 where
   of_memory : Outcome → AnyOutcome
-  of_resources : ResourceOutcome → AnyOutcome
+  of_resources : Outcome → AnyOutcome
 
 -- the outcomes of a run, and the state behind it
 pub record Ran : Type 0 where

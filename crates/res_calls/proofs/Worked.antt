@@ -10,8 +10,8 @@ use Rattle.mac_calls.specs.declared.memory_call.MemoryCall.TheVariants.{NewHandl
 use Rattle.mac_calls.specs.declared.reply.Results.TheVariants as given
 use Rattle.fork_bytes.specs.Fork.{table_of}
 use Rattle.res_calls.specs.Changes.{FileTable, opened_table}
-use Rattle.res_calls.specs.declared.resource_call.ResourceCall.TheVariants.{GetResource, Get1Resource, GetIndResource, LoadResource, ReleaseResource, DetachResource, ChangedResource, RemoveResource, WriteResource, GetResAttrs, GetResInfo, SizeResource, HomeResFile, SetResAttrs, AddResource, UpdateResFile, CloseResFile, UniqueID, CountResources, GetIndType, SetResLoad, OpenResFile, UseResFile, CountTypes, CurResFile}
-use Rattle.res_calls.specs.declared.results.ResourceResults.TheVariants.{Nothing, Handle, Number, Info, Kind}
+use Rattle.mac_calls.specs.declared.resource_call.ResourceCall.TheVariants.{GetResource, Get1Resource, GetIndResource, LoadResource, ReleaseResource, DetachResource, ChangedResource, RemoveResource, WriteResource, GetResAttrs, GetResInfo, SizeResource, HomeResFile, SetResAttrs, AddResource, UpdateResFile, CloseResFile, UniqueID, CountResources, GetIndType, SetResLoad, OpenResFile, UseResFile, CountTypes, CurResFile}
+use Rattle.mac_calls.specs.declared.reply.Results.TheVariants.{Nothing, Handle, Number, Info, Kind}
 use Rattle.res_calls.specs.Device.{Disk, empty_table}
 use Rattle.res_calls.specs.Files.{ResState}
 use Rattle.res_calls.proofs.Running.{AnyCall, m, r, AnyOutcome, of_memory, of_resources, ran, unopened, resource_end}

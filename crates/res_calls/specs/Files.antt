@@ -1,11 +1,11 @@
 -- The zone and the resource files, as the Resource Manager's calls see them.
-use Rattle.std.specs.Prelude.{ℕ, ◌-◌, Bool, List, [], map, set, slice_get, Option, unwrap_or, Result, Err}
+use Rattle.std.specs.Prelude.{ℕ, ◌-◌, Bool, List, [], map, set, slice_get, Option, unwrap_or, Err}
 use Rattle.std.specs.Option.{option_or}
 use Rattle.mac_base.specs.declared.error.OsErr.{OsErr}
 use Rattle.mac_base.specs.HeadKind.{Shape}
 use Rattle.mac_base.specs.Heap.{Heap}
 use Rattle.res_table.specs.Saved.{row_types, kind_of}
-use Rattle.res_calls.specs.declared.results.ResourceResults.{ResourceResults}
+use Rattle.mac_calls.specs.Outcomes.{Outcome}
 use Rattle.res_calls.specs.Changes.{Files, current_rows}
 use Rattle.res_calls.specs.Device.{Disk}
 
@@ -17,13 +17,9 @@ pub record ResState : Type 0 where
   pub loads : Bool
   pub disks : List Disk
 
--- how a call ends: with its results, or with the code of its refusal
-abbrev pub ResourceOutcome : Type 0
-ResourceOutcome = Result ResourceResults OsErr
-
 -- the end of a call
 pub record ResourceEnd : Type 0 where
-  pub outcome : ResourceOutcome
+  pub outcome : Outcome
   pub state : ResState
 
 -- a call's refusal, with this state behind it

@@ -16,10 +16,10 @@ use Rattle.res_table.specs.Rows.{with_handle, index_of_ith}
 use Rattle.res_table.specs.declared.chain.RowPlace.{RowPlace}
 use Rattle.res_table.specs.OpenFiles.{place_of_handle, place_of_resource, place_here}
 use Rattle.res_calls.specs.Changes.{FileRow, current_rows, row_changed}
-use Rattle.res_calls.specs.declared.resource_call.ResourceCall.{ResourceCall}
-use Rattle.res_calls.specs.declared.resource_call.ResourceCall.TheVariants as call
-use Rattle.res_calls.specs.declared.results.ResourceResults.{ResourceResults}
-use Rattle.res_calls.specs.declared.results.ResourceResults.TheVariants.{Nothing, Handle}
+use Rattle.mac_calls.specs.declared.resource_call.ResourceCall.{ResourceCall}
+use Rattle.mac_calls.specs.declared.resource_call.ResourceCall.TheVariants as call
+use Rattle.mac_calls.specs.declared.reply.Results.{Results}
+use Rattle.mac_calls.specs.declared.reply.Results.TheVariants.{Nothing, Handle}
 use Rattle.res_calls.specs.Device.{Device, device_works}
 use Rattle.res_calls.specs.Files.{ResState, ResourceEnd, refused_with, with_heap, with_files}
 
@@ -60,7 +60,7 @@ abbrev pub read_fails : Device → Bool → FileRow → Bool
 read_fails device loads r = loads && (not (length r.resource.datum == 0) && not (device_works device))
 
 -- what a call gives that got or loaded the row with this handle
-abbrev pub loaded_results : ResourceCall → ℕ → ResourceResults
+abbrev pub loaded_results : ResourceCall → ℕ → Results
 loaded_results (call.LoadResource h) g = Nothing
 loaded_results _ g = Handle g
 

@@ -11,10 +11,10 @@ use Rattle.res_table.specs.OpenFiles.{place_of_handle, handle_forgotten, file_us
 use Rattle.res_calls.specs.Changes.{Files, FileRow, current_rows, row_of_handle, row_changed}
 use Rattle.mac_calls.specs.declared.memory_call.MemoryCall.TheVariants.{HSetRBit, HClrRBit}
 use Rattle.mac_calls.specs.ExactStep.{heap_after}
-use Rattle.res_calls.specs.declared.resource_call.ResourceCall.{ResourceCall}
-use Rattle.res_calls.specs.declared.resource_call.ResourceCall.TheVariants as call
-use Rattle.res_calls.specs.declared.results.ResourceResults.{ResourceResults}
-use Rattle.res_calls.specs.declared.results.ResourceResults.TheVariants.{Nothing, Number, Info, Kind}
+use Rattle.mac_calls.specs.declared.resource_call.ResourceCall.{ResourceCall}
+use Rattle.mac_calls.specs.declared.resource_call.ResourceCall.TheVariants as call
+use Rattle.mac_calls.specs.declared.reply.Results.{Results}
+use Rattle.mac_calls.specs.declared.reply.Results.TheVariants.{Nothing, Number, Info, Kind}
 use Rattle.res_calls.specs.Files.{ResState, ResourceEnd, with_heap, with_files, current_types}
 use Rattle.res_calls.specs.Updates.{row_passes, disposed, new_row}
 
@@ -47,11 +47,11 @@ quiet_state (call.UseResFile k) state = with_files (file_used k state.files) sta
 quiet_state _ state = state
 
 -- what is read off the row of a handle
-abbrev pub row_results : (FileRow → ResourceResults) → ℕ → Files → ResourceResults
+abbrev pub row_results : (FileRow → Results) → ℕ → Files → Results
 row_results given h files = option_map_or given (row_of_handle h files) Nothing
 
 -- what the call gives
-abbrev pub quiet_results : ResState → ResourceCall → ResourceResults
+abbrev pub quiet_results : ResState → ResourceCall → Results
 quiet_results state (call.GetResAttrs h) = row_results (λ r. Number r.resource.attributes.0) h state.files
 quiet_results state (call.GetResInfo h) = row_results (λ r. Info (record { id = r.resource.id; kind = r.resource.kind; name = r.resource.name })) h state.files
 quiet_results state (call.SizeResource h) = row_results (λ r. Number (length r.resource.datum)) h state.files

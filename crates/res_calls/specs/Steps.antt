@@ -13,9 +13,9 @@ use Rattle.fork_bytes.specs.Written.{written}
 use Rattle.res_table.specs.declared.chain.RowPlace.{RowPlace}
 use Rattle.res_table.specs.OpenFiles.{is_open, file_opened, row_at}
 use Rattle.res_calls.specs.Changes.{FileRow, FileTable, saved_table, handles_forgotten}
-use Rattle.res_calls.specs.declared.resource_call.ResourceCall.{ResourceCall}
-use Rattle.res_calls.specs.declared.resource_call.ResourceCall.TheVariants as call
-use Rattle.res_calls.specs.declared.results.ResourceResults.TheVariants.{Number}
+use Rattle.mac_calls.specs.declared.resource_call.ResourceCall.{ResourceCall}
+use Rattle.mac_calls.specs.declared.resource_call.ResourceCall.TheVariants as call
+use Rattle.mac_calls.specs.declared.reply.Results.TheVariants.{Number}
 use Rattle.res_calls.specs.Device.{Device, FailsWriting, Disk, ReadsBy}
 use Rattle.res_calls.specs.Files.{ResState, ResourceEnd, refused_with, with_heap, with_files, disk_of}
 use Rattle.res_calls.specs.Tests.{resource_refusal}

@@ -14,8 +14,8 @@ use Rattle.res_calls.specs.Fitting.{rows_fit}
 use Rattle.res_table.specs.Rows.{is_changed, added, index_of_ith, ith}
 use Rattle.res_table.specs.OpenFiles.{is_open, place_of_handle, place_of_resource, place_here}
 use Rattle.res_calls.specs.Changes.{Files, FileRow, rows_of, current_rows}
-use Rattle.res_calls.specs.declared.resource_call.ResourceCall.{ResourceCall}
-use Rattle.res_calls.specs.declared.resource_call.ResourceCall.TheVariants as call
+use Rattle.mac_calls.specs.declared.resource_call.ResourceCall.{ResourceCall}
+use Rattle.mac_calls.specs.declared.resource_call.ResourceCall.TheVariants as call
 use Rattle.res_calls.specs.Files.{ResState, current_types, file_named}
 use Rattle.res_calls.specs.Updates.{new_row, row_passes, file_update, row_update, can_be_made}
 

@@ -12,9 +12,9 @@ use Rattle.res_table.specs.Rows.{is_changed, with_datum, with_attributes, conten
 use Rattle.res_table.specs.declared.chain.RowPlace.{RowPlace}
 use Rattle.res_table.specs.OpenFiles.{table_of, place_of_handle, file_closed, rows_changed}
 use Rattle.res_calls.specs.Changes.{Files, FileRow, FileTable, rows_of, row_of_handle, with_changed_rows, saved_table}
-use Rattle.res_calls.specs.declared.resource_call.ResourceCall.{ResourceCall}
-use Rattle.res_calls.specs.declared.resource_call.ResourceCall.TheVariants as call
-use Rattle.res_calls.specs.declared.results.ResourceResults.TheVariants.{Nothing}
+use Rattle.mac_calls.specs.declared.resource_call.ResourceCall.{ResourceCall}
+use Rattle.mac_calls.specs.declared.resource_call.ResourceCall.TheVariants as call
+use Rattle.mac_calls.specs.declared.reply.Results.TheVariants.{Nothing}
 use Rattle.mac_calls.specs.declared.memory_call.MemoryCall.TheVariants.{DisposeHandle}
 use Rattle.mac_calls.specs.ExactStep.{heap_after}
 use Rattle.res_calls.specs.Fitting.{rows_fit}

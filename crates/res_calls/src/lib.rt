@@ -1,8 +1,2 @@
-//! The Resource Manager's calls, and what each does.
+//! What the Resource Manager's calls do.
 #![tactic(auto)]
-
-mod resource_call;
-mod results;
-
-pub use resource_call::ResourceCall;
-pub use results::{ResourceInfo, ResourceOutcome, ResourceResults};

@@ -9,3 +9,5 @@ pub mod NextHandle
 pub mod Room
 pub mod TablesRead
 pub mod Opened
+pub mod Written
+pub mod Updated

@@ -1,3 +1,4 @@
 pub mod FilesOn
 pub mod Opening
 pub mod Standing
+pub mod Updating

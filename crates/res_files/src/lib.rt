@@ -7,8 +7,10 @@ mod files;
 mod fitting;
 mod handles;
 mod opening;
+mod placing;
 mod queries;
 mod reading;
 mod tables;
+mod updating;
 
 pub use files::ResourceFiles;

@@ -1,11 +1,17 @@
 -- What one line of a script does.
-use Rattle.std.specs.Prelude.{◌≡◌, ℕ, List, [], ◌∷◌, ◌++◌, Option, None, Some}
+use Rattle.std.specs.Prelude.{◌≡◌, ◌⊎◌, ℕ, true, List, [], ◌∷◌, ◌++◌, map, All, Option, None, Some, Ok, Err}
 use Rattle.mac_base.specs.Heap.{new_heap}
 use Rattle.mac_base.specs.ZoneSizes.{ZoneSizes, shape_of}
+use Rattle.mac_calls.specs.declared.call.Call.TheVariants.{Resource}
 use Rattle.mac_calls.specs.declared.reply.Reply.{Reply}
+use Rattle.mac_calls.specs.declared.resource_call.ResourceCall.TheVariants.{OpenResFile}
+use Rattle.mac_calls.specs.declared.table.CallName.TheVariants as call_name
 use Rattle.mac_calls.specs.GrowZone.{Ask, answered}
+use Rattle.mac_calls.specs.Outcomes.{Outcome}
+use Rattle.fork_disk.specs.declared.store.ForkStore.{Ghosts}
+use Rattle.res_table.specs.OpenFiles.{no_files}
 use Rattle.toolbox.specs.Queue.{no_answers}
-use Rattle.toolbox.specs.Steps.{LeavesAnswers, Steps}
+use Rattle.toolbox.specs.Steps.{Gives, LeavesAnswers, Steps}
 use Rattle.script_text.specs.declared.line.CallLine.{CallLine}
 use Rattle.script_text.specs.declared.line.Line.{Line}
 use Rattle.script_text.specs.declared.line.Statement.{Statement}
@@ -17,9 +23,36 @@ use Rattle.script_vars.specs.Taken.{first_number}
 use Rattle.script_vars.specs.Variables.{Variables, call_of, with_value}
 use Rattle.script_run.specs.declared.machine.Machine.{Machine}
 
--- before the first line: a new zone, no refusal, no variables, and no answers
-abbrev pub start_of : ZoneSizes → Machine
-start_of sizes = record { toolbox = record { shape = shape_of sizes; heap = new_heap (shape_of sizes) sizes.size; loans = []; refused = None }; variables = []; answers = no_answers }
+-- before file 1 is opened: a new zone, these stores, no refusal, no variables, and no answers
+abbrev pub start_of : {S : Type 0} → ZoneSizes → List S → Machine S
+start_of sizes stores = record {
+  toolbox = record {
+    shape = shape_of sizes;
+    heap = new_heap (shape_of sizes) sizes.size;
+    loans = [];
+    refused = None;
+    resources = record { files = no_files; loads = true; stores = stores };
+    resource_refused = None;
+  };
+  variables = [];
+  answers = no_answers;
+}
+
+-- what is printed where file 1 is opened: nothing, or the line of number 0 with the code of the refusal
+abbrev pub opening_text : Outcome → List ℕ
+opening_text (Ok results) = []
+opening_text (Err code) = reply_text 0 call_name.OpenResFile (record { outcome = Err code }) []
+
+-- From old, the opening of file 1 may print this text and leave new. For MemError and ResError it is no call.
+abbrev pub OpensFirst : {S : Type 0} → Ghosts S → Machine S → List ℕ → Machine S → Type 0
+OpensFirst store old text new = (outcome : Outcome)
+    × Gives store old.toolbox (Resource (OpenResFile 1)) [] outcome new.toolbox
+    × (new.toolbox.shape ≡ old.toolbox.shape)
+    × (new.toolbox.refused ≡ old.toolbox.refused)
+    × (new.toolbox.resource_refused ≡ old.toolbox.resource_refused)
+    × (new.variables ≡ old.variables)
+    × (new.answers ≡ old.answers)
+    × (text ≡ opening_text outcome)
 
 -- the variables, where the one that a line assigns has this value
 abbrev pub assigned : Option ℕ → ℕ → Variables → Variables
@@ -28,26 +61,39 @@ assigned (Some name) value variables = with_value variables name value
 
 -- From old, the call of the line of this number may print this text and leave new: it is a step of the toolbox with some asks, which leaves
 -- the answers that these asks did not take, its first number is assigned, and its reply is printed with the asks that had an answer.
-abbrev pub CallDoes : Machine → ℕ → CallLine → List ℕ → Machine → Type 0
-CallDoes old number line text new = (reply : Reply)
+abbrev pub CallDoes : {S : Type 0} → Ghosts S → Machine S → ℕ → CallLine → List ℕ → Machine S → Type 0
+CallDoes store old number line text new = (reply : Reply)
     × (asks : List Ask)
-    × Steps old.toolbox (call_of old.variables line) asks reply.outcome new.toolbox
-    × LeavesAnswers old.toolbox old.answers.left (call_of old.variables line) asks reply.outcome new.toolbox new.answers.left
+    × Steps store old.toolbox (call_of old.variables line) asks reply.outcome new.toolbox
+    × LeavesAnswers store old.toolbox old.answers.left (call_of old.variables line) asks reply.outcome new.toolbox new.answers.left
     × (new.variables ≡ assigned line.assigned (first_number reply.outcome) old.variables)
     × (text ≡ reply_text number line.call reply (answered asks))
 
 -- From old, an answer prints nothing and leaves new: it is queued behind the others, with the values that its operands have.
-abbrev pub AnswerDoes : Machine → WrittenAnswer → List ℕ → Machine → Type 0
+abbrev pub AnswerDoes : {S : Type 0} → Machine S → WrittenAnswer → List ℕ → Machine S → Type 0
 AnswerDoes old line text new = (text ≡ [])
     × (new.toolbox ≡ old.toolbox)
     × (new.variables ≡ old.variables)
     × (new.answers.left ≡ old.answers.left ++ answer_with old.variables line ∷ [])
 
 -- From old, what the line of this number says may print this text and leave new.
-abbrev pub StatementDoes : Machine → ℕ → Statement → List ℕ → Machine → Type 0
-StatementDoes old number (Call line) text new = CallDoes old number line text new
-StatementDoes old number (Answer line) text new = AnswerDoes old line text new
+abbrev pub StatementDoes : {S : Type 0} → Ghosts S → Machine S → ℕ → Statement → List ℕ → Machine S → Type 0
+StatementDoes store old number (Call line) text new = CallDoes store old number line text new
+StatementDoes store old number (Answer line) text new = AnswerDoes old line text new
 
 -- From old, a line may print this text and leave new.
-abbrev pub LineDoes : Machine → Line → List ℕ → Machine → Type 0
-LineDoes old line text new = StatementDoes old line.number line.statement text new
+abbrev pub LineDoes : {S : Type 0} → Ghosts S → Machine S → Line → List ℕ → Machine S → Type 0
+LineDoes store old line text new = StatementDoes store old line.number line.statement text new
+
+-- the forks are those of these stores, where their devices are honest, and their devices are honest still
+abbrev pub SameForks : {S : Type 0} → Ghosts S → List S → List S → Type 0
+SameForks store old new = All store.is_honest old → All store.is_honest new × (map store.fork new ≡ map store.fork old)
+
+-- From old, the call of a statement is made, and leaves new.
+abbrev pub IsMade : {S : Type 0} → Ghosts S → Machine S → Statement → Machine S → Type 0
+IsMade store old (Call line) new = (outcome : Outcome) × (asks : List Ask) × Steps store old.toolbox (call_of old.variables line) asks outcome new.toolbox
+IsMade store old (Answer line) new = ⊥
+
+-- Host memory ends at a line: its call isn't made, and the forks stay, or it is made, and its reply can't be assigned or printed.
+abbrev pub StopsAt : {S : Type 0} → Ghosts S → Machine S → Line → Machine S → Type 0
+StopsAt store old line new = SameForks store old.toolbox.resources.stores new.toolbox.resources.stores ⊎ IsMade store old line.statement new

@@ -1,42 +1,78 @@
 //! What stays from one line of a script to the next.
 
-ghost use Rattle.std.specs.Prelude.{◌≡◌, [], IfOk, OnOk};
-ghost use Rattle.script_run.specs.Line.{start_of, assigned, CallDoes, LineDoes};
+ghost use Rattle.std.specs.Prelude.{◌≡◌, ◌≤◌, ◌⊎◌, [], length, OnOk, OnErr};
+ghost use Rattle.mac_base.specs.Heap.{new_heap};
+ghost use Rattle.mac_base.specs.ZoneSizes.{ZoneSizes, shape_of};
+ghost use Rattle.script_run.specs.Line.{start_of, assigned, CallDoes, IsMade, LineDoes, OpensFirst, SameForks, StopsAt};
+ghost use Rattle.script_text.specs.declared.line.Statement.TheVariants as statement;
 
+use fork_disk::store::ForkStore;
 use mac_base::error::HostFull;
 use mac_base::zone_spec::ZoneSpec;
+use mac_calls::{CallName, Outcome, Reply};
 use mem_calls::MemoryManager;
 use reply_text::render;
+use res_files::ResourceFiles;
 use script_text::{CallLine, Line, Name, Statement};
 use script_vars::{Vars, answer_of, first_number, resolve};
 use std::alloc::Global;
 use toolbox::{AnswerQueue, Toolbox};
 
 /// The toolbox, the variables of the script, and the answers of the grow-zone procedure that are queued.
-#[derive(Drop)]
-pub struct Machine {
-    pub toolbox: Toolbox,
+pub struct Machine<S: ForkStore> {
+    pub toolbox: Toolbox<S>,
     pub variables: Vars,
     pub answers: AnswerQueue,
 }
 
-impl Machine {
-    /// A toolbox over a new zone, no variables, and no answers.
-    pub fn create(alloc: Global, spec: ZoneSpec) -> Result<Machine, HostFull>
-        ensures { IfOk result (λ machine. machine ≡ start_of spec) }
+impl<S: ForkStore> Machine<S> {
+    /// A toolbox over a new zone and these stores, of which no file is open, no variables, and no answers.
+    pub fn new(alloc: Global, memory: MemoryManager, stores: Vec<S>) -> Machine<S>
+        requires few { length stores.items ≤ 8 }
+        requires nothing_lent { memory.heap.table.lent ≡ [] }
+        ensures zone { (spec : ZoneSizes) → memory.shape ≡ shape_of spec → memory.heap ≡ new_heap (shape_of spec) spec.size → result ≡ start_of spec stores.items }
     {
-        let memory = MemoryManager::create(alloc, spec)?;
-        Ok(Machine {
-            toolbox: Toolbox::open(alloc, memory),
+        Machine {
+            toolbox: Toolbox::open(alloc, memory, ResourceFiles::new(alloc, stores)),
             variables: Vars::new(alloc),
             answers: AnswerQueue::new(alloc),
-        })
+        }
+    }
+
+    /// Opens file 1, and puts what that prints in place of the text: the line of number 0 where it is refused.
+    pub fn open_first(&mut self, text: &mut Vec<u8>) -> Result<(), HostFull>
+        ensures opens { OnOk result (OpensFirst S.ForkStore self.old text.new.items self.new) }
+        ensures unchanged { OnErr result (SameForks S.ForkStore self.old.toolbox.resources.stores self.new.toolbox.resources.stores) }
+    {
+        text.clear();
+        match self.toolbox.open_first()? {
+            Ok(_) => Ok(()),
+            Err(code) => {
+                let reply = Reply { outcome: Err(code) };
+                render(text, 0, CallName::OpenResFile, &reply, &[])
+            }
+        }
+    }
+
+    /// Ends the run: loans come back, and the stores are handed out.
+    pub fn into_stores(self) -> Vec<S>
+        ensures { result.items ≡ self.toolbox.resources.stores }
+    {
+        let Machine {
+            toolbox,
+            variables: _,
+            answers: _,
+        } = self;
+        let (memory, files) = toolbox.finish();
+        drop(memory);
+        files.into_stores()
     }
 
     /// Makes the call of a line and assigns its first result, or queues its answer, and puts what it prints in place of
     /// the text.
     pub fn run_line(&mut self, line: &Line<'_>, text: &mut Vec<u8>) -> Result<(), HostFull>
-        ensures { OnOk result (LineDoes self.old line.now text.new.items self.new) }
+        ensures does { OnOk result (LineDoes S.ForkStore self.old line.now text.new.items self.new) }
+        ensures stops { OnErr result (StopsAt S.ForkStore self.old line.now self.new) }
     {
         text.clear();
         match &line.statement {
@@ -53,7 +89,9 @@ impl Machine {
         text: &mut Vec<u8>,
     ) -> Result<(), HostFull>
         requires { text.old.items ≡ [] }
-        ensures { OnOk result (CallDoes self.old number line.now text.new.items self.new) }
+        ensures does { OnOk result (CallDoes S.ForkStore self.old number line.now text.new.items self.new) }
+        ensures stops { OnErr result (SameForks S.ForkStore self.old.toolbox.resources.stores self.new.toolbox.resources.stores
+            ⊎ IsMade S.ForkStore self.old (statement.Call line.now) self.new) }
     {
         let call = resolve(line, &self.variables);
         let reply = self.toolbox.step_queued(&call, &mut self.answers)?;

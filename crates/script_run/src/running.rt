@@ -1,10 +1,10 @@
 //! Runs a script.
 
-ghost use Rattle.std.specs.Prelude.{◌≡◌, ◌≢◌, ℕ, List, IfSome};
+ghost use Rattle.std.specs.Prelude.{◌≡◌, ◌≢◌, ◌≤◌, ℕ, List, length, IfSome};
 ghost use Rattle.std.specs.Io.KnownBytes.{Appends};
 ghost use Rattle.script_run.specs.Counting.{Rose};
 ghost use Rattle.script_run.specs.Line.{start_of};
-ghost use Rattle.script_run.specs.Run.{Ends, FaultEnds, NoMemoryEnds};
+ghost use Rattle.script_run.specs.Run.{Ends, FaultEnds, LinesEnd, NoMemoryEnds};
 
 use crate::counted::Counted;
 use crate::end::RunEnd;
@@ -12,46 +12,75 @@ use crate::machine::Machine;
 use crate::reading::{ReadEnd, read_script};
 use crate::writing::write_whole;
 use bumpalo::Bump;
+use fork_disk::store::ForkStore;
 use mac_base::zone_spec::ZoneSpec;
+use mem_calls::MemoryManager;
 use reply_text::{NO_MEMORY, fault_line};
-use script_text::{Fault, parse_script};
+use script_text::{Fault, Line, parse_script};
 use std::alloc::Global;
 use std::io::{Read, Write};
 
-/// Runs the script that the reader gives on a new zone, and writes each reply when it is made.
-pub fn run<R: Read, W: Write>(
+/// Runs the script that the reader gives on a new zone and the resource files of some stores, and writes each reply when it is made.
+/// The first file is opened before the first line. The stores come back.
+pub fn run<S: ForkStore, R: Read, W: Write>(
     alloc: Global,
     reader: &mut Counted<R>,
     writer: &mut Counted<W>,
     spec: ZoneSpec,
-) -> RunEnd
-    // What was written is what the input's lines print from a new zone on, as far as the run came.
+    stores: Vec<S>,
+) -> (RunEnd, Vec<S>)
+    requires { length stores.items ≤ 8 }
+    // What was written is what the input's lines print from a new zone on, as far as the run came, and the stores are as they left them.
     ensures ends { (written : List ℕ) × Appends (W.contents writer.old.inner) (W.contents writer.new.inner) written
-        × IfSome (R.remaining reader.old.inner) (λ input. Ends (start_of spec) input result written) }
+        × IfSome (R.remaining reader.old.inner) (λ input. Ends S.ForkStore (start_of spec stores.items) input result.0 written result.1.items) }
 
     // A read that failed ends the run with ReadFault, which comes of nothing else; and so with a write.
-    ensures read_fault { result ≡ RunEnd.ReadFault → Rose reader.old.failures reader.new.failures }
-    ensures no_read_failed { result ≢ RunEnd.ReadFault → reader.new.failures ≡ reader.old.failures }
-    ensures write_fault { result ≡ RunEnd.WriteFault → Rose writer.old.failures writer.new.failures }
-    ensures no_write_failed { result ≢ RunEnd.WriteFault → writer.new.failures ≡ writer.old.failures }
+    ensures read_fault { result.0 ≡ RunEnd.ReadFault → Rose reader.old.failures reader.new.failures }
+    ensures no_read_failed { result.0 ≢ RunEnd.ReadFault → reader.new.failures ≡ reader.old.failures }
+    ensures write_fault { result.0 ≡ RunEnd.WriteFault → Rose writer.old.failures writer.new.failures }
+    ensures no_write_failed { result.0 ≢ RunEnd.WriteFault → writer.new.failures ≡ writer.old.failures }
 {
     let text = match read_script(alloc, reader) {
         Ok(text) => text,
-        Err(ReadEnd::TooLong) => return tell_fault(alloc, writer, 0),
-        Err(ReadEnd::Memory) => return tell_no_memory(writer),
-        Err(ReadEnd::Fault) => return RunEnd::ReadFault,
+        Err(ReadEnd::TooLong) => return (tell_fault(alloc, writer, 0), stores),
+        Err(ReadEnd::Memory) => return (tell_no_memory(writer), stores),
+        Err(ReadEnd::Fault) => return (RunEnd::ReadFault, stores),
     };
     let arena = Bump::new(alloc);
     let lines = match parse_script(alloc, &arena, &text) {
         Ok(lines) => lines,
-        Err(Fault::Line(line)) => return tell_fault(alloc, writer, line),
-        Err(Fault::HostFull) => return tell_no_memory(writer),
+        Err(Fault::Line(line)) => return (tell_fault(alloc, writer, line), stores),
+        Err(Fault::HostFull) => return (tell_no_memory(writer), stores),
     };
-    let Ok(mut machine) = Machine::create(alloc, spec) else {
+    let Ok(memory) = MemoryManager::create(alloc, spec) else {
+        return (tell_no_memory(writer), stores);
+    };
+    let mut machine = Machine::new(alloc, memory, stores);
+    let end = run_lines(alloc, &mut machine, &lines, writer);
+    (end, machine.into_stores())
+}
+
+/// Opens the first file, runs the lines, and writes what each prints when it is made.
+fn run_lines<S: ForkStore, W: Write>(
+    alloc: Global,
+    machine: &mut Machine<S>,
+    lines: &[Line<'_>],
+    writer: &mut Counted<W>,
+) -> RunEnd
+    ensures ends { (written : List ℕ) × Appends (W.contents writer.old.inner) (W.contents writer.new.inner) written
+        × LinesEnd S.ForkStore machine.old lines.now result written machine.new }
+    ensures no_read_fault { result ≢ RunEnd.ReadFault }
+    ensures write_fault { result ≡ RunEnd.WriteFault → Rose writer.old.failures writer.new.failures }
+    ensures no_write_failed { result ≢ RunEnd.WriteFault → writer.new.failures ≡ writer.old.failures }
+{
+    let mut reply = Vec::new(alloc);
+    let Ok(()) = machine.open_first(&mut reply) else {
         return tell_no_memory(writer);
     };
-    let mut reply = Vec::new(alloc);
-    for line in &lines {
+    if !write_whole(writer, &reply) {
+        return RunEnd::WriteFault;
+    }
+    for line in lines {
         let Ok(()) = machine.run_line(line, &mut reply) else {
             return tell_no_memory(writer);
         };

@@ -1,3 +1,4 @@
 pub mod Taken
 pub mod Variables
+pub mod Managers
 pub mod Answers

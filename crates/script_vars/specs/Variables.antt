@@ -1,14 +1,15 @@
 -- The values of a script's variables as the lines run, and the calls that lines make with them.
-use Rattle.std.specs.Prelude.{◌≡◌, ◌≢◌, ℕ, zero, suc, List, [], ◌∷◌, Option, Some, None, unwrap_or, slice_get}
+use Rattle.std.specs.Prelude.{◌≡◌, ◌≢◌, ℕ, zero, suc, ℤ, pos, List, [], ◌∷◌, Option, Some, None, unwrap_or, slice_get}
 use Rattle.mac_calls.specs.declared.table.CallName.{CallName}
 use Rattle.mac_calls.specs.declared.table.CallName.TheVariants as call_name
 use Rattle.script_text.specs.declared.line.Operand.{Operand}
-use Rattle.script_text.specs.declared.line.Operand.TheVariants.{Number, Variable, Bytes}
+use Rattle.script_text.specs.declared.line.Operand.TheVariants.{Number, Variable, Bytes, Id, «Type» as TypeOperand, Missing}
 use Rattle.script_text.specs.declared.line.CallLine.{CallLine}
 use Rattle.mac_calls.specs.declared.loan_call.LoanCall.TheVariants as loan_call
 use Rattle.mac_calls.specs.declared.memory_call.MemoryCall.TheVariants as memory_call
+use Rattle.mac_calls.specs.declared.resource_call.ResourceCall.TheVariants as resource_call
 use Rattle.mac_calls.specs.declared.call.Call.{Call}
-use Rattle.mac_calls.specs.declared.call.Call.TheVariants.{Memory, Loan, MemError}
+use Rattle.mac_calls.specs.declared.call.Call.TheVariants.{Memory, Loan, Resource, MemError, ResError}
 
 -- the values of the variables, in order of the names
 abbrev pub Variables : Type 0
@@ -47,6 +48,44 @@ bytes_in other = []
 -- the bytes of the operand at a place
 abbrev pub bytes_at : List Operand → ℕ → List ℕ
 bytes_at operands place = bytes_in (slice_get operands place)
+
+-- an id, or else the number of an operand, which may be out of the range of ids
+abbrev pub id_in : Variables → Option Operand → ℤ
+id_in variables (Some (Id id)) = id
+id_in variables (Some operand) = pos (number_in variables operand)
+id_in variables None = pos 0
+
+-- the id that the operand at a place stands for
+abbrev pub id_at : Variables → List Operand → ℕ → ℤ
+id_at variables operands place = id_in variables (slice_get operands place)
+
+-- the type that an operand is, and four zeros where it is none
+abbrev pub type_in : Option Operand → List ℕ
+type_in (Some (TypeOperand four)) = four
+type_in other = 0 ∷ 0 ∷ 0 ∷ 0 ∷ []
+
+-- the type of the operand at a place
+abbrev pub type_at : List Operand → ℕ → List ℕ
+type_at operands place = type_in (slice_get operands place)
+
+-- the bytes of an operand, if it is one of bytes
+abbrev pub given_bytes : Option Operand → Option (List ℕ)
+given_bytes (Some (Bytes bytes)) = Some bytes
+given_bytes other = None
+
+-- the bytes of the operand at a place, which may be missing
+abbrev pub given_bytes_at : List Operand → ℕ → Option (List ℕ)
+given_bytes_at operands place = given_bytes (slice_get operands place)
+
+-- the number of an operand, unless it is missing
+abbrev pub given_number : Variables → Option Operand → Option ℕ
+given_number variables None = None
+given_number variables (Some Missing) = None
+given_number variables (Some operand) = Some (number_in variables operand)
+
+-- the number of the operand at a place, which may be missing
+abbrev pub given_number_at : Variables → List Operand → ℕ → Option ℕ
+given_number_at variables operands place = given_number variables (slice_get operands place)
 
 -- the call of this name with these operands
 abbrev pub call_with : Variables → CallName → List Operand → Call
@@ -96,6 +135,32 @@ call_with variables call_name.LentPeek operands = Loan (loan_call.LentPeek (numb
 call_with variables call_name.LentPoke operands = Loan (loan_call.LentPoke (number_at variables operands 0) (number_at variables operands 1) (bytes_at operands 2))
 call_with variables call_name.Return operands = Loan (loan_call.Return (number_at variables operands 0))
 call_with variables call_name.MemError operands = MemError
+call_with variables call_name.GetResource operands = Resource (resource_call.GetResource (type_at operands 0) (id_at variables operands 1))
+call_with variables call_name.Get1Resource operands = Resource (resource_call.Get1Resource (type_at operands 0) (id_at variables operands 1))
+call_with variables call_name.GetIndResource operands = Resource (resource_call.GetIndResource (type_at operands 0) (number_at variables operands 1))
+call_with variables call_name.LoadResource operands = Resource (resource_call.LoadResource (number_at variables operands 0))
+call_with variables call_name.ReleaseResource operands = Resource (resource_call.ReleaseResource (number_at variables operands 0))
+call_with variables call_name.DetachResource operands = Resource (resource_call.DetachResource (number_at variables operands 0))
+call_with variables call_name.AddResource operands = Resource (resource_call.AddResource (number_at variables operands 0) (type_at operands 1) (id_at variables operands 2) (given_bytes_at operands 3))
+call_with variables call_name.ChangedResource operands = Resource (resource_call.ChangedResource (number_at variables operands 0))
+call_with variables call_name.RemoveResource operands = Resource (resource_call.RemoveResource (number_at variables operands 0))
+call_with variables call_name.WriteResource operands = Resource (resource_call.WriteResource (number_at variables operands 0))
+call_with variables call_name.UpdateResFile operands = Resource (resource_call.UpdateResFile (given_number_at variables operands 0))
+call_with variables call_name.CloseResFile operands = Resource (resource_call.CloseResFile (given_number_at variables operands 0))
+call_with variables call_name.GetResAttrs operands = Resource (resource_call.GetResAttrs (number_at variables operands 0))
+call_with variables call_name.SetResAttrs operands = Resource (resource_call.SetResAttrs (number_at variables operands 0) (number_at variables operands 1))
+call_with variables call_name.GetResInfo operands = Resource (resource_call.GetResInfo (number_at variables operands 0))
+call_with variables call_name.SizeResource operands = Resource (resource_call.SizeResource (number_at variables operands 0))
+call_with variables call_name.HomeResFile operands = Resource (resource_call.HomeResFile (number_at variables operands 0))
+call_with variables call_name.UniqueID operands = Resource (resource_call.UniqueID (type_at operands 0))
+call_with variables call_name.CountTypes operands = Resource resource_call.CountTypes
+call_with variables call_name.CountResources operands = Resource (resource_call.CountResources (type_at operands 0))
+call_with variables call_name.GetIndType operands = Resource (resource_call.GetIndType (number_at variables operands 0))
+call_with variables call_name.SetResLoad operands = Resource (resource_call.SetResLoad (number_at variables operands 0))
+call_with variables call_name.OpenResFile operands = Resource (resource_call.OpenResFile (number_at variables operands 0))
+call_with variables call_name.UseResFile operands = Resource (resource_call.UseResFile (number_at variables operands 0))
+call_with variables call_name.CurResFile operands = Resource resource_call.CurResFile
+call_with variables call_name.ResError operands = ResError
 
 -- the call that a line makes, with the values that its operands have
 abbrev pub call_of : Variables → CallLine → Call

@@ -3,7 +3,8 @@
 ghost use Rattle.std.specs.Prelude.{◌≡◌};
 ghost use Rattle.script_vars.specs.Answers.{releasing_with, answer_with};
 
-use crate::vars::{Vars, number_in};
+use crate::operand::number_in;
+use crate::vars::Vars;
 use mac_base::handle::{Handle, Ptr};
 use mac_base::releasing::ReleasingCall;
 use mac_calls::Answer;

@@ -2,9 +2,12 @@
 #![tactic(auto)]
 
 mod answer;
+mod call;
+mod operand;
 mod taken;
 mod vars;
 
 pub use answer::answer_of;
+pub use call::resolve;
 pub use taken::first_number;
-pub use vars::{Vars, resolve, values_are_kept};
+pub use vars::{Vars, values_are_kept};

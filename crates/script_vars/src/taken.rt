@@ -6,7 +6,7 @@ ghost use Rattle.script_vars.specs.Taken.{first_number};
 use mac_calls::{Reply, Results};
 
 /// What a variable takes that a reply is assigned to: the first result as a number, the number of blocks where the
-/// call shows blocks, and 0 where it was refused or gives a code, bytes or nothing.
+/// call shows blocks, and 0 where it was refused or gives a code, bytes, a type, what a resource is called, or nothing.
 pub fn first_number(reply: &Reply) -> u32
     ensures { result ≡ first_number reply.now.outcome }
 {
@@ -16,6 +16,7 @@ pub fn first_number(reply: &Reply) -> u32
         Ok(Results::Address(number) | Results::Number(number)) => *number,
         Ok(Results::TwoNumbers(first, _)) => *first,
         Ok(Results::Blocks(blocks)) => u32::try_from(blocks.as_slice().len()).unwrap_or(u32::MAX),
-        Ok(Results::Nothing | Results::Code(_) | Results::Bytes(_)) | Err(_) => 0,
+        Ok(Results::Nothing | Results::Code(_) | Results::Bytes(_)) => 0,
+        Ok(Results::Kind(_) | Results::Info(_)) | Err(_) => 0,
     }
 }

@@ -3,4 +3,5 @@ pub mod Lent
 pub mod Places
 pub mod Queued
 pub mod Quiet
+pub mod Resources
 pub mod Walk

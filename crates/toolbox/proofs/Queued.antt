@@ -11,18 +11,22 @@ use Rattle.mac_base.specs.declared.error.HostFull.{HostFull}
 use Rattle.mac_base.specs.declared.error.OsErr.{OsErr}
 use Rattle.mac_base.specs.declared.releasing.ReleasingCall.{ReleasingCall}
 use Rattle.mac_calls.specs.declared.call.Call.{Call}
-use Rattle.mac_calls.specs.declared.call.Call.TheVariants.{Memory, Loan, MemError}
+use Rattle.mac_calls.specs.declared.call.Call.TheVariants.{Memory, Loan, Resource, MemError, ResError}
 use Rattle.mac_calls.specs.declared.grow_zone.Asked.{Asked}
 use Rattle.mac_calls.specs.declared.memory_call.MemoryCall.{MemoryCall}
 use Rattle.mac_calls.specs.declared.reply.Reply.{Reply}
+use Rattle.mac_calls.specs.declared.resource_call.ResourceCall.{ResourceCall}
 use Rattle.mac_calls.specs.ExactStep.{IsExactStep, StepEnd, exact_step}
 use Rattle.mac_calls.specs.Outcomes.{Outcome}
 use Rattle.mac_base.specs.HeadKind.{Shape}
 use Rattle.mac_base.specs.Heap.{Heap}
 use Rattle.mac_calls.specs.GrowZone.{Answer, Ask, answered, answers_in, may_ask, may_note, most_answers, new_ask, noted}
 use Rattle.toolbox.specs.Queue.{IsInOrder, Queue, TookAnswers}
-use Rattle.toolbox.specs.Steps.{LeavesAnswers, Steps}
-use Rattle.toolbox.specs.ToolState.{ToolState}
+use Rattle.fork_disk.specs.declared.store.ForkStore.{Ghosts}
+use Rattle.res_manager.specs.Steps.{Memory as MayStep}
+use Rattle.toolbox.specs.Steps.{LeavesAnswers, ResourceGives, Steps, StepsFrom}
+use Rattle.toolbox.specs.ToolState.{ToolState, resource_state}
+use Rattle.toolbox.proofs.Resources.{step_by}
 use Rattle.call_laws.proofs.RunAnswers.{all_answered}
 use Rattle.call_laws.proofs.StepAnswers.{exact-framed_all, step_left}
 
@@ -211,13 +215,29 @@ exact_from_queue s old call outcome new q exact took = ap (λ (answers : List An
       ∙ ap (λ (rest : List Answer). record { outcome = outcome; heap = new; asks = q.asks; left = rest }) (sym none)
 ]
 
-left_by_call : (old new : ToolState) (call : Call) (q : Queue) (reply : Reply) → Steps old call q.asks reply.outcome new → TookAnswers q → LeavesAnswers old q.source call q.asks reply.outcome new q.left
-left_by_call old new (Memory call) q reply step took = exact_from_queue old.shape old.heap call reply.outcome new.heap q step.0.1 took
-left_by_call old new (Loan call) q reply step took = sym (took.taken ∙ ap (λ (asks : List Ask). answers_in asks ++ q.left) step.0.0)
-left_by_call old new MemError q reply step took = sym (took.taken ∙ ap (λ (asks : List Ask). answers_in asks ++ q.left) step.0.0)
+-- a queue that was asked nothing has lost nothing
+nothing_taken : (q : Queue) → q.asks ≡ [] → TookAnswers q → q.left ≡ q.source
+nothing_taken q none took = sym (took.taken ∙ ap (λ (asks : List Ask). answers_in asks ++ q.left) none)
+
+-- a call of the Resource Manager does from a queue what it may do, where its call of the Memory Manager does just what it does with
+-- the answers that it took
+gives_from_queue : {S : Type 0} (store : Ghosts S) (old new : ToolState S) (call : ResourceCall) (outcome : Outcome) (q : Queue) → TookAnswers q → ResourceGives store MayStep old call q.asks outcome new → ResourceGives store (StepsFrom q.source q.left) old call q.asks outcome new
+gives_from_queue store old new call outcome q took gives = (
+  gives.0,
+  step_by MayStep (StepsFrom q.source q.left) store.may_leave gives.0 (resource_state store old) call q.asks (record { outcome = outcome; state = resource_state store new })
+      (λ s heap inner given after may. exact_from_queue s heap inner given after q may.1 took) gives.1,
+  gives.2,
+)
+
+left_by_call : {S : Type 0} (store : Ghosts S) (old new : ToolState S) (call : Call) (q : Queue) (reply : Reply) → Steps store old call q.asks reply.outcome new → TookAnswers q → LeavesAnswers store old q.source call q.asks reply.outcome new q.left
+left_by_call store old new (Memory call) q reply step took = exact_from_queue old.shape old.heap call reply.outcome new.heap q step.0.1 took
+left_by_call store old new (Loan call) q reply step took = nothing_taken q step.0.0 took
+left_by_call store old new (Resource call) q reply step took = (took.taken, λ honest. gives_from_queue store old new call reply.outcome q took (step.0.0 honest))
+left_by_call store old new MemError q reply step took = nothing_taken q step.0.0 took
+left_by_call store old new ResError q reply step took = nothing_taken q step.0.0 took
 
 -- a call leaves those answers of a queue that it does not take
-pub leaves_answers : (old new : ToolState) (call : Call) (q : Queue) (answers : List Answer) (result : Result Reply HostFull) → IfOk result (λ reply. Steps old call q.asks reply.outcome new) → q.source ≡ answers → TookAnswers q
-    → IfOk result (λ reply. LeavesAnswers old answers call q.asks reply.outcome new q.left)
-leaves_answers old new call q answers (Ok reply) step source took = subst (λ (front : List Answer). LeavesAnswers old front call q.asks reply.outcome new q.left) source (left_by_call old new call q reply step took)
-leaves_answers old new call q answers (Err full) step source took = tt
+pub leaves_answers : {S : Type 0} (store : Ghosts S) (old new : ToolState S) (call : Call) (q : Queue) (answers : List Answer) (result : Result Reply HostFull) → IfOk result (λ reply. Steps store old call q.asks reply.outcome new) → q.source ≡ answers → TookAnswers q
+    → IfOk result (λ reply. LeavesAnswers store old answers call q.asks reply.outcome new q.left)
+leaves_answers store old new call q answers (Ok reply) step source took = subst (λ (front : List Answer). LeavesAnswers store old front call q.asks reply.outcome new q.left) source (left_by_call store old new call q reply step took)
+leaves_answers store old new call q answers (Err full) step source took = tt

@@ -1,54 +1,108 @@
 -- What a call of the toolbox does.
-use Rattle.std.specs.Prelude.{◌≡◌, Bool, true, false, not, List, [], Option, None, Ok}
+use Rattle.std.specs.Prelude.{◌≡◌, ◌↔◌, Bool, true, false, not, IsFalse, ℕ, List, [], ◌++◌, length, Option, Some, None, Ok}
+use Rattle.std.specs.Option.{option_to_list}
 use Rattle.std.specs.Result.{result_err}
 use Rattle.mac_base.specs.declared.error.OsErr.{OsErr}
 use Rattle.mac_base.specs.ZoneState.{ZoneState}
 use Rattle.mac_calls.specs.declared.call.Call.{Call}
-use Rattle.mac_calls.specs.declared.call.Call.TheVariants.{Memory, Loan, MemError}
+use Rattle.mac_calls.specs.declared.call.Call.TheVariants.{Memory, Loan, Resource, MemError, ResError}
 use Rattle.mac_calls.specs.declared.loan_call.LoanCall.{LoanCall}
 use Rattle.mac_calls.specs.declared.loan_call.LoanCall.TheVariants as loan_call
 use Rattle.mac_calls.specs.Loans.{LoanStep, loan_refusal}
 use Rattle.mac_calls.specs.declared.memory_call.MemoryCall.{MemoryCall}
 use Rattle.mac_calls.specs.declared.memory_call.MemoryCall.TheVariants as memory_call
 use Rattle.mac_calls.specs.declared.reply.Results.TheVariants.{Code}
+use Rattle.mac_calls.specs.declared.resource_call.ResourceCall.{ResourceCall}
 use Rattle.mac_calls.specs.ExactStep.{IsExactStep, exact_step}
-use Rattle.mac_calls.specs.GrowZone.{Answer, Ask}
+use Rattle.mac_calls.specs.GrowZone.{Answer, Ask, answers_in}
 use Rattle.mac_calls.specs.MemoryStep.{MemoryStep}
 use Rattle.mac_calls.specs.Outcomes.{Outcome}
 use Rattle.mac_calls.specs.Tests.{refusal}
-use Rattle.toolbox.specs.ToolState.{ToolState}
+use Rattle.fork_disk.specs.declared.store.ForkStore.{Ghosts}
+use Rattle.res_calls.specs.Device.{Device, device_works}
+use Rattle.res_calls.specs.Steps.{MemoryRelation, ResourceStepBy, disposed_in}
+use Rattle.res_calls.specs.Tests.{resource_refusal}
+use Rattle.res_files.specs.FilesOn.{SomeFailed}
+use Rattle.res_manager.specs.Steps.{takes_memory as resource_takes_memory, Memory as MayStep}
+use Rattle.toolbox.specs.ToolState.{ToolState, IsHonest, resource_state, without_handles}
 
 -- From the old zone, the call with these asks may have this outcome and leave the new zone: it is a memory step, and just that
 -- which is made where the procedure gives the answers that it gave.
 abbrev pub MemorySteps : ZoneState → MemoryCall → List Ask → Outcome → ZoneState → Type 0
 MemorySteps old call asks outcome new = MemoryStep old.shape old.heap call asks outcome new.heap × IsExactStep old.shape old.heap call asks outcome new.heap × (new.shape ≡ old.shape)
 
--- What a call gives and does to the heap and the loans. MemError gives the code of the last Memory Manager call, and does nothing.
-abbrev pub Gives : ToolState → Call → List Ask → Outcome → ToolState → Type 0
-Gives old (Memory call) asks outcome new = MemoryStep old.shape old.heap call asks outcome new.heap × IsExactStep old.shape old.heap call asks outcome new.heap × (new.loans ≡ old.loans)
-Gives old (Loan call) asks outcome new = (asks ≡ []) × LoanStep old.shape old.loans old.heap call outcome new.loans new.heap
-Gives old MemError asks outcome new = (asks ≡ []) × (outcome ≡ Ok (Code old.refused)) × (new.heap ≡ old.heap) × (new.loans ≡ old.loans)
+-- the handle that a call of the Memory Manager disposes of itself, where it isn't refused
+abbrev pub disposed_itself : MemoryCall → Outcome → Option ℕ
+disposed_itself (memory_call.DisposeHandle h) (Ok results) = Some h
+disposed_itself call outcome = None
+
+-- all handles that a call of the Memory Manager disposes of: those of the answers to its asks, and then its own
+abbrev pub disposed_of : MemoryCall → List Ask → Outcome → List ℕ
+disposed_of call asks outcome = disposed_in asks ++ option_to_list (disposed_itself call outcome)
+
+-- What a call of the Resource Manager gives and does, where those of the Memory Manager step so. A device failed in it only where a
+-- count of failures rose.
+abbrev pub ResourceGives : {S : Type 0} → Ghosts S → MemoryRelation → ToolState S → ResourceCall → List Ask → Outcome → ToolState S → Type 0
+ResourceGives store Inner old call asks outcome new = (device : Device)
+    × ResourceStepBy Inner store.may_leave device (resource_state store old) call asks (record { outcome = outcome; state = resource_state store new })
+    × (IsFalse (device_works device) → SomeFailed store.failures old.resources.stores new.resources.stores)
+
+-- What a call gives and does to the heap, the loans and the resource files. MemError gives the code of the last call of the Memory
+-- Manager, ResError that of the last one of the Resource Manager, and both do nothing.
+abbrev pub Gives : {S : Type 0} → Ghosts S → ToolState S → Call → List Ask → Outcome → ToolState S → Type 0
+Gives store old (Memory call) asks outcome new = MemoryStep old.shape old.heap call asks outcome new.heap × IsExactStep old.shape old.heap call asks outcome new.heap × (new.loans ≡ old.loans)
+    × (new.resources ≡ without_handles (disposed_of call asks outcome) old.resources)
+Gives store old (Loan call) asks outcome new = (asks ≡ []) × LoanStep old.shape old.loans old.heap call outcome new.loans new.heap × (new.resources ≡ old.resources)
+Gives store old (Resource call) asks outcome new = (IsHonest store old → ResourceGives store MayStep old call asks outcome new) × (new.loans ≡ old.loans)
+    × (IsHonest store old ↔ IsHonest store new) × (length new.resources.stores ≡ length old.resources.stores)
+Gives store old MemError asks outcome new = (asks ≡ []) × (outcome ≡ Ok (Code old.refused)) × (new.heap ≡ old.heap) × (new.loans ≡ old.loans) × (new.resources ≡ old.resources)
+Gives store old ResError asks outcome new = (asks ≡ []) × (outcome ≡ Ok (Code old.resource_refused)) × (new.heap ≡ old.heap) × (new.loans ≡ old.loans) × (new.resources ≡ old.resources)
 
 -- the code by which the state refuses a call, if it does
-abbrev pub refusal_of : ToolState → Call → Option OsErr
-refusal_of old (Memory call) = refusal old.shape old.heap call
-refusal_of old (Loan call) = loan_refusal old.shape old.heap call
-refusal_of old MemError = None
+abbrev pub refusal_of : {S : Type 0} → Ghosts S → ToolState S → Call → Option OsErr
+refusal_of store old (Memory call) = refusal old.shape old.heap call
+refusal_of store old (Loan call) = loan_refusal old.shape old.heap call
+refusal_of store old (Resource call) = resource_refusal (resource_state store old) call
+refusal_of store old call = None
 
--- the code that MemError gives after a call: that of the call, but MemError itself does not count
-abbrev pub refused_after : ToolState → Call → Outcome → Option OsErr
-refused_after old (Memory call) outcome = result_err outcome
-refused_after old (Loan call) outcome = result_err outcome
-refused_after old MemError outcome = old.refused
+-- the code that MemError gives after a call: that of a call of the Memory Manager or on a loan, and else the one that it gave before
+abbrev pub refused_after : Option OsErr → Call → Outcome → Option OsErr
+refused_after before (Memory call) outcome = result_err outcome
+refused_after before (Loan call) outcome = result_err outcome
+refused_after before call outcome = before
+
+-- the code that ResError gives after a call: that of a call of the Resource Manager, and else the one that it gave before
+abbrev pub resource_refused_after : Option OsErr → Call → Outcome → Option OsErr
+resource_refused_after before (Resource call) outcome = result_err outcome
+resource_refused_after before call outcome = before
 
 -- From the old state, the call with these asks may have this outcome and leave the new state.
-abbrev pub Steps : ToolState → Call → List Ask → Outcome → ToolState → Type 0
-Steps old call asks outcome new = Gives old call asks outcome new × (new.shape ≡ old.shape) × (new.refused ≡ refused_after old call outcome)
+abbrev pub Steps : {S : Type 0} → Ghosts S → ToolState S → Call → List Ask → Outcome → ToolState S → Type 0
+Steps store old call asks outcome new = Gives store old call asks outcome new × (new.shape ≡ old.shape)
+    × (new.refused ≡ refused_after old.refused call outcome) × (new.resource_refused ≡ resource_refused_after old.resource_refused call outcome)
 
--- The answers that a call leaves of those that were queued: a call of the Memory Manager takes some from the front.
-abbrev pub LeavesAnswers : ToolState → List Answer → Call → List Ask → Outcome → ToolState → List Answer → Type 0
-LeavesAnswers old answers (Memory call) asks outcome new left = exact_step old.shape answers old.heap call ≡ record { outcome = outcome; heap = new.heap; asks = asks; left = left }
-LeavesAnswers old answers call asks outcome new left = left ≡ answers
+-- what a call of the Memory Manager does just so with these answers, of which it leaves those
+abbrev pub StepsFrom : List Answer → List Answer → MemoryRelation
+StepsFrom answers left shape old call asks outcome new = exact_step shape answers old call ≡ record { outcome = outcome; heap = new; asks = asks; left = left }
+
+-- The answers that a call leaves of those that were queued: a call of the Memory Manager takes some from the front, and so does one of
+-- the Resource Manager by the call of the Memory Manager that it makes, if it makes one.
+abbrev pub LeavesAnswers : {S : Type 0} → Ghosts S → ToolState S → List Answer → Call → List Ask → Outcome → ToolState S → List Answer → Type 0
+LeavesAnswers store old answers (Memory call) asks outcome new left = StepsFrom answers left old.shape old.heap call asks outcome new.heap
+LeavesAnswers store old answers (Resource call) asks outcome new left = (answers ≡ answers_in asks ++ left) × (IsHonest store old → ResourceGives store (StepsFrom answers left) old call asks outcome new)
+LeavesAnswers store old answers call asks outcome new left = left ≡ answers
+
+-- A call that has no host memory has changed nothing. For a call of the Resource Manager, that is said of the forks and not of the
+-- stores, and rests on honest devices.
+abbrev pub Unchanged : {S : Type 0} → Ghosts S → ToolState S → Call → ToolState S → Type 0
+Unchanged store old (Resource call) new = (new ≡ record old { resources = new.resources }) × (IsHonest store old → resource_state store new ≡ resource_state store old)
+    × (IsHonest store old ↔ IsHonest store new) × (length new.resources.stores ≡ length old.resources.stores)
+Unchanged store old call new = new ≡ old
+
+-- what is said of a call, where it rests on honest devices for a call of the Resource Manager
+abbrev pub WhereHonest : {S : Type 0} → Ghosts S → ToolState S → Call → Type 0 → Type 0
+WhereHonest store old (Resource call) Said = IsHonest store old → Said
+WhereHonest store old call Said = Said
 
 -- whether a call gives a copy of what the zone has
 abbrev pub copies : MemoryCall → Bool
@@ -83,8 +137,9 @@ abbrev pub shows : LoanCall → Bool
 shows (loan_call.LentPeek block offset count) = true
 shows _ = false
 
--- whether a call's reply takes host memory
-abbrev pub takes_memory : Call → Bool
-takes_memory (Memory call) = copies call
-takes_memory (Loan call) = shows call
-takes_memory MemError = false
+-- whether a call takes host memory: for its reply, or for a row, a name, a fork or a table
+abbrev pub takes_memory : {S : Type 0} → Ghosts S → ToolState S → Call → Bool
+takes_memory store old (Memory call) = copies call
+takes_memory store old (Loan call) = shows call
+takes_memory store old (Resource call) = resource_takes_memory (resource_state store old) call
+takes_memory store old call = false

@@ -1,83 +1,104 @@
 //! The toolbox: one call, one reply.
 
+ghost use Rattle.std.specs.Prelude.{◌≡◌, [], None, IfOk, OnErr, IsTrue};
+ghost use Rattle.linked_zone.specs.Loans.{KeepsLoans};
+ghost use Rattle.mac_calls.specs.Tests.{refusal};
+ghost use Rattle.toolbox.specs.Steps.{MemorySteps, copies, disposed_itself, refused_after, resource_refused_after};
+
 use crate::loans::{Held, Loans};
 use crate::queue::AnswerQueue;
 use crate::{lending, memory};
+use fork_disk::store::ForkStore;
 use mac_base::error::{HostFull, OsErr};
-use mac_calls::{Call, GrowZone, Outcome, Reply, Results};
+use mac_base::handle::Handle;
+use mac_calls::{Call, GrowZone, MemoryCall, Outcome, Reply, ResourceCall, Results};
 use mem_calls::MemoryManager;
+use res_files::ResourceFiles;
+use res_manager::watch::Watched;
 use std::alloc::Global;
 use std::marker::Model;
 
-/// The toolbox over one zone, which holds the script's loans. Contracts see where the zone lies, its heap, the loans with
-/// the bytes that their holder has, and the code of the last call.
-pub struct Toolbox {
+/// The number of the file that is opened first.
+const FIRST_FILE: u32 = 1;
+
+/// The toolbox over one zone and some resource files, which holds the script's loans. Contracts see where the zone lies, its heap,
+/// the loans with the bytes that their holder has, the resource files with their stores, and the codes of the last calls.
+pub struct Toolbox<S: ForkStore> {
     alloc: Global,
     memory: MemoryManager,
     loans: Loans,
     refused: Option<OsErr>,
+    files: ResourceFiles<S>,
+    resource_refused: Option<OsErr>,
 }
 
-impl Model for Toolbox {
+impl<S: ForkStore> Model for Toolbox<S> {
     ghost use Rattle.toolbox.specs.Holding.{Holds, loans_of};
     ghost use Rattle.toolbox.specs.ToolState.{ToolState};
 
-    ghost Value = { ToolState };
+    ghost Value = { ToolState S };
 
-    ghost view = { λ t. record { shape = t.memory.shape; heap = t.memory.heap; loans = loans_of t.loans; refused = t.refused } };
+    ghost view = { λ t. record { shape = t.memory.shape; heap = t.memory.heap; loans = loans_of t.loans; refused = t.refused; resources = t.files; resource_refused = t.resource_refused } };
 
     ghost invariant = { λ t. Holds t.memory t.loans };
 }
 
-/// Loans that are left are given back.
-impl Drop for Toolbox {
-    fn drop(self) {
-        drop(self.finish());
-    }
-}
-
-impl Toolbox {
-    ghost use Rattle.std.specs.Prelude.{◌≡◌, [], None, IfOk, OnErr, IsTrue};
+impl<S: ForkStore> Toolbox<S> {
+    ghost use Rattle.mac_calls.specs.declared.call.Call.TheVariants.{Memory, Resource};
+    ghost use Rattle.mac_calls.specs.declared.resource_call.ResourceCall.TheVariants.{OpenResFile};
     ghost use Rattle.mac_calls.specs.Loans.{all_returned};
-    ghost use Rattle.toolbox.specs.Steps.{Gives, LeavesAnswers, Steps, refusal_of, takes_memory};
+    ghost use Rattle.toolbox.specs.Steps.{Gives, LeavesAnswers, Steps, Unchanged, WhereHonest, refusal_of, takes_memory};
 
-    /// The toolbox over this memory, of which nothing is lent. Replies that show bytes or blocks take host memory of
-    /// `alloc`.
-    pub fn open(alloc: Global, memory: MemoryManager) -> Toolbox
+    /// The toolbox over this memory, of which nothing is lent, and these resource files. What takes host memory takes it of `alloc`.
+    pub fn open(alloc: Global, memory: MemoryManager, files: ResourceFiles<S>) -> Toolbox<S>
         requires { memory.heap.table.lent ≡ [] }
-        ensures { result ≡ record { shape = memory.shape; heap = memory.heap; loans = []; refused = None } }
+        ensures { result ≡ record { shape = memory.shape; heap = memory.heap; loans = []; refused = None; resources = files; resource_refused = None } }
     {
         Toolbox {
             alloc,
             memory,
             loans: Loans::new(),
             refused: None,
+            files,
+            resource_refused: None,
         }
     }
 
+    /// Opens the first file, as the system opens a program's own before it runs: ResError knows nothing of that.
+    pub fn open_first(&mut self) -> Result<Outcome, HostFull>
+        ensures opens { IfOk result (λ outcome. Gives S.ForkStore self.old (Resource (OpenResFile 1)) [] outcome self.new) }
+        ensures shape { self.new.shape ≡ self.old.shape }
+        ensures refused { self.new.refused ≡ self.old.refused }
+        ensures resource_refused { self.new.resource_refused ≡ self.old.resource_refused }
+        ensures unchanged { OnErr result (Unchanged S.ForkStore self.old (Resource (OpenResFile 1)) self.new) }
+    {
+        let mut no_answers = AnswerQueue::new(self.alloc);
+        let call = Call::Resource(ResourceCall::OpenResFile(FIRST_FILE));
+        self.outcome(&call, &mut no_answers)
+    }
+
     /// Makes one call; one that finds no room asks the procedure. A call that is refused for its operands changes nothing in the
-    /// zone nor in the loans, and its reply has the code. MemError gives the code of the last other call. `HostFull` comes only
-    /// from Peek, LentPeek and ZoneMap, whose replies take host memory, and only where the call isn't refused; then nothing has
-    /// changed.
+    /// zone nor in the loans, and its reply has the code. MemError gives the code of the last call of the Memory Manager or on a
+    /// loan, ResError that of the last call of the Resource Manager. `HostFull` comes only from calls that take host memory, and only
+    /// where the call isn't refused; then nothing has changed.
     pub fn step<G: GrowZone>(
         &mut self,
         call: &Call<'_>,
         procedure: &mut G,
     ) -> Result<Reply, HostFull>
         requires { G.asks procedure.old ≡ [] }
-        ensures step { IfOk result (λ reply. Steps self.old call.now (G.asks procedure.new) reply.outcome self.new) }
+        ensures step { IfOk result (λ reply. Steps S.ForkStore self.old call.now (G.asks procedure.new) reply.outcome self.new) }
         ensures source { G.source procedure.new ≡ G.source procedure.old }
-        ensures unchanged { OnErr result (self.new ≡ self.old) }
+        ensures unchanged { OnErr result (Unchanged S.ForkStore self.old call.now self.new) }
         ensures unasked { OnErr result (G.asks procedure.new ≡ []) }
-        ensures full { OnErr result (IsTrue (takes_memory call.now)) }
-        ensures late { OnErr result (refusal_of self.old call.now ≡ None) }
+        ensures full { OnErr result (WhereHonest S.ForkStore self.old call.now (IsTrue (takes_memory S.ForkStore self.old call.now))) }
+        ensures late { OnErr result (WhereHonest S.ForkStore self.old call.now (refusal_of S.ForkStore self.old call.now ≡ None)) }
     {
         let reply = Reply {
             outcome: self.outcome(call, procedure)?,
         };
-        if !matches!(*call, Call::MemError) {
-            self.refused = reply.refusal();
-        }
+        self.refused = refused_after(self.refused, call, &reply);
+        self.resource_refused = resource_refused_after(self.resource_refused, call, &reply);
         Ok(reply)
     }
 
@@ -88,20 +109,71 @@ impl Toolbox {
         procedure: &mut G,
     ) -> Result<Outcome, HostFull>
         requires { G.asks procedure.old ≡ [] }
-        ensures gives { IfOk result (λ outcome. Gives self.old call.now (G.asks procedure.new) outcome self.new) }
+        ensures gives { IfOk result (λ outcome. Gives S.ForkStore self.old call.now (G.asks procedure.new) outcome self.new) }
         ensures shape { self.new.shape ≡ self.old.shape }
         ensures refused { self.new.refused ≡ self.old.refused }
+        ensures resource_refused { self.new.resource_refused ≡ self.old.resource_refused }
+        ensures source { G.source procedure.new ≡ G.source procedure.old }
+        ensures unchanged { OnErr result (Unchanged S.ForkStore self.old call.now self.new) }
+        ensures unasked { OnErr result (G.asks procedure.new ≡ []) }
+        ensures full { OnErr result (WhereHonest S.ForkStore self.old call.now (IsTrue (takes_memory S.ForkStore self.old call.now))) }
+        ensures late { OnErr result (WhereHonest S.ForkStore self.old call.now (refusal_of S.ForkStore self.old call.now ≡ None)) }
+    {
+        match call {
+            Call::Memory(call) => self.call_memory(call, procedure),
+            Call::Loan(call) => lending::make(&mut self.memory, &mut self.loans, self.alloc, call),
+            Call::Resource(call) => self.call_resource(call, procedure),
+            Call::MemError => Ok(Ok(Results::Code(self.refused))),
+            Call::ResError => Ok(Ok(Results::Code(self.resource_refused))),
+        }
+    }
+
+    /// A call of the Memory Manager. Rows of resource files forget the handles that it disposes of.
+    fn call_memory<G: GrowZone>(
+        &mut self,
+        call: &MemoryCall<'_>,
+        procedure: &mut G,
+    ) -> Result<Outcome, HostFull>
+        requires { G.asks procedure.old ≡ [] }
+        ensures gives { IfOk result (λ outcome. Gives S.ForkStore self.old (Memory call.now) (G.asks procedure.new) outcome self.new) }
+        ensures shape { self.new.shape ≡ self.old.shape }
+        ensures refused { self.new.refused ≡ self.old.refused }
+        ensures resource_refused { self.new.resource_refused ≡ self.old.resource_refused }
         ensures source { G.source procedure.new ≡ G.source procedure.old }
         ensures unchanged { OnErr result (self.new ≡ self.old) }
         ensures unasked { OnErr result (G.asks procedure.new ≡ []) }
-        ensures full { OnErr result (IsTrue (takes_memory call.now)) }
-        ensures late { OnErr result (refusal_of self.old call.now ≡ None) }
+        ensures full { OnErr result (IsTrue (copies call.now)) }
+        ensures late { OnErr result (refusal self.old.shape self.old.heap call.now ≡ None) }
     {
-        match call {
-            Call::Memory(call) => memory::make(&mut self.memory, self.alloc, call, procedure),
-            Call::Loan(call) => lending::make(&mut self.memory, &mut self.loans, self.alloc, call),
-            Call::MemError => Ok(Ok(Results::Code(self.refused))),
+        let mut watched = Watched::new(procedure);
+        let outcome = make_watched(&mut self.memory, self.alloc, call, &mut watched)?;
+        watched.forget_in(&mut self.files);
+        if let Some(handle) = disposed_itself(call, &outcome) {
+            self.files.forget(handle);
         }
+        Ok(outcome)
+    }
+
+    /// A call of the Resource Manager.
+    fn call_resource<G: GrowZone>(
+        &mut self,
+        call: &ResourceCall<'_>,
+        procedure: &mut G,
+    ) -> Result<Outcome, HostFull>
+        requires { G.asks procedure.old ≡ [] }
+        ensures gives { IfOk result (λ outcome. Gives S.ForkStore self.old (Resource call.now) (G.asks procedure.new) outcome self.new) }
+        ensures shape { self.new.shape ≡ self.old.shape }
+        ensures refused { self.new.refused ≡ self.old.refused }
+        ensures resource_refused { self.new.resource_refused ≡ self.old.resource_refused }
+        ensures source { G.source procedure.new ≡ G.source procedure.old }
+        ensures unchanged { OnErr result (Unchanged S.ForkStore self.old (Resource call.now) self.new) }
+        ensures unasked { OnErr result (G.asks procedure.new ≡ []) }
+        ensures full { OnErr result (WhereHonest S.ForkStore self.old (Resource call.now) (IsTrue (takes_memory S.ForkStore self.old (Resource call.now)))) }
+        ensures late { OnErr result (WhereHonest S.ForkStore self.old (Resource call.now) (refusal_of S.ForkStore self.old (Resource call.now) ≡ None)) }
+    {
+        res_manager::make(
+            &mut self.files, &mut self.memory, self.alloc, call, procedure,
+        )
     }
 
     /// Makes one call as `step` does, where the procedure gives the answers that are queued, first in, first out; with none left
@@ -111,12 +183,12 @@ impl Toolbox {
         call: &Call<'_>,
         queue: &mut AnswerQueue,
     ) -> Result<Reply, HostFull>
-        ensures step { IfOk result (λ reply. Steps self.old call.now queue.new.asks reply.outcome self.new) }
-        ensures answers { IfOk result (λ reply. LeavesAnswers self.old queue.old.left call.now queue.new.asks reply.outcome self.new queue.new.left) }
-        ensures unchanged { OnErr result (self.new ≡ self.old) }
+        ensures step { IfOk result (λ reply. Steps S.ForkStore self.old call.now queue.new.asks reply.outcome self.new) }
+        ensures answers { IfOk result (λ reply. LeavesAnswers S.ForkStore self.old queue.old.left call.now queue.new.asks reply.outcome self.new queue.new.left) }
+        ensures unchanged { OnErr result (Unchanged S.ForkStore self.old call.now self.new) }
         ensures kept { OnErr result (queue.new.left ≡ queue.old.left) }
-        ensures full { OnErr result (IsTrue (takes_memory call.now)) }
-        ensures late { OnErr result (refusal_of self.old call.now ≡ None) }
+        ensures full { OnErr result (WhereHonest S.ForkStore self.old call.now (IsTrue (takes_memory S.ForkStore self.old call.now))) }
+        ensures late { OnErr result (WhereHonest S.ForkStore self.old call.now (refusal_of S.ForkStore self.old call.now ≡ None)) }
     {
         queue.begin();
         let reply = self.step(call, queue);
@@ -124,21 +196,75 @@ impl Toolbox {
         reply
     }
 
-    /// Gives back the loans that are left, first to last, and hands out the memory, of which nothing is lent then.
-    pub fn finish(self) -> MemoryManager
-        ensures heap { result.heap ≡ all_returned self.loans self.heap }
-        ensures shape { result.shape ≡ self.shape }
-        ensures nothing_lent { result.heap.table.lent ≡ [] }
+    /// Gives back the loans that are left, first to last, and hands out the memory, of which nothing is lent then, and the resource
+    /// files. What isn't written stays unwritten.
+    pub fn finish(self) -> (MemoryManager, ResourceFiles<S>)
+        ensures heap { result.0.heap ≡ all_returned self.loans self.heap }
+        ensures shape { result.0.shape ≡ self.shape }
+        ensures nothing_lent { result.0.heap.table.lent ≡ [] }
+        ensures files { result.1 ≡ self.resources }
     {
         let Toolbox {
             alloc: _,
             mut memory,
             mut loans,
             refused: _,
+            files,
+            resource_refused: _,
         } = self;
         while let Some(Held { block, loan }) = loans.take_first() {
             memory.give_back(block, loan);
         }
-        memory
+        (memory, files)
+    }
+}
+
+/// Makes a call of the Memory Manager with a procedure under watch, which stays the one that it is.
+fn make_watched<G: GrowZone>(
+    memory: &mut MemoryManager,
+    alloc: Global,
+    call: &MemoryCall<'_>,
+    watched: &mut Watched<'_, G>,
+) -> Result<Outcome, HostFull>
+    requires { G.asks watched.old.procedure.now ≡ [] }
+    ensures same_reference { watched.new.procedure.ghost_name ≡ watched.old.procedure.ghost_name }
+    ensures step { IfOk result (λ outcome. MemorySteps memory.old call.now (G.asks watched.new.procedure.now) outcome memory.new) }
+    ensures source { G.source watched.new.procedure.now ≡ G.source watched.old.procedure.now }
+    ensures loans { KeepsLoans memory.old memory.new }
+    ensures unchanged { OnErr result (memory.new ≡ memory.old) }
+    ensures unasked { OnErr result (G.asks watched.new.procedure.now ≡ []) }
+    ensures full { OnErr result (IsTrue (copies call.now)) }
+    ensures late { OnErr result (refusal memory.old.shape memory.old.heap call.now ≡ None) }
+{
+    memory::make(memory, alloc, call, watched)
+}
+
+/// The handle that a call of the Memory Manager disposed of itself, if it did.
+fn disposed_itself(call: &MemoryCall<'_>, outcome: &Outcome) -> Option<Handle>
+    ensures { result ≡ disposed_itself call.now outcome.now }
+{
+    match *call {
+        MemoryCall::DisposeHandle(handle) if outcome.is_ok() => Some(handle),
+        _ => None,
+    }
+}
+
+/// The code that MemError gives after a call, where it gave this one before.
+fn refused_after(before: Option<OsErr>, call: &Call<'_>, reply: &Reply) -> Option<OsErr>
+    ensures { result ≡ refused_after before call.now reply.now.outcome }
+{
+    match call {
+        Call::Memory(_) | Call::Loan(_) => reply.refusal(),
+        _ => before,
+    }
+}
+
+/// The code that ResError gives after a call, where it gave this one before.
+fn resource_refused_after(before: Option<OsErr>, call: &Call<'_>, reply: &Reply) -> Option<OsErr>
+    ensures { result ≡ resource_refused_after before call.now reply.now.outcome }
+{
+    match call {
+        Call::Resource(_) => reply.refusal(),
+        Call::Memory(_) | Call::Loan(_) | Call::MemError | Call::ResError => before,
     }
 }

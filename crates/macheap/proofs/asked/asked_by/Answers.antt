@@ -1,8 +1,9 @@
-use Rattle.std.proofs.Common.{◌≡◌, map, codes, refl, sym, subst, ap, ◌∙◌, Option, Some, None, List, ℕ}
+use Rattle.std.proofs.Common.{◌≡◌, ◌<◌, length, map, codes, refl, sym, subst, ap, ◌∙◌, Option, Some, None, List, ℕ}
+use Rattle.std.proofs.lemmas.List.{length-map}
 use Rattle.mac_base.specs.ZoneSizes.{ArePossible}
 use Rattle.macheap.specs.Asking.{GivesNumbers, of_zone, of_limit, of_base, of_mode}
 use Rattle.macheap.specs.Options.{IsNoNumber, IsNumberOf}
-use Rattle.macheap.proofs.Found.{number_found, no_number_found, matched, unmatched, error_kind, full_asks, no_number_error}
+use Rattle.macheap.proofs.Found.{number_found, no_number_found, forks_asks, forks_given, match_of, matched, unmatched, error_kind, full_asks, no_number_error}
 use Rattle.macheap.proofs.asked.asked_by.Goals as goal
 
 pub returns-in_err-command : goal.returns-in_err-command
@@ -11,11 +12,20 @@ returns-in_err-command g c = full_asks _ _ c.from_residual.ensures.1
 pub returns-in-Err : goal.returns-in-Err
 returns-in-Err g c = unmatched _ c.in-Err.error _ (error_kind c.in_ok-command.field-0 _ c.in-Err.error c.in_ok-command.ensures c.in-Err.ensures.kinds) c.not_matched.ensures
 
+pub returns-in_err-forks : goal.returns-in_err-forks
+returns-in_err-forks g c =
+    let command = c.in_ok-command.field-0 in
+    let words = map g.S.AsStr.text c.args.words.now in
+    let found = forks_given command words c.in-Ok.matches c.get_strs.result _ (λ s. s.now) (λ v. v.now) c.in_ok-command.ensures c.in-Ok.ensures.matches c.get_strs.ensures refl in
+    forks_asks words _ c.in_err-forks.field-0.0 c.from_residual-in_err-forks.ensures.1 c.in_err-forks.ensures.faults
+        (λ same. (matched command words c.in_ok-command.ensures c.in-Ok.ensures.kinds, subst (λ (n : ℕ). 8 < n) (sym (length-map _ _) ∙ ap length found) (c.in_err-forks.ensures.many same)))
+
 pub returns-in_err-zone : goal.returns-in_err-zone
 returns-in_err-zone g c =
     let command = c.in_ok-command.field-0 in
     let words = map g.S.AsStr.text c.args.words.now in
-    let none = matched command words c.in_ok-command.ensures c.in-Ok.ensures.kinds in
+    let forks = forks_given command words c.in-Ok.matches c.get_strs.result c.in_ok-forks.forks.items (λ s. s.now) (λ v. v.now) c.in_ok-command.ensures c.in-Ok.ensures.matches c.get_strs.ensures c.in_ok-forks.ensures.forks in
+    let none = match_of words c.in_ok-forks.forks.items (λ v. v.now) (matched command words c.in_ok-command.ensures c.in-Ok.ensures.kinds) forks c.in_ok-forks.ensures.few in
     let zone = no_number_found command words c.in-Ok.matches (codes "zone") _ c.in_ok-command.ensures c.in-Ok.ensures.matches c.get_str.ensures c.in_err-zone.ensures.none in
     no_number_error words _ c.in_err-zone.field-0.0 (codes "zone") c.from_residual-in_err-zone.ensures.1 c.in_err-zone.ensures.error (of_zone refl none zone)
 
@@ -23,7 +33,8 @@ pub returns-in_err-limit : goal.returns-in_err-limit
 returns-in_err-limit g c =
     let command = c.in_ok-command.field-0 in
     let words = map g.S.AsStr.text c.args.words.now in
-    let none = matched command words c.in_ok-command.ensures c.in-Ok.ensures.kinds in
+    let forks = forks_given command words c.in-Ok.matches c.get_strs.result c.in_ok-forks.forks.items (λ s. s.now) (λ v. v.now) c.in_ok-command.ensures c.in-Ok.ensures.matches c.get_strs.ensures c.in_ok-forks.ensures.forks in
+    let none = match_of words c.in_ok-forks.forks.items (λ v. v.now) (matched command words c.in_ok-command.ensures c.in-Ok.ensures.kinds) forks c.in_ok-forks.ensures.few in
     let size = number_found command words c.in-Ok.matches (codes "zone") _ 4096 c.in_ok-zone.zone c.in_ok-command.ensures c.in-Ok.ensures.matches c.get_str.ensures c.in_ok-zone.ensures.number in
     let limit = no_number_found command words c.in-Ok.matches (codes "limit") _ c.in_ok-command.ensures c.in-Ok.ensures.matches c.get_str-2.ensures c.in_err-limit.ensures.none in
     no_number_error words _ c.in_err-limit.field-0.0 (codes "limit") c.from_residual-in_err-limit.ensures.1 c.in_err-limit.ensures.error (of_limit refl none c.in_ok-zone.zone size limit)
@@ -32,7 +43,8 @@ pub returns-in_err-base : goal.returns-in_err-base
 returns-in_err-base g c =
     let command = c.in_ok-command.field-0 in
     let words = map g.S.AsStr.text c.args.words.now in
-    let none = matched command words c.in_ok-command.ensures c.in-Ok.ensures.kinds in
+    let forks = forks_given command words c.in-Ok.matches c.get_strs.result c.in_ok-forks.forks.items (λ s. s.now) (λ v. v.now) c.in_ok-command.ensures c.in-Ok.ensures.matches c.get_strs.ensures c.in_ok-forks.ensures.forks in
+    let none = match_of words c.in_ok-forks.forks.items (λ v. v.now) (matched command words c.in_ok-command.ensures c.in-Ok.ensures.kinds) forks c.in_ok-forks.ensures.few in
     let size = number_found command words c.in-Ok.matches (codes "zone") _ 4096 c.in_ok-zone.zone c.in_ok-command.ensures c.in-Ok.ensures.matches c.get_str.ensures c.in_ok-zone.ensures.number in
     let limit = number_found command words c.in-Ok.matches (codes "limit") _ c.in_ok-zone.zone c.in_ok-limit.limit c.in_ok-command.ensures c.in-Ok.ensures.matches c.get_str-2.ensures c.in_ok-limit.ensures.number in
     let base = no_number_found command words c.in-Ok.matches (codes "base") _ c.in_ok-command.ensures c.in-Ok.ensures.matches c.get_str-3.ensures c.in_err-base.ensures.none in
@@ -42,7 +54,8 @@ pub returns-in_err-mode : goal.returns-in_err-mode
 returns-in_err-mode g c =
     let command = c.in_ok-command.field-0 in
     let words = map g.S.AsStr.text c.args.words.now in
-    let none = matched command words c.in_ok-command.ensures c.in-Ok.ensures.kinds in
+    let forks = forks_given command words c.in-Ok.matches c.get_strs.result c.in_ok-forks.forks.items (λ s. s.now) (λ v. v.now) c.in_ok-command.ensures c.in-Ok.ensures.matches c.get_strs.ensures c.in_ok-forks.ensures.forks in
+    let none = match_of words c.in_ok-forks.forks.items (λ v. v.now) (matched command words c.in_ok-command.ensures c.in-Ok.ensures.kinds) forks c.in_ok-forks.ensures.few in
     let size = number_found command words c.in-Ok.matches (codes "zone") _ 4096 c.in_ok-zone.zone c.in_ok-command.ensures c.in-Ok.ensures.matches c.get_str.ensures c.in_ok-zone.ensures.number in
     let limit = number_found command words c.in-Ok.matches (codes "limit") _ c.in_ok-zone.zone c.in_ok-limit.limit c.in_ok-command.ensures c.in-Ok.ensures.matches c.get_str-2.ensures c.in_ok-limit.ensures.number in
     let base = number_found command words c.in-Ok.matches (codes "base") _ 0x10_0000 c.in_ok-base.base c.in_ok-command.ensures c.in-Ok.ensures.matches c.get_str-3.ensures c.in_ok-base.ensures.number in
@@ -53,8 +66,9 @@ pub returns-in_default : goal.returns-in_default
 returns-in_default g c =
     let command = c.in_ok-command.field-0 in
     let words = map g.S.AsStr.text c.args.words.now in
+    let forks = forks_given command words c.in-Ok.matches c.get_strs.result c.in_ok-forks.forks.items (λ s. s.now) (λ v. v.now) c.in_ok-command.ensures c.in-Ok.ensures.matches c.get_strs.ensures c.in_ok-forks.ensures.forks in
     let numbers : GivesNumbers words c.in_ok-base.base c.in_ok-zone.zone c.in_ok-limit.limit c.in_ok-mode.mode = record {
-      matched = matched command words c.in_ok-command.ensures c.in-Ok.ensures.kinds;
+      matched = match_of words c.in_ok-forks.forks.items (λ v. v.now) (matched command words c.in_ok-command.ensures c.in-Ok.ensures.kinds) forks c.in_ok-forks.ensures.few;
       size_given = number_found command words c.in-Ok.matches (codes "zone") _ 4096 c.in_ok-zone.zone c.in_ok-command.ensures c.in-Ok.ensures.matches c.get_str.ensures c.in_ok-zone.ensures.number;
       limit_given = number_found command words c.in-Ok.matches (codes "limit") _ c.in_ok-zone.zone c.in_ok-limit.limit c.in_ok-command.ensures c.in-Ok.ensures.matches c.get_str-2.ensures c.in_ok-limit.ensures.number;
       base_given = number_found command words c.in-Ok.matches (codes "base") _ 0x10_0000 c.in_ok-base.base c.in_ok-command.ensures c.in-Ok.ensures.matches c.get_str-3.ensures c.in_ok-base.ensures.number;
@@ -66,8 +80,9 @@ pub returns-in-Ok-with_kind : goal.returns-in-Ok-with_kind
 returns-in-Ok-with_kind g c =
     let command = c.in_ok-command.field-0 in
     let words = map g.S.AsStr.text c.args.words.now in
+    let forks = forks_given command words c.in-Ok.matches c.get_strs.result c.in_ok-forks.forks.items (λ s. s.now) (λ v. v.now) c.in_ok-command.ensures c.in-Ok.ensures.matches c.get_strs.ensures c.in_ok-forks.ensures.forks in
     let numbers : GivesNumbers words c.in_ok-base.base c.in_ok-zone.zone c.in_ok-limit.limit c.in_ok-mode.mode = record {
-      matched = matched command words c.in_ok-command.ensures c.in-Ok.ensures.kinds;
+      matched = match_of words c.in_ok-forks.forks.items (λ v. v.now) (matched command words c.in_ok-command.ensures c.in-Ok.ensures.kinds) forks c.in_ok-forks.ensures.few;
       size_given = number_found command words c.in-Ok.matches (codes "zone") _ 4096 c.in_ok-zone.zone c.in_ok-command.ensures c.in-Ok.ensures.matches c.get_str.ensures c.in_ok-zone.ensures.number;
       limit_given = number_found command words c.in-Ok.matches (codes "limit") _ c.in_ok-zone.zone c.in_ok-limit.limit c.in_ok-command.ensures c.in-Ok.ensures.matches c.get_str-2.ensures c.in_ok-limit.ensures.number;
       base_given = number_found command words c.in-Ok.matches (codes "base") _ 0x10_0000 c.in_ok-base.base c.in_ok-command.ensures c.in-Ok.ensures.matches c.get_str-3.ensures c.in_ok-base.ensures.number;
@@ -83,14 +98,16 @@ returns-in-Ok-with_kind g c =
       headed = sym c.heads_of.ensures ∙ c.in-Some.is;
       is = c.in-Ok-with_kind.ensures.spec;
       possible = subst ArePossible (sym c.in-Ok-with_kind.ensures.spec) (c.in-Ok-with_kind.ensures.possible.0 refl);
+      forks_are = forks;
     }
 
 pub returns : goal.returns
 returns g c =
     let command = c.in_ok-command.field-0 in
     let words = map g.S.AsStr.text c.args.words.now in
+    let forks = forks_given command words c.in-Ok.matches c.get_strs.result c.in_ok-forks.forks.items (λ s. s.now) (λ v. v.now) c.in_ok-command.ensures c.in-Ok.ensures.matches c.get_strs.ensures c.in_ok-forks.ensures.forks in
     let numbers : GivesNumbers words c.in_ok-base.base c.in_ok-zone.zone c.in_ok-limit.limit c.in_ok-mode.mode = record {
-      matched = matched command words c.in_ok-command.ensures c.in-Ok.ensures.kinds;
+      matched = match_of words c.in_ok-forks.forks.items (λ v. v.now) (matched command words c.in_ok-command.ensures c.in-Ok.ensures.kinds) forks c.in_ok-forks.ensures.few;
       size_given = number_found command words c.in-Ok.matches (codes "zone") _ 4096 c.in_ok-zone.zone c.in_ok-command.ensures c.in-Ok.ensures.matches c.get_str.ensures c.in_ok-zone.ensures.number;
       limit_given = number_found command words c.in-Ok.matches (codes "limit") _ c.in_ok-zone.zone c.in_ok-limit.limit c.in_ok-command.ensures c.in-Ok.ensures.matches c.get_str-2.ensures c.in_ok-limit.ensures.number;
       base_given = number_found command words c.in-Ok.matches (codes "base") _ 0x10_0000 c.in_ok-base.base c.in_ok-command.ensures c.in-Ok.ensures.matches c.get_str-3.ensures c.in_ok-base.ensures.number;

@@ -11,4 +11,5 @@ returns c =
     let first_is : app_of c.in_ok-arg.field-0 ≡ with_rule (new_app (codes "macheap")) (option_named (codes "zone")) = c.in_ok-arg.ensures.shape c.number_option.ensures.local ∙ ap₂ with_rule about_is c.number_option.ensures.rule in
     let second_is : app_of c.in_ok-arg-2.field-0 ≡ with_rule (with_rule (new_app (codes "macheap")) (option_named (codes "zone"))) (option_named (codes "limit")) = c.in_ok-arg-2.ensures.shape c.number_option-2.ensures.local ∙ ap₂ with_rule first_is c.number_option-2.ensures.rule in
     let third_is : app_of c.in_ok-arg-3.field-0 ≡ with_rule (with_rule (with_rule (new_app (codes "macheap")) (option_named (codes "zone"))) (option_named (codes "limit"))) (option_named (codes "base")) = c.in_ok-arg-3.ensures.shape c.number_option-3.ensures.local ∙ ap₂ with_rule second_is c.number_option-3.ensures.rule in
-    IfOk-weaker c.arg-4.result _ _ (λ r h. h.shape c.number_option-4.ensures.local ∙ ap₂ with_rule third_is c.number_option-4.ensures.rule) c.arg-4.ensures
+    let fourth_is : app_of c.in_ok-arg-4.field-0 ≡ with_rule (with_rule (with_rule (with_rule (new_app (codes "macheap")) (option_named (codes "zone"))) (option_named (codes "limit"))) (option_named (codes "base"))) (option_named (codes "mode")) = c.in_ok-arg-4.ensures.shape c.number_option-4.ensures.local ∙ ap₂ with_rule third_is c.number_option-4.ensures.rule in
+    IfOk-weaker c.arg-5.result _ _ (λ r h. h.shape c.fork_option.ensures.local ∙ ap₂ with_rule fourth_is c.fork_option.ensures.rule) c.arg-5.ensures

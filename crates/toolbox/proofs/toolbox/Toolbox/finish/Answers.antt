@@ -7,7 +7,7 @@ use Rattle.toolbox.proofs.Holding.{Holds-returned, nothing_lent}
 use Rattle.toolbox.proofs.toolbox.Toolbox.finish.Goals as goal
 
 pub loop-block-preserved : goal.loop-block-preserved
-loop-block-preserved c =
+loop-block-preserved g c =
     let held = c.in-Some.field-0 in
     let rest = c.take_first.new.self in
     let old = c.loop-block.memory in
@@ -18,4 +18,4 @@ loop-block-preserved c =
     }
 
 pub returns-clause-nothing_lent : goal.returns-clause-nothing_lent
-returns-clause-nothing_lent c = nothing_lent c.loop-block.memory (subst (λ (hs : List Held). Holds c.loop-block.memory hs) c.in_default.ensures.none c.loop-block.invariant.holds)
+returns-clause-nothing_lent g c = nothing_lent c.loop-block.memory (subst (λ (hs : List Held). Holds c.loop-block.memory hs) c.in_default.ensures.none c.loop-block.invariant.holds)

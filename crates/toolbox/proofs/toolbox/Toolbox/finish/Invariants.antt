@@ -5,7 +5,7 @@ use Rattle.toolbox.proofs.toolbox.Toolbox.finish.Given as goal
 
 -- what is left is held, and comes back as it would have at the start
 abbrev pub invariant-loop-block : goal.invariant-loop-block
-invariant-loop-block l = record {
+invariant-loop-block g l = record {
   holds : Holds l.memory l.loans;
   heap : all_returned (loans_of l.loans) l.memory.heap ≡ all_returned l.fn.self.loans l.fn.self.heap;
   shape : l.memory.shape ≡ l.fn.self.shape;
@@ -13,4 +13,4 @@ invariant-loop-block l = record {
 
 -- the loans that are left
 abbrev pub decreases-loop-block : goal.decreases-loop-block
-decreases-loop-block l = length l.loans
+decreases-loop-block g l = length l.loans

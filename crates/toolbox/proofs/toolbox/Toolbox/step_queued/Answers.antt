@@ -4,4 +4,4 @@ use Rattle.toolbox.proofs.Queued.{leaves_answers}
 use Rattle.toolbox.proofs.toolbox.Toolbox.step_queued.Goals as goal
 
 pub returns-clause-answers : goal.returns-clause-answers
-returns-clause-answers c = leaves_answers _ _ c.args.call.now _ _ c.step-reply.result c.step-reply.ensures.step (c.step-reply.ensures.source ∙ ap (λ (q : Queue). q.source) c.begin.ensures) c.end.ensures
+returns-clause-answers g c = leaves_answers g.S.ForkStore _ _ c.args.call.now _ _ c.step-reply.result c.step-reply.ensures.step (c.step-reply.ensures.source ∙ ap (λ (q : Queue). q.source) c.begin.ensures) c.end.ensures

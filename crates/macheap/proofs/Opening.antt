@@ -1,0 +1,37 @@
+-- The stores of files, opened one after the other.
+use Rattle.std.proofs.Common.{◌≡◌, ◌+◌, ◌<◌, ℕ, List, [], ◌∷◌, ◌++◌, Some, None, take, length, get_or, map, refl, ap, sym, subst, ◌∙◌, inl, inr}
+use Rattle.std.proofs.lemmas.List.{take_more, map-append}
+use Rattle.std.proofs.Math.Seq.{split_at}
+use Rattle.clap.specs.Words.{Text}
+use Rattle.macheap.specs.Stores.{AreOf, CantBeOpened, Opening}
+
+AreOf-push : {S : Type 0} (gives : Opening S) (names : List Text) (stores : List S) (name : Text) (store : S) → AreOf gives names stores → gives name (Some store) → AreOf gives (names ++ name ∷ []) (stores ++ store ∷ [])
+AreOf-push gives [] [] name store are one = (one, tt)
+AreOf-push gives (n ∷ names) (s ∷ stores) name store are one = (are.0, AreOf-push gives names stores name store are.1 one)
+AreOf-push gives [] (s ∷ stores) name store are one = absurd are
+AreOf-push gives (n ∷ names) [] name store are one = absurd are
+
+-- one more file is opened
+pub AreOf-step : {S B : Type 0} (gives : Opening S) (names : List B) (now : B → Text) (at : ℕ) (name : B) (stores : List S) (store : S) → at < length names → name ≡ get_or names at name → AreOf gives (map now (take at names)) stores → gives (now name) (Some store)
+    → AreOf gives (map now (take (at + 1) names)) (stores ++ store ∷ [])
+AreOf-step {B = B} gives names now at name stores store lt is are one =
+    subst (λ (ns : List Text). AreOf gives ns (stores ++ store ∷ []))
+    (sym (map-append now (take at names) (name ∷ [])) ∙ ap (λ (l : List B). map now l) (ap (λ (b : B). take at names ++ b ∷ []) is ∙ sym (take_more names at name lt)))
+    (AreOf-push gives (map now (take at names)) stores (now name) store are one)
+
+-- there are as many stores as files
+pub AreOf-length : {S : Type 0} (gives : Opening S) (names : List Text) (stores : List S) → AreOf gives names stores → length stores ≡ length names
+AreOf-length gives [] [] are = refl
+AreOf-length gives (n ∷ names) (s ∷ stores) are = rw (AreOf-length gives names stores are.1) refl
+AreOf-length gives [] (s ∷ stores) are = absurd are
+AreOf-length gives (n ∷ names) [] are = absurd are
+
+cant-append : {S : Type 0} (gives : Opening S) (xs : List Text) (y : Text) (zs : List Text) → gives y None → CantBeOpened gives (xs ++ y ∷ zs)
+cant-append gives [] y zs none = inl none
+cant-append gives (x ∷ xs) y zs none = inr (cant-append gives xs y zs none)
+
+-- one of the files can't be opened
+pub cant_at : {S B : Type 0} (gives : Opening S) (names : List B) (now : B → Text) (at : ℕ) (name : B) → at < length names → name ≡ get_or names at name → gives (now name) None → CantBeOpened gives (map now names)
+cant_at {B = B} gives names now at name lt is none =
+    subst (CantBeOpened gives) (sym (ap (map now) (split_at names at name lt) ∙ map-append now (take at names) _))
+    (cant-append gives (map now (take at names)) (now (get_or names at name)) _ (subst (λ (b : B). gives (now b) None) is none))

@@ -1,8 +1,0 @@
-use Rattle.std.proofs.Common.{◌≡◌, take}
-use Rattle.std.specs.List.{list_all}
-use Rattle.reply_text.specs.Text as texts
-use Rattle.reply_text.proofs.printing.are_plain.Given as goal
-
--- whether the bytes so far stand for themselves
-abbrev pub invariant-loop-byte : goal.invariant-loop-byte
-invariant-loop-byte l = l.all ≡ list_all texts.is_plain (take l.byte-index l.bytes)

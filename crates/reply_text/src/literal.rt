@@ -1,0 +1,113 @@
+//! How numbers, bytes and types are written.
+
+ghost use Rattle.std.specs.Prelude.{◌≡◌, ◌<◌, ◌*◌, ◌++◌, true, length, OnOk};
+ghost use Rattle.std.specs.Fmt.{digit_glyph};
+ghost use Rattle.std.specs.List.{list_all};
+ghost use Rattle.reply_text.specs.Text as texts;
+
+use itoa::{Buffer, Integer};
+use mac_base::error::HostFull;
+use res_base::resource::ResType;
+
+/// Adds a number in decimal, with a minus where it is negative.
+pub(crate) fn push_number<I: Integer>(text: &mut Vec<u8>, number: I) -> Result<(), HostFull>
+    ensures { OnOk result (text.new.items ≡ text.old.items ++ I.text number) }
+{
+    let mut buffer = Buffer::new();
+    text.extend_from_slice(buffer.format(number).as_bytes())?;
+    Ok(())
+}
+
+/// A digit below 16, in upper case.
+fn hexadecimal_digit(digit: u8) -> u8
+    requires { digit < 16 }
+    ensures { result ≡ digit_glyph true digit }
+{
+    if digit < 10 {
+        b'0' + digit
+    } else {
+        b'A' - 10 + digit
+    }
+}
+
+/// Writes bytes as upper-case hexadecimal digits, two for each, over other bytes.
+fn write_digits(digits: &mut [u8], bytes: &[u8])
+    requires { length digits.old ≡ 2 * length bytes.now }
+    ensures { digits.new ≡ texts.in_digits bytes.now }
+{
+    for (index, byte) in bytes.iter().enumerate() {
+        digits[2 * index] = hexadecimal_digit(*byte / 16);
+        digits[2 * index + 1] = hexadecimal_digit(*byte % 16);
+    }
+}
+
+/// Adds bytes as upper-case hexadecimal digits, two for each.
+fn push_digits(text: &mut Vec<u8>, bytes: &[u8]) -> Result<(), HostFull>
+    ensures { OnOk result (text.new.items ≡ text.old.items ++ texts.in_digits bytes.now) }
+{
+    let start = text.len();
+    let count = bytes.len().checked_mul(2).ok_or(HostFull)?;
+    let end = start.checked_add(count).ok_or(HostFull)?;
+    text.resize(end, 0)?;
+    write_digits(&mut text[start..], bytes);
+    Ok(())
+}
+
+/// Adds a handle or an address: `$` and eight hexadecimal digits.
+pub(crate) fn push_address(text: &mut Vec<u8>, address: u32) -> Result<(), HostFull>
+    ensures { OnOk result (text.new.items ≡ text.old.items ++ texts.address address) }
+{
+    let mut digits = [0u8; 8];
+    write_digits(&mut digits, &address.to_be_bytes());
+    text.push(b'$')?;
+    text.extend_from_slice(&digits)?;
+    Ok(())
+}
+
+/// Whether a byte stands for itself between these quotes.
+fn is_plain(quote: u8, byte: u8) -> bool
+    ensures { result ≡ texts.is_plain quote byte }
+{
+    matches!(byte, b' '..=b'~') && byte != quote
+}
+
+/// Whether all bytes stand for themselves between these quotes.
+fn are_plain(quote: u8, bytes: &[u8]) -> bool
+    ensures { result ≡ list_all (texts.is_plain quote) bytes.now }
+{
+    let mut all = true;
+    for byte in bytes {
+        all &= is_plain(quote, *byte);
+    }
+    all
+}
+
+/// Adds bytes between these quotes where each can stand there, else as `$"`, hexadecimal digits and `"`.
+fn push_quoted(text: &mut Vec<u8>, quote: u8, bytes: &[u8]) -> Result<(), HostFull>
+    ensures { OnOk result (text.new.items ≡ text.old.items ++ texts.between quote bytes.now) }
+{
+    if are_plain(quote, bytes) {
+        text.push(quote)?;
+        text.extend_from_slice(bytes)?;
+        text.push(quote)?;
+    } else {
+        text.extend_from_slice(b"$\"")?;
+        push_digits(text, bytes)?;
+        text.push(b'"')?;
+    }
+    Ok(())
+}
+
+/// Adds bytes in double quotes.
+pub(crate) fn push_bytes(text: &mut Vec<u8>, bytes: &[u8]) -> Result<(), HostFull>
+    ensures { OnOk result (text.new.items ≡ text.old.items ++ texts.bytes_text bytes.now) }
+{
+    push_quoted(text, b'"', bytes)
+}
+
+/// Adds a type in single quotes.
+pub(crate) fn push_type(text: &mut Vec<u8>, kind: ResType) -> Result<(), HostFull>
+    ensures { OnOk result (text.new.items ≡ text.old.items ++ texts.type_text kind) }
+{
+    push_quoted(text, b'\'', &kind.bytes())
+}

@@ -1,0 +1,68 @@
+//! A resource file is written.
+
+ghost use Rattle.std.specs.Prelude.{◌≡◌, ◌↔◌, List, ℕ, length, map, All, IsTrue, IsFalse, OnOk, IfSome, IsErrOf};
+ghost use Rattle.fork_bytes.specs.Written.{written};
+ghost use Rattle.res_table.specs.OpenFiles.{is_open, rows_changed, file_closed, table_of};
+ghost use Rattle.res_calls.specs.Changes.{rows_of, saved_table};
+ghost use Rattle.res_calls.specs.Updates.{fits_fork};
+ghost use Rattle.res_update.specs.Selected.{updated, reads_lent};
+ghost use Rattle.res_files.specs.FilesOn.{fork_of, forks_with, NoneFailed, SomeFailed};
+
+use crate::files::ResourceFiles;
+use crate::placing::place_rows;
+use fork_disk::store::{ForkStore, ReplaceFault};
+use res_update::contents::Contents;
+use res_update::fault::UpdateFault;
+use res_update::selection::Selection;
+use res_update::write_table;
+
+impl<S: ForkStore> ResourceFiles<S> {
+    /// Writes the file of a number anew, which is open. The selected rows have the bytes of their handles then, and are no longer
+    /// changed; all others keep what they have on the disk. TooBig comes exactly where no fork holds the table. Where the device failed
+    /// behind the first write, the file is closed; in any other case of an error nothing is changed.
+    pub fn update<C: Contents>(
+        &mut self,
+        number: u8,
+        selection: Selection,
+        contents: &C,
+    ) -> Result<(), UpdateFault>
+        requires open { IsTrue (is_open number self.old.files) }
+        requires unlent { IsFalse (reads_lent (C.table contents.now) selection (rows_of number self.old.files)) }
+        ensures rows { All S.is_honest self.old.stores → OnOk result (IfSome (table_of number self.old.files) (λ table.
+            self.new.files ≡ rows_changed number (λ _. (updated (C.table contents.now) selection table).rows) self.old.files)) }
+        ensures written { All S.is_honest self.old.stores → OnOk result (IfSome (table_of number self.old.files) (λ table.
+            map S.fork self.new.stores ≡ forks_with S.fork number (written (saved_table (updated (C.table contents.now) selection table))) self.old.stores)) }
+        ensures too_big { All S.is_honest self.old.stores → IfSome (table_of number self.old.files) (λ table.
+            IsErrOf result UpdateFault.TooBig ↔ IsFalse (fits_fork (updated (C.table contents.now) selection table))) }
+        ensures untouched { IsErrOf result UpdateFault.TooBig → self.new ≡ self.old }
+        ensures unasked { IsErrOf result UpdateFault.HostFull → self.new ≡ self.old }
+        ensures before { All S.is_honest self.old.stores → IsErrOf result (UpdateFault.Device ReplaceFault.BeforeFirstWrite)
+            → (self.new.files ≡ self.old.files) × (map S.fork self.new.stores ≡ map S.fork self.old.stores) }
+        ensures later { All S.is_honest self.old.stores → IsErrOf result (UpdateFault.Device ReplaceFault.Later) → IfSome (table_of number self.old.files) (λ table.
+            (left : List ℕ) × S.may_leave (written (saved_table (updated (C.table contents.now) selection table))) (fork_of S.fork number self.old.stores) left
+            × (map S.fork self.new.stores ≡ forks_with S.fork number left self.old.stores) × (self.new.files ≡ file_closed number self.old.files)) }
+        ensures loads { self.new.loads ≡ self.old.loads }
+        ensures honest { All S.is_honest self.old.stores ↔ All S.is_honest self.new.stores }
+        ensures count { length self.new.stores ≡ length self.old.stores }
+        ensures none { OnOk result (NoneFailed S.failures self.old.stores self.new.stores) }
+        ensures cause { IsErrOf result (UpdateFault.Device ReplaceFault.BeforeFirstWrite) → SomeFailed S.failures self.old.stores self.new.stores }
+        ensures cause_later { IsErrOf result (UpdateFault.Device ReplaceFault.Later) → SomeFailed S.failures self.old.stores self.new.stores }
+    {
+        let Some(table) = self.chain.table(number) else {
+            return Ok(());
+        };
+        let store = &mut self.stores[number as usize - 1];
+        match write_table(self.alloc, store, table, selection, contents) {
+            Ok(places) => {
+                place_rows(&mut self.chain, number, selection, &places);
+                Ok(())
+            }
+            Err(fault) => {
+                if matches!(fault, UpdateFault::Device(ReplaceFault::Later)) {
+                    self.chain.close(number);
+                }
+                Err(fault)
+            }
+        }
+    }
+}

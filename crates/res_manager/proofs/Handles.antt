@@ -1,0 +1,115 @@
+-- The walk over the rows of a file that have handles.
+use Rattle.std.proofs.Common.{◌≡◌, ℕ, zero, suc, ◌+◌, ◌<◌, ◌≤◌, Bool, true, false, ◌||◌, List, [], ◌∷◌, ◌++◌, All, length, drop, filter_map, slice_get, Option, Some, None, option_map, option_and_then, map, refl, sym, ap, subst, ◌∙◌, add-one, arith, length-append, length-drop}
+use Rattle.std.specs.Prelude.{◌&&◌}
+use Rattle.std.specs.List.{list_any}
+use Rattle.std.specs.Option.{option_map_or}
+use Rattle.std.proofs.lemmas.List.{drop-drop}
+use Rattle.std.proofs.lemmas.List.Elements.{All-head, All-tail}
+use Rattle.mac_base.specs.HandleTable.{HandleTable, is_lent}
+use Rattle.mac_base.specs.HeadKind.{Shape}
+use Rattle.mac_base.specs.Heap.{Heap}
+use Rattle.mac_calls.specs.declared.memory_call.MemoryCall.TheVariants.{DisposeHandle}
+use Rattle.mac_calls.specs.ExactStep.{IsExactStep, StepEnd}
+use Rattle.mac_calls.specs.Outcomes.{Outcome}
+use Rattle.res_calls.specs.Changes.{Files, FileRow, FileTable, rows_in, rows_of}
+use Rattle.res_calls.specs.Tests.{is_lent_row}
+use Rattle.res_calls.specs.Updates.{disposed, handles_of}
+use Rattle.res_table.specs.OpenFiles.{row_at, table_of}
+
+-- the handles of a row and of others, where the row has none
+without_handle : (r : FileRow) (rows : List FileRow) → r.handle ≡ None → handles_of (r ∷ rows) ≡ handles_of rows
+without_handle r rows none =
+    let P : Option ℕ → Type 0 = λ o. handles_of (record r { handle = o } ∷ rows) ≡ handles_of rows in
+    subst P (sym none) refl
+
+-- and where it has one
+with_its_handle : (r : FileRow) (rows : List FileRow) (h : ℕ) → r.handle ≡ Some h → handles_of (r ∷ rows) ≡ h ∷ handles_of rows
+with_its_handle r rows h has =
+    let P : Option ℕ → Type 0 = λ o. handles_of (record r { handle = o } ∷ rows) ≡ h ∷ handles_of rows in
+    subst P (sym has) refl
+
+-- rows without handles have none
+passed_over : (before rest : List FileRow) → All (λ (r : FileRow). r.handle ≡ None) before → handles_of (before ++ rest) ≡ handles_of rest
+passed_over [] rest none = refl
+passed_over (r ∷ rows) rest none =
+    without_handle r (rows ++ rest) (All-head (λ (x : FileRow). x.handle ≡ None) r rows none) ∙ passed_over rows rest (All-tail (λ (x : FileRow). x.handle ≡ None) r rows none)
+
+behind_found : (before : List FileRow) (r : FileRow) (behind : List FileRow) → drop (suc (length before)) (before ++ r ∷ behind) ≡ behind
+behind_found [] r behind = refl
+behind_found (x ∷ before) r behind = behind_found before r behind
+
+-- what is known of the next row with a handle
+pub record Next (rows : List FileRow) (from index h : ℕ) : Type 0 where
+  pub handles : handles_of (drop from rows) ≡ h ∷ handles_of (drop (index + 1) rows)
+  pub within : index < length rows
+  pub later : from ≤ index
+
+pub next_found : (rows : List FileRow) (from index h : ℕ) (before : List FileRow) (r : FileRow) (behind : List FileRow) → drop from rows ≡ before ++ r ∷ behind → All (λ (other : FileRow). other.handle ≡ None) before → r.handle ≡ Some h
+    → index ≡ from + length before → Next rows from index h
+next_found rows from index h before r behind is none has at =
+    let rest : drop (index + 1) rows ≡ behind = rw at (sym (drop-drop (length before + 1) from rows ∙ ap (λ n. drop n rows) (omega arith)) ∙ ap (drop (length before + 1)) is ∙ rw (add-one) (behind_found before r behind)) in
+    let long : length (drop from rows) ≡ length before + suc (length behind) = ap length is ∙ length-append before (r ∷ behind) in
+    record {
+      handles = ap handles_of is ∙ passed_over before (r ∷ behind) none ∙ with_its_handle r behind h has ∙ ap (λ (rs : List FileRow). h ∷ handles_of rs) (sym rest);
+      within = omega (arith, long, length-drop from rows);
+      later = omega arith;
+    }
+
+-- where no further row has one, there is nothing left
+pub next_none : (rows : List FileRow) → All (λ (other : FileRow). other.handle ≡ None) rows → handles_of rows ≡ []
+next_none [] none = refl
+next_none (r ∷ rows) none = without_handle r rows (All-head (λ (x : FileRow). x.handle ≡ None) r rows none) ∙ next_none rows (All-tail (λ (x : FileRow). x.handle ≡ None) r rows none)
+
+-- one handle more is disposed of
+pub disposed_more : (s t : Shape) (old new : Heap) (h : ℕ) (hs : List ℕ) (outcome : Outcome) → t ≡ s → IsExactStep t old (DisposeHandle h) [] outcome new → disposed s (h ∷ hs) old ≡ disposed s hs new
+disposed_more s t old new h hs outcome same exact =
+    let here : IsExactStep s old (DisposeHandle h) [] outcome new = rw (← same) exact in
+    ap (λ (e : StepEnd). disposed s hs e.heap) here
+
+at_front : (before : List FileRow) (r : FileRow) (behind : List FileRow) → slice_get (before ++ r ∷ behind) (length before) ≡ Some r
+at_front [] r behind = refl
+at_front (x ∷ before) r behind = at_front before r behind
+
+at_drop : (from : ℕ) (rows : List FileRow) (i : ℕ) → slice_get (drop from rows) i ≡ slice_get rows (from + i)
+at_drop zero rows i = let e : zero + i ≡ i = omega arith in rw e refl
+at_drop (suc from) [] i = refl
+at_drop (suc from) (r ∷ rows) i = let e : suc from + i ≡ suc (from + i) = omega arith in rw e (at_drop from rows i)
+
+in_file : (o : Option FileTable) (i : ℕ) → option_and_then (λ (table : FileTable). slice_get table.rows i) o ≡ slice_get (option_map_or rows_in o []) i
+in_file None i = refl
+in_file (Some table) i = refl
+
+-- the row that was found stands at its place
+pub row_found : (files : Files) (k from index : ℕ) (before : List FileRow) (r : FileRow) (behind : List FileRow) → drop from (rows_of k files) ≡ before ++ r ∷ behind → index ≡ from + length before
+    → row_at (record { file = k; index = index }) files ≡ Some r
+row_found files k from index before r behind is at =
+    in_file (table_of k files) index ∙ rw at (sym (at_drop from (rows_of k files) (length before)) ∙ ap (λ (rows : List FileRow). slice_get rows (length before)) is ∙ at_front before r behind)
+
+and_false : (b : Bool) → (b && false) ≡ false
+and_false true = refl
+and_false false = refl
+
+-- rows without handles aren't lent
+none_lent : (t : HandleTable) (counts : FileRow → Bool) (before rest : List FileRow) → All (λ (r : FileRow). r.handle ≡ None) before → list_any (λ r. counts r && is_lent_row t r) (before ++ rest) ≡ list_any (λ r. counts r && is_lent_row t r) rest
+none_lent t counts [] rest none = refl
+none_lent t counts (r ∷ rows) rest none =
+    ap (λ (h : Option ℕ). (counts r && option_map_or (is_lent t) h false) || list_any (λ x. counts x && is_lent_row t x) (rows ++ rest)) (All-head (λ (x : FileRow). x.handle ≡ None) r rows none)
+    ∙ ap (λ b. b || list_any (λ x. counts x && is_lent_row t x) (rows ++ rest)) (and_false (counts r))
+    ∙ none_lent t counts rows rest (All-tail (λ (x : FileRow). x.handle ≡ None) r rows none)
+
+-- the next row with a handle is lent, or one behind it
+pub lent_next : (t : HandleTable) (counts : FileRow → Bool) (rows : List FileRow) (from index h : ℕ) (before : List FileRow) (r : FileRow) (behind : List FileRow) → drop from rows ≡ before ++ r ∷ behind → All (λ (other : FileRow). other.handle ≡ None) before
+    → r.handle ≡ Some h → index ≡ from + length before → list_any (λ x. counts x && is_lent_row t x) (drop from rows) ≡ ((counts r && is_lent t h) || list_any (λ x. counts x && is_lent_row t x) (drop (index + 1) rows))
+lent_next t counts rows from index h before r behind is none has at =
+    let rest : drop (index + 1) rows ≡ behind = rw at (sym (drop-drop (length before + 1) from rows ∙ ap (λ n. drop n rows) (omega arith)) ∙ ap (drop (length before + 1)) is ∙ rw (add-one) (behind_found before r behind)) in
+    ap (list_any (λ x. counts x && is_lent_row t x)) is ∙ none_lent t counts before (r ∷ behind) none
+    ∙ ap (λ (o : Option ℕ). (counts r && option_map_or (is_lent t) o false) || list_any (λ x. counts x && is_lent_row t x) behind) has
+    ∙ ap (λ (rs : List FileRow). (counts r && is_lent t h) || list_any (λ x. counts x && is_lent_row t x) rs) (sym rest)
+
+-- where no further row has a handle, none is lent
+pub lent_none : (t : HandleTable) (counts : FileRow → Bool) (rows : List FileRow) → All (λ (other : FileRow). other.handle ≡ None) rows → list_any (λ x. counts x && is_lent_row t x) rows ≡ false
+lent_none t counts [] none = refl
+lent_none t counts (r ∷ rows) none =
+    ap (λ (h : Option ℕ). (counts r && option_map_or (is_lent t) h false) || list_any (λ x. counts x && is_lent_row t x) rows) (All-head (λ (x : FileRow). x.handle ≡ None) r rows none)
+    ∙ ap (λ b. b || list_any (λ x. counts x && is_lent_row t x) rows) (and_false (counts r))
+    ∙ lent_none t counts rows (All-tail (λ (x : FileRow). x.handle ≡ None) r rows none)

@@ -1,0 +1,17 @@
+pub mod Changing
+pub mod Filling
+pub mod Forgetting
+pub mod GettingCalls
+pub mod Granting
+pub mod Handles
+pub mod Noting
+pub mod OpenedFiles
+pub mod Placing
+pub mod QuietCalls
+pub mod Refusals
+pub mod RowUpdates
+pub mod States
+pub mod Stepping
+pub mod UpdatingCalls
+pub mod WritingFiles
+pub mod Getting

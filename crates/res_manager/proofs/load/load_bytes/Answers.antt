@@ -1,0 +1,7 @@
+use Rattle.res_manager.proofs.load.load_bytes.Goals as goal
+
+pub returns-in-Err-clause-loans : goal.returns-in-Err-clause-loans
+returns-in-Err-clause-loans g c = λ x loan held. c.undo.ensures.loans x loan (c.read_bytes.ensures.loans x loan held)
+
+pub returns-clause-loans : goal.returns-clause-loans
+returns-clause-loans g c = λ x loan held. c.set_flags.ensures.loans x loan (c.read_bytes.ensures.loans x loan held)

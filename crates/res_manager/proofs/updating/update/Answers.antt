@@ -1,0 +1,78 @@
+use Rattle.std.proofs.Common.{None, ap}
+use Rattle.mac_calls.specs.declared.resource_call.ResourceCall.{ResourceCall}
+use Rattle.mac_calls.specs.declared.resource_call.ResourceCall.TheVariants.{CloseResFile, UpdateResFile}
+use Rattle.res_calls.specs.Updates.{behind_update}
+use Rattle.res_update.specs.Selected.{updated}
+use Rattle.res_update.specs.declared.selection.Selection.TheVariants.{AllChanged}
+use Rattle.res_manager.proofs.Stepping.{if_ok}
+use Rattle.res_manager.proofs.UpdatingCalls.{closing_unlent, made_late, made_steps, makes_closed, makes_file, on_err, open_update}
+use Rattle.res_manager.proofs.WritingFiles.{writes_as}
+use Rattle.res_manager.proofs.updating.update.Goals as goal
+
+pub close-requires-clause-unlent : goal.close-requires-clause-unlent
+close-requires-clause-unlent g c =
+    closing_unlent g.S.ForkStore.fork c.args.memory.now c.args.files.now c.args.call.now c.in-CloseResFile.named c.in-Ok-test_open.number c.in-CloseResFile.is c.requires.passed c.in-Ok-test_open.ensures.value.0
+
+pub returns-in-Ok-clause-step : goal.returns-in-Ok-clause-step
+returns-in-Ok-clause-step g c = λ honest.
+    let failures = g.S.ForkStore.failures in
+    let leave = g.S.ForkStore.may_leave in
+    let new = c.args.memory.now in
+    let after = c.write_file.new.files in
+    let fork = g.S.ForkStore.fork in
+    let zone = c.args.memory.now in
+    let on = c.args.files.now in
+    let o = open_update c.in-Ok.number (updated zone.heap.table AllChanged) on.files c.in-Ok.ensures.value.1 in
+    let made = makes_file fork zone on c.args.call.now c.in-UpdateResFile.named c.in-Ok.number o.0 c.in-UpdateResFile.is c.requires.passed c.in-Ok.ensures.value.0 o.1 in
+    if_ok _ _ c.write_file.result (λ outcome written. made_steps fork zone on failures leave new after c.args.call.now o.0 outcome made
+    (writes_as fork failures leave zone new on after o.0 (UpdateResFile None) c.args.call.now outcome (λ k state. ap (λ (d : ResourceCall). behind_update d k state) c.in-UpdateResFile.is) (written o.0 o.1))) (c.write_file.ensures.written honest)
+
+pub returns-in-Ok-clause-late : goal.returns-in-Ok-clause-late
+returns-in-Ok-clause-late g c = λ honest.
+    let fork = g.S.ForkStore.fork in
+    let zone = c.args.memory.now in
+    let on = c.args.files.now in
+    let o = open_update c.in-Ok.number (updated zone.heap.table AllChanged) on.files c.in-Ok.ensures.value.1 in
+    let made = makes_file fork zone on c.args.call.now c.in-UpdateResFile.named c.in-Ok.number o.0 c.in-UpdateResFile.is c.requires.passed c.in-Ok.ensures.value.0 o.1 in
+    on_err _ _ c.write_file.result (λ fits. made_late fork zone on c.args.call.now o.0 made (fits o.0 o.1)) (c.write_file.ensures.fits honest)
+
+pub returns-in-Ok-clause-full : goal.returns-in-Ok-clause-full
+returns-in-Ok-clause-full g c = λ honest.
+    let fork = g.S.ForkStore.fork in
+    let zone = c.args.memory.now in
+    let on = c.args.files.now in
+    let o = open_update c.in-Ok.number (updated zone.heap.table AllChanged) on.files c.in-Ok.ensures.value.1 in
+    let made = makes_file fork zone on c.args.call.now c.in-UpdateResFile.named c.in-Ok.number o.0 c.in-UpdateResFile.is c.requires.passed c.in-Ok.ensures.value.0 o.1 in
+    on_err _ _ c.write_file.result (λ fits. made.full) (c.write_file.ensures.fits honest)
+
+pub returns-in-Ok-test_open-clause-step : goal.returns-in-Ok-test_open-clause-step
+returns-in-Ok-test_open-clause-step g c = λ honest.
+    let failures = g.S.ForkStore.failures in
+    let leave = g.S.ForkStore.may_leave in
+    let new = c.close.new.memory in
+    let after = c.close.new.files in
+    let fork = g.S.ForkStore.fork in
+    let zone = c.args.memory.now in
+    let on = c.args.files.now in
+    let o = open_update c.in-Ok-test_open.number (updated zone.heap.table AllChanged) on.files c.in-Ok-test_open.ensures.value.1 in
+    let made = makes_closed fork zone on c.args.call.now c.in-CloseResFile.named c.in-Ok-test_open.number o.0 c.in-CloseResFile.is c.requires.passed c.in-Ok-test_open.ensures.value.0 o.1 in
+    if_ok _ _ c.close.result (λ outcome written. made_steps fork zone on failures leave new after c.args.call.now o.0 outcome made
+    (writes_as fork failures leave zone new on after o.0 (CloseResFile None) c.args.call.now outcome (λ k state. ap (λ (d : ResourceCall). behind_update d k state) c.in-CloseResFile.is) (written o.0 o.1))) (c.close.ensures.written honest)
+
+pub returns-in-Ok-test_open-clause-late : goal.returns-in-Ok-test_open-clause-late
+returns-in-Ok-test_open-clause-late g c = λ honest.
+    let fork = g.S.ForkStore.fork in
+    let zone = c.args.memory.now in
+    let on = c.args.files.now in
+    let o = open_update c.in-Ok-test_open.number (updated zone.heap.table AllChanged) on.files c.in-Ok-test_open.ensures.value.1 in
+    let made = makes_closed fork zone on c.args.call.now c.in-CloseResFile.named c.in-Ok-test_open.number o.0 c.in-CloseResFile.is c.requires.passed c.in-Ok-test_open.ensures.value.0 o.1 in
+    on_err _ _ c.close.result (λ fits. made_late fork zone on c.args.call.now o.0 made (fits o.0 o.1)) (c.close.ensures.fits honest)
+
+pub returns-in-Ok-test_open-clause-full : goal.returns-in-Ok-test_open-clause-full
+returns-in-Ok-test_open-clause-full g c = λ honest.
+    let fork = g.S.ForkStore.fork in
+    let zone = c.args.memory.now in
+    let on = c.args.files.now in
+    let o = open_update c.in-Ok-test_open.number (updated zone.heap.table AllChanged) on.files c.in-Ok-test_open.ensures.value.1 in
+    let made = makes_closed fork zone on c.args.call.now c.in-CloseResFile.named c.in-Ok-test_open.number o.0 c.in-CloseResFile.is c.requires.passed c.in-Ok-test_open.ensures.value.0 o.1 in
+    on_err _ _ c.close.result (λ fits. made.full) (c.close.ensures.fits honest)

@@ -1,0 +1,38 @@
+use Rattle.std.proofs.Common.{◌≡◌, subst, sym, ap, Ok, Err, Some, None}
+use Rattle.mac_base.specs.ZoneState.{ZoneState}
+use Rattle.fork_disk.specs.declared.store.ReplaceFault.{ReplaceFault}
+use Rattle.mac_base.specs.declared.error.OsErr.TheVariants.{IoErr}
+use Rattle.res_manager.specs.Ends.{WritesFile}
+use Rattle.res_update.specs.Selected.{updated}
+use Rattle.res_update.specs.declared.fault.UpdateFault.TheVariants.{Device}
+use Rattle.mac_calls.specs.declared.reply.Results.TheVariants.{Nothing}
+use Rattle.mac_calls.specs.declared.resource_call.ResourceCall.TheVariants.{UpdateResFile}
+use Rattle.res_calls.specs.Updates.{Update, fits_fork, update_of}
+use Rattle.res_manager.proofs.WritingFiles.{true_unless, update_found, writes_all, writes_faulted}
+use Rattle.res_manager.proofs.updating.write_file.Goals as goal
+
+pub returns-in-Ok-clause-written : goal.returns-in-Ok-clause-written
+returns-in-Ok-clause-written g c = λ honest u is.
+    let t = c.new-contents.result.heap.table in
+    let Q : ZoneState → Type 0 = λ z. update_of c.args.number (updated z.heap.table c.args.selection) c.args.files.now.files ≡ Some u in
+    let f = update_found c.args.number (updated t c.args.selection) c.args.files.now.files u (subst Q (sym c.new-contents.ensures) is) in
+    let rows = rw f.there at (c.in-Ok.ensures.rows honest) in
+    let forks = rw f.there at (c.in-Ok.ensures.written honest) in
+    let big = rw f.there at (c.in-Ok.ensures.too_big honest) in
+    let v : Update = record { file = c.args.number; table = updated t c.args.selection f.table } in
+    let P : Update → Type 0 = λ w. WritesFile g.S.ForkStore.fork g.S.ForkStore.failures g.S.ForkStore.may_leave c.args.memory.now c.args.files.now (UpdateResFile None) w (Ok Nothing) c.args.memory.now c.update.new.self in
+    subst P f.is (writes_all g.S.ForkStore.fork g.S.ForkStore.failures g.S.ForkStore.may_leave c.args.memory.now c.args.files.now c.update.new.self v (true_unless (fits_fork v.table) (λ h. absurd (cc (big.1 h)))) rows forks c.update.ensures.loads)
+
+pub returns-in-Err-Device-clause-written : goal.returns-in-Err-Device-clause-written
+returns-in-Err-Device-clause-written g c = λ honest u is.
+    let t = c.new-contents.result.heap.table in
+    let Q : ZoneState → Type 0 = λ z. update_of c.args.number (updated z.heap.table c.args.selection) c.args.files.now.files ≡ Some u in
+    let f = update_found c.args.number (updated t c.args.selection) c.args.files.now.files u (subst Q (sym c.new-contents.ensures) is) in
+    let all = rw c.in-Err-Device.field-0-is at c.in-Err-Device.ensures in
+    let big = rw f.there at (all.too_big honest) in
+    let v : Update = record { file = c.args.number; table = updated t c.args.selection f.table } in
+    let P : Update → Type 0 = λ w. WritesFile g.S.ForkStore.fork g.S.ForkStore.failures g.S.ForkStore.may_leave c.args.memory.now c.args.files.now (UpdateResFile None) w (Err IoErr) c.args.memory.now c.update.new.self in
+    subst P f.is (writes_faulted g.S.ForkStore.fork g.S.ForkStore.failures g.S.ForkStore.may_leave c.args.memory.now c.args.files.now c.update.new.self v c.in-Err-Device.field-0-0 (true_unless (fits_fork v.table) (λ h. absurd (cc (big.1 h))))
+    (λ is. all.before honest (ap (λ (f : ReplaceFault). Err (Device f)) is))
+    (λ is. rw f.there at (all.later honest (ap (λ (f : ReplaceFault). Err (Device f)) is)))
+    c.update.ensures.loads (λ is. all.cause (ap (λ (f : ReplaceFault). Err (Device f)) is)) (λ is. all.cause_later (ap (λ (f : ReplaceFault). Err (Device f)) is)))

@@ -1,0 +1,39 @@
+use Rattle.std.proofs.Common.{◌≡◌, true, Some, None, rules, refl, sym, ◌∙◌}
+use Rattle.mac_calls.specs.declared.resource_call.ResourceCall.TheVariants.{UpdateResFile, WriteResource}
+use Rattle.res_calls.specs.Changes.{FileRow}
+use Rattle.res_calls.specs.Updates.{row_passes}
+use Rattle.res_table.specs.Rows.{is_changed}
+use Rattle.res_update.specs.Selected.{updated}
+use Rattle.res_update.specs.declared.selection.Selection.TheVariants.{RowAt}
+use Rattle.res_manager.proofs.RowUpdates.{row_open}
+use Rattle.res_manager.proofs.Stepping.{if_ok}
+use Rattle.res_manager.proofs.UpdatingCalls.{made_late, made_steps, makes_row, on_err, open_update}
+use Rattle.res_manager.proofs.WritingFiles.{writes_as}
+use Rattle.res_manager.proofs.updating.write_resource.Goals as goal
+
+pub write_file-requires-clause-open : goal.write_file-requires-clause-open
+write_file-requires-clause-open g c = row_open c.in-Some.place c.args.files.now.files (λ (r : FileRow). r.handle ≡ Some c.args.handle) c.in-Some.ensures.there
+
+pub returns-clause-step : goal.returns-clause-step
+returns-clause-step g c = λ honest.
+    let fork = g.S.ForkStore.fork in
+    let failures = g.S.ForkStore.failures in
+    let leave = g.S.ForkStore.may_leave in
+    let zone = c.args.memory.now in
+    let on = c.args.files.now in
+    let after = c.write_file.new.files in
+    let changed : row_passes is_changed c.args.handle c.args.files.now.files ≡ true = search rules in
+    let o = open_update c.in-Some.place.file (updated zone.heap.table (RowAt c.in-Some.place.index)) on.files (row_open c.in-Some.place on.files (λ (r : FileRow). r.handle ≡ Some c.args.handle) c.in-Some.ensures.there) in
+    let made = makes_row fork zone on c.args.handle c.in-Some.place o.0 c.requires (sym c.row_of_handle.ensures.value ∙ c.in-Some.is) changed o.1 in
+    if_ok _ _ c.write_file.result (λ outcome written. made_steps fork zone on failures leave zone after (WriteResource c.args.handle) o.0 outcome made
+    (writes_as fork failures leave zone zone on after o.0 (UpdateResFile None) (WriteResource c.args.handle) outcome (λ k state. refl) (written o.0 o.1))) (c.write_file.ensures.written honest)
+
+pub returns-clause-late : goal.returns-clause-late
+returns-clause-late g c = λ honest.
+    let fork = g.S.ForkStore.fork in
+    let zone = c.args.memory.now in
+    let on = c.args.files.now in
+    let changed : row_passes is_changed c.args.handle c.args.files.now.files ≡ true = search rules in
+    let o = open_update c.in-Some.place.file (updated zone.heap.table (RowAt c.in-Some.place.index)) on.files (row_open c.in-Some.place on.files (λ (r : FileRow). r.handle ≡ Some c.args.handle) c.in-Some.ensures.there) in
+    let made = makes_row fork zone on c.args.handle c.in-Some.place o.0 c.requires (sym c.row_of_handle.ensures.value ∙ c.in-Some.is) changed o.1 in
+    on_err _ _ c.write_file.result (λ fits. made_late fork zone on (WriteResource c.args.handle) o.0 made (fits o.0 o.1)) (c.write_file.ensures.fits honest)

@@ -1,0 +1,83 @@
+-- How calls end that ask nothing, and which calls need what.
+use Rattle.std.specs.Prelude.{◌≡◌, ℕ, Bool, true, false, ◌||◌, List, Result, IsFalse, MatchBool}
+use Rattle.mac_base.specs.declared.error.OsErr.{OsErr}
+use Rattle.mac_base.specs.declared.error.OsErr.TheVariants.{DskFulErr}
+use Rattle.mac_base.specs.ZoneState.{ZoneState}
+use Rattle.mac_calls.specs.declared.resource_call.ResourceCall.{ResourceCall}
+use Rattle.mac_calls.specs.declared.resource_call.ResourceCall.TheVariants as call
+use Rattle.mac_calls.specs.Outcomes.{Outcome}
+use Rattle.res_calls.specs.Changes.{FileTable}
+use Rattle.res_calls.specs.Device.{Device, ReadsBy, device_works}
+use Rattle.res_calls.specs.Files.{disk_of, refused_with}
+use Rattle.res_calls.specs.Quiet.{quiet_end}
+use Rattle.res_calls.specs.Steps.{LeaveRelation, LeavesDisk, opened_end}
+use Rattle.res_calls.specs.Updates.{Update, fits_fork, update_end}
+use Rattle.res_files.specs.FilesOn.{FilesOn, SomeFailed}
+use Rattle.res_manager.specs.Steps.{Memory, state_of}
+
+-- the call ends so and leaves these, as calls do that need neither room in the zone nor a disk
+abbrev pub EndsQuietly : {S : Type 0} → (S → List ℕ) → ZoneState → FilesOn S → ResourceCall → Outcome → ZoneState → FilesOn S → Type 0
+EndsQuietly fork old old_files call outcome new new_files = quiet_end call (state_of fork old old_files) ≡ record { outcome = outcome; state = state_of fork new new_files }
+
+-- whether a call only tells what the open files say, and takes no host memory
+abbrev pub tells : ResourceCall → Bool
+tells (call.GetResAttrs h) = true
+tells (call.SizeResource h) = true
+tells (call.HomeResFile h) = true
+tells (call.UniqueID kind) = true
+tells (call.CountResources kind) = true
+tells call.CountTypes = true
+tells (call.GetIndType i) = true
+tells call.CurResFile = true
+tells _ = false
+
+-- whether a call changes rows or which file is current, and takes no host memory
+abbrev pub changes : ResourceCall → Bool
+changes (call.ReleaseResource h) = true
+changes (call.DetachResource h) = true
+changes (call.RemoveResource h) = true
+changes (call.ChangedResource h) = true
+changes (call.SetResAttrs h n) = true
+changes (call.SetResLoad n) = true
+changes (call.UseResFile k) = true
+changes _ = false
+
+-- whether a call copies a name into host memory
+abbrev pub copies : ResourceCall → Bool
+copies (call.AddResource h kind id name) = true
+copies (call.GetResInfo h) = true
+copies _ = false
+
+-- whether a call needs neither room in the zone nor a disk, whatever is open
+abbrev pub is_quiet : ResourceCall → Bool
+is_quiet call = copies call || (tells call || changes call)
+
+-- whether a call gets or loads a resource
+abbrev pub gets : ResourceCall → Bool
+gets (call.GetResource kind id) = true
+gets (call.Get1Resource kind id) = true
+gets (call.GetIndResource kind i) = true
+gets (call.LoadResource h) = true
+gets _ = false
+
+-- whether a call writes a file, or a row of one
+abbrev pub writes : ResourceCall → Bool
+writes (call.WriteResource h) = true
+writes (call.UpdateResFile named) = true
+writes (call.CloseResFile named) = true
+writes _ = false
+
+-- Such a call ends so where it makes this update: it is refused where no fork can hold what it writes, and else a device may fail.
+abbrev pub WritesFile : {S : Type 0} → (S → List ℕ) → (S → ℕ) → LeaveRelation → ZoneState → FilesOn S → ResourceCall → Update → Outcome → ZoneState → FilesOn S → Type 0
+WritesFile fork failures may_leave old old_files call u outcome new new_files = MatchBool (fits_fork u.table)
+    ((device : Device) × LeavesDisk Memory may_leave device u (disk_of u.file (state_of fork old old_files))
+    × (update_end device call u (state_of fork old old_files) ≡ record { outcome = outcome; state = state_of fork new new_files })
+    × (IsFalse (device_works device) → SomeFailed failures old_files.stores new_files.stores))
+    (refused_with DskFulErr (state_of fork old old_files) ≡ record { outcome = outcome; state = state_of fork new new_files })
+
+-- OpenResFile of a file that isn't open ends so: a device may fail, and it is refused where the disk can't be opened.
+abbrev pub OpensFile : {S : Type 0} → (S → List ℕ) → (S → ℕ) → ZoneState → FilesOn S → ℕ → Outcome → FilesOn S → Type 0
+OpensFile fork failures zone old_files k outcome new_files = (device : Device) × (read : Result FileTable OsErr)
+    × ReadsBy device (disk_of k (state_of fork zone old_files)) read
+    × (opened_end k (state_of fork zone old_files) read ≡ record { outcome = outcome; state = state_of fork zone new_files })
+    × (IsFalse (device_works device) → SomeFailed failures old_files.stores new_files.stores)

@@ -1,0 +1,5 @@
+pub mod Steps
+pub mod Tests
+pub mod Ends
+pub mod Watching
+pub mod Loading

@@ -1,0 +1,73 @@
+-- Loads of a row's bytes, step by step.
+use Rattle.std.specs.Prelude.{◌≡◌, ℕ, Bool, true, false, ◌==◌, List, length, Option, Some, None, unwrap_or, Result, Ok, Err, IsFalse, IfSome}
+use Rattle.mac_base.specs.declared.error.OsErr.{OsErr}
+use Rattle.mac_base.specs.declared.releasing.ReleasingCall.TheVariants.{DisposesHandle}
+use Rattle.mac_base.specs.HandleTable.{Live, FullHandle, live_at, is_lent, no_flags, with_live, zeros}
+use Rattle.mac_base.specs.Heap.{Heap, with_table}
+use Rattle.mac_base.specs.Releasing.{heap_released}
+use Rattle.mac_base.specs.ZoneState.{ZoneState}
+use Rattle.mac_calls.specs.declared.memory_call.MemoryCall.{MemoryCall}
+use Rattle.mac_calls.specs.declared.memory_call.MemoryCall.TheVariants as memory_call
+use Rattle.mac_calls.specs.declared.reply.Results.TheVariants as results
+use Rattle.mac_calls.specs.declared.resource_call.ResourceCall.{ResourceCall}
+use Rattle.mac_calls.specs.GrowZone.{Ask}
+use Rattle.mac_calls.specs.Outcomes.{Outcome}
+use Rattle.res_table.specs.declared.chain.RowPlace.{RowPlace}
+use Rattle.res_table.specs.OpenFiles.{row_at}
+use Rattle.mac_base.specs.declared.block.Flags.{Flags}
+use Rattle.res_base.specs.declared.resource.ResAttrs.{ResAttrs}
+use Rattle.res_calls.specs.Attributes.{has_bit, res_locked, res_purgeable}
+use Rattle.res_calls.specs.Changes.{FileRow}
+use Rattle.res_calls.specs.Device.{Device, device_works}
+use Rattle.res_calls.specs.Loads.{loads_bytes, loaded_results}
+use Rattle.res_calls.specs.Steps.{LeaveRelation, GetsPlace}
+use Rattle.res_files.specs.FilesOn.{FilesOn, SomeFailed}
+use Rattle.res_manager.specs.Steps.{Memory, state_of}
+
+-- the outcome of a call that gets or loads a row, by the row's handle or the code of its refusal
+abbrev pub loaded_outcome : ResourceCall → Result ℕ OsErr → Outcome
+loaded_outcome call (Ok h) = Ok (loaded_results call h)
+loaded_outcome call (Err code) = Err code
+
+-- From the old zone and files, each call that gets or loads the row at a place, and loads its bytes or not, may ask so, end so and
+-- leave the new ones; a device failed in it only where a count of failures rose.
+abbrev pub LoadSteps : {S : Type 0} → (S → List ℕ) → (S → ℕ) → LeaveRelation → ZoneState → FilesOn S → RowPlace → Bool → List Ask → Result ℕ OsErr → ZoneState → FilesOn S → Type 0
+LoadSteps fork failures may_leave old old_files place loads asks result new new_files = (device : Device)
+    × ((call : ResourceCall) → loads_bytes (state_of fork old old_files) call ≡ loads → GetsPlace Memory may_leave device (state_of fork old old_files) call asks
+    (record { outcome = loaded_outcome call result; state = state_of fork new new_files }) place (row_at place old_files.files))
+    × (IsFalse (device_works device) → SomeFailed failures old_files.stores new_files.stores)
+
+-- the call of the Memory Manager that makes the place for so many bytes: under the row's own handle, or a new one
+abbrev pub place_call : Option ℕ → ℕ → Bool → MemoryCall
+place_call (Some h) n loads = memory_call.ReallocateHandle h n
+place_call None n true = memory_call.NewHandle n
+place_call None n false = memory_call.NewEmptyHandle
+
+-- the handle of the place that such a call made, or the code of its refusal
+abbrev pub handle_placed : Option ℕ → Outcome → Result ℕ OsErr
+handle_placed own (Err code) = Err code
+handle_placed own (Ok (results.Handle h)) = Ok h
+handle_placed own (Ok _) = Ok (unwrap_or own 0)
+
+-- h is a handle with a new block of n bytes, which isn't lent
+pub record IsPlaced (heap : Heap) (h n : ℕ) : Type 0 where
+  pub some : (h == 0) ≡ false
+  pub block : live_at heap.table h ≡ Some (FullHandle no_flags (zeros n))
+  pub here : is_lent heap.table h ≡ false
+
+-- the row that is shown at a place has so many bytes on the disk
+abbrev pub HasBytes : ℕ → Option FileRow → Type 0
+HasBytes n row = IfSome row (λ r. n ≡ length r.resource.datum)
+
+-- The heap has a handle's block with these bytes, without flags and not lent, and is else as it was: with anything given to the handle,
+-- and with the handle gone, the two heaps are the same.
+pub record IsFilled (h : ℕ) (bytes : List ℕ) (old new : Heap) : Type 0 where
+  pub some : (h == 0) ≡ false
+  pub block : live_at new.table h ≡ Some (FullHandle no_flags bytes)
+  pub here : is_lent new.table h ≡ false
+  pub given : (l : Live) → with_table (with_live h l new.table) new ≡ with_table (with_live h l old.table) old
+  pub gone : heap_released (DisposesHandle h) new ≡ heap_released (DisposesHandle h) old
+
+-- the flags of the handle of a loaded row with these attributes
+abbrev pub flags_for : ResAttrs → Flags
+flags_for attributes = record { lock = has_bit res_locked attributes; purge = has_bit res_purgeable attributes; resource = true }

@@ -1,0 +1,79 @@
+//! The calls that get or load a resource.
+
+ghost use Rattle.std.specs.Prelude.{◌≡◌, ◌↔◌, [], All, IsSome, IfSome, IsTrue, length};
+ghost use Rattle.linked_zone.specs.Loans.{KeepsLoans};
+ghost use Rattle.res_calls.specs.Files.{ResState};
+ghost use Rattle.res_calls.specs.Loads.{loaded_results, loads_bytes, row_wanted};
+ghost use Rattle.res_manager.specs.Ends.{gets};
+ghost use Rattle.res_manager.specs.Steps.{ResourceSteps, state_of};
+ghost use Rattle.res_manager.specs.Tests.{Passes, early_tests};
+ghost use Rattle.res_table.specs.OpenFiles.{row_at};
+
+use crate::load::get_row;
+use crate::tests::test_id;
+use fork_disk::store::ForkStore;
+use mac_base::handle::Handle;
+use mac_calls::{GrowZone, Outcome, ResourceCall, Results};
+use mem_calls::MemoryManager;
+use res_files::ResourceFiles;
+use res_table::chain::RowPlace;
+
+/// Makes a call that gets or loads a resource.
+pub(crate) fn get<S: ForkStore, G: GrowZone>(
+    files: &mut ResourceFiles<S>,
+    memory: &mut MemoryManager,
+    call: &ResourceCall<'_>,
+    procedure: &mut G,
+) -> Outcome
+    requires gets { IsTrue (gets call.now) }
+    requires passed { Passes (state_of S.fork memory.old files.old) (early_tests call.now) }
+    requires unasked { G.asks procedure.old ≡ [] }
+    ensures step { All S.is_honest files.old.stores →
+        ResourceSteps S.fork S.failures S.may_leave memory.old files.old call.now (G.asks procedure.new) result memory.new files.new }
+    ensures source { G.source procedure.new ≡ G.source procedure.old }
+    ensures loans { KeepsLoans memory.old memory.new }
+    ensures shape { memory.new.shape ≡ memory.old.shape }
+    ensures honest { All S.is_honest files.old.stores ↔ All S.is_honest files.new.stores }
+    ensures count { length files.new.stores ≡ length files.old.stores }
+{
+    let Some(place) = place_wanted(files, call) else {
+        unreachable!();
+    };
+    let loads = loads_bytes(files, call);
+    match get_row(files, memory, place, loads, procedure) {
+        Ok(handle) => Ok(given(call, handle)),
+        Err(code) => Err(code),
+    }
+}
+
+/// Where the row stands that a call gets or loads, once the call's tests have passed.
+fn place_wanted<S: ForkStore>(files: &ResourceFiles<S>, call: &ResourceCall<'_>) -> Option<RowPlace>
+    requires { IsTrue (gets call.now) }
+    ensures value { (state : ResState) → state.files ≡ files.now.files → Passes state (early_tests call.now) → result ≡ row_wanted state call.now }
+    ensures there { IfSome result (λ place. IsSome (row_at place files.now.files)) }
+{
+    match *call {
+        ResourceCall::GetResource { kind, id } => files.find(kind, test_id(id).ok()?),
+        ResourceCall::Get1Resource { kind, id } => files.find_here(kind, test_id(id).ok()?),
+        ResourceCall::GetIndResource { kind, index } => files.find_ith(kind, index),
+        ResourceCall::LoadResource(handle) => files.row_of_handle(handle),
+        _ => unreachable!(),
+    }
+}
+
+/// Whether a call that gets a resource loads its bytes: LoadResource always does.
+fn loads_bytes<S: ForkStore>(files: &ResourceFiles<S>, call: &ResourceCall<'_>) -> bool
+    ensures { (state : ResState) → state.loads ≡ files.now.loads → result ≡ loads_bytes state call.now }
+{
+    files.loads() || matches!(*call, ResourceCall::LoadResource(_))
+}
+
+/// What a call gives that got or loaded the row with a handle.
+fn given(call: &ResourceCall<'_>, handle: Handle) -> Results
+    ensures { result ≡ loaded_results call.now handle }
+{
+    match *call {
+        ResourceCall::LoadResource(_) => Results::Nothing,
+        _ => Results::Handle(handle),
+    }
+}

@@ -1,0 +1,268 @@
+//! Loads of resources: a row's bytes come into a block of the zone.
+
+ghost use Rattle.std.specs.Prelude.{◌≡◌, ◌↔◌, [], Some, true, false, not, ◌||◌, length, map, All, IsTrue, IsFalse, IsSome, IfOk, IfSome, OnOk, OnErr, IfErr, ◌≤◌, ◌<◌, ℕ, List, if◌then◌else◌};
+ghost use Rattle.linked_zone.specs.Loans.{KeepsLoans};
+ghost use Rattle.mac_base.specs.declared.releasing.ReleasingCall.TheVariants.{DisposesHandle};
+ghost use Rattle.mac_base.specs.HandleTable.{is_full, with_flags};
+ghost use Rattle.mac_base.specs.Heap.{with_table, with_emptied};
+ghost use Rattle.mac_base.specs.FlagState.{flags_from};
+ghost use Rattle.mac_base.specs.Releasing.{heap_released};
+ghost use Rattle.mac_calls.specs.Outcomes.{Outcome};
+ghost use Rattle.res_calls.specs.Changes.{handles_forgotten, row_changed};
+ghost use Rattle.res_calls.specs.Loads.{loaded};
+ghost use Rattle.res_calls.specs.Steps.{disposed_in};
+ghost use Rattle.res_files.specs.FilesOn.{SomeFailed};
+ghost use Rattle.res_table.specs.OpenFiles.{row_at};
+ghost use Rattle.res_table.specs.Rows.{with_handle};
+ghost use Rattle.res_manager.specs.Loading.{LoadSteps, IsPlaced, IsFilled, HasBytes, flags_for, place_call, handle_placed};
+ghost use Rattle.res_manager.specs.Steps.{Memory};
+
+use crate::watch::Watched;
+use bitflags::Flags;
+use fork_disk::store::ForkStore;
+use mac_base::error::OsErr;
+use mac_base::handle::Handle;
+use mac_calls::GrowZone;
+use mem_calls::MemoryManager;
+use res_base::resource::ResAttrs;
+use res_files::ResourceFiles;
+use res_table::chain::RowPlace;
+
+/// The handle of the row at a place. Where its bytes are to be loaded and aren't, they come into a block that is made for them, with
+/// the flags that the row's attributes say; else a row without a handle gets an empty one. Each refusal of the Memory Manager is
+/// answered, and ioErr where the device failed: then the row has the handle that it had, empty, or none.
+pub(crate) fn get_row<S: ForkStore, G: GrowZone>(
+    files: &mut ResourceFiles<S>,
+    memory: &mut MemoryManager,
+    place: RowPlace,
+    loads: bool,
+    procedure: &mut G,
+) -> Result<Handle, OsErr>
+    requires unasked { G.asks procedure.old ≡ [] }
+    requires there { IsSome (row_at place files.old.files) }
+    ensures step { All S.is_honest files.old.stores → LoadSteps S.fork S.failures S.may_leave memory.old files.old place loads (G.asks procedure.new) result memory.new files.new }
+    ensures source { G.source procedure.new ≡ G.source procedure.old }
+    ensures loans { KeepsLoans memory.old memory.new }
+    ensures shape { memory.new.shape ≡ memory.old.shape }
+    ensures honest { All S.is_honest files.old.stores ↔ All S.is_honest files.new.stores }
+    ensures count { length files.new.stores ≡ length files.old.stores }
+{
+    let row = files.row(place).unwrap();
+    let own = row.handle;
+    let size = row.resource.datum.length;
+    let attributes = row.resource.attributes;
+    if let Some(handle) = own {
+        if serves(memory, handle, loads) {
+            return Ok(handle);
+        }
+    }
+    let handle = make_place(files, memory, own, size, loads, procedure)?;
+    if loads {
+        load_bytes(
+            files,
+            memory,
+            place,
+            handle,
+            size,
+            own.is_some(),
+            attributes,
+        )?;
+    }
+    attach(files, place, handle);
+    Ok(handle)
+}
+
+/// Gives the row at a place a handle, where a row stands there.
+fn attach<S: ForkStore>(files: &mut ResourceFiles<S>, place: RowPlace, handle: Handle)
+    ensures attached { IsSome (row_at place files.old.files) → files.new ≡ record files.old { files = row_changed place (with_handle (Some handle)) files.old.files } }
+    ensures stores { files.new.stores ≡ files.old.stores }
+{
+    if files.row(place).is_some() {
+        files.set_handle(place, Some(handle));
+    }
+}
+
+/// Whether a handle serves as it is: it has a block, or nothing is to be loaded.
+fn serves(memory: &MemoryManager, handle: Handle, loads: bool) -> bool
+    ensures { result ≡ (is_full memory.now.heap.table handle || not loads) }
+{
+    // The address of the first block says that the heap is sound.
+    prove!(memory.first_block() > 0);
+    !loads || memory.hget_state(handle).is_ok()
+}
+
+/// Makes the place for a row's bytes, under the row's own handle or a new one, and the rows forget what answers dispose of.
+fn make_place<S: ForkStore, G: GrowZone>(
+    files: &mut ResourceFiles<S>,
+    memory: &mut MemoryManager,
+    own: Option<Handle>,
+    size: u32,
+    loads: bool,
+    procedure: &mut G,
+) -> Result<Handle, OsErr>
+    requires unasked { G.asks procedure.old ≡ [] }
+    ensures step { (outcome : Outcome) × Memory memory.old.shape memory.old.heap (place_call own size loads) (G.asks procedure.new) outcome memory.new.heap × (result ≡ handle_placed own outcome) }
+    ensures placed { loads ≡ true → IfOk result (λ handle. IsPlaced memory.new.heap handle size) }
+    ensures forgotten { files.new ≡ record files.old { files = handles_forgotten (disposed_in (G.asks procedure.new)) files.old.files } }
+    ensures source { G.source procedure.new ≡ G.source procedure.old }
+    ensures loans { KeepsLoans memory.old memory.new }
+    ensures shape { memory.new.shape ≡ memory.old.shape }
+{
+    let mut watched = Watched::new(procedure);
+    let made = request_watched(memory, own, size, loads, &mut watched);
+    watched.forget_in(files);
+    made
+}
+
+/// The same with a procedure under watch, which stays the one that it is.
+fn request_watched<G: GrowZone>(
+    memory: &mut MemoryManager,
+    own: Option<Handle>,
+    size: u32,
+    loads: bool,
+    watched: &mut Watched<'_, G>,
+) -> Result<Handle, OsErr>
+    requires unasked { G.asks watched.old.procedure.now ≡ [] }
+    ensures same_reference { watched.new.procedure.ghost_name ≡ watched.old.procedure.ghost_name }
+    ensures step { (outcome : Outcome) × Memory memory.old.shape memory.old.heap (place_call own size loads) (G.asks watched.new.procedure.now) outcome memory.new.heap × (result ≡ handle_placed own outcome) }
+    ensures placed { loads ≡ true → IfOk result (λ handle. IsPlaced memory.new.heap handle size) }
+    ensures source { G.source watched.new.procedure.now ≡ G.source watched.old.procedure.now }
+    ensures loans { KeepsLoans memory.old memory.new }
+    ensures shape { memory.new.shape ≡ memory.old.shape }
+{
+    request_place(memory, own, size, loads, watched)
+}
+
+/// The call of the Memory Manager that makes the place for a row's bytes.
+fn request_place<G: GrowZone>(
+    memory: &mut MemoryManager,
+    own: Option<Handle>,
+    size: u32,
+    loads: bool,
+    procedure: &mut G,
+) -> Result<Handle, OsErr>
+    requires unasked { G.asks procedure.old ≡ [] }
+    ensures step { (outcome : Outcome) × Memory memory.old.shape memory.old.heap (place_call own size loads) (G.asks procedure.new) outcome memory.new.heap × (result ≡ handle_placed own outcome) }
+    ensures placed { loads ≡ true → IfOk result (λ handle. IsPlaced memory.new.heap handle size) }
+    ensures source { G.source procedure.new ≡ G.source procedure.old }
+    ensures loans { KeepsLoans memory.old memory.new }
+    ensures shape { memory.new.shape ≡ memory.old.shape }
+{
+    let made = match own {
+        Some(handle) => memory
+            .reallocate_handle(handle, size, procedure)
+            .and(Ok(handle)),
+        None if loads => memory.new_handle(size, procedure),
+        None => memory.new_empty_handle(procedure),
+    };
+    // The count of loans says that each is a pointer's or a locked handle's, the address of the first block that the heap is sound.
+    prove!(memory.lent_count() <= 8);
+    prove!(memory.first_block() > 0);
+    made
+}
+
+/// Loads the bytes of the row at a place into the block that was made for them, with these attributes' flags. After a fault the place is
+/// undone.
+fn load_bytes<S: ForkStore>(
+    files: &mut ResourceFiles<S>,
+    memory: &mut MemoryManager,
+    place: RowPlace,
+    handle: Handle,
+    size: u32,
+    is_own: bool,
+    attributes: ResAttrs,
+) -> Result<(), OsErr>
+    requires placed { IsPlaced memory.old.heap handle size }
+    requires long { All S.is_honest files.old.stores → HasBytes size (row_at place files.old.files) }
+    ensures loaded { All S.is_honest files.old.stores → OnOk result (IfSome (row_at place files.old.files) (λ r. r.resource.attributes ≡ attributes → memory.new.heap ≡ loaded handle r memory.old.heap)) }
+    ensures undone { OnErr result (memory.new.heap ≡ (if is_own then with_emptied memory.old.heap handle else heap_released (DisposesHandle handle) memory.old.heap)) }
+    ensures code { IfErr result (λ code. code ≡ OsErr.IoErr) }
+    ensures some { OnErr result (0 < size) }
+    ensures loans { KeepsLoans memory.old memory.new }
+    ensures shape { memory.new.shape ≡ memory.old.shape }
+    ensures files { All S.is_honest files.old.stores → files.new.files ≡ files.old.files }
+    ensures forks { All S.is_honest files.old.stores → map S.fork files.new.stores ≡ map S.fork files.old.stores }
+    ensures loads { files.new.loads ≡ files.old.loads }
+    ensures honest { All S.is_honest files.old.stores ↔ All S.is_honest files.new.stores }
+    ensures count { length files.new.stores ≡ length files.old.stores }
+    ensures cause { OnErr result (SomeFailed S.failures files.old.stores files.new.stores) }
+{
+    if let Err(code) = read_bytes(files, memory, place, handle, size) {
+        undo(memory, handle, is_own);
+        return Err(code);
+    }
+    set_flags(memory, handle, attributes);
+    Ok(())
+}
+
+/// Reads the bytes of the row at a place into the block that was made for them. Where it has none, no device is asked.
+fn read_bytes<S: ForkStore>(
+    files: &mut ResourceFiles<S>,
+    memory: &mut MemoryManager,
+    place: RowPlace,
+    handle: Handle,
+    size: u32,
+) -> Result<(), OsErr>
+    requires placed { IsPlaced memory.old.heap handle size }
+    requires long { All S.is_honest files.old.stores → HasBytes size (row_at place files.old.files) }
+    ensures filled { (bytes : List ℕ) × IsFilled handle bytes memory.old.heap memory.new.heap }
+    ensures read { All S.is_honest files.old.stores → OnOk result (IfSome (row_at place files.old.files) (λ r. IsFilled handle r.resource.datum memory.old.heap memory.new.heap)) }
+    ensures code { IfErr result (λ code. code ≡ OsErr.IoErr) }
+    ensures some { OnErr result (0 < size) }
+    ensures loans { KeepsLoans memory.old memory.new }
+    ensures shape { memory.new.shape ≡ memory.old.shape }
+    ensures files { All S.is_honest files.old.stores → files.new.files ≡ files.old.files }
+    ensures forks { All S.is_honest files.old.stores → map S.fork files.new.stores ≡ map S.fork files.old.stores }
+    ensures loads { files.new.loads ≡ files.old.loads }
+    ensures honest { All S.is_honest files.old.stores ↔ All S.is_honest files.new.stores }
+    ensures count { length files.new.stores ≡ length files.old.stores }
+    ensures cause { OnErr result (SomeFailed S.failures files.old.stores files.new.stores) }
+{
+    if size == 0 {
+        return Ok(());
+    }
+    files
+        .read(place, memory.contents_mut(handle.number()))
+        .map_err(|_| OsErr::IoErr)
+}
+
+/// Undoes a load whose bytes couldn't be read: the row's own handle is empty again, and a new one is gone.
+fn undo(memory: &mut MemoryManager, handle: Handle, is_own: bool)
+    requires { (bytes : List ℕ) × IsFilled handle bytes memory.old.heap memory.old.heap }
+    ensures heap { memory.new.heap ≡ (if is_own then with_emptied memory.old.heap handle else heap_released (DisposesHandle handle) memory.old.heap) }
+    ensures loans { KeepsLoans memory.old memory.new }
+    ensures shape { memory.new.shape ≡ memory.old.shape }
+{
+    // Neither is refused: the handle is live, unlocked and not lent.
+    let _ = if is_own {
+        memory.empty_handle(handle)
+    } else {
+        memory.dispose_handle(handle)
+    };
+}
+
+/// Gives the handle of a loaded row the flags that the row's attributes say.
+fn set_flags(memory: &mut MemoryManager, handle: Handle, attributes: ResAttrs)
+    requires { (bytes : List ℕ) × IsFilled handle bytes memory.old.heap memory.old.heap }
+    ensures heap { memory.new.heap ≡ with_table (with_flags handle (flags_for attributes) memory.old.heap.table) memory.old.heap }
+    ensures loans { KeepsLoans memory.old memory.new }
+    ensures shape { memory.new.shape ≡ memory.old.shape }
+{
+    // It isn't refused: the handle has a block that isn't lent.
+    let _ = memory.hset_state(handle, state_for(attributes));
+}
+
+/// The state of the handle of a loaded row with these attributes, as HSetState takes it.
+fn state_for(attributes: ResAttrs) -> u32
+    ensures flags { flags_from result ≡ flags_for attributes }
+    ensures possible { result ≤ 255 }
+{
+    let locked = attributes.contains(ResAttrs::LOCKED);
+    let purgeable = attributes.contains(ResAttrs::PURGEABLE);
+    match (locked, purgeable) {
+        (true, true) => 224,
+        (true, false) => 160,
+        (false, true) => 96,
+        (false, false) => 32,
+    }
+}

@@ -1,0 +1,127 @@
+//! One call of the Resource Manager.
+
+ghost use Rattle.std.specs.Prelude.{◌≡◌, ◌↔◌, [], None, length, All, IsTrue, IfOk, OnErr};
+ghost use Rattle.linked_zone.specs.Loans.{KeepsLoans};
+ghost use Rattle.res_calls.specs.Tests.{resource_refusal};
+ghost use Rattle.mac_calls.specs.declared.resource_call.ResourceCall.TheVariants as call;
+ghost use Rattle.res_manager.specs.Ends.{EndsQuietly, copies, is_quiet};
+ghost use Rattle.res_manager.specs.Steps.{ResourceSteps, state_of, takes_memory};
+ghost use Rattle.res_manager.specs.Tests.{Passes, early_tests};
+
+use crate::getting::get;
+use crate::opening::open;
+use crate::quiet::{add, change, info, tell, tells};
+use crate::tests::test_call;
+use crate::updating::update;
+use fork_disk::store::ForkStore;
+use mac_base::error::HostFull;
+use mac_calls::{GrowZone, Outcome, ResourceCall, Results};
+use mem_calls::MemoryManager;
+use res_files::ResourceFiles;
+use std::alloc::Global;
+
+/// The most files that a run has.
+const MOST_FILES: usize = 8;
+
+/// Makes a call of the Resource Manager. One that loads a resource makes its place by a call of the Memory Manager, which asks the
+/// grow-zone procedure where it finds no room. HostFull comes only where the call isn't refused, from calls that take host memory for
+/// a row, a name, a fork or a table, and before any device call of an update; then neither zone nor files have changed.
+pub fn make<S: ForkStore, G: GrowZone>(
+    files: &mut ResourceFiles<S>,
+    memory: &mut MemoryManager,
+    alloc: Global,
+    call: &ResourceCall<'_>,
+    procedure: &mut G,
+) -> Result<Outcome, HostFull>
+    requires { G.asks procedure.old ≡ [] }
+    ensures step { All S.is_honest files.old.stores → IfOk result (λ outcome.
+        ResourceSteps S.fork S.failures S.may_leave memory.old files.old call.now (G.asks procedure.new) outcome memory.new files.new) }
+    ensures source { G.source procedure.new ≡ G.source procedure.old }
+    ensures loans { KeepsLoans memory.old memory.new }
+    ensures lent { memory.new.heap.table.lent ≡ memory.old.heap.table.lent }
+    ensures shape { memory.new.shape ≡ memory.old.shape }
+    ensures honest { All S.is_honest files.old.stores ↔ All S.is_honest files.new.stores }
+    ensures count { length files.new.stores ≡ length files.old.stores }
+    ensures unchanged { OnErr result (memory.new ≡ memory.old) }
+    ensures unasked { OnErr result (G.asks procedure.new ≡ []) }
+    ensures same { All S.is_honest files.old.stores → OnErr result (state_of S.fork memory.new files.new ≡ state_of S.fork memory.old files.old) }
+    ensures full { All S.is_honest files.old.stores → OnErr result (IsTrue (takes_memory (state_of S.fork memory.old files.old) call.now)) }
+    ensures late { All S.is_honest files.old.stores → OnErr result (resource_refusal (state_of S.fork memory.old files.old) call.now ≡ None) }
+{
+    if let Err(code) = test_call(files, memory, call) {
+        return Ok(Err(code));
+    }
+    match *call {
+        ResourceCall::GetResource { .. }
+        | ResourceCall::Get1Resource { .. }
+        | ResourceCall::GetIndResource { .. }
+        | ResourceCall::LoadResource(_) => Ok(get(files, memory, call, procedure)),
+        ResourceCall::WriteResource(_)
+        | ResourceCall::UpdateResFile(_)
+        | ResourceCall::CloseResFile(_) => update(files, memory, call),
+        ResourceCall::OpenResFile(number) => open_file(files, memory, number),
+        _ => make_quiet(files, memory, alloc, call),
+    }
+}
+
+/// Makes a call that needs neither room in the zone nor a disk.
+fn make_quiet<S: ForkStore>(
+    files: &mut ResourceFiles<S>,
+    memory: &mut MemoryManager,
+    alloc: Global,
+    call: &ResourceCall<'_>,
+) -> Result<Outcome, HostFull>
+    requires quiet { IsTrue (is_quiet call.now) }
+    requires passed { Passes (state_of S.fork memory.old files.old) (early_tests call.now) }
+    ensures quiet { All S.is_honest files.old.stores → IfOk result (λ outcome. EndsQuietly S.fork memory.old files.old call.now outcome memory.new files.new) }
+    ensures loans { KeepsLoans memory.old memory.new }
+    ensures shape { memory.new.shape ≡ memory.old.shape }
+    ensures stores { files.new.stores ≡ files.old.stores }
+    ensures unchanged { OnErr result (memory.new ≡ memory.old) }
+    ensures same { OnErr result (files.new ≡ files.old) }
+    ensures full { OnErr result (IsTrue (copies call.now)) }
+{
+    match *call {
+        ResourceCall::AddResource {
+            handle,
+            kind,
+            id,
+            ref name,
+        } => {
+            let name = match name {
+                Some(name) => Some(name.as_slice()),
+                None => None,
+            };
+            add(files, memory, alloc, handle, kind, id, name)?;
+            Ok(Ok(Results::Nothing))
+        }
+        ResourceCall::GetResInfo(handle) => Ok(Ok(info(files, alloc, handle)?)),
+        _ if tells(call) => Ok(Ok(tell(files, call))),
+        _ => {
+            change(files, memory, call);
+            Ok(Ok(Results::Nothing))
+        }
+    }
+}
+
+/// OpenResFile: opens a file, or gives its number where it is open already.
+fn open_file<S: ForkStore>(
+    files: &mut ResourceFiles<S>,
+    memory: &MemoryManager,
+    number: u32,
+) -> Result<Outcome, HostFull>
+    requires { Passes (state_of S.fork memory.now files.old) (early_tests (call.OpenResFile number)) }
+    ensures step { All S.is_honest files.old.stores → IfOk result (λ outcome.
+        ResourceSteps S.fork S.failures S.may_leave memory.now files.old (call.OpenResFile number) [] outcome memory.now files.new) }
+    ensures same { All S.is_honest files.old.stores → OnErr result (state_of S.fork memory.now files.new ≡ state_of S.fork memory.now files.old) }
+    ensures full { OnErr result (IsTrue (takes_memory (state_of S.fork memory.now files.old) (call.OpenResFile number))) }
+    ensures honest { All S.is_honest files.old.stores ↔ All S.is_honest files.new.stores }
+    ensures count { length files.new.stores ≡ length files.old.stores }
+{
+    prove!(files.count() <= MOST_FILES);
+    let number = number as u8;
+    if files.is_open(number) {
+        return Ok(Ok(Results::Number(number as u32)));
+    }
+    open(files, number)
+}

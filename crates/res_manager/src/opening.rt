@@ -1,0 +1,32 @@
+//! The call that opens a file.
+
+ghost use Rattle.std.specs.Prelude.{◌≡◌, ◌≤◌, ◌↔◌, [], All, IfOk, OnErr, IsFalse, length, map};
+ghost use Rattle.mac_base.specs.ZoneState.{ZoneState};
+ghost use Rattle.res_manager.specs.Ends.{OpensFile};
+ghost use Rattle.res_table.specs.OpenFiles.{is_open};
+
+use fork_disk::store::ForkStore;
+use mac_base::error::HostFull;
+use mac_calls::{Outcome, Results};
+use res_files::ResourceFiles;
+
+/// Opens the file of a number, which isn't open.
+pub(crate) fn open<S: ForkStore>(
+    files: &mut ResourceFiles<S>,
+    number: u8,
+) -> Result<Outcome, HostFull>
+    requires there { (1 ≤ number) × (number ≤ length files.old.stores) }
+    requires closed { IsFalse (is_open number files.old.files) }
+    ensures opened { All S.is_honest files.old.stores → IfOk result (λ outcome.
+        (zone : ZoneState) → OpensFile S.fork S.failures zone files.old number outcome files.new) }
+    ensures full { All S.is_honest files.old.stores → OnErr result (files.new.files ≡ files.old.files) }
+    ensures forks { All S.is_honest files.old.stores → map S.fork files.new.stores ≡ map S.fork files.old.stores }
+    ensures loads { files.new.loads ≡ files.old.loads }
+    ensures honest { All S.is_honest files.old.stores ↔ All S.is_honest files.new.stores }
+    ensures count { length files.new.stores ≡ length files.old.stores }
+{
+    match files.open(number)? {
+        Ok(()) => Ok(Ok(Results::Number(number as u32))),
+        Err(code) => Ok(Err(code)),
+    }
+}

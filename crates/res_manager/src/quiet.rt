@@ -1,0 +1,267 @@
+//! The calls that need neither room in the zone nor a disk.
+
+ghost use Rattle.std.specs.Prelude.{◌≡◌, ◌≤◌, length, nat_le, option_copied, All, IfOk, OnOk, OnErr, IsTrue, Ok};
+ghost use Rattle.std.specs.Option.{option_map_or};
+ghost use Rattle.linked_zone.specs.Loans.{KeepsLoans};
+ghost use Rattle.mac_calls.specs.declared.resource_call.ResourceCall.TheVariants as call;
+ghost use Rattle.mac_calls.specs.declared.reply.Results.{Results};
+ghost use Rattle.res_calls.specs.Attributes.{marked, replaced_attributes};
+ghost use Rattle.res_calls.specs.Files.{ResState};
+ghost use Rattle.res_calls.specs.Quiet.{quiet_results, attributes_changed};
+ghost use Rattle.res_manager.specs.Steps.{state_of};
+ghost use Rattle.res_manager.specs.Tests.{Passes, early_tests};
+ghost use Rattle.res_manager.specs.Ends.{EndsQuietly, changes, tells};
+
+use crate::rows::row_of;
+use crate::tests::{is_changed, test_id, test_open};
+use bitflags::Flags;
+use fork_disk::store::ForkStore;
+use mac_base::error::HostFull;
+use mac_base::handle::Handle;
+use mac_calls::{ResourceCall, ResourceInfo, Results};
+use mem_calls::MemoryManager;
+use res_base::name::Name;
+use res_base::resource::{ResAttrs, ResType};
+use res_files::ResourceFiles;
+use std::alloc::Global;
+
+/// What a call gives that only tells what the open files say.
+pub(crate) fn tell<S: ForkStore>(files: &ResourceFiles<S>, call: &ResourceCall<'_>) -> Results
+    requires { IsTrue (tells call.now) }
+    ensures { All S.is_honest files.now.stores → (state : ResState) → state.files ≡ files.now.files → result ≡ quiet_results state call.now }
+{
+    match *call {
+        ResourceCall::GetResAttrs(handle) => match row_of(files, handle) {
+            Some(row) => Results::Number(row.resource.attributes.bits() as u32),
+            None => Results::Nothing,
+        },
+        ResourceCall::SizeResource(handle) => match row_of(files, handle) {
+            Some(row) => Results::Number(row.resource.datum.length),
+            None => Results::Nothing,
+        },
+        ResourceCall::HomeResFile(handle) => match files.row_of_handle(handle) {
+            Some(place) => Results::Number(place.file as u32),
+            None => Results::Nothing,
+        },
+        ResourceCall::UniqueID(kind) => Results::Number(files.unique_id(kind)),
+        ResourceCall::CountResources(kind) => Results::Number(files.count_of_type(kind)),
+        ResourceCall::CountTypes => Results::Number(files.count_types()),
+        ResourceCall::GetIndType(index) => match files.type_of_ith(index) {
+            Some(kind) => Results::Kind(kind),
+            None => Results::Nothing,
+        },
+        ResourceCall::CurResFile => match files.current() {
+            Some(number) => Results::Number(number as u32),
+            None => Results::Number(0),
+        },
+        _ => unreachable!(),
+    }
+}
+
+/// Whether a call only tells what the open files say, and takes no host memory.
+pub(crate) fn tells(call: &ResourceCall<'_>) -> bool
+    ensures { result ≡ tells call.now }
+{
+    matches!(
+        *call,
+        ResourceCall::GetResAttrs(_)
+            | ResourceCall::SizeResource(_)
+            | ResourceCall::HomeResFile(_)
+            | ResourceCall::UniqueID(_)
+            | ResourceCall::CountResources(_)
+            | ResourceCall::CountTypes
+            | ResourceCall::GetIndType(_)
+            | ResourceCall::CurResFile
+    )
+}
+
+/// GetResInfo: the id, the type and the name of a handle's resource. The name is copied into host memory.
+pub(crate) fn info<S: ForkStore>(
+    files: &ResourceFiles<S>,
+    alloc: Global,
+    handle: Handle,
+) -> Result<Results, HostFull>
+    ensures { IfOk result (λ results. (state : ResState) → state.files ≡ files.now.files → results ≡ quiet_results state (call.GetResInfo handle)) }
+{
+    let Some(row) = row_of(files, handle) else {
+        return Ok(Results::Nothing);
+    };
+    let name = match &row.resource.name {
+        Some(name) => Some(copy_name(alloc, name.as_slice())?),
+        None => None,
+    };
+    Ok(Results::Info(ResourceInfo {
+        id: row.resource.id,
+        kind: row.resource.kind,
+        name,
+    }))
+}
+
+/// A copy of a name of at most 255 bytes in host memory.
+fn copy_name(alloc: Global, name: &[u8]) -> Result<Name, HostFull>
+    requires { length name.now ≤ 255 }
+    ensures { IfOk result (λ copy. copy ≡ name.now) }
+{
+    match Name::new(Vec::from_slice(alloc, name)?) {
+        Some(name) => Ok(name),
+        None => unreachable!(),
+    }
+}
+
+/// A copy of the name of a resource that has one.
+fn copy_if_named(alloc: Global, name: Option<&[u8]>) -> Result<Option<Name>, HostFull>
+    requires { IsTrue (nat_le (option_map_or length (option_copied name) 0) 255) }
+    ensures { IfOk result (λ copy. copy ≡ option_copied name.entry) }
+{
+    match name {
+        Some(name) => Ok(Some(copy_name(alloc, name)?)),
+        None => Ok(None),
+    }
+}
+
+/// Makes a call that changes rows or which file is current.
+pub(crate) fn change<S: ForkStore>(
+    files: &mut ResourceFiles<S>,
+    memory: &mut MemoryManager,
+    call: &ResourceCall<'_>,
+)
+    requires changes { IsTrue (changes call.now) }
+    requires passed { Passes (state_of S.fork memory.old files.old) (early_tests call.now) }
+    ensures quiet { EndsQuietly S.fork memory.old files.old call.now (Ok Results.Nothing) memory.new files.new }
+    ensures loans { KeepsLoans memory.old memory.new }
+    ensures shape { memory.new.shape ≡ memory.old.shape }
+    ensures stores { files.new.stores ≡ files.old.stores }
+{
+    match *call {
+        ResourceCall::ReleaseResource(handle) => release(files, memory, handle),
+        ResourceCall::DetachResource(handle) => detach(files, memory, handle),
+        ResourceCall::RemoveResource(handle) => remove(files, memory, handle),
+        ResourceCall::ChangedResource(handle) => mark(files, handle),
+        ResourceCall::SetResAttrs { handle, attributes } => {
+            set_attributes(files, handle, attributes as u8)
+        }
+        ResourceCall::SetResLoad(number) => files.set_loads(number != 0),
+        ResourceCall::UseResFile(number) => {
+            let Ok(number) = test_open(files, Some(number)) else {
+                unreachable!();
+            };
+            files.use_file(number)
+        }
+        _ => unreachable!(),
+    }
+}
+
+/// ReleaseResource: disposes of the handle, unless its resource is changed.
+fn release<S: ForkStore>(files: &mut ResourceFiles<S>, memory: &mut MemoryManager, handle: Handle)
+    ensures quiet { EndsQuietly S.fork memory.old files.old (call.ReleaseResource handle) (Ok Results.Nothing) memory.new files.new }
+    ensures loans { KeepsLoans memory.old memory.new }
+    ensures shape { memory.new.shape ≡ memory.old.shape }
+    ensures stores { files.new.stores ≡ files.old.stores }
+{
+    if is_changed(files, handle) {
+        return;
+    }
+    let _ = memory.dispose_handle(handle);
+    files.forget(handle);
+}
+
+/// DetachResource: the handle is an ordinary one.
+fn detach<S: ForkStore>(files: &mut ResourceFiles<S>, memory: &mut MemoryManager, handle: Handle)
+    ensures quiet { EndsQuietly S.fork memory.old files.old (call.DetachResource handle) (Ok Results.Nothing) memory.new files.new }
+    ensures loans { KeepsLoans memory.old memory.new }
+    ensures shape { memory.new.shape ≡ memory.old.shape }
+    ensures stores { files.new.stores ≡ files.old.stores }
+{
+    let _ = memory.hclr_rbit(handle);
+    files.forget(handle);
+}
+
+/// RemoveResource: the file no longer has the resource, and the handle is an ordinary one.
+fn remove<S: ForkStore>(files: &mut ResourceFiles<S>, memory: &mut MemoryManager, handle: Handle)
+    ensures quiet { EndsQuietly S.fork memory.old files.old (call.RemoveResource handle) (Ok Results.Nothing) memory.new files.new }
+    ensures loans { KeepsLoans memory.old memory.new }
+    ensures shape { memory.new.shape ≡ memory.old.shape }
+    ensures stores { files.new.stores ≡ files.old.stores }
+{
+    let _ = memory.hclr_rbit(handle);
+    if let Some(place) = files.row_of_handle(handle) {
+        files.remove(place);
+    }
+}
+
+/// ChangedResource: the next update writes the resource.
+fn mark<S: ForkStore>(files: &mut ResourceFiles<S>, handle: Handle)
+    ensures { files.new ≡ record files.old { files = attributes_changed marked handle files.old.files } }
+{
+    let Some(place) = files.row_of_handle(handle) else {
+        return;
+    };
+    let Some(row) = files.row(place) else {
+        return;
+    };
+    let attributes = marked(row.resource.attributes);
+    files.set_attributes(place, attributes);
+}
+
+/// The attributes with resChanged.
+fn marked(attributes: ResAttrs) -> ResAttrs
+    ensures { result ≡ marked attributes }
+{
+    ResAttrs::from_bits_retain(attributes.bits() | 2)
+}
+
+/// SetResAttrs: the resource has other attributes, but whether it is changed stays.
+fn set_attributes<S: ForkStore>(files: &mut ResourceFiles<S>, handle: Handle, attributes: u8)
+    ensures { files.new ≡ record files.old { files = attributes_changed (replaced_attributes attributes) handle files.old.files } }
+{
+    let Some(place) = files.row_of_handle(handle) else {
+        return;
+    };
+    let Some(row) = files.row(place) else {
+        return;
+    };
+    let attributes = replaced_attributes(attributes, row.resource.attributes);
+    files.set_attributes(place, attributes);
+}
+
+/// The attributes that SetResAttrs sets over old ones: resChanged stays as it was.
+fn replaced_attributes(new: u8, old: ResAttrs) -> ResAttrs
+    ensures { result ≡ replaced_attributes new old }
+{
+    if old.contains(ResAttrs::CHANGED) {
+        ResAttrs::from_bits_retain(new | 2)
+    } else {
+        ResAttrs::from_bits_retain(new & 253)
+    }
+}
+
+/// AddResource: the handle's block is a new resource of the current file, to be written by its next update. The name is copied into
+/// host memory; without it nothing is changed.
+pub(crate) fn add<S: ForkStore>(
+    files: &mut ResourceFiles<S>,
+    memory: &mut MemoryManager,
+    alloc: Global,
+    handle: Handle,
+    kind: ResType,
+    id: i64,
+    name: Option<&[u8]>,
+) -> Result<(), HostFull>
+    requires { Passes (state_of S.fork memory.old files.old) (early_tests (call.AddResource handle kind id (option_copied name))) }
+    ensures quiet { OnOk result (EndsQuietly S.fork memory.old files.old (call.AddResource handle kind id (option_copied name.entry)) (Ok Results.Nothing) memory.new files.new) }
+    ensures unchanged { OnErr result (memory.new ≡ memory.old) }
+    ensures same { OnErr result (files.new ≡ files.old) }
+    ensures loans { KeepsLoans memory.old memory.new }
+    ensures shape { memory.new.shape ≡ memory.old.shape }
+    ensures stores { files.new.stores ≡ files.old.stores }
+{
+    let Some(number) = files.current() else {
+        unreachable!();
+    };
+    let Ok(id) = test_id(id) else {
+        unreachable!();
+    };
+    let name = copy_if_named(alloc, name)?;
+    files.add(number, handle, kind, id, name)?;
+    let _ = memory.hset_rbit(handle);
+    Ok(())
+}

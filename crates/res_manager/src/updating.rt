@@ -1,0 +1,156 @@
+//! The calls that write files.
+
+ghost use Rattle.std.specs.Prelude.{◌≡◌, ◌↔◌, [], All, IfOk, OnErr, IsTrue, IsFalse, Some, None, length};
+ghost use Rattle.linked_zone.specs.Loans.{KeepsLoans};
+ghost use Rattle.mac_calls.specs.declared.resource_call.ResourceCall.TheVariants as call;
+ghost use Rattle.res_calls.specs.Changes.{rows_of};
+ghost use Rattle.res_calls.specs.Tests.{resource_refusal};
+ghost use Rattle.res_calls.specs.Updates.{Update, disposed, fits_fork, handles_of, update_of};
+ghost use Rattle.res_manager.specs.Ends.{WritesFile, writes};
+ghost use Rattle.res_manager.specs.Steps.{ResourceSteps, state_of, takes_memory};
+ghost use Rattle.res_manager.specs.Tests.{Passes, early_tests};
+ghost use Rattle.res_table.specs.OpenFiles.{is_open};
+ghost use Rattle.res_update.specs.Selected.{updated, reads_lent};
+
+use crate::contents::MemoryContents;
+use crate::tests::{is_changed, test_open};
+use fork_disk::store::ForkStore;
+use mac_base::error::{HostFull, OsErr};
+use mac_base::handle::Handle;
+use mac_calls::{Outcome, ResourceCall, Results};
+use mem_calls::MemoryManager;
+use res_files::ResourceFiles;
+use res_update::fault::UpdateFault;
+use res_update::selection::Selection;
+
+/// Makes a call that writes a file, or a row of one.
+pub(crate) fn update<S: ForkStore>(
+    files: &mut ResourceFiles<S>,
+    memory: &mut MemoryManager,
+    call: &ResourceCall<'_>,
+) -> Result<Outcome, HostFull>
+    requires writes { IsTrue (writes call.now) }
+    requires passed { Passes (state_of S.fork memory.old files.old) (early_tests call.now) }
+    ensures step { All S.is_honest files.old.stores → IfOk result (λ outcome.
+        ResourceSteps S.fork S.failures S.may_leave memory.old files.old call.now [] outcome memory.new files.new) }
+    ensures loans { KeepsLoans memory.old memory.new }
+    ensures shape { memory.new.shape ≡ memory.old.shape }
+    ensures honest { All S.is_honest files.old.stores ↔ All S.is_honest files.new.stores }
+    ensures count { length files.new.stores ≡ length files.old.stores }
+    ensures unchanged { OnErr result (memory.new ≡ memory.old) }
+    ensures same { OnErr result (files.new ≡ files.old) }
+    ensures late { All S.is_honest files.old.stores → OnErr result (resource_refusal (state_of S.fork memory.old files.old) call.now ≡ None) }
+    ensures full { All S.is_honest files.old.stores → OnErr result (IsTrue (takes_memory (state_of S.fork memory.old files.old) call.now)) }
+{
+    match *call {
+        ResourceCall::WriteResource(handle) => write_resource(files, memory, handle),
+        ResourceCall::UpdateResFile(named) => {
+            let Ok(number) = test_open(files, named) else {
+                unreachable!();
+            };
+            write_file(files, memory, number, Selection::AllChanged)
+        }
+        ResourceCall::CloseResFile(named) => {
+            let Ok(number) = test_open(files, named) else {
+                unreachable!();
+            };
+            close(files, memory, number)
+        }
+        _ => unreachable!(),
+    }
+}
+
+/// WriteResource: writes the row of a handle, if it is changed.
+fn write_resource<S: ForkStore>(
+    files: &mut ResourceFiles<S>,
+    memory: &MemoryManager,
+    handle: Handle,
+) -> Result<Outcome, HostFull>
+    requires { Passes (state_of S.fork memory.now files.old) (early_tests (call.WriteResource handle)) }
+    ensures step { All S.is_honest files.old.stores → IfOk result (λ outcome.
+        ResourceSteps S.fork S.failures S.may_leave memory.now files.old (call.WriteResource handle) [] outcome memory.now files.new) }
+    ensures honest { All S.is_honest files.old.stores ↔ All S.is_honest files.new.stores }
+    ensures count { length files.new.stores ≡ length files.old.stores }
+    ensures same { OnErr result (files.new ≡ files.old) }
+    ensures late { All S.is_honest files.old.stores → OnErr result (resource_refusal (state_of S.fork memory.now files.old) (call.WriteResource handle) ≡ None) }
+    ensures full { All S.is_honest files.old.stores → OnErr result (IsTrue (takes_memory (state_of S.fork memory.now files.old) (call.WriteResource handle))) }
+{
+    let Some(place) = files.row_of_handle(handle) else {
+        unreachable!();
+    };
+    if !is_changed(files, handle) {
+        return Ok(Ok(Results::Nothing));
+    }
+    write_file(files, memory, place.file, Selection::RowAt(place.index))
+}
+
+/// Closes a file once it is written: the handles of its rows are disposed of, in their order.
+fn close<S: ForkStore>(
+    files: &mut ResourceFiles<S>,
+    memory: &mut MemoryManager,
+    number: u8,
+) -> Result<Outcome, HostFull>
+    requires open { IsTrue (is_open number files.old.files) }
+    requires unlent { IsFalse (reads_lent memory.old.heap.table Selection.AllChanged (rows_of number files.old.files)) }
+    ensures written { All S.is_honest files.old.stores → IfOk result (λ outcome. (u : Update)
+        → update_of number (updated memory.old.heap.table Selection.AllChanged) files.old.files ≡ Some u
+        → WritesFile S.fork S.failures S.may_leave memory.old files.old (call.CloseResFile None) u outcome memory.new files.new) }
+    ensures loans { KeepsLoans memory.old memory.new }
+    ensures shape { memory.new.shape ≡ memory.old.shape }
+    ensures honest { All S.is_honest files.old.stores ↔ All S.is_honest files.new.stores }
+    ensures count { length files.new.stores ≡ length files.old.stores }
+    ensures unchanged { OnErr result (memory.new ≡ memory.old) }
+    ensures same { OnErr result (files.new ≡ files.old) }
+    ensures fits { All S.is_honest files.old.stores → OnErr result ((u : Update)
+        → update_of number (updated memory.old.heap.table Selection.AllChanged) files.old.files ≡ Some u → IsTrue (fits_fork u.table)) }
+{
+    let outcome = write_file(files, memory, number, Selection::AllChanged)?;
+    if outcome.is_err() {
+        return Ok(outcome);
+    }
+    dispose_all(files, memory, number);
+    files.close(number);
+    Ok(outcome)
+}
+
+/// Writes a file anew. The selected rows have the bytes of their handles then, and are no longer changed. After a fault behind the
+/// first write the file is closed.
+fn write_file<S: ForkStore>(
+    files: &mut ResourceFiles<S>,
+    memory: &MemoryManager,
+    number: u8,
+    selection: Selection,
+) -> Result<Outcome, HostFull>
+    requires open { IsTrue (is_open number files.old.files) }
+    requires unlent { IsFalse (reads_lent memory.now.heap.table selection (rows_of number files.old.files)) }
+    ensures written { All S.is_honest files.old.stores → IfOk result (λ outcome. (u : Update)
+        → update_of number (updated memory.now.heap.table selection) files.old.files ≡ Some u
+        → WritesFile S.fork S.failures S.may_leave memory.now files.old (call.UpdateResFile None) u outcome memory.now files.new) }
+    ensures honest { All S.is_honest files.old.stores ↔ All S.is_honest files.new.stores }
+    ensures count { length files.new.stores ≡ length files.old.stores }
+    ensures same { OnErr result (files.new ≡ files.old) }
+    ensures fits { All S.is_honest files.old.stores → OnErr result ((u : Update)
+        → update_of number (updated memory.now.heap.table selection) files.old.files ≡ Some u → IsTrue (fits_fork u.table)) }
+{
+    let contents = MemoryContents::new(memory);
+    match files.update(number, selection, &contents) {
+        Ok(()) => Ok(Ok(Results::Nothing)),
+        Err(UpdateFault::TooBig) => Ok(Err(OsErr::DskFulErr)),
+        Err(UpdateFault::HostFull) => Err(HostFull),
+        Err(UpdateFault::Device(_)) => Ok(Err(OsErr::IoErr)),
+    }
+}
+
+/// Disposes of the handles of a file's rows, in their order.
+fn dispose_all<S: ForkStore>(files: &ResourceFiles<S>, memory: &mut MemoryManager, number: u8)
+    ensures heap { memory.new.heap ≡ disposed memory.old.shape (handles_of (rows_of number files.now.files)) memory.old.heap }
+    ensures shape { memory.new.shape ≡ memory.old.shape }
+    ensures loans { KeepsLoans memory.old memory.new }
+{
+    let mut from = 0;
+    while let Some(found) = files.next_handle(number, from) {
+        let (index, handle) = found;
+        let _ = memory.dispose_handle(handle);
+        from = index + 1;
+    }
+}

@@ -1,0 +1,59 @@
+-- Opening a file, and a call that has no host memory, keep every fork.
+use Rattle.std.proofs.Common.{◌≡◌, ℕ, List, Option, Some, None, Result, Ok, Err, Bool, true, false, sym, ap, subst}
+use Rattle.std.specs.Prelude.{All, map, OnErr, if◌then◌else◌}
+use Rattle.mac_base.specs.declared.error.OsErr.{OsErr}
+use Rattle.mac_calls.specs.declared.call.Call.{Call}
+use Rattle.mac_calls.specs.declared.call.Call.TheVariants.{Memory, Loan, Resource, MemError, ResError}
+use Rattle.mac_calls.specs.declared.resource_call.ResourceCall.TheVariants as call
+use Rattle.mac_calls.specs.GrowZone.{Ask}
+use Rattle.mac_calls.specs.Outcomes.{Outcome}
+use Rattle.fork_disk.specs.declared.store.ForkStore.{Ghosts}
+use Rattle.res_table.specs.OpenFiles.{is_open}
+use Rattle.res_calls.specs.Changes.{FileTable}
+use Rattle.res_calls.specs.Device.{Device}
+use Rattle.res_calls.specs.Files.{ResState, ResourceEnd}
+use Rattle.res_calls.specs.Steps.{LeaveRelation, MemoryRelation, Opens, Quiet, ResourceStepBy, StepsUnless, Works, opened_end}
+use Rattle.res_calls.specs.Tests.{resource_refusal}
+use Rattle.res_manager.specs.Steps.{Memory as MayStep}
+use Rattle.toolbox.specs.Steps.{Gives, Unchanged}
+use Rattle.toolbox.specs.ToolState.{ToolState, resource_state}
+use Rattle.script_run.specs.Line.{SameForks}
+
+module _ (One : MemoryRelation) (MayLeave : LeaveRelation) (device : Device) (old : ResState) (k : ℕ) (asks : List Ask) (end : ResourceEnd) where
+  by_read : (read : Result FileTable OsErr) → end ≡ opened_end k old read → end.state.disks ≡ old.disks
+  by_read (Ok table) is = ap (λ (e : ResourceEnd). e.state.disks) is
+  by_read (Err code) is = ap (λ (e : ResourceEnd). e.state.disks) is
+
+  by_refusal : (refusal : Option OsErr) → StepsUnless One MayLeave refusal device old (call.OpenResFile k) asks end → end.state.disks ≡ old.disks
+  by_refusal (Some code) step = ap (λ (e : ResourceEnd). e.state.disks) step.1
+  by_refusal None step = elim (is_open k old.files) as (λ (b : Bool). Works One MayLeave device old (call.OpenResFile k) asks end (if b then Quiet else Opens k) → end.state.disks ≡ old.disks) [
+    | true ↦ λ works. ap (λ (e : ResourceEnd). e.state.disks) works.1
+    | false ↦ λ works. by_read works.1 works.3
+  ] step
+
+  -- the opening of a file changes no disk
+  opening_keeps_disks : ResourceStepBy One MayLeave device old (call.OpenResFile k) asks end → end.state.disks ≡ old.disks
+  opening_keeps_disks step = by_refusal (resource_refusal old (call.OpenResFile k)) step
+
+-- whatever it gives
+pub opening_keeps_forks : {S : Type 0} (store : Ghosts S) (old new : ToolState S) (k : ℕ) (asks : List Ask) (outcome : Outcome) → Gives store old (Resource (call.OpenResFile k)) asks outcome new → SameForks store old.resources.stores new.resources.stores
+opening_keeps_forks store old new k asks outcome gives = λ honest. (
+  gives.2.0 honest,
+  (let given = gives.0 honest in opening_keeps_disks MayStep store.may_leave given.0 (resource_state store old) k asks (record { outcome = outcome; state = resource_state store new }) given.1),
+)
+
+untouched : {S : Type 0} (store : Ghosts S) (old new : ToolState S) → new ≡ old → SameForks store old.resources.stores new.resources.stores
+untouched {S = S} store old new same = λ honest. (subst (λ (t : ToolState S). All store.is_honest t.resources.stores) (sym same) honest, ap (λ (t : ToolState S). map store.fork t.resources.stores) same)
+
+-- a call that has no host memory
+pub unchanged_keeps_forks : {S : Type 0} (store : Ghosts S) (old new : ToolState S) (one : Call) → Unchanged store old one new → SameForks store old.resources.stores new.resources.stores
+unchanged_keeps_forks store old new (Resource made) same = λ honest. (same.2.0 honest, ap (λ (s : ResState). s.disks) (same.1 honest))
+unchanged_keeps_forks store old new (Memory made) same = untouched store old new same
+unchanged_keeps_forks store old new (Loan made) same = untouched store old new same
+unchanged_keeps_forks store old new MemError same = untouched store old new same
+unchanged_keeps_forks store old new ResError same = untouched store old new same
+
+-- what is said of a fault
+pub on_fault : {T E Said : Type 0} (result : Result T E) → Said → OnErr result Said
+on_fault (Ok value) said = tt
+on_fault (Err fault) said = said

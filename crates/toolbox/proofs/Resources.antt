@@ -1,0 +1,118 @@
+-- Steps of the Resource Manager over those of the Memory Manager.
+use Rattle.std.proofs.Common.{◌≡◌, ◌∙◌, ℕ, List, [], ◌∷◌, ◌++◌, length, Option, Some, None, Result, Ok, Err, Bool, true, false, refl, sym, ap, subst}
+use Rattle.std.specs.Prelude.{◌↔◌, IfOk, OnErr, if◌then◌else◌}
+use Rattle.mac_base.specs.declared.error.HostFull.{HostFull}
+use Rattle.mac_base.specs.declared.error.OsErr.{OsErr}
+use Rattle.mac_base.specs.HeadKind.{Shape}
+use Rattle.mac_base.specs.Heap.{Heap}
+use Rattle.mac_base.specs.ZoneState.{ZoneState}
+use Rattle.mac_calls.specs.declared.memory_call.MemoryCall.{MemoryCall}
+use Rattle.mac_calls.specs.declared.call.Call.{Call}
+use Rattle.mac_calls.specs.declared.call.Call.TheVariants.{Memory, Loan, Resource, MemError, ResError}
+use Rattle.mac_calls.specs.Loans.{Loans}
+use Rattle.mac_calls.specs.declared.resource_call.ResourceCall.{ResourceCall}
+use Rattle.mac_calls.specs.declared.resource_call.ResourceCall.TheVariants as call
+use Rattle.mac_calls.specs.GrowZone.{Ask}
+use Rattle.mac_calls.specs.Outcomes.{Outcome}
+use Rattle.res_table.specs.declared.chain.RowPlace.{RowPlace}
+use Rattle.res_table.specs.OpenFiles.{is_open, row_at}
+use Rattle.res_calls.specs.Changes.{FileRow, Files, handles_forgotten}
+use Rattle.res_calls.specs.Device.{Device}
+use Rattle.res_calls.specs.Files.{ResState, ResourceEnd}
+use Rattle.res_calls.specs.Loads.{loads_bytes, placing}
+use Rattle.res_calls.specs.Steps.{GetsPlace, GetsRow, Gets, LeaveRelation, MemoryRelation, Opens, Quiet, ResourceStepBy, StepsUnless, Updates, Work, Works, work_of}
+use Rattle.res_calls.specs.Tests.{resource_refusal}
+use Rattle.res_files.specs.FilesOn.{FilesOn}
+use Rattle.res_manager.specs.Steps.{Memory as MayStep}
+use Rattle.fork_disk.specs.declared.store.ForkStore.{Ghosts}
+use Rattle.toolbox.specs.Steps.{Gives, ResourceGives, Unchanged}
+use Rattle.toolbox.specs.ToolState.{ToolState, IsHonest, resource_state, without_handles}
+
+module _ (One Other : MemoryRelation) (MayLeave : LeaveRelation) (device : Device) (old : ResState) (call : ResourceCall) (asks : List Ask) (end : ResourceEnd)
+    (same : (s : Shape) (heap : Heap) (inner : MemoryCall) (outcome : Outcome) (new : Heap) → One s heap inner asks outcome new → Other s heap inner asks outcome new) where
+  row_by : (p : RowPlace) (r : FileRow) (inner : Option MemoryCall) → GetsRow One MayLeave device old call asks end p r inner → GetsRow Other MayLeave device old call asks end p r inner
+  row_by p r None gets = gets
+  row_by p r (Some inner) gets = (gets.0, gets.1, same old.shape old.heap inner gets.0 gets.1 gets.2, gets.3)
+
+  place_by : (p : RowPlace) (r : Option FileRow) → GetsPlace One MayLeave device old call asks end p r → GetsPlace Other MayLeave device old call asks end p r
+  place_by p (Some r) gets = row_by p r (placing old.heap.table (loads_bytes old call) r) gets
+  place_by p None gets = gets
+
+  work_by : (work : Work) → Works One MayLeave device old call asks end work → Works Other MayLeave device old call asks end work
+  work_by (Gets p) works = place_by p (row_at p old.files) works
+  work_by (Updates u) works = works
+  work_by (Opens k) works = works
+  work_by Quiet works = works
+
+  unless_by : (refusal : Option OsErr) → StepsUnless One MayLeave refusal device old call asks end → StepsUnless Other MayLeave refusal device old call asks end
+  unless_by (Some code) step = step
+  unless_by None step = work_by (work_of old call) step
+
+  -- a step whose calls of the Memory Manager with these asks are made otherwise, too
+  pub step_by : ResourceStepBy One MayLeave device old call asks end → ResourceStepBy Other MayLeave device old call asks end
+  step_by step = unless_by (resource_refusal old call) step
+
+-- a toolbox over this zone and these files
+abbrev tool : {S : Type 0} → ZoneState → Loans → Option OsErr → FilesOn S → Option OsErr → ToolState S
+tool zone loans refused on resource_refused = record { shape = zone.shape; heap = zone.heap; loans = loans; refused = refused; resources = on; resource_refused = resource_refused }
+
+-- what a call of the Resource Manager gives, where it had its host memory
+pub resource_gives : {S : Type 0} (store : Ghosts S) (old new : ZoneState) (loans : Loans) (refused : Option OsErr) (on new_on : FilesOn S) (resource_refused : Option OsErr) (call : ResourceCall) (asks : List Ask) (result : Result Outcome HostFull)
+    → (IsHonest store (tool old loans refused on resource_refused) → IfOk result (λ outcome. ResourceGives store MayStep (tool old loans refused on resource_refused) call asks outcome (tool new loans refused new_on resource_refused)))
+    → (IsHonest store (tool old loans refused on resource_refused) ↔ IsHonest store (tool new loans refused new_on resource_refused)) → length new_on.stores ≡ length on.stores
+    → IfOk result (λ outcome. Gives store (tool old loans refused on resource_refused) (Resource call) asks outcome (tool new loans refused new_on resource_refused))
+resource_gives store old new loans refused on new_on resource_refused call asks (Ok outcome) step honest count = (step, refl, honest, count)
+resource_gives store old new loans refused on new_on resource_refused call asks (Err full) step honest count = tt
+
+-- a call of the Resource Manager that has no host memory changes nothing
+pub resource_unchanged : {S : Type 0} (store : Ghosts S) (old new : ZoneState) (loans : Loans) (refused : Option OsErr) (on new_on : FilesOn S) (resource_refused : Option OsErr) (call : ResourceCall) (result : Result Outcome HostFull) → OnErr result (new ≡ old)
+    → (IsHonest store (tool old loans refused on resource_refused) → OnErr result (resource_state store (tool new loans refused new_on resource_refused) ≡ resource_state store (tool old loans refused on resource_refused)))
+    → (IsHonest store (tool old loans refused on resource_refused) ↔ IsHonest store (tool new loans refused new_on resource_refused)) → length new_on.stores ≡ length on.stores
+    → OnErr result (Unchanged store (tool old loans refused on resource_refused) (Resource call) (tool new loans refused new_on resource_refused))
+resource_unchanged store old new loans refused on new_on resource_refused call (Ok outcome) same state honest count = tt
+resource_unchanged store old new loans refused on new_on resource_refused call (Err full) same state honest count = (ap (λ (z : ZoneState). tool z loans refused new_on resource_refused) same, state, honest, count)
+
+-- what holds of an error where something is given
+pub given_first : {T E : Type 0} (Given Said : Type 0) (result : Result T E) → (Given → OnErr result Said) → OnErr result (Given → Said)
+given_first Given Said (Ok value) said = tt
+given_first Given Said (Err error) said = said
+
+-- what a call gives does not speak of the codes that it leaves
+pub gives_noted : {S : Type 0} (store : Ghosts S) (old mid : ToolState S) (refused resource_refused : Option OsErr) (call : Call) (asks : List Ask) (outcome : Outcome) → Gives store old call asks outcome mid → Gives store old call asks outcome (record mid { refused = refused; resource_refused = resource_refused })
+gives_noted store old mid refused resource_refused (Memory call) asks outcome gives = gives
+gives_noted store old mid refused resource_refused (Loan call) asks outcome gives = gives
+gives_noted store old mid refused resource_refused (Resource call) asks outcome gives = gives
+gives_noted store old mid refused resource_refused MemError asks outcome gives = gives
+gives_noted store old mid refused resource_refused ResError asks outcome gives = gives
+
+-- handles are forgotten one after the other
+handles_forgotten-append : (hs others : List ℕ) (files : Files) → handles_forgotten (hs ++ others) files ≡ handles_forgotten others (handles_forgotten hs files)
+handles_forgotten-append [] others files = refl
+handles_forgotten-append (h ∷ hs) others files = handles_forgotten-append hs others (handles_forgotten (h ∷ []) files)
+
+-- rows that have forgotten what answers disposed of forget what the call itself did
+pub both_forgotten : {S : Type 0} (hs others : List ℕ) (on : FilesOn S) → without_handles others (without_handles hs on) ≡ without_handles (hs ++ others) on
+both_forgotten hs others on = ap (λ (files : Files). record on { files = files }) (sym (handles_forgotten-append hs others on.files))
+
+-- the opening of a file asks nothing
+opening_asks_nothing : (One : MemoryRelation) (MayLeave : LeaveRelation) (device : Device) (old : ResState) (k : ℕ) (asks : List Ask) (end : ResourceEnd) → ResourceStepBy One MayLeave device old (call.OpenResFile k) asks end → asks ≡ []
+opening_asks_nothing One MayLeave device old k asks end step = by_refusal (resource_refusal old (call.OpenResFile k)) step
+  where
+    by_refusal : (refusal : Option OsErr) → StepsUnless One MayLeave refusal device old (call.OpenResFile k) asks end → asks ≡ []
+    by_refusal (Some code) step = step.0
+    by_refusal None step = elim (is_open k old.files) as (λ (b : Bool). Works One MayLeave device old (call.OpenResFile k) asks end (if b then Quiet else Opens k) → asks ≡ []) [
+      | true ↦ λ works. works.0
+      | false ↦ λ works. works.0
+    ] step
+
+-- so what it gives, it gives without an ask
+pub opening_gives : {S : Type 0} (store : Ghosts S) (old new : ToolState S) (k : ℕ) (asks : List Ask) (result : Result Outcome HostFull) → IfOk result (λ outcome. Gives store old (Resource (call.OpenResFile k)) asks outcome new) → IfOk result (λ outcome. Gives store old (Resource (call.OpenResFile k)) [] outcome new)
+opening_gives store old new k asks (Ok outcome) gives = (
+  λ honest. (let given = gives.0 honest in
+    subst (λ (none : List Ask). ResourceGives store MayStep old (call.OpenResFile k) none outcome new)
+    (opening_asks_nothing MayStep store.may_leave given.0 (resource_state store old) k asks (record { outcome = outcome; state = resource_state store new }) given.1) given),
+  gives.1,
+  gives.2,
+  gives.3,
+)
+opening_gives store old new k asks (Err full) gives = tt

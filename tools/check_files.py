@@ -1,0 +1,172 @@
+#!/usr/bin/env python3
+"""Checks what a macheap program prints and leaves on its resource files, on the rows below.
+
+    tools/check_files.py PROGRAM
+
+A row has the bytes of its files, a script whose lines are parted by ` / `, the lines that are printed, where `..` stands for
+lines that aren't compared, and what the files have then: their bytes, or how many there are.
+"""
+import os
+import subprocess
+import sys
+import tempfile
+
+from check_forks import NoFork, read_fork
+from check_runs import are_wanted, lines_of
+
+MAP = "00000000 0000 0000 001C 0032 0000 54455854 0000 000A 0080 FFFF 00 000000 00000000"
+# the fork of one resource 'TEXT' 128, "Hi", and the same with its map first
+HI = bytes.fromhex("00000100 00000106 00000006 00000032" + "00" * 240 + "00000002 4869" + "00000100 00000106 00000006 00000032" + MAP)
+HI_MAP_FIRST = bytes.fromhex("00000132 00000100 00000006 00000032" + "00" * 240 + "00000100 00000106 00000006 00000032" + MAP + "00000002 4869")
+# two resources 'TEXT' 5, "a" and "b"
+AB = bytes.fromhex(
+    "00000100 0000010A 0000000A 0000003E" + "00" * 240 + "00000001 61 00000001 62" + "00000100 0000010A 0000000A 0000003E"
+    "00000000 0000 0000 001C 003E 0000 54455854 0001 000A 0005 FFFF 00 000000 00000000 0005 FFFF 00 000005 00000000"
+)
+# so many resources 'TEXT' without names whose bytes are one empty datum
+def many(count):
+    references = b"".join(bytes.fromhex("0005 FFFF 00 000000 00000000") for _ in range(count))
+    the_map = bytes.fromhex("00000000 0000 0000 001C") + min(40 + 12 * count, 65535).to_bytes(2, "big")
+    the_map += bytes.fromhex("0000 54455854") + (count - 1).to_bytes(2, "big") + bytes.fromhex("000A") + references
+    header = b"".join(it.to_bytes(4, "big") for it in (256, 260, 4, 16 + len(the_map)))
+    return header + bytes(240) + bytes(4) + header + the_map
+
+
+# what a row's files have then, where it is the list of their resources
+class Holds(list):
+    pass
+
+
+ROWS = [
+    # an update writes a fork also of no resources
+    ([b""], "UpdateResFile", "1 UpdateResFile 0", [286]),
+    ([b""], "h = NewHandle 2 / Poke h 0 \"Hi\" / AddResource h 'TEXT' 128 / UpdateResFile", "..", [HI]),
+    # a purged resource is loaded from the disk again, once there is room
+    (
+        [HI],
+        "h = GetResource 'TEXT' 128 / HPurge h / p = NewHandle 3764 / GetHandleSize h / LoadResource h / DisposeHandle p / LoadResource h / Peek h 0 2",
+        '1 GetResource $0010003C 0 / 2 HPurge 0 / 3 NewHandle $00100040 0 / 4 GetHandleSize -109 / 5 LoadResource -108 / 6 DisposeHandle 0 / 7 LoadResource 0 / 8 Peek "Hi" 0',
+        [HI],
+    ),
+    # an edit that wasn't marked is lost; a changed resource that was emptied is written without bytes
+    (
+        [HI],
+        "h = GetResource 'TEXT' 128 / Poke h 0 \"No\" / EmptyHandle h / LoadResource h / Peek h 0 2 / ChangedResource h / EmptyHandle h / UpdateResFile / SizeResource h",
+        '.. / 5 Peek "Hi" 0 / 6 ChangedResource 0 / 7 EmptyHandle 0 / 8 UpdateResFile 0 / 9 SizeResource 0 0',
+        [310],
+    ),
+    # two resources of one type and id: the first is found, and both are written
+    (
+        [b""],
+        "a = NewHandle 1 / b = NewHandle 1 / AddResource a 'TEXT' 5 / AddResource b 'TEXT' 5 / GetResource 'TEXT' 5 / CountResources 'TEXT' / UpdateResFile",
+        ".. / 5 GetResource $0010003C 0 / 6 CountResources 2 0 / 7 UpdateResFile 0",
+        [Holds([(b"TEXT", 5, None, 0, b"\0"), (b"TEXT", 5, None, 0, b"\0")])],
+    ),
+    # forks that can't be read, and one whose map stands first
+    ([HI[:-1]], "GetResource 'TEXT' 128", "0 OpenResFile -199 / 1 GetResource -193", [HI[:-1]]),
+    ([HI[:10]], "", "0 OpenResFile -39", [HI[:10]]),
+    ([HI_MAP_FIRST], "h = GetResource 'TEXT' 128 / Peek h 0 2", '1 GetResource $0010003C 0 / 2 Peek "Hi" 0', [HI_MAP_FIRST]),
+    # a changed resource isn't detached
+    (
+        [HI],
+        "h = GetResource 'TEXT' 128 / ChangedResource h / DetachResource h / UpdateResFile / DetachResource h / k = GetResource 'TEXT' 128 / Peek k 0 2",
+        '.. / 3 DetachResource -198 / 4 UpdateResFile 0 / 5 DetachResource 0 / 6 GetResource $00100040 0 / 7 Peek "Hi" 0',
+        [HI],
+    ),
+    # refusals, a protected resource, and a file that is closed
+    (
+        [b""],
+        "h = NewHandle 1 / LoadResource h / AddResource h 'TEXT' 1 / AddResource h 'TEXT' 2 / SetResAttrs h 8 / GetResAttrs h / ChangedResource h / RemoveResource h / SetResAttrs h 0 / RemoveResource h / CloseResFile / GetResource 'TEXT' 1",
+        ".. / 2 LoadResource -192 / 3 AddResource 0 / 4 AddResource -194 / 5 SetResAttrs 0 / 6 GetResAttrs 10 0 / 7 ChangedResource -198 / 8 RemoveResource -196 / 9 SetResAttrs 0 / 10 RemoveResource 0 / 11 CloseResFile 0 / 12 GetResource -193",
+        [286],
+    ),
+    # a resource that isn't loaded until LoadResource does
+    (
+        [HI],
+        "SetResLoad 0 / h = GetResource 'TEXT' 128 / GetHandleSize h / LoadResource h / GetHandleSize h / GetResInfo h / GetIndResource 'TEXT' 1 / GetIndResource 'TEXT' 2",
+        "1 SetResLoad 0 / 2 GetResource $0010003C 0 / 3 GetHandleSize -109 / 4 LoadResource 0 / 5 GetHandleSize 2 0 / 6 GetResInfo 128 'TEXT' none 0 / 7 GetIndResource $0010003C 0 / 8 GetIndResource -192",
+        [HI],
+    ),
+    # what is told of a resource, and one that is written alone
+    (
+        [b""],
+        "h = NewHandle 2 / Poke h 0 \"Hi\" / AddResource h 'TEXT' 128 \"n\" / UniqueID 'TEXT' / CountTypes / GetIndType 1 / GetIndType 2 / ReleaseResource h / WriteResource h / GetResInfo h / SizeResource h / ReleaseResource h / GetHandleSize h / ResError / k = GetResource 'TEXT' 128 / Peek k 0 2",
+        ".. / 4 UniqueID 129 0 / 5 CountTypes 1 0 / 6 GetIndType 'TEXT' 0 / 7 GetIndType -192 / 8 ReleaseResource 0 / 9 WriteResource 0 / 10 GetResInfo 128 'TEXT' \"n\" 0 / 11 SizeResource 2 0 / 12 ReleaseResource 0 / 13 GetHandleSize -111 / 14 ResError 0 0 / 15 GetResource $0010003C 0 / 16 Peek \"Hi\" 0",
+        [314],
+    ),
+    # a handle that is disposed of is forgotten
+    (
+        [HI],
+        "h = GetResource 'TEXT' 128 / DisposeHandle h / LoadResource h / k = GetResource 'TEXT' 128 / HGetState k",
+        ".. / 3 LoadResource -192 / 4 GetResource $0010003C 0 / 5 HGetState 32 0",
+        [HI],
+    ),
+    # more resources than a written fork can have
+    (
+        [many(5459)],
+        "CountResources 'TEXT' / UpdateResFile / CountResources 'TEXT'",
+        "1 CountResources 5459 0 / 2 UpdateResFile -34 / 3 CountResources 5459 0",
+        [many(5459)],
+    ),
+    # the handle that is loaded is protected, and an answer makes room
+    (
+        [HI],
+        "h = GetResource 'TEXT' 128 / EmptyHandle h / p = NewHandle 3772 / gz 1 DisposeHandle h; DisposeHandle p / LoadResource h / Peek h 0 2",
+        '.. / 5 LoadResource 0 /   gz 12 1 / 6 Peek "Hi" 0',
+        [HI],
+    ),
+    # a change is written, and the others keep their bytes
+    (
+        [AB],
+        "h = GetIndResource 'TEXT' 2 / SetHandleSize h 3 / Poke h 0 \"xyz\" / ChangedResource h / k = GetIndResource 'TEXT' 1 / Poke k 0 \"-\" / UpdateResFile",
+        "..",
+        [Holds([(b"TEXT", 5, None, 0, b"a"), (b"TEXT", 5, None, 0, b"xyz")])],
+    ),
+    # two files: resources are looked for from the current one back
+    (
+        [HI, b""],
+        "OpenResFile 2 / CurResFile / h = GetResource 'TEXT' 128 / Get1Resource 'TEXT' 128 / HomeResFile h / n = NewHandle 1 / AddResource n 'TEXT' 128 / Get1Resource 'TEXT' 128 / GetResource 'TEXT' 128 / UseResFile 1 / GetResource 'TEXT' 128 / UpdateResFile 2 / CloseResFile 2 / CurResFile / OpenResFile 3 / UseResFile 2",
+        "1 OpenResFile 2 0 / 2 CurResFile 2 0 / 3 GetResource $0010003C 0 / 4 Get1Resource -192 / 5 HomeResFile 1 0 / 6 NewHandle $00100040 0 / 7 AddResource 0 / 8 Get1Resource $00100040 0 / 9 GetResource $00100040 0 / 10 UseResFile 0 / 11 GetResource $0010003C 0 / 12 UpdateResFile 0 / 13 CloseResFile 0 / 14 CurResFile 1 0 / 15 OpenResFile -43 / 16 UseResFile -193",
+        [HI, 311],
+    ),
+]
+
+
+def is_left(wanted, left):
+    """Whether a file has what it should."""
+    if isinstance(wanted, Holds):
+        try:
+            rows = read_fork(left)
+        except NoFork:
+            return False
+        return [(it.kind, it.ident, it.name, it.attributes, it.data) for it in rows] == list(wanted)
+    return len(left) == wanted if isinstance(wanted, int) else left == wanted
+
+
+def main(program):
+    failed = 0
+    with tempfile.TemporaryDirectory() as folder:
+        for disks, script, printed, wanted in ROWS:
+            paths = [os.path.join(folder, f"file{index}") for index in range(len(disks))]
+            words = [program]
+            for path, disk in zip(paths, disks):
+                with open(path, "wb") as file:
+                    file.write(disk)
+                words += ["--fork", path]
+            ran = subprocess.run(words, input="\n".join(lines_of(script)), capture_output=True, text=True, check=False)
+            left = []
+            for path in paths:
+                with open(path, "rb") as file:
+                    left.append(file.read())
+            right = are_wanted(ran.stdout, printed.split(" / "))
+            if ran.returncode != 0 or not right or not all(map(is_left, wanted, left)):
+                failed += 1
+                print(f"{script}: status {ran.returncode}, {ran.stdout!r}, files of {[len(it) for it in left]} bytes")
+    print(f"scripts over resource files: {len(ROWS) - failed} as they should be, {failed} not")
+    return 1 if failed else 0
+
+
+if __name__ == "__main__":
+    if len(sys.argv) != 2 or not os.access(sys.argv[1], os.X_OK):
+        sys.exit("usage: tools/check_files.py PROGRAM")
+    sys.exit(main(os.path.realpath(sys.argv[1])))
