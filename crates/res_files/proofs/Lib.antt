@@ -11,3 +11,4 @@ pub mod TablesRead
 pub mod Opened
 pub mod Written
 pub mod Updated
+pub mod PlacedRows
