@@ -12,3 +12,4 @@ pub mod Opened
 pub mod Written
 pub mod Updated
 pub mod PlacedRows
+pub mod Rewritten

@@ -72,7 +72,7 @@ get-mapped g [] i = refl
 get-mapped g (x ∷ xs) zero = refl
 get-mapped g (x ∷ xs) (suc i) = get-mapped g xs i
 
-set-mapped : {X Y : Type 0} (g : X → Y) (xs : List X) (i : ℕ) (x : X) → set (map g xs) i (g x) ≡ map g (set xs i x)
+pub set-mapped : {X Y : Type 0} (g : X → Y) (xs : List X) (i : ℕ) (x : X) → set (map g xs) i (g x) ≡ map g (set xs i x)
 set-mapped g [] i x = refl
 set-mapped g (y ∷ ys) zero x = refl
 set-mapped g (y ∷ ys) (suc i) x = ap (λ (zs : List _). g y ∷ zs) (set-mapped g ys i x)

@@ -169,7 +169,7 @@ module _ {S : Type 0} (fork : S → List ℕ) (is_ready is_honest : S → Type 0
       by false deeper = (each.0, deeper)
 
 -- the same numbers are open
-any_changed : (n k : ℕ) (change : List (Row Place) → List (Row Place)) (files : List (OpenFile Place)) → list_any (is_numbered n) (changed_file k change files) ≡ list_any (is_numbered n) files
+pub any_changed : (n k : ℕ) (change : List (Row Place) → List (Row Place)) (files : List (OpenFile Place)) → list_any (is_numbered n) (changed_file k change files) ≡ list_any (is_numbered n) files
 any_changed n k change [] = refl
 any_changed n k change (f ∷ files) = by (is_numbered k f) (any_changed n k change files)
   where
@@ -178,7 +178,7 @@ any_changed n k change (f ∷ files) = by (is_numbered k f) (any_changed n k cha
     by true deeper = refl
     by false deeper = ap (λ b. is_numbered n f || b) deeper
 
-apart_changed : (k : ℕ) (change : List (Row Place) → List (Row Place)) (files : List (OpenFile Place)) → AreApart files → AreApart (changed_file k change files)
+pub apart_changed : (k : ℕ) (change : List (Row Place) → List (Row Place)) (files : List (OpenFile Place)) → AreApart files → AreApart (changed_file k change files)
 apart_changed k change [] apart = apart
 apart_changed k change (f ∷ files) apart = by (is_numbered k f) (apart_changed k change files apart.1)
   where

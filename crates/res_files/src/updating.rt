@@ -11,10 +11,26 @@ ghost use Rattle.res_files.specs.FilesOn.{fork_of, forks_with, NoneFailed, SomeF
 use crate::files::ResourceFiles;
 use crate::placing::place_rows;
 use fork_disk::store::{ForkStore, ReplaceFault};
+use fork_reader::place::Place;
+use res_table::chain::Chain;
 use res_update::contents::Contents;
 use res_update::fault::UpdateFault;
 use res_update::selection::Selection;
 use res_update::write_table;
+
+/// Whether the device failed behind the first write.
+fn is_later(fault: UpdateFault) -> bool
+    ensures { IsTrue result ↔ (fault ≡ UpdateFault.Device ReplaceFault.Later) }
+{
+    matches!(fault, UpdateFault::Device(ReplaceFault::Later))
+}
+
+/// Closes the file of a number.
+fn close_file(chain: &mut Chain<Place>, number: u8)
+    ensures { chain.new ≡ file_closed number chain.old }
+{
+    chain.close(number);
+}
 
 impl<S: ForkStore> ResourceFiles<S> {
     /// Writes the file of a number anew, which is open. The selected rows have the bytes of their handles then, and are no longer
@@ -58,8 +74,9 @@ impl<S: ForkStore> ResourceFiles<S> {
                 Ok(())
             }
             Err(fault) => {
-                if matches!(fault, UpdateFault::Device(ReplaceFault::Later)) {
-                    self.chain.close(number);
+                let later = is_later(fault);
+                if later {
+                    close_file(&mut self.chain, number);
                 }
                 Err(fault)
             }

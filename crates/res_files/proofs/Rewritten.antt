@@ -1,0 +1,315 @@
+-- The store of an open file is written anew: how the files stand then, and how they are seen.
+use Rattle.std.proofs.Common.{◌≡◌, refl, sym, ap, ◌∙◌, subst, arith, ℕ, zero, suc, ◌+◌, ◌-◌, ◌<◌, ◌≤◌, List, [], ◌∷◌, length, map, set, get_or, slice_get, unwrap_or, Bool, true, false, Option, None, Some, Result, Ok, Err, IfSome, All, IsTrue}
+use Rattle.std.specs.Prelude.{◌↔◌, ◌&&◌, IsFalse, IsErrOf, if◌then◌else◌}
+use Rattle.std.specs.List.{list_any, AllByRecursion}
+use Rattle.std.specs.Option.{option_map, option_map_or}
+use Rattle.std.proofs.lemmas.List.{length-set}
+use Rattle.std.proofs.lemmas.List.Elements.{All-cons, All-nil, All-head, All-tail}
+use Rattle.std.proofs.lemmas.Option.{slice_get-map, slice_get_read}
+use Rattle.mac_base.specs.HandleTable.{HandleTable}
+use Rattle.fork_bytes.specs.Fork.{max_rows}
+use Rattle.fork_bytes.specs.Written.{written}
+use Rattle.fork_disk.specs.Disk.{Rose}
+use Rattle.fork_disk.specs.declared.store.ReplaceFault.{ReplaceFault}
+use Rattle.fork_disk.specs.declared.store.ReplaceFault.TheVariants.{BeforeFirstWrite, Later}
+use Rattle.fork_reader.specs.declared.place.Place.{Place}
+use Rattle.res_table.specs.declared.row.Row.{Row}
+use Rattle.res_table.specs.declared.chain.ResourceTable.{ResourceTable}
+use Rattle.res_table.specs.declared.chain.OpenFile.{OpenFile}
+use Rattle.res_table.specs.Rows.{is_changed}
+use Rattle.res_table.specs.OpenFiles.{OpenFiles, is_numbered, is_open, table_of, changed_file, rows_changed, without, last_number, is_current, file_closed}
+use Rattle.res_calls.specs.Changes.{Files, FileRow, FileTable, rows_of, rows_in, saved_table}
+use Rattle.res_calls.specs.Tests.{is_lent_row}
+use Rattle.res_update.specs.declared.fault.UpdateFault.{UpdateFault}
+use Rattle.res_update.specs.declared.fault.UpdateFault.TheVariants.{TooBig, HostFull, Device}
+use Rattle.res_update.specs.declared.selection.Selection.{Selection}
+use Rattle.res_update.specs.declared.selection.Selection.TheVariants.{AllChanged, RowAt}
+use Rattle.res_update.specs.Drafts.{is_selected}
+use Rattle.res_update.specs.Placed.{bytes_on, rows_on, table_on, AreInside, IsInside, IsNear}
+use Rattle.res_update.specs.Selected.{updated, reads_lent, CountsUpdate}
+use Rattle.res_files.specs.FilesOn.{FilesOn, fork_of, forks_with}
+use Rattle.res_files.specs.Standing.{fork_at, file_on, files_on, AreSmall, Holds, StandsOn, StandOn}
+use Rattle.res_files.specs.Updating.{row_placed, rows_placed}
+use Rattle.res_files.proofs.Mapped.{mapped_row, mapped_rows, mapped_table, any-mapped, get-mapped, set-mapped, table-mapped, without-mapped, closed-mapped}
+use Rattle.res_files.proofs.On.{seen, bytes_in}
+use Rattle.res_files.proofs.Stands.{table_stands, stand_closed, any_changed, apart_changed}
+use Rattle.res_files.proofs.Stores.{stand_set}
+use Rattle.res_files.proofs.Updated.{all_placed, one_placed}
+use Rattle.res_files.proofs.Using.{mine}
+use Rattle.res_files.proofs.Written.{others_seen, one_seen, rest_seen, others_stand, one_stands, rest_stands}
+
+-- what is lent is told by handles and attributes
+lent-mapped : {D E : Type 0} (f : D → E) (t : HandleTable) (selection : Selection) (rows : List (Row D)) → reads_lent t selection (mapped_rows f rows) ≡ reads_lent t selection rows
+lent-mapped f t AllChanged rows = any-mapped (mapped_row f) (λ r. is_changed r && is_lent_row t r) (λ r. is_changed r && is_lent_row t r) (λ r. refl) rows
+lent-mapped {D} {E} f t (RowAt index) rows = ap (λ (found : Option (Row E)). option_map_or (is_lent_row t) found false) (get-mapped (mapped_row f) rows index) ∙ by (slice_get rows index)
+  where
+    by : (found : Option (Row D)) → option_map_or (is_lent_row t) (option_map (mapped_row f) found) false ≡ option_map_or (is_lent_row t) found false
+    by None = refl
+    by (Some r) = refl
+
+-- what was set is there
+get_set : {X : Type 0} (xs : List X) (i : ℕ) (y : X) → i < length xs → slice_get (set xs i y) i ≡ Some y
+get_set [] i y within = absurd (omega (arith, within))
+get_set (x ∷ xs) zero y within = refl
+get_set (x ∷ xs) (suc i) y within = get_set xs i y (omega (arith, within))
+
+-- rows at new places: as many, and what holds of the places holds of theirs
+long_placed : (selection : Selection) (at : ℕ) (rows : List (Row Place)) (places : List Place) → length (rows_placed selection at rows places) ≡ length rows
+long_placed selection at [] places = refl
+long_placed selection at (r ∷ rows) [] = refl
+long_placed selection at (r ∷ rows) (place ∷ places) = ap suc (long_placed selection (at + 1) rows places)
+
+all_at_places : (P : Place → Type 0) (selection : Selection) (at : ℕ) (rows : List (Row Place)) (places : List Place) → length places ≡ length rows → All P places
+    → All (λ r. P r.resource.datum) (rows_placed selection at rows places)
+all_at_places P selection at [] places same all = All-nil (λ r. P r.resource.datum)
+all_at_places P selection at (r ∷ rows) [] same all = absurd (cc same)
+all_at_places P selection at (r ∷ rows) (place ∷ places) same all =
+    All-cons (λ r. P r.resource.datum) (row_placed (is_selected selection at r) place r) (rows_placed selection (at + 1) rows places) (All-head P place places all)
+    (all_at_places P selection (at + 1) rows places (omega (arith, same)) (All-tail P place places all))
+
+-- each number is 1 or more
+from_one : {S : Type 0} (fork : S → List ℕ) (is_ready is_honest : S → Type 0) (stores : List S) (files : List (OpenFile Place)) → AllByRecursion (StandsOn fork is_ready is_honest stores) files
+    → AllByRecursion (λ (f : OpenFile Place). 1 ≤ f.number) files
+from_one fork is_ready is_honest stores [] each = tt
+from_one fork is_ready is_honest stores (f ∷ files) each = (each.0.from_one, from_one fork is_ready is_honest stores files each.1)
+
+-- a fault of one result is that of another
+abbrev fault_or : {A E : Type 0} → Result A E → E → E
+fault_or (Ok x) e = e
+fault_or (Err f) e = f
+
+pub fault_as : {A B E : Type 0} (e f : E) → IsErrOf {T = A} {E = E} (Err e) f → IsErrOf {T = B} {E = E} (Err e) f
+fault_as {A} {B} {E} e f is = ap (λ (r : Result A E). let other : Result B E = Err (fault_or r f) in other) is
+
+-- a fault of the device was counted
+pub rose : {A B : Type 0} (before now : ℕ) (result : Result A UpdateFault) (fault : UpdateFault) (why : ReplaceFault) → result ≡ Err fault → CountsUpdate before now result
+    → IsErrOf {T = B} {E = UpdateFault} (Err fault) (Device why) → Rose before now
+rose {A} {B} before now result fault why result_is counts is =
+    let failed : result ≡ Err (Device why) = result_is ∙ ap (λ (s : Result B UpdateFault). let other : Result A UpdateFault = Err (fault_or s fault) in other) is in
+    subst (λ (s : Result A UpdateFault). CountsUpdate before now s) failed counts
+
+-- a file that isn't open has no table that is seen
+pub of_none : {S : Type 0} (fork : S → List ℕ) (chain : OpenFiles Place) (loads : Bool) (stores : List S) (now : FilesOn S) (view_is : seen fork chain loads stores ≡ now) (k : ℕ) → table_of k chain ≡ None
+    → (P : FileTable → Type 0) → IfSome (table_of k now.files) P
+of_none {S} fork chain loads stores now view_is k none P =
+    let is : table_of k now.files ≡ None =
+    ap (λ (v : FilesOn S). table_of k v.files) (sym view_is) ∙ table-mapped (bytes_in (map fork stores)) k chain.files ∙ ap (option_map (mapped_table (bytes_in (map fork stores) k))) none in
+    subst (λ (found : Option FileTable). IfSome found P) (sym is) tt
+
+module _ {S : Type 0} (fork : S → List ℕ) (is_ready is_honest : S → Type 0) (chain : OpenFiles Place) (loads : Bool) (stores : List S) (now : FilesOn S) (view_is : seen fork chain loads stores ≡ now)
+    (stand : StandOn fork is_ready is_honest stores chain) (k : ℕ) (table : ResourceTable Place) (here : table_of k chain ≡ Some table) where
+  stands : (1 ≤ k) × (k ≤ length stores) × AreSmall table.rows × IfSome (slice_get stores (k - 1)) (Holds fork is_ready is_honest table.rows)
+  stands = table_stands fork is_ready is_honest stores k chain table stand here
+
+  pub low : 1 ≤ k
+  low = stands.0
+
+  pub within : k - 1 < length stores
+  within = omega (arith, stands.0, stands.1)
+
+  pub small : AreSmall table.rows
+  small = stands.2
+
+  -- the rows that are seen are lent where these are
+  rows_are : rows_of k now.files ≡ mapped_rows (bytes_in (map fork stores) k) table.rows
+  rows_are =
+      ap (λ (v : FilesOn S). rows_of k v.files) (sym view_is)
+      ∙ ap (λ (found : Option FileTable). option_map_or rows_in found []) (table-mapped (bytes_in (map fork stores)) k chain.files ∙ ap (option_map (mapped_table (bytes_in (map fork stores) k))) here)
+
+  pub unlent : (t : HandleTable) (selection : Selection) → IsFalse (reads_lent t selection (rows_of k now.files)) → IsFalse (reads_lent t selection table.rows)
+  unlent t selection is = sym (lent-mapped (bytes_in (map fork stores) k) t selection table.rows) ∙ ap (reads_lent t selection) (sym rows_are) ∙ is
+
+  module _ (old : S) (value : old ≡ get_or stores (k - 1) old) where
+    at_old : slice_get stores (k - 1) ≡ Some old
+    at_old = slice_get_read stores (length stores) (k - 1) old refl within value
+
+    -- what holds of the store
+    pub held : is_honest old → is_ready old × AreInside (fork old) table.rows
+    held = subst (λ (found : Option S). IfSome found (Holds fork is_ready is_honest table.rows)) at_old stands.3
+
+    fork_there : fork_at (map fork stores) k ≡ fork old
+    fork_there = ap (λ (o : Option (List ℕ)). unwrap_or o []) (slice_get-map fork stores (k - 1) ∙ ap (option_map fork) at_old)
+
+    stores_are : now.stores ≡ stores
+    stores_are = ap (λ (v : FilesOn S). v.stores) (sym view_is)
+
+    fork_is : fork_of fork k now.stores ≡ fork old
+    fork_is = ap (λ (xs : List S). fork_of fork k xs) stores_are ∙ ap (λ (found : Option S). option_map_or fork found []) at_old
+
+    -- the table that is seen
+    seen_table : table_of k now.files ≡ Some (table_on (fork old) table)
+    seen_table =
+        ap (λ (v : FilesOn S). table_of k v.files) (sym view_is)
+        ∙ table-mapped (bytes_in (map fork stores)) k chain.files
+        ∙ ap (option_map (mapped_table (bytes_in (map fork stores) k))) here
+        ∙ ap (λ (bytes : List ℕ). Some (table_on bytes table)) fork_there
+
+    pub of_table : (P : FileTable → Type 0) → P (table_on (fork old) table) → IfSome (table_of k now.files) P
+    of_table P is = subst (λ (found : Option FileTable). IfSome found P) (sym seen_table) is
+
+    honest_here : All is_honest now.stores → is_honest old
+    honest_here = mine fork is_honest chain loads stores now view_is (k - 1) within old old value
+
+    -- when no fork holds the table
+    pub fits_ok : {A B : Type 0} (a : A) (b : B) (P : FileTable → Type 0) → (is_honest old → IsErrOf {T = A} {E = UpdateFault} (Ok a) TooBig ↔ P (table_on (fork old) table))
+        → All is_honest now.stores → IfSome (table_of k now.files) (λ shown. IsErrOf {T = B} {E = UpdateFault} (Ok b) TooBig ↔ P shown)
+    fits_ok {A} {B} a b P is honest =
+        of_table (λ shown. IsErrOf {T = B} {E = UpdateFault} (Ok b) TooBig ↔ P shown) ((λ e. absurd (cc e)), (λ p. absurd (cc ((is (honest_here honest)).1 p))))
+
+    pub fits_err : (A B : Type 0) (fault : UpdateFault) (P : FileTable → Type 0) → (is_honest old → IsErrOf {T = A} {E = UpdateFault} (Err fault) TooBig ↔ P (table_on (fork old) table))
+        → All is_honest now.stores → IfSome (table_of k now.files) (λ shown. IsErrOf {T = B} {E = UpdateFault} (Err fault) TooBig ↔ P shown)
+    fits_err A B fault P is honest =
+        let same = is (honest_here honest) in
+        of_table (λ shown. IsErrOf {T = B} {E = UpdateFault} (Err fault) TooBig ↔ P shown) ((λ e. same.0 (fault_as {A = B} {B = A} fault TooBig e)), (λ p. fault_as {A = A} {B = B} fault TooBig (same.1 p)))
+
+    module _ (new : S) where
+      abbrev forks' : List (List ℕ)
+      forks' = set (map fork stores) (k - 1) (fork new)
+
+      forks_set : map fork (set stores (k - 1) new) ≡ forks'
+      forks_set = sym (set-mapped fork stores (k - 1) new)
+
+      fork_set : fork_at forks' k ≡ fork new
+      fork_set = ap (λ (o : Option (List ℕ)). unwrap_or o []) (ap (λ (xs : List (List ℕ)). slice_get xs (k - 1)) (sym forks_set) ∙ slice_get-map fork (set stores (k - 1) new) (k - 1) ∙ ap (option_map fork) (get_set stores (k - 1) new within))
+
+      forks_seen : map fork (set stores (k - 1) new) ≡ forks_with fork k (fork new) now.stores
+      forks_seen = forks_set ∙ ap (λ (xs : List S). set (map fork xs) (k - 1) (fork new)) (sym stores_are)
+
+      -- the forks, once it is written
+      pub written_seen : (t : HandleTable) (selection : Selection) → (is_honest old → fork new ≡ written (saved_table (updated t selection (table_on (fork old) table))))
+          → All is_honest now.stores → IfSome (table_of k now.files) (λ shown. map fork (set stores (k - 1) new) ≡ forks_with fork k (written (saved_table (updated t selection shown))) now.stores)
+      written_seen t selection is honest =
+          of_table (λ shown. map fork (set stores (k - 1) new) ≡ forks_with fork k (written (saved_table (updated t selection shown))) now.stores)
+          (forks_seen ∙ ap (λ (bytes : List ℕ). forks_with fork k bytes now.stores) (is (honest_here honest)))
+
+      -- the rows at their places
+      placed_seen : (t : HandleTable) (selection : Selection) (places : List Place) → map (bytes_on (fork new)) places ≡ map (λ (r : FileRow). r.resource.datum) (updated t selection (table_on (fork old) table)).rows
+          → rows_on (fork new) (rows_placed selection 0 table.rows places) ≡ (updated t selection (table_on (fork old) table)).rows
+      placed_seen t AllChanged places is = all_placed t (fork old) (fork new) 0 table.rows places is
+      placed_seen t (RowAt index) places is =
+          let same : index ≡ 0 + index = omega arith in
+          ap (λ (i : ℕ). rows_on (fork new) (rows_placed (RowAt i) 0 table.rows places)) same ∙ one_placed t (fork old) (fork new) index 0 table.rows places is
+
+      pub rows_seen : (t : HandleTable) (selection : Selection) (places : List Place) (more : OpenFiles Place) → more ≡ rows_changed k (λ rows. rows_placed selection 0 rows places) chain
+          → (is_honest old → map (bytes_on (fork new)) places ≡ map (λ (r : FileRow). r.resource.datum) (updated t selection (table_on (fork old) table)).rows)
+          → All is_honest now.stores → IfSome (table_of k now.files) (λ shown. files_on (map fork (set stores (k - 1) new)) more ≡ rows_changed k (λ _. (updated t selection shown).rows) now.files)
+      rows_seen t selection places more more_is is honest =
+          let own : List (Row Place) → List (Row Place) = λ rows. rows_placed selection 0 rows places in
+          let rows = (updated t selection (table_on (fork old) table)).rows in
+          let mine_is : rows_on (fork_at forks' k) (own table.rows) ≡ rows = ap (λ (bytes : List ℕ). rows_on bytes (own table.rows)) fork_set ∙ placed_seen t selection places (is (honest_here honest)) in
+          of_table (λ shown. files_on (map fork (set stores (k - 1) new)) more ≡ rows_changed k (λ _. (updated t selection shown).rows) now.files)
+          (ap (files_on (map fork (set stores (k - 1) new))) more_is
+          ∙ ap (λ (all : List (List ℕ)). files_on all (rows_changed k own chain)) forks_set
+          ∙ ap (λ (files : List (OpenFile (List ℕ))). let all : Files = record { files = files; current = chain.current } in all)
+          (one_seen k low (map fork stores) (fork new) own rows chain.files (from_one fork is_ready is_honest stores chain.files stand.each) stand.apart
+          (subst (λ (found : Option (ResourceTable Place)). IfSome found (λ (table : ResourceTable Place). rows_on (fork_at forks' k) (own table.rows) ≡ rows)) (sym here) mine_is))
+          ∙ ap (λ (v : FilesOn S). rows_changed k (λ _. rows) v.files) view_is)
+
+      -- the others, once it is closed
+      closed_on : files_on forks' (file_closed k chain) ≡ files_on (map fork stores) (file_closed k chain)
+      closed_on = by (is_open k chain) refl
+        where
+          from : AllByRecursion (λ (f : OpenFile Place). 1 ≤ f.number) chain.files
+          from = from_one fork is_ready is_honest stores chain.files stand.each
+
+          current : Option ℕ
+          current = if is_current k chain then last_number (without k chain.files) else chain.current
+
+          by : (b : Bool) → is_open k chain ≡ b → files_on forks' (if b then record { files = without k chain.files; current = current } else chain)
+              ≡ files_on (map fork stores) (if b then record { files = without k chain.files; current = current } else chain)
+          by true open_now = ap (λ (files : List (OpenFile (List ℕ))). let all : Files = record { files = files; current = current } in all)
+              (rest_seen k low (map fork stores) (fork new) chain.files from stand.apart ∙ without-mapped (bytes_in (map fork stores)) k chain.files)
+          by false none = ap (λ (files : List (OpenFile (List ℕ))). let all : Files = record { files = files; current = chain.current } in all) (others_seen k low (map fork stores) (fork new) chain.files from none)
+
+      pub left_seen : (may_leave : List ℕ → List ℕ → List ℕ → Type 0) (t : HandleTable) (selection : Selection) (more : OpenFiles Place) → more ≡ file_closed k chain
+          → (is_honest old → may_leave (written (saved_table (updated t selection (table_on (fork old) table)))) (fork old) (fork new))
+          → All is_honest now.stores → IfSome (table_of k now.files) (λ shown. (left : List ℕ) × may_leave (written (saved_table (updated t selection shown))) (fork_of fork k now.stores) left
+          × (map fork (set stores (k - 1) new) ≡ forks_with fork k left now.stores) × (files_on (map fork (set stores (k - 1) new)) more ≡ file_closed k now.files))
+      left_seen may_leave t selection more more_is is honest =
+          let new_bytes = written (saved_table (updated t selection (table_on (fork old) table))) in
+          of_table (λ shown. (left : List ℕ) × may_leave (written (saved_table (updated t selection shown))) (fork_of fork k now.stores) left
+          × (map fork (set stores (k - 1) new) ≡ forks_with fork k left now.stores) × (files_on (map fork (set stores (k - 1) new)) more ≡ file_closed k now.files)) (
+            fork new,
+            subst (λ (bytes : List ℕ). may_leave new_bytes bytes (fork new)) (sym fork_is) (is (honest_here honest)),
+            forks_seen,
+            ap (files_on (map fork (set stores (k - 1) new))) more_is
+                ∙ ap (λ (all : List (List ℕ)). files_on all (file_closed k chain)) forks_set
+                ∙ closed_on
+                ∙ sym (closed-mapped (bytes_in (map fork stores)) k chain)
+                ∙ ap (λ (v : FilesOn S). file_closed k v.files) view_is,
+          )
+
+      -- the files stand, once it is written
+      pub stand_written : (same : is_honest old ↔ is_honest new) (selection : Selection) (places : List Place) (more : OpenFiles Place) → more ≡ rows_changed k (λ rows. rows_placed selection 0 rows places) chain
+          → length places ≡ length table.rows → All IsNear places → (is_honest old → All (IsInside (fork new)) places) → (is_honest old → is_ready new)
+          → StandOn fork is_ready is_honest (set stores (k - 1) new) more
+      stand_written same selection places more more_is long near inside ready = subst (StandOn fork is_ready is_honest (set stores (k - 1) new)) (sym more_is) whole
+        where
+          own : List (Row Place) → List (Row Place)
+          own rows = rows_placed selection 0 rows places
+
+          small_now : AreSmall (own table.rows)
+          small_now = record { few = subst (λ (n : ℕ). n ≤ max_rows) (sym (long_placed selection 0 table.rows places)) small.few; near = all_at_places IsNear selection 0 table.rows places long near }
+
+          holds_now : Holds fork is_ready is_honest (own table.rows) new
+          holds_now honest = let was = same.1 honest in (ready was, all_at_places (IsInside (fork new)) selection 0 table.rows places long (inside was))
+
+          still : (current : Option ℕ) → IfSome current (λ n. IsTrue (is_open n chain)) → IfSome current (λ n. IsTrue (is_open n (rows_changed k own chain)))
+          still None open_now = open_now
+          still (Some n) open_now = subst IsTrue (sym (any_changed n k own chain.files)) open_now
+
+          whole : StandOn fork is_ready is_honest (set stores (k - 1) new) (rows_changed k own chain)
+          whole = record {
+            few = subst (λ (n : ℕ). n ≤ 8) (sym (length-set stores (k - 1) new)) stand.few;
+            each = one_stands k low fork is_ready is_honest stores new own chain.files stand.apart
+                (subst (λ (found : Option (ResourceTable Place)). IfSome found (λ (table : ResourceTable Place). AreSmall (own table.rows) × Holds fork is_ready is_honest (own table.rows) new)) (sym here) (small_now, holds_now)) stand.each;
+            apart = apart_changed k own chain.files stand.apart;
+            current = still chain.current stand.current;
+          }
+
+      -- and once it is closed
+      pub stand_left : (more : OpenFiles Place) → more ≡ file_closed k chain → StandOn fork is_ready is_honest (set stores (k - 1) new) more
+      stand_left more more_is = subst (StandOn fork is_ready is_honest (set stores (k - 1) new)) (sym more_is) whole
+        where
+          before : StandOn fork is_ready is_honest stores (file_closed k chain)
+          before = stand_closed fork is_ready is_honest stores k chain stand
+
+          current : Option ℕ
+          current = if is_current k chain then last_number (without k chain.files) else chain.current
+
+          by : (b : Bool) → is_open k chain ≡ b → AllByRecursion (StandsOn fork is_ready is_honest (set stores (k - 1) new)) (if b then (let all : OpenFiles Place = record { files = without k chain.files; current = current } in all) else chain).files
+          by true open_now = rest_stands k low fork is_ready is_honest stores new chain.files stand.apart stand.each
+          by false none = others_stand k low fork is_ready is_honest stores new chain.files none stand.each
+
+          whole : StandOn fork is_ready is_honest (set stores (k - 1) new) (file_closed k chain)
+          whole = record {
+            few = subst (λ (n : ℕ). n ≤ 8) (sym (length-set stores (k - 1) new)) stand.few;
+            each = by (is_open k chain) refl;
+            apart = before.apart;
+            current = before.current;
+          }
+
+      -- and where nothing was written
+      pub stand_unwritten : {A : Type 0} (same : is_honest old ↔ is_honest new) (fault : UpdateFault) → (fault ≡ Device Later → ⊥)
+          → (IsErrOf {T = A} {E = UpdateFault} (Err fault) TooBig → new ≡ old) → (IsErrOf {T = A} {E = UpdateFault} (Err fault) HostFull → new ≡ old)
+          → (is_honest old → IsErrOf {T = A} {E = UpdateFault} (Err fault) (Device BeforeFirstWrite) → fork new ≡ fork old)
+          → (is_honest old → IsErrOf {T = A} {E = UpdateFault} (Err fault) (Device BeforeFirstWrite) → is_ready new)
+          → StandOn fork is_ready is_honest (set stores (k - 1) new) chain
+      stand_unwritten {A} same fault other untouched unasked before ready = by fault other untouched unasked before ready
+        where
+          kept : (is_honest old → (fork new ≡ fork old) × (is_ready old → is_ready new)) → StandOn fork is_ready is_honest (set stores (k - 1) new) chain
+          kept is = stand_set fork is_ready is_honest stores (k - 1) new old
+              (λ h. let was = same.1 h in (subst is_honest value was, (is was).0 ∙ ap fork value, λ then_ready. (is was).1 (subst is_ready (sym value) then_ready))) chain stand
+
+          the_same : new ≡ old → StandOn fork is_ready is_honest (set stores (k - 1) new) chain
+          the_same is = kept (λ h. (ap fork is, subst is_ready (sym is)))
+
+          by : (fault : UpdateFault) → (fault ≡ Device Later → ⊥)
+              → (IsErrOf {T = A} {E = UpdateFault} (Err fault) TooBig → new ≡ old) → (IsErrOf {T = A} {E = UpdateFault} (Err fault) HostFull → new ≡ old)
+              → (is_honest old → IsErrOf {T = A} {E = UpdateFault} (Err fault) (Device BeforeFirstWrite) → fork new ≡ fork old)
+              → (is_honest old → IsErrOf {T = A} {E = UpdateFault} (Err fault) (Device BeforeFirstWrite) → is_ready new)
+              → StandOn fork is_ready is_honest (set stores (k - 1) new) chain
+          by TooBig other untouched unasked before ready = the_same (untouched refl)
+          by HostFull other untouched unasked before ready = the_same (unasked refl)
+          by (Device BeforeFirstWrite) other untouched unasked before ready = kept (λ h. (before h refl, λ _. ready h refl))
+          by (Device Later) other untouched unasked before ready = absurd (other refl)

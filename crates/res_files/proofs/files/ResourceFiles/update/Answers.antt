@@ -1,0 +1,98 @@
+use Rattle.std.proofs.Common.{◌-◌, ◌∙◌, sym, ap, arith, List}
+use Rattle.std.specs.Prelude.{IsFalse}
+use Rattle.fork_disk.specs.declared.store.ReplaceFault.TheVariants.{BeforeFirstWrite, Later}
+use Rattle.fork_reader.specs.declared.place.Place.{Place}
+use Rattle.res_table.specs.OpenFiles.{rows_changed}
+use Rattle.res_calls.specs.Updates.{fits_fork}
+use Rattle.res_update.specs.Selected.{updated}
+use Rattle.res_update.specs.declared.fault.UpdateFault.TheVariants.{Device}
+use Rattle.res_files.specs.Updating.{rows_placed}
+use Rattle.res_files.proofs.Rewritten.{low, within, small, unlent, held, fits_ok, fits_err, written_seen, rows_seen, left_seen, stand_written, stand_left, stand_unwritten, of_none, fault_as, rose}
+use Rattle.res_files.proofs.Using.{same_files, same_forks, same_honest, none_failed, some_failed}
+use Rattle.res_files.proofs.files.ResourceFiles.update.Goals as goal
+
+pub returns-in_default-clause-rows : goal.returns-in_default-clause-rows
+returns-in_default-clause-rows g c = λ honest. of_none g.S.ForkStore.fork c.self.inside.chain c.self.inside.loads c.self.inside.stores.items c.args.self.now c.self.view_is c.args.number c.in_default.ensures.none _
+
+pub returns-in_default-clause-written : goal.returns-in_default-clause-written
+returns-in_default-clause-written g c = λ honest. of_none g.S.ForkStore.fork c.self.inside.chain c.self.inside.loads c.self.inside.stores.items c.args.self.now c.self.view_is c.args.number c.in_default.ensures.none _
+
+pub returns-in_default-clause-too_big : goal.returns-in_default-clause-too_big
+returns-in_default-clause-too_big g c = λ honest. of_none g.S.ForkStore.fork c.self.inside.chain c.self.inside.loads c.self.inside.stores.items c.args.self.now c.self.view_is c.args.number c.in_default.ensures.none _
+
+pub overflow_sub-number : goal.overflow_sub-number
+overflow_sub-number g c = low g.S.ForkStore.fork g.S.ForkStore.is_ready g.S.ForkStore.is_honest c.self.inside.chain c.self.inside.loads c.self.inside.stores.items c.args.self.now c.self.view_is c.self.invariant c.args.number c.in-Some.table.now c.in-Some.ensures.some
+
+pub index_mut-store-requires : goal.index_mut-store-requires
+index_mut-store-requires g c =
+    let inside = within g.S.ForkStore.fork g.S.ForkStore.is_ready g.S.ForkStore.is_honest c.self.inside.chain c.self.inside.loads c.self.inside.stores.items c.args.self.now c.self.view_is c.self.invariant c.args.number c.in-Some.table.now c.in-Some.ensures.some in
+    let ok = c.self.inside.stores.ok.0 in omega (arith, inside, ok)
+
+pub write_table-requires-clause-ready : goal.write_table-requires-clause-ready
+write_table-requires-clause-ready g c = λ honest. (held g.S.ForkStore.fork g.S.ForkStore.is_ready g.S.ForkStore.is_honest c.self.inside.chain c.self.inside.loads c.self.inside.stores.items c.args.self.now c.self.view_is c.self.invariant c.args.number c.in-Some.table.now c.in-Some.ensures.some c.index_mut-store.result.now c.index_mut-store.ensures.value honest).0
+
+pub write_table-requires-clause-inside : goal.write_table-requires-clause-inside
+write_table-requires-clause-inside g c = λ honest. (held g.S.ForkStore.fork g.S.ForkStore.is_ready g.S.ForkStore.is_honest c.self.inside.chain c.self.inside.loads c.self.inside.stores.items c.args.self.now c.self.view_is c.self.invariant c.args.number c.in-Some.table.now c.in-Some.ensures.some c.index_mut-store.result.now c.index_mut-store.ensures.value honest).1
+
+pub write_table-requires-clause-near : goal.write_table-requires-clause-near
+write_table-requires-clause-near g c = (small g.S.ForkStore.fork g.S.ForkStore.is_ready g.S.ForkStore.is_honest c.self.inside.chain c.self.inside.loads c.self.inside.stores.items c.args.self.now c.self.view_is c.self.invariant c.args.number c.in-Some.table.now c.in-Some.ensures.some).near
+
+pub write_table-requires-clause-few : goal.write_table-requires-clause-few
+write_table-requires-clause-few g c = (small g.S.ForkStore.fork g.S.ForkStore.is_ready g.S.ForkStore.is_honest c.self.inside.chain c.self.inside.loads c.self.inside.stores.items c.args.self.now c.self.view_is c.self.invariant c.args.number c.in-Some.table.now c.in-Some.ensures.some).few
+
+pub write_table-requires-clause-unlent : goal.write_table-requires-clause-unlent
+write_table-requires-clause-unlent g c = unlent g.S.ForkStore.fork g.S.ForkStore.is_ready g.S.ForkStore.is_honest c.self.inside.chain c.self.inside.loads c.self.inside.stores.items c.args.self.now c.self.view_is c.self.invariant c.args.number c.in-Some.table.now c.in-Some.ensures.some (g.C.Contents.table c.args.contents.now) c.args.selection c.requires.unlent
+
+pub invariant_of-self : goal.invariant_of-self
+invariant_of-self g c = stand_written g.S.ForkStore.fork g.S.ForkStore.is_ready g.S.ForkStore.is_honest c.self.inside.chain c.self.inside.loads c.self.inside.stores.items c.args.self.now c.self.view_is c.self.invariant c.args.number c.in-Some.table.now c.in-Some.ensures.some c.index_mut-store.result.now c.index_mut-store.ensures.value c.write_table.new.store c.in-Ok.ensures.honest c.args.selection c.in-Ok.places.items c.place_rows.new.chain (c.place_rows.ensures ∙ ap (λ (places : List Place). rows_changed c.args.number (λ rows. rows_placed c.args.selection 0 rows places) c.self.inside.chain) c.deref.ensures.value) c.in-Ok.ensures.each c.in-Ok.ensures.near c.in-Ok.ensures.inside c.in-Ok.ensures.ready
+
+pub returns-in-Ok-clause-rows : goal.returns-in-Ok-clause-rows
+returns-in-Ok-clause-rows g c = rows_seen g.S.ForkStore.fork g.S.ForkStore.is_ready g.S.ForkStore.is_honest c.self.inside.chain c.self.inside.loads c.self.inside.stores.items c.args.self.now c.self.view_is c.self.invariant c.args.number c.in-Some.table.now c.in-Some.ensures.some c.index_mut-store.result.now c.index_mut-store.ensures.value c.write_table.new.store (g.C.Contents.table c.args.contents.now) c.args.selection c.in-Ok.places.items c.place_rows.new.chain (c.place_rows.ensures ∙ ap (λ (places : List Place). rows_changed c.args.number (λ rows. rows_placed c.args.selection 0 rows places) c.self.inside.chain) c.deref.ensures.value) c.in-Ok.ensures.places
+
+pub returns-in-Ok-clause-written : goal.returns-in-Ok-clause-written
+returns-in-Ok-clause-written g c = written_seen g.S.ForkStore.fork g.S.ForkStore.is_ready g.S.ForkStore.is_honest c.self.inside.chain c.self.inside.loads c.self.inside.stores.items c.args.self.now c.self.view_is c.self.invariant c.args.number c.in-Some.table.now c.in-Some.ensures.some c.index_mut-store.result.now c.index_mut-store.ensures.value c.write_table.new.store (g.C.Contents.table c.args.contents.now) c.args.selection c.in-Ok.ensures.written
+
+pub returns-in-Ok-clause-too_big : goal.returns-in-Ok-clause-too_big
+returns-in-Ok-clause-too_big g c = fits_ok g.S.ForkStore.fork g.S.ForkStore.is_ready g.S.ForkStore.is_honest c.self.inside.chain c.self.inside.loads c.self.inside.stores.items c.args.self.now c.self.view_is c.self.invariant c.args.number c.in-Some.table.now c.in-Some.ensures.some c.index_mut-store.result.now c.index_mut-store.ensures.value c.in-Ok.places tt (λ shown. IsFalse (fits_fork (updated (g.C.Contents.table c.args.contents.now) c.args.selection shown))) c.in-Ok.ensures.too_big
+
+pub returns-in-Ok-clause-honest : goal.returns-in-Ok-clause-honest
+returns-in-Ok-clause-honest g c = same_honest g.S.ForkStore.fork g.S.ForkStore.is_honest c.self.inside.chain c.self.inside.loads c.self.inside.stores.items c.args.self.now c.self.view_is (c.args.number - 1) (within g.S.ForkStore.fork g.S.ForkStore.is_ready g.S.ForkStore.is_honest c.self.inside.chain c.self.inside.loads c.self.inside.stores.items c.args.self.now c.self.view_is c.self.invariant c.args.number c.in-Some.table.now c.in-Some.ensures.some) c.index_mut-store.result.now c.write_table.new.store c.index_mut-store.ensures.value c.in-Ok.ensures.honest
+
+pub returns-in-Ok-clause-none : goal.returns-in-Ok-clause-none
+returns-in-Ok-clause-none g c = none_failed g.S.ForkStore.fork g.S.ForkStore.is_honest c.self.inside.chain c.self.inside.loads c.self.inside.stores.items c.args.self.now c.self.view_is (c.args.number - 1) (within g.S.ForkStore.fork g.S.ForkStore.is_ready g.S.ForkStore.is_honest c.self.inside.chain c.self.inside.loads c.self.inside.stores.items c.args.self.now c.self.view_is c.self.invariant c.args.number c.in-Some.table.now c.in-Some.ensures.some) c.index_mut-store.result.now c.write_table.new.store c.index_mut-store.ensures.value g.S.ForkStore.failures c.in-Ok.ensures.cause
+
+pub invariant_of-self-then-later : goal.invariant_of-self-then-later
+invariant_of-self-then-later g c = stand_left g.S.ForkStore.fork g.S.ForkStore.is_ready g.S.ForkStore.is_honest c.self.inside.chain c.self.inside.loads c.self.inside.stores.items c.args.self.now c.self.view_is c.self.invariant c.args.number c.in-Some.table.now c.in-Some.ensures.some c.index_mut-store.result.now c.index_mut-store.ensures.value c.write_table.new.store c.close_file.new.chain c.close_file.ensures
+
+pub invariant_of-self-else-later : goal.invariant_of-self-else-later
+invariant_of-self-else-later g c =
+    stand_unwritten g.S.ForkStore.fork g.S.ForkStore.is_ready g.S.ForkStore.is_honest c.self.inside.chain c.self.inside.loads c.self.inside.stores.items c.args.self.now c.self.view_is c.self.invariant c.args.number c.in-Some.table.now c.in-Some.ensures.some c.index_mut-store.result.now c.index_mut-store.ensures.value c.write_table.new.store c.in-Err.ensures.honest c.in-Err.fault (λ is. absurd (cc (sym c.if-later.false ∙ c.is_later-later.ensures.1 is)))
+    c.in-Err.ensures.untouched c.in-Err.ensures.unasked c.in-Err.ensures.before c.in-Err.ensures.still
+
+pub returns-then-later-clause-too_big : goal.returns-then-later-clause-too_big
+returns-then-later-clause-too_big g c = fits_err g.S.ForkStore.fork g.S.ForkStore.is_ready g.S.ForkStore.is_honest c.self.inside.chain c.self.inside.loads c.self.inside.stores.items c.args.self.now c.self.view_is c.self.invariant c.args.number c.in-Some.table.now c.in-Some.ensures.some c.index_mut-store.result.now c.index_mut-store.ensures.value _ _ c.in-Err.fault (λ shown. IsFalse (fits_fork (updated (g.C.Contents.table c.args.contents.now) c.args.selection shown))) c.in-Err.ensures.too_big
+
+pub returns-then-later-clause-honest : goal.returns-then-later-clause-honest
+returns-then-later-clause-honest g c = same_honest g.S.ForkStore.fork g.S.ForkStore.is_honest c.self.inside.chain c.self.inside.loads c.self.inside.stores.items c.args.self.now c.self.view_is (c.args.number - 1) (within g.S.ForkStore.fork g.S.ForkStore.is_ready g.S.ForkStore.is_honest c.self.inside.chain c.self.inside.loads c.self.inside.stores.items c.args.self.now c.self.view_is c.self.invariant c.args.number c.in-Some.table.now c.in-Some.ensures.some) c.index_mut-store.result.now c.write_table.new.store c.index_mut-store.ensures.value c.in-Err.ensures.honest
+
+pub returns-else-later-clause-too_big : goal.returns-else-later-clause-too_big
+returns-else-later-clause-too_big g c = fits_err g.S.ForkStore.fork g.S.ForkStore.is_ready g.S.ForkStore.is_honest c.self.inside.chain c.self.inside.loads c.self.inside.stores.items c.args.self.now c.self.view_is c.self.invariant c.args.number c.in-Some.table.now c.in-Some.ensures.some c.index_mut-store.result.now c.index_mut-store.ensures.value _ _ c.in-Err.fault (λ shown. IsFalse (fits_fork (updated (g.C.Contents.table c.args.contents.now) c.args.selection shown))) c.in-Err.ensures.too_big
+
+pub returns-else-later-clause-honest : goal.returns-else-later-clause-honest
+returns-else-later-clause-honest g c = same_honest g.S.ForkStore.fork g.S.ForkStore.is_honest c.self.inside.chain c.self.inside.loads c.self.inside.stores.items c.args.self.now c.self.view_is (c.args.number - 1) (within g.S.ForkStore.fork g.S.ForkStore.is_ready g.S.ForkStore.is_honest c.self.inside.chain c.self.inside.loads c.self.inside.stores.items c.args.self.now c.self.view_is c.self.invariant c.args.number c.in-Some.table.now c.in-Some.ensures.some) c.index_mut-store.result.now c.write_table.new.store c.index_mut-store.ensures.value c.in-Err.ensures.honest
+
+pub returns-then-later-clause-later : goal.returns-then-later-clause-later
+returns-then-later-clause-later g c = λ honest is.
+    left_seen g.S.ForkStore.fork g.S.ForkStore.is_ready g.S.ForkStore.is_honest c.self.inside.chain c.self.inside.loads c.self.inside.stores.items c.args.self.now c.self.view_is c.self.invariant c.args.number c.in-Some.table.now c.in-Some.ensures.some c.index_mut-store.result.now c.index_mut-store.ensures.value c.write_table.new.store g.S.ForkStore.may_leave (g.C.Contents.table c.args.contents.now) c.args.selection c.close_file.new.chain c.close_file.ensures (λ here. c.in-Err.ensures.left here (fault_as c.in-Err.fault (Device Later) is)) honest
+
+pub returns-then-later-clause-cause_later : goal.returns-then-later-clause-cause_later
+returns-then-later-clause-cause_later g c = λ is. some_failed g.S.ForkStore.fork g.S.ForkStore.is_honest c.self.inside.chain c.self.inside.loads c.self.inside.stores.items c.args.self.now c.self.view_is (c.args.number - 1) (within g.S.ForkStore.fork g.S.ForkStore.is_ready g.S.ForkStore.is_honest c.self.inside.chain c.self.inside.loads c.self.inside.stores.items c.args.self.now c.self.view_is c.self.invariant c.args.number c.in-Some.table.now c.in-Some.ensures.some) c.index_mut-store.result.now c.write_table.new.store c.index_mut-store.ensures.value g.S.ForkStore.failures (rose _ _ c.write_table.result c.in-Err.fault Later c.in-Err.is c.write_table.ensures.cause is)
+
+pub returns-else-later-clause-cause : goal.returns-else-later-clause-cause
+returns-else-later-clause-cause g c = λ is. some_failed g.S.ForkStore.fork g.S.ForkStore.is_honest c.self.inside.chain c.self.inside.loads c.self.inside.stores.items c.args.self.now c.self.view_is (c.args.number - 1) (within g.S.ForkStore.fork g.S.ForkStore.is_ready g.S.ForkStore.is_honest c.self.inside.chain c.self.inside.loads c.self.inside.stores.items c.args.self.now c.self.view_is c.self.invariant c.args.number c.in-Some.table.now c.in-Some.ensures.some) c.index_mut-store.result.now c.write_table.new.store c.index_mut-store.ensures.value g.S.ForkStore.failures (rose _ _ c.write_table.result c.in-Err.fault BeforeFirstWrite c.in-Err.is c.write_table.ensures.cause is)
+
+pub returns-else-later-clause-before : goal.returns-else-later-clause-before
+returns-else-later-clause-before g c = λ honest is. (
+  same_files g.S.ForkStore.fork g.S.ForkStore.is_honest c.self.inside.chain c.self.inside.loads c.self.inside.stores.items c.args.self.now c.self.view_is (c.args.number - 1) (within g.S.ForkStore.fork g.S.ForkStore.is_ready g.S.ForkStore.is_honest c.self.inside.chain c.self.inside.loads c.self.inside.stores.items c.args.self.now c.self.view_is c.self.invariant c.args.number c.in-Some.table.now c.in-Some.ensures.some) c.index_mut-store.result.now c.write_table.new.store c.index_mut-store.ensures.value (λ here. c.in-Err.ensures.before here (fault_as c.in-Err.fault (Device BeforeFirstWrite) is)) honest,
+  same_forks g.S.ForkStore.fork g.S.ForkStore.is_honest c.self.inside.chain c.self.inside.loads c.self.inside.stores.items c.args.self.now c.self.view_is (c.args.number - 1) (within g.S.ForkStore.fork g.S.ForkStore.is_ready g.S.ForkStore.is_honest c.self.inside.chain c.self.inside.loads c.self.inside.stores.items c.args.self.now c.self.view_is c.self.invariant c.args.number c.in-Some.table.now c.in-Some.ensures.some) c.index_mut-store.result.now c.write_table.new.store c.index_mut-store.ensures.value (λ here. c.in-Err.ensures.before here (fault_as c.in-Err.fault (Device BeforeFirstWrite) is)) honest,
+)
