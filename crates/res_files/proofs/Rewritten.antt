@@ -1,13 +1,14 @@
 -- The store of an open file is written anew: how the files stand then, and how they are seen.
 use Rattle.std.proofs.Common.{◌≡◌, refl, sym, ap, ◌∙◌, subst, arith, ℕ, zero, suc, ◌+◌, ◌-◌, ◌<◌, ◌≤◌, List, [], ◌∷◌, length, map, set, get_or, slice_get, unwrap_or, Bool, true, false, Option, None, Some, Result, Ok, Err, IfSome, All, IsTrue}
 use Rattle.std.specs.Prelude.{◌↔◌, ◌&&◌, IsFalse, IsErrOf, if◌then◌else◌}
-use Rattle.std.specs.List.{list_any, AllByRecursion}
+use Rattle.std.specs.List.{AllByRecursion}
 use Rattle.std.specs.Option.{option_map, option_map_or}
 use Rattle.std.proofs.lemmas.List.{length-set}
 use Rattle.std.proofs.lemmas.List.Elements.{All-cons, All-nil, All-head, All-tail}
 use Rattle.std.proofs.lemmas.Option.{slice_get-map, slice_get_read}
 use Rattle.mac_base.specs.HandleTable.{HandleTable}
-use Rattle.fork_bytes.specs.Fork.{max_rows}
+use Rattle.fork_bytes.specs.Fork.{max_rows, StandsFor}
+use Rattle.fork_bytes.specs.Laws.{IsGrouped}
 use Rattle.fork_bytes.specs.Written.{written}
 use Rattle.fork_disk.specs.Disk.{Rose}
 use Rattle.fork_disk.specs.declared.store.ReplaceFault.{ReplaceFault}
@@ -17,7 +18,7 @@ use Rattle.res_table.specs.declared.row.Row.{Row}
 use Rattle.res_table.specs.declared.chain.ResourceTable.{ResourceTable}
 use Rattle.res_table.specs.declared.chain.OpenFile.{OpenFile}
 use Rattle.res_table.specs.Rows.{is_changed}
-use Rattle.res_table.specs.OpenFiles.{OpenFiles, is_numbered, is_open, table_of, changed_file, rows_changed, without, last_number, is_current, file_closed}
+use Rattle.res_table.specs.OpenFiles.{OpenFiles, is_open, table_of, rows_changed, without, last_number, is_current, file_closed}
 use Rattle.res_calls.specs.Changes.{Files, FileRow, FileTable, rows_of, rows_in, saved_table}
 use Rattle.res_calls.specs.Tests.{is_lent_row}
 use Rattle.res_update.specs.declared.fault.UpdateFault.{UpdateFault}
@@ -28,7 +29,7 @@ use Rattle.res_update.specs.Drafts.{is_selected}
 use Rattle.res_update.specs.Placed.{bytes_on, rows_on, table_on, AreInside, IsInside, IsNear}
 use Rattle.res_update.specs.Selected.{updated, reads_lent, CountsUpdate}
 use Rattle.res_files.specs.FilesOn.{FilesOn, fork_of, forks_with}
-use Rattle.res_files.specs.Standing.{fork_at, file_on, files_on, AreSmall, Holds, StandsOn, StandOn}
+use Rattle.res_files.specs.Standing.{fork_at, files_on, AreSmall, Holds, StandsOn, StandOn}
 use Rattle.res_files.specs.Updating.{row_placed, rows_placed}
 use Rattle.res_files.proofs.Mapped.{mapped_row, mapped_rows, mapped_table, any-mapped, get-mapped, set-mapped, table-mapped, without-mapped, closed-mapped}
 use Rattle.res_files.proofs.On.{seen, bytes_in}
@@ -181,6 +182,17 @@ module _ {S : Type 0} (fork : S → List ℕ) (is_ready is_honest : S → Type 0
       written_seen t selection is honest =
           of_table (λ shown. map fork (set stores (k - 1) new) ≡ forks_with fork k (written (saved_table (updated t selection shown))) now.stores)
           (forks_seen ∙ ap (λ (bytes : List ℕ). forks_with fork k bytes now.stores) (is (honest_here honest)))
+
+      -- and what it stands for
+      pub stands_seen : (t : HandleTable) (selection : Selection)
+          → (is_honest old → IsGrouped (saved_table (updated t selection (table_on (fork old) table))).rows → StandsFor (fork new) (saved_table (updated t selection (table_on (fork old) table))))
+          → All is_honest now.stores → IfSome (table_of k now.files) (λ shown. IsGrouped (saved_table (updated t selection shown)).rows
+          → StandsFor (fork_of fork k (set stores (k - 1) new)) (saved_table (updated t selection shown)))
+      stands_seen t selection is honest =
+          let saved = saved_table (updated t selection (table_on (fork old) table)) in
+          let new_is : fork_of fork k (set stores (k - 1) new) ≡ fork new = ap (λ (found : Option S). option_map_or fork found []) (get_set stores (k - 1) new within) in
+          of_table (λ shown. IsGrouped (saved_table (updated t selection shown)).rows → StandsFor (fork_of fork k (set stores (k - 1) new)) (saved_table (updated t selection shown)))
+          (λ grouped. subst (λ (bytes : List ℕ). StandsFor bytes saved) (sym new_is) (is (honest_here honest) grouped))
 
       -- the rows at their places
       placed_seen : (t : HandleTable) (selection : Selection) (places : List Place) → map (bytes_on (fork new)) places ≡ map (λ (r : FileRow). r.resource.datum) (updated t selection (table_on (fork old) table)).rows

@@ -4,3 +4,4 @@ pub mod Shaping
 pub mod Placing
 pub mod Measuring
 pub mod Listing
+pub mod ReadAgain

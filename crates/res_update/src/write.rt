@@ -1,8 +1,9 @@
 //! A table is written over the fork of which it was read.
 
 ghost use Rattle.std.specs.Prelude.{◌≡◌, ◌≤◌, ◌↔◌, length, map, All, IsTrue, IsFalse, OnOk, IfOk, IsErrOf};
-ghost use Rattle.fork_bytes.specs.Fork.{max_fork, max_rows};
-ghost use Rattle.fork_bytes.specs.Written.{written};
+ghost use Rattle.fork_bytes.specs.Fork.{max_fork, max_rows, StandsFor};
+ghost use Rattle.fork_bytes.specs.Laws.{AreBytes, IsGrouped, IsTable};
+ghost use Rattle.fork_bytes.specs.Written.{written, Fits};
 ghost use Rattle.res_calls.specs.Changes.{saved_table};
 ghost use Rattle.res_calls.specs.Updates.{fits_fork};
 ghost use Rattle.res_update.specs.Drafts.{draft_table, new_places, kept_ranges};
@@ -15,7 +16,7 @@ use crate::fault::UpdateFault;
 use crate::ranges::{kept_ranges, new_places};
 use crate::selection::Selection;
 use crate::sizes::fits;
-use fork_bytes::write_fork;
+use fork_bytes::{fork_laws, write_fork};
 use fork_disk::store::{ForkStore, ReplaceFault};
 use fork_disk::update::{Kept, update};
 use fork_reader::place::Place;
@@ -32,7 +33,14 @@ struct Draft {
     places: Vec<Place>,
 }
 
-/// Makes the draft of an update.
+/// What bytes are by their type. It computes nothing.
+fn known_bytes(bytes: &[u8])
+    ensures { AreBytes bytes.now }
+{
+    let _bytes = bytes;
+}
+
+/// Makes the draft of an update. What its table is comes with it.
 fn make_draft<C: Contents>(
     alloc: Global,
     table: &ResourceTable<Place>,
@@ -43,6 +51,9 @@ fn make_draft<C: Contents>(
     ensures fork { IfOk result (λ draft. draft.fork.items ≡ written (draft_table (C.table handles.now) selection table.now)) }
     ensures extra { IfOk result (λ _. length table.now.extra ≡ 240) }
     ensures small { IfOk result (λ draft. length draft.fork.items ≤ max_fork) }
+    ensures fits { IfOk result (λ _. Fits (draft_table (C.table handles.now) selection table.now)) }
+    ensures table { IfOk result (λ _. IsGrouped (draft_table (C.table handles.now) selection table.now).rows
+        → IsTable (draft_table (C.table handles.now) selection table.now)) }
     ensures places { IfOk result (λ draft. draft.places.items ≡ new_places 256 (draft_table (C.table handles.now) selection table.now).rows) }
     ensures kept { IfOk result (λ draft. draft.kept.items ≡ kept_ranges selection 0 table.now.rows draft.places.items) }
 {
@@ -50,6 +61,8 @@ fn make_draft<C: Contents>(
     let Ok(fork) = write_fork(alloc, &saved) else {
         return Err(HostFull);
     };
+    fork_laws();
+    known_bytes(&fork);
     let places = new_places(alloc, saved.rows.as_slice())?;
     let kept = kept_ranges(alloc, &table.rows, selection, &places)?;
     Ok(Draft { fork, kept, places })
@@ -57,7 +70,8 @@ fn make_draft<C: Contents>(
 
 /// Writes the fork of a table in which the selected rows have the bytes of their handles and all others those at their places in the
 /// old fork, and answers where the bytes of each row stand then. All that the new fork keeps is read before the first write. TooBig
-/// comes exactly where no fork holds the table, and HostFull where the host has no memory for it; the device is not asked then.
+/// comes exactly where no fork holds the table, and HostFull where the host has no memory for it; the device is not asked then. Where
+/// the rows of each type stand together, the new fork stands for the table: it is read as it.
 pub fn write_table<S: ForkStore, C: Contents>(
     alloc: Global,
     store: &mut S,
@@ -72,6 +86,9 @@ pub fn write_table<S: ForkStore, C: Contents>(
     requires unlent { IsFalse (reads_lent (C.table contents.now) selection table.now.rows) }
     ensures written { S.is_honest store.old → OnOk result
         (S.fork store.new ≡ written (saved_table (updated (C.table contents.now) selection (table_on (S.fork store.old) table.now)))) }
+    ensures stands { S.is_honest store.old → OnOk result
+        (IsGrouped (saved_table (updated (C.table contents.now) selection (table_on (S.fork store.old) table.now))).rows
+        → StandsFor (S.fork store.new) (saved_table (updated (C.table contents.now) selection (table_on (S.fork store.old) table.now)))) }
     ensures places { S.is_honest store.old → IfOk result (λ places. map (bytes_on (S.fork store.new)) places.items
         ≡ map (λ r. r.resource.datum) (updated (C.table contents.now) selection (table_on (S.fork store.old) table.now)).rows) }
     ensures inside { S.is_honest store.old → IfOk result (λ places. All (IsInside (S.fork store.new)) places.items) }
@@ -96,6 +113,7 @@ pub fn write_table<S: ForkStore, C: Contents>(
     let Ok(mut draft) = make_draft(alloc, table, selection, contents) else {
         return Err(UpdateFault::HostFull);
     };
+    fork_laws();
     match update(store, &mut draft.fork, &draft.kept) {
         Ok(()) => Ok(draft.places),
         Err(fault) => Err(UpdateFault::Device(fault)),

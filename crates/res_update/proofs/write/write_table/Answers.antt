@@ -1,4 +1,4 @@
-use Rattle.std.proofs.Common.{◌≡◌, ◌∙◌, List, [], ℕ, Err, true, length, map, refl, sym, ap, subst, arith}
+use Rattle.std.proofs.Common.{◌≤◌, ◌≡◌, ◌∙◌, List, [], ℕ, Err, true, length, map, refl, sym, ap, subst, arith}
 use Rattle.std.specs.Prelude.{All, IsErrOf}
 use Rattle.fork_disk.specs.declared.store.ReplaceFault.{ReplaceFault}
 use Rattle.fork_disk.specs.declared.store.ReplaceFault.TheVariants.{Later}
@@ -8,6 +8,10 @@ use Rattle.res_update.specs.declared.fault.UpdateFault.TheVariants.{Device}
 use Rattle.res_update.specs.Placed.{table_on, bytes_on, IsInside}
 use Rattle.res_update.specs.Selected.{updated}
 use Rattle.res_update.proofs.Placing.{IsDraft, kept_within, places_near, places_each, fits_is, kept_found, gathered_is, places_read, places_within}
+use Rattle.fork_bytes.specs.Fork.{max_fork}
+use Rattle.fork_bytes.specs.Written.{written}
+use Rattle.res_update.specs.Drafts.{draft_table}
+use Rattle.res_update.proofs.ReadAgain.{stands_again}
 use Rattle.res_update.proofs.write.write_table.Goals as goal
 
 -- the device's fault in the answer is that of the replacement
@@ -81,6 +85,20 @@ returns-in-Ok-update-clause-written g c =
       kept_are = c.deref.ensures.value ∙ c.in-Ok.ensures.kept;
     } in
     λ honest. (c.in-Ok-update.ensures.replaced honest ∙ gathered_is t s table c.deref_mut.result.now c.in-Ok.draft.places.items c.deref.result.now old (c.requires.inside honest) is)
+
+pub returns-in-Ok-update-clause-stands : goal.returns-in-Ok-update-clause-stands
+returns-in-Ok-update-clause-stands g c =
+    let t = g.C.Contents.table c.args.contents.now in let s = c.args.selection in let table = c.args.table.now in let old = g.S.ForkStore.fork c.args.store.now in
+    let long = ap (λ (xs : List ℕ). length xs) c.deref_mut.ensures.value in let low = c.in-Ok.ensures.small in
+    let is : IsDraft (g.C.Contents.table c.args.contents.now) c.args.selection c.args.table.now c.deref_mut.result.now c.in-Ok.draft.places.items c.deref.result.now = record {
+      extra = c.in-Ok.ensures.extra;
+      bytes_are = c.deref_mut.ensures.value ∙ c.in-Ok.ensures.fork;
+      small = omega arith;
+      places_are = c.in-Ok.ensures.places;
+      kept_are = c.deref.ensures.value ∙ c.in-Ok.ensures.kept;
+    } in
+    let fits_fork_small : length (written (draft_table t s table)) ≤ max_fork = subst (λ (xs : List ℕ). length xs ≤ max_fork) c.in-Ok.ensures.fork c.in-Ok.ensures.small in
+    λ honest. stands_again t s table old (c.requires.inside honest) c.fork_laws.ensures.read_again c.in-Ok.ensures.table c.in-Ok.ensures.fits fits_fork_small (g.S.ForkStore.fork c.update.new.store) (c.in-Ok-update.ensures.replaced honest ∙ gathered_is t s table c.deref_mut.result.now c.in-Ok.draft.places.items c.deref.result.now old (c.requires.inside honest) is)
 
 pub returns-in-Ok-update-clause-places : goal.returns-in-Ok-update-clause-places
 returns-in-Ok-update-clause-places g c =

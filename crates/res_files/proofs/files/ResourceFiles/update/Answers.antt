@@ -7,7 +7,7 @@ use Rattle.res_calls.specs.Updates.{fits_fork}
 use Rattle.res_update.specs.Selected.{updated}
 use Rattle.res_update.specs.declared.fault.UpdateFault.TheVariants.{Device}
 use Rattle.res_files.specs.Updating.{rows_placed}
-use Rattle.res_files.proofs.Rewritten.{low, within, small, unlent, held, fits_ok, fits_err, written_seen, rows_seen, left_seen, stand_written, stand_left, stand_unwritten, of_none, fault_as, rose}
+use Rattle.res_files.proofs.Rewritten.{low, within, small, unlent, held, fits_ok, fits_err, written_seen, stands_seen, rows_seen, left_seen, stand_written, stand_left, stand_unwritten, of_none, fault_as, rose}
 use Rattle.res_files.proofs.Using.{same_files, same_forks, same_honest, none_failed, some_failed}
 use Rattle.res_files.proofs.files.ResourceFiles.update.Goals as goal
 
@@ -16,6 +16,9 @@ returns-in_default-clause-rows g c = λ honest. of_none g.S.ForkStore.fork c.sel
 
 pub returns-in_default-clause-written : goal.returns-in_default-clause-written
 returns-in_default-clause-written g c = λ honest. of_none g.S.ForkStore.fork c.self.inside.chain c.self.inside.loads c.self.inside.stores.items c.args.self.now c.self.view_is c.args.number c.in_default.ensures.none _
+
+pub returns-in_default-clause-stands : goal.returns-in_default-clause-stands
+returns-in_default-clause-stands g c = λ honest. of_none g.S.ForkStore.fork c.self.inside.chain c.self.inside.loads c.self.inside.stores.items c.args.self.now c.self.view_is c.args.number c.in_default.ensures.none _
 
 pub returns-in_default-clause-too_big : goal.returns-in_default-clause-too_big
 returns-in_default-clause-too_big g c = λ honest. of_none g.S.ForkStore.fork c.self.inside.chain c.self.inside.loads c.self.inside.stores.items c.args.self.now c.self.view_is c.args.number c.in_default.ensures.none _
@@ -51,6 +54,9 @@ returns-in-Ok-clause-rows g c = rows_seen g.S.ForkStore.fork g.S.ForkStore.is_re
 
 pub returns-in-Ok-clause-written : goal.returns-in-Ok-clause-written
 returns-in-Ok-clause-written g c = written_seen g.S.ForkStore.fork g.S.ForkStore.is_ready g.S.ForkStore.is_honest c.self.inside.chain c.self.inside.loads c.self.inside.stores.items c.args.self.now c.self.view_is c.self.invariant c.args.number c.in-Some.table.now c.in-Some.ensures.some c.index_mut-store.result.now c.index_mut-store.ensures.value c.write_table.new.store (g.C.Contents.table c.args.contents.now) c.args.selection c.in-Ok.ensures.written
+
+pub returns-in-Ok-clause-stands : goal.returns-in-Ok-clause-stands
+returns-in-Ok-clause-stands g c = stands_seen g.S.ForkStore.fork g.S.ForkStore.is_ready g.S.ForkStore.is_honest c.self.inside.chain c.self.inside.loads c.self.inside.stores.items c.args.self.now c.self.view_is c.self.invariant c.args.number c.in-Some.table.now c.in-Some.ensures.some c.index_mut-store.result.now c.index_mut-store.ensures.value c.write_table.new.store (g.C.Contents.table c.args.contents.now) c.args.selection c.in-Ok.ensures.stands
 
 pub returns-in-Ok-clause-too_big : goal.returns-in-Ok-clause-too_big
 returns-in-Ok-clause-too_big g c = fits_ok g.S.ForkStore.fork g.S.ForkStore.is_ready g.S.ForkStore.is_honest c.self.inside.chain c.self.inside.loads c.self.inside.stores.items c.args.self.now c.self.view_is c.self.invariant c.args.number c.in-Some.table.now c.in-Some.ensures.some c.index_mut-store.result.now c.index_mut-store.ensures.value c.in-Ok.places tt (λ shown. IsFalse (fits_fork (updated (g.C.Contents.table c.args.contents.now) c.args.selection shown))) c.in-Ok.ensures.too_big
