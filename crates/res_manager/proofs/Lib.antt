@@ -14,4 +14,4 @@ pub mod States
 pub mod Stepping
 pub mod UpdatingCalls
 pub mod WritingFiles
-pub mod Getting
+pub mod GettingRows

@@ -5,7 +5,7 @@ use Rattle.mac_base.specs.Heap.{with_emptied}
 use Rattle.mac_base.specs.Releasing.{heap_released}
 use Rattle.mac_base.specs.declared.releasing.ReleasingCall.TheVariants.{DisposesHandle}
 use Rattle.res_files.specs.FilesOn.{FilesOn}
-use Rattle.res_manager.proofs.Getting.{IsGot, some-holds, long_then, loaded_then, refuses, faults, attaches}
+use Rattle.res_manager.proofs.GettingRows.{IsGot, some-holds, long_then, loaded_then, refuses, faults, attaches}
 use Rattle.res_manager.proofs.load.get_row.Goals as goal
 use Rattle.res_manager.proofs.load.get_row.Goals.{in-Some+else-serves, in_default, then-loads+in_ok-load_bytes, else-loads}
 
