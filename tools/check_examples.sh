@@ -7,8 +7,8 @@
 # The comment lines at the head of a script may have a line '# macheap WORDS' with the options that the program is to
 # be given (none: no options), and a line '# exit status N' (none: 0).
 #
-# It runs in a folder of its own. A file that a word '--fork FILE' names is there as a copy of examples/FILE, if there is one, and
-# else missing. What the files are then is compared with examples/NAME.forks: a file is as it was, or it is shown by
+# A file that two words '--fork FILE' name stands in a folder of the run's own: as a copy of examples/FILE, if there is one, and else it
+# is missing. What the files are then is compared with examples/NAME.forks: a file is as it was, or it is shown by
 # tools/show_forks.py. A comment line '# FILE becomes OTHER' says that FILE has the bytes of examples/OTHER then.
 set -uo pipefail
 
@@ -38,16 +38,6 @@ failed=0
 fail() {
     echo "examples/$1: $2"
     failed=$((failed + 1))
-}
-
-# forks_of WORD..: the files that the words name
-forks_of() {
-    while [ $# -gt 1 ]; do
-        if [ "$1" = --fork ]; then
-            echo "$2"
-        fi
-        shift
-    done
 }
 
 # left_forks FILE..: what the files of the run's folder are now
@@ -86,9 +76,17 @@ check_script() {
             return 1
             ;;
     esac
-    local words=() forks=()
+    local words=() forks=() given=() word before=
     read -r -a words <<<"$(printf '%s\n' "$head" | sed -n 's/^# macheap //p')"
-    mapfile -t forks < <(forks_of ${words[@]+"${words[@]}"})
+    for word in ${words[@]+"${words[@]}"}; do
+        if [ "$before" = --fork ]; then
+            forks+=("$word")
+            given+=("$folder/run/$word")
+        else
+            given+=("$word")
+        fi
+        before=$word
+    done
     wanted=$(printf '%s\n' "$head" | sed -n 's/^# exit status //p')
     wanted=${wanted:-0}
 
@@ -99,7 +97,7 @@ check_script() {
             cp "$fork" "$folder/run" || exit 2
         fi
     done
-    (cd "$folder/run" && exec "$program" ${words[@]+"${words[@]}"}) <"$script" >"$folder/output" 2>"$folder/messages"
+    "$program" ${given[@]+"${given[@]}"} <"$script" >"$folder/output" 2>"$folder/messages"
     status=$?
     if [ "$status" != "$wanted" ]; then
         fail "$script" "the exit status is $status, and not $wanted"

@@ -4,7 +4,7 @@
     tools/check_words.py PROGRAM
 
 Each row below is one run of the program, on a script of one ZoneMap, in a folder of its own that has a file `old` of three bytes, which
-are no fork, and an empty folder `folder`. What files the folder has behind the run is compared, too.
+are no fork, and an empty folder `folder`. Where a row has a `@`, the program is given that folder. What files it has behind the run is compared, too.
 """
 import os
 import subprocess
@@ -32,7 +32,7 @@ ZONES = [
     ("--mode=32 --zone=1024", 1048576, 1024, 268),
 ]
 
-HELP = ["--help", "-h", "--fork new --help"]
+HELP = ["--help", "-h", "--fork @/new --help"]
 
 # words that don't match the options
 NO_WORDS = [
@@ -43,11 +43,11 @@ NO_WORDS = [
     "--limit",
     "--zone -4096",
     "--fork",
-    "--fork new --fork",
+    "--fork @/new --fork",
     "--fork -a",
     "--forks new",
-    "--fork new script",
-    "--fork new --zone 4096 --zone 4096",
+    "--fork @/new script",
+    "--fork @/new --zone 4096 --zone 4096",
     "script",
     "-z 4096",
     "--mode 24 --mode 32",
@@ -67,8 +67,8 @@ NO_NUMBERS = [
     ("--mode=", "mode"),
     ("--mode=-32", "mode"),
     ("--base a --mode b", "base"),
-    ("--fork new --zone a", "zone"),
-    ("--base a --fork folder", "base"),
+    ("--fork @/new --zone a", "zone"),
+    ("--base a --fork @/folder", "base"),
 ]
 
 # words that give this mode, and there is no such mode
@@ -76,7 +76,7 @@ NO_MODES = [
     ("--mode 0", 0),
     ("--mode 31", 31),
     ("--zone 1022 --mode 64", 64),
-    ("--fork folder --mode 0", 0),
+    ("--fork @/folder --mode 0", 0),
 ]
 
 # words that give numbers, and why there is no such zone
@@ -92,40 +92,40 @@ NO_ZONES = [
     ("--base 4098", "a zone begins at a multiple of 4, and 4098 is none"),
     ("--mode 32 --base 16773124", "a zone ends at 16777216 or below: at 16773124 its limit can't be 4096"),
     ("--base 16773124", "a zone ends at 16777216 or below: at 16773124 its limit can't be 4096"),
-    ("--fork new --zone 1020", "a zone has 1024 bytes at least, and 1020 are too few"),
+    ("--fork @/new --zone 1020", "a zone has 1024 bytes at least, and 1020 are too few"),
 ]
 
 # words that name files, and the files that are made
 FORKS = [
-    ("--fork new", ["new"]),
-    ("--fork=new", ["new"]),
-    ("--fork folder/new", ["folder/new"]),
-    ("--fork new --mode 24 --fork=other", ["new", "other"]),
-    ("--fork new --fork new", ["new"]),
-    ("--fork new --fork old", ["new"]),
-    ("--fork a --fork b --fork c --fork d --fork e --fork f --fork g --fork h", list("abcdefgh")),
+    ("--fork @/new", ["new"]),
+    ("--fork=@/new", ["new"]),
+    ("--fork @/folder/new", ["folder/new"]),
+    ("--fork @/new --mode 24 --fork=@/other", ["new", "other"]),
+    ("--fork @/new --fork @/new", ["new"]),
+    ("--fork @/new --fork @/old", ["new"]),
+    ("--fork @/a --fork @/b --fork @/c --fork @/d --fork @/e --fork @/f --fork @/g --fork @/h", list("abcdefgh")),
 ]
 
 # words whose first file is there and is no fork: opening it is refused before the first line
-NO_FORKS = ["--fork old", "--fork=old --zone 4096"]
+NO_FORKS = ["--fork @/old", "--fork=@/old --zone 4096"]
 
 # words of which a file can't be opened, and the files that are made: those before it
 CANNOT_OPEN = [
-    ("--fork folder", []),
+    ("--fork @/folder", []),
     ("--fork=", []),
-    ("--fork missing/new", []),
-    ("--fork old/new", []),
-    ("--fork folder --fork new", []),
-    ("--fork new --fork folder", ["new"]),
-    ("--fork folder --zone 1024 --mode 32", []),
+    ("--fork @/missing/new", []),
+    ("--fork @/old/new", []),
+    ("--fork @/folder --fork @/new", []),
+    ("--fork @/new --fork @/folder", ["new"]),
+    ("--fork @/folder --zone 1024 --mode 32", []),
 ]
 
 # words with more files than a run may have, which is told before what is wrong with numbers
 TOO_MANY = [
-    "--fork a" + " --fork b" * 8,
-    "--fork folder" + " --fork=folder" * 8,
-    "--fork new" + " --fork new" * 19,
-    "--zone a --mode 0" + " --fork a" * 9,
+    "--fork @/a" + " --fork @/b" * 8,
+    "--fork @/folder" + " --fork=@/folder" * 8,
+    "--fork @/new" + " --fork @/new" * 19,
+    "--zone a --mode 0" + " --fork @/a" * 9,
 ]
 
 NO_NUMBER = "error: --{} takes decimal digits for a number up to 4294967295; see 'macheap --help'\n"
@@ -166,7 +166,8 @@ def run(program, words):
         script.write(SCRIPT)
         script.flush()
         os.lseek(script.fileno(), 0, os.SEEK_SET)
-        ran = subprocess.run([program, *words.split()], stdin=script, capture_output=True, text=True, check=False, cwd=folder)
+        words = words.replace("@", folder).split()
+        ran = subprocess.run([program, *words], stdin=script, capture_output=True, text=True, check=False)
         return ran, os.lseek(script.fileno(), 0, os.SEEK_CUR), files_in(folder)
 
 
