@@ -17,7 +17,7 @@ import tempfile
 
 HERE = os.path.dirname(os.path.abspath(__file__))
 ZONE = 1048576
-COUNT, LENGTH = 500, 1460
+COUNT, LENGTH = 500, 1458
 # how often the plain program does its work, and how many updates a script makes
 TURNS = 100
 UPDATES = 10
