@@ -137,8 +137,8 @@ def calls(bench):
         ("GetResource", OPENED, table, lambda _: ["SetResLoad 0"], lambda it: numbered(it, "GetResource 'TEXT' {0}")),
         ("GetResource, again", OPENED, table, got, lambda it: numbered(it, "GetResource 'TEXT' {0}")),
         ("LoadResource", OPENED, table, got, lambda it: numbered(it, "LoadResource h{0}")),
-        ("GetResAttrs", OPENED, table, got, lambda it: numbered(it, "GetResAttrs h{0}")),
-        ("ChangedResource", OPENED, table, got, lambda it: numbered(it, "ChangedResource h{0}")),
+        ("GetResAttrs, four times", OPENED, table, got, lambda it: numbered(it, "GetResAttrs h{0}") * 4),
+        ("ChangedResource, four times", OPENED, table, got, lambda it: numbered(it, "ChangedResource h{0}") * 4),
         ("DisposeHandle", OPENED, table, got, lambda it: numbered(it, "DisposeHandle h{0}")),
         ("CloseResFile", WRITTEN, table, got, lambda _: ["CloseResFile"]),
     ]
