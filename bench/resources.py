@@ -147,7 +147,9 @@ def calls(bench):
         first = b"" if title == "opened" else None
         each = [bench.behind(fork(it), before(it), lines(it), first) * 1e9 / it for it in counts]
         shown = "".join(f" {taken:9.0f} ({it:4})" for taken, it in zip(each, counts))
-        print(f"{title:34}{shown} {100 * each[-1] / max(each[0], 1):7.0f}%", flush=True)
+        # where the first is lost in the noise there is no growth to tell
+        growth = f"{100 * each[-1] / each[0]:7.0f}%" if each[0] > 0 else f"{'-':>8}"
+        print(f"{title:34}{shown} {growth}", flush=True)
 
 
 def main():
