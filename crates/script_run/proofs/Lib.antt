@@ -1,3 +1,4 @@
 pub mod Ending
 pub mod Known
 pub mod Opening
+pub mod Starting
