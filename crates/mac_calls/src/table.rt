@@ -328,7 +328,12 @@ fn calls_of_length(length: usize) -> &'static [CallName]
     match length {
         4 => &[CallName::Poke, CallName::Peek, CallName::Lend],
         5 => &[CallName::HLock, CallName::Deref],
-        6 => &[CallName::NewPtr, CallName::HPurge, CallName::MaxMem, CallName::Return],
+        6 => &[
+            CallName::NewPtr,
+            CallName::HPurge,
+            CallName::MaxMem,
+            CallName::Return,
+        ],
         7 => &[
             CallName::HUnlock,
             CallName::MoveHHi,

@@ -109,8 +109,8 @@ opening_asks_nothing One MayLeave device old k asks end step = by_refusal (resou
 pub opening_gives : {S : Type 0} (store : Ghosts S) (old new : ToolState S) (k : ℕ) (asks : List Ask) (result : Result Outcome HostFull) → IfOk result (λ outcome. Gives store old (Resource (call.OpenResFile k)) asks outcome new) → IfOk result (λ outcome. Gives store old (Resource (call.OpenResFile k)) [] outcome new)
 opening_gives store old new k asks (Ok outcome) gives = (
   λ honest. (let given = gives.0 honest in
-    subst (λ (none : List Ask). ResourceGives store MayStep old (call.OpenResFile k) none outcome new)
-    (opening_asks_nothing MayStep store.may_leave given.0 (resource_state store old) k asks (record { outcome = outcome; state = resource_state store new }) given.1) given),
+      subst (λ (none : List Ask). ResourceGives store MayStep old (call.OpenResFile k) none outcome new)
+      (opening_asks_nothing MayStep store.may_leave given.0 (resource_state store old) k asks (record { outcome = outcome; state = resource_state store new }) given.1) given),
   gives.1,
   gives.2,
   gives.3,

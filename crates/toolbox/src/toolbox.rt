@@ -172,7 +172,11 @@ impl<S: ForkStore> Toolbox<S> {
         ensures late { OnErr result (WhereHonest S.ForkStore self.old (Resource call.now) (refusal_of S.ForkStore self.old (Resource call.now) ≡ None)) }
     {
         res_manager::make(
-            &mut self.files, &mut self.memory, self.alloc, call, procedure,
+            &mut self.files,
+            &mut self.memory,
+            self.alloc,
+            call,
+            procedure,
         )
     }
 

@@ -18,7 +18,7 @@ returns-in_err-forks g c =
     let words = map g.S.AsStr.text c.args.words.now in
     let found = forks_given command words c.in-Ok.matches c.get_strs.result _ (λ s. s.now) (λ v. v.now) c.in_ok-command.ensures c.in-Ok.ensures.matches c.get_strs.ensures refl in
     forks_asks words _ c.in_err-forks.field-0.0 c.from_residual-in_err-forks.ensures.1 c.in_err-forks.ensures.faults
-        (λ same. (matched command words c.in_ok-command.ensures c.in-Ok.ensures.kinds, subst (λ (n : ℕ). 8 < n) (sym (length-map _ _) ∙ ap length found) (c.in_err-forks.ensures.many same)))
+    (λ same. (matched command words c.in_ok-command.ensures c.in-Ok.ensures.kinds, subst (λ (n : ℕ). 8 < n) (sym (length-map _ _) ∙ ap length found) (c.in_err-forks.ensures.many same)))
 
 pub returns-in_err-zone : goal.returns-in_err-zone
 returns-in_err-zone g c =

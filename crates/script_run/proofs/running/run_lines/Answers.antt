@@ -28,8 +28,7 @@ loop-line-init g c =
 pub returns-in_default-run_line-clause-ends : goal.returns-in_default-run_line-clause-ends
 returns-in_default-run_line-clause-ends g c =
     let told = c.tell_no_memory-in_default-run_line.ensures.ends in
-    let i = c.loop-line.invariant in
-    (
+    let i = c.loop-line.invariant in (
       concat i.0 ++ told.0,
       Appends-then _ _ _ _ _ i.1 told.1,
       told_behind g.S.ForkStore c.args.machine.now c.args.lines.now (concat i.0) c.run_line.new.self _ told.0
