@@ -1,6 +1,8 @@
 //! Runs over resource files on disks of which each call fails in turn: a load, an update, and a file that is closed.
 
-use crate::forks::{check_printed, disk_of, hi, pair, run_over, shorter_pair, store_of};
+use crate::forks::{
+    check_printed, check_turn, disk_of, hi, pair, run_over, shorter_pair, store_of,
+};
 use std::alloc::Global;
 use std::process::Abort;
 use std::test::Fail;
@@ -20,6 +22,7 @@ pub(crate) fn check_fault(
     let ran = run_over(alloc, script, stores)?;
     check_printed(rt, &ran, script, output);
     assert_eq!(rt; disk_of(&ran, 0), after, "call {turn}");
+    check_turn(rt, &ran, 0, turn);
     Ok(())
 }
 
@@ -68,6 +71,24 @@ fn a_load_fails_in_turn(rt: HostRuntime) -> Result<(), Fail> {
     }
     check_fault(&rt, alloc, LOAD, (6, unloaded), hi(alloc)?, &fork)?;
     check_fault(&rt, alloc, LOAD, (7, whole), hi(alloc)?, &fork)
+}
+
+/// A call that gets a resource is refused where the load fails: the zone is as it was.
+fn check_unloaded(rt: &impl Abort, alloc: Global, call: &str) -> Result<(), Fail> {
+    let name = call.split(' ').next().unwrap_or("");
+    let script = format!(in alloc; "{call}\nResError\nMemError\nZoneMap\n")?;
+    let output = format!(in alloc;
+        "1 {name} -36\n2 ResError -36 0\n3 MemError 0 0\n4 ZoneMap 2 0\n  $00100034 264 master\n  $0010013C 3780 free\n"
+    )?;
+    let row = (6, output.as_str());
+    check_fault(rt, alloc, script.as_str(), row, hi(alloc)?, &hi(alloc)?)
+}
+
+#[test]
+fn each_call_that_gets_a_resource_tells_of_the_device(rt: HostRuntime) -> Result<(), Fail> {
+    check_unloaded(&rt, rt.alloc(), "GetResource 'TEXT' 128")?;
+    check_unloaded(&rt, rt.alloc(), "Get1Resource 'TEXT' 128")?;
+    check_unloaded(&rt, rt.alloc(), "GetIndResource 'TEXT' 1")
 }
 
 /// A handle that was emptied is loaded by the seventh call.

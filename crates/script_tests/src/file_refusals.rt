@@ -207,6 +207,86 @@ fn a_file_with_lent_blocks_may_be_written(rt: HostRuntime) -> Result<(), Fail> {
     check_run(&rt, alloc, LENT_WORKS, hi(alloc)?, &hi_and_zeros(alloc)?)
 }
 
+/// A lent handle is told of, marked, taken out and added again; it is written once it is returned.
+const LENT_ROW: (&str, &str) = (
+    "\
+h = GetResource 'TEXT' 128
+HLock h
+Lend h
+SizeResource h
+GetResInfo h
+HomeResFile h
+ChangedResource h
+SetResAttrs h 16
+GetResAttrs h
+UpdateResFile
+RemoveResource h
+CountResources 'TEXT'
+AddResource h 'TEXT' 128
+WriteResource h
+Return h
+WriteResource h
+GetResAttrs h
+HGetState h
+",
+    "\
+1 GetResource $0010003C 0
+2 HLock 0
+3 Lend 0
+4 SizeResource 2 0
+5 GetResInfo 128 'TEXT' none 0
+6 HomeResFile 1 0
+7 ChangedResource 0
+8 SetResAttrs 0
+9 GetResAttrs 18 0
+10 UpdateResFile -117
+11 RemoveResource 0
+12 CountResources 0 0
+13 AddResource 0
+14 WriteResource -117
+15 Return 0
+16 WriteResource 0
+17 GetResAttrs 0 0
+18 HGetState 160 0
+",
+);
+
+#[test]
+fn a_lent_resource_may_be_marked_removed_and_added(rt: HostRuntime) -> Result<(), Fail> {
+    let alloc = rt.alloc();
+    check_run(&rt, alloc, LENT_ROW, hi(alloc)?, &hi(alloc)?)
+}
+
+/// A lent handle is detached, and outlives its file.
+const LENT_DETACHED: (&str, &str) = (
+    "\
+h = GetResource 'TEXT' 128
+HLock h
+Lend h
+DetachResource h
+CloseResFile
+LentPeek h 0 2
+Return h
+HGetState h
+",
+    "\
+1 GetResource $0010003C 0
+2 HLock 0
+3 Lend 0
+4 DetachResource 0
+5 CloseResFile 0
+6 LentPeek \"Hi\" 0
+7 Return 0
+8 HGetState 128 0
+",
+);
+
+#[test]
+fn a_lent_handle_may_be_detached(rt: HostRuntime) -> Result<(), Fail> {
+    let alloc = rt.alloc();
+    check_run(&rt, alloc, LENT_DETACHED, hi(alloc)?, &hi(alloc)?)
+}
+
 /// More resources than a written fork can have, of which one, h, is changed. The handle n is no resource.
 const OVERFULL: Given = Given {
     lines: "\

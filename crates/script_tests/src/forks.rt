@@ -172,6 +172,22 @@ pub(crate) fn disk_of(ran: &Ran, index: usize) -> &[u8] {
     }
 }
 
+/// How many calls the disk of an index had in a run.
+pub(crate) fn calls_of(ran: &Ran, index: usize) -> u64 {
+    match ran.stores.get(index) {
+        Some(store) => store.disk.calls(),
+        None => 0,
+    }
+}
+
+/// The disk of an index had a call of this number in a run, or it is the number behind its last.
+pub(crate) fn check_turn(rt: &impl Abort, ran: &Ran, index: usize, turn: u64) {
+    assert!(rt;
+        calls_of(ran, index).saturating_add(1) >= turn,
+        "call {turn}"
+    );
+}
+
 /// A run of a script over one file finishes, prints this, and leaves these bytes on the disk.
 pub(crate) fn check_run(
     rt: &impl Abort,

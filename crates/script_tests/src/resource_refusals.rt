@@ -125,12 +125,18 @@ fn check_handle(rt: &impl Abort, alloc: Global, line: &str, handle: &str) -> Res
     check_refusal(rt, alloc, &fork, &PREPARED, (call.as_str(), code))
 }
 
+/// Such a call with each handle of none in the place of H.
+fn check_handles(rt: &impl Abort, alloc: Global, line: &str) -> Result<(), Fail> {
+    for handle in ["0", "4", "p", "n", "e"] {
+        check_handle(rt, alloc, line, handle)?;
+    }
+    Ok(())
+}
+
 #[test]
 fn handles_of_no_resource_are_refused(rt: HostRuntime) -> Result<(), Fail> {
     for line in NO_RESOURCE.lines() {
-        for handle in ["0", "4", "p", "n", "e"] {
-            check_handle(&rt, rt.alloc(), line, handle)?;
-        }
+        check_handles(&rt, rt.alloc(), line)?;
     }
     Ok(())
 }

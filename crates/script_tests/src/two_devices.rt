@@ -1,6 +1,6 @@
 //! Runs over two resource files, where each call of either disk fails in turn.
 
-use crate::forks::{check_printed, disk_of, hi, no, pair, run_over, store_of};
+use crate::forks::{check_printed, check_turn, disk_of, hi, no, pair, run_over, store_of};
 use std::alloc::Global;
 use std::process::Abort;
 use std::test::Fail;
@@ -203,6 +203,8 @@ fn check_turns(
     check_printed(rt, &ran, SCRIPT, output);
     assert_eq!(rt; disk_of(&ran, 0), after.0, "calls {turns:?}");
     assert_eq!(rt; disk_of(&ran, 1), after.1, "calls {turns:?}");
+    check_turn(rt, &ran, 0, first);
+    check_turn(rt, &ran, 1, second);
     Ok(())
 }
 
