@@ -1,5 +1,7 @@
 //! Runs of scripts that lend blocks, and of scripts on zones of 32-bit blocks.
 
+use fork_disk::MemDisk;
+use fork_disk::store::PlainStore;
 use mac_base::block::HeadKind;
 use mac_base::zone_spec::ZoneSpec;
 use script_run::{Counted, RunEnd, run};
@@ -25,7 +27,12 @@ fn check_run_in(
     let spec = ZoneSpec::with_kind(0x10_0000, 4096, 4096, heads)?;
     let mut reader = Counted::new(script.as_bytes());
     let mut writer = Counted::new(Vec::new(alloc));
-    let end = run(alloc, &mut reader, &mut writer, spec);
+    let mut stores = Vec::new(alloc);
+    stores.push(PlainStore {
+        disk: MemDisk::new(alloc),
+    })?;
+    let (end, stores) = run(alloc, &mut reader, &mut writer, spec, stores);
+    drop(stores);
     assert_eq!(rt; end, RunEnd::Finished, "{script}");
     assert_eq!(rt; writer.inner().as_slice(), output.as_bytes(), "{script}");
     Ok(())
@@ -261,7 +268,13 @@ fn end_on(alloc: Global, room: usize) -> Result<RunEnd, Fail> {
     let spec = ZoneSpec::new(0x10_0000, 4096, 4096)?;
     let mut reader = Counted::new(script.as_bytes());
     let mut writer = Counted::new(Strip { room });
-    Ok(run(alloc, &mut reader, &mut writer, spec))
+    let mut stores = Vec::new(alloc);
+    stores.push(PlainStore {
+        disk: MemDisk::new(alloc),
+    })?;
+    let (end, stores) = run(alloc, &mut reader, &mut writer, spec, stores);
+    drop(stores);
+    Ok(end)
 }
 
 #[test]

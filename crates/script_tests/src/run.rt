@@ -1,5 +1,7 @@
 //! Whole runs: what they write, and how they end.
 
+use fork_disk::MemDisk;
+use fork_disk::store::PlainStore;
 use mac_base::zone_spec::ZoneSpec;
 use script_run::{Counted, RunEnd, run, status};
 use std::alloc::Global;
@@ -101,12 +103,17 @@ struct Seen {
     lengths: Vec<usize>,
 }
 
-/// Runs what a reader gives on a zone of 4096 bytes at 1048576.
+/// Runs what a reader gives on a zone of 4096 bytes at 1048576, with a resource file in memory.
 fn run_on(alloc: Global, reader: Pieces<'_>, writer: Paper) -> Result<Seen, Fail> {
     let spec = ZoneSpec::new(0x10_0000, 4096, 4096)?;
     let mut reader = Counted::new(reader);
     let mut writer = Counted::new(writer);
-    let end = run(alloc, &mut reader, &mut writer, spec);
+    let mut stores = Vec::new(alloc);
+    stores.push(PlainStore {
+        disk: MemDisk::new(alloc),
+    })?;
+    let (end, stores) = run(alloc, &mut reader, &mut writer, spec, stores);
+    drop(stores);
     let failures = (reader.failures(), writer.failures());
     let paper = writer.into_inner();
     Ok(Seen {
