@@ -4,6 +4,7 @@ pub mod Forgetting
 pub mod GettingCalls
 pub mod Granting
 pub mod Handles
+pub mod Lent
 pub mod Noting
 pub mod OpenedFiles
 pub mod Placing

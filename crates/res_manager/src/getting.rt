@@ -32,6 +32,7 @@ pub(crate) fn get<S: ForkStore, G: GrowZone>(
         ResourceSteps S.fork S.failures S.may_leave memory.old files.old call.now (G.asks procedure.new) result memory.new files.new }
     ensures source { G.source procedure.new ≡ G.source procedure.old }
     ensures loans { KeepsLoans memory.old memory.new }
+    ensures lent { memory.new.heap.table.lent ≡ memory.old.heap.table.lent }
     ensures shape { memory.new.shape ≡ memory.old.shape }
     ensures honest { All S.is_honest files.old.stores ↔ All S.is_honest files.new.stores }
     ensures count { length files.new.stores ≡ length files.old.stores }

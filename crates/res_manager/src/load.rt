@@ -43,6 +43,7 @@ pub(crate) fn get_row<S: ForkStore, G: GrowZone>(
     ensures step { All S.is_honest files.old.stores → LoadSteps S.fork S.failures S.may_leave memory.old files.old place loads (G.asks procedure.new) result memory.new files.new }
     ensures source { G.source procedure.new ≡ G.source procedure.old }
     ensures loans { KeepsLoans memory.old memory.new }
+    ensures lent { memory.new.heap.table.lent ≡ memory.old.heap.table.lent }
     ensures shape { memory.new.shape ≡ memory.old.shape }
     ensures honest { All S.is_honest files.old.stores ↔ All S.is_honest files.new.stores }
     ensures count { length files.new.stores ≡ length files.old.stores }
@@ -179,6 +180,7 @@ fn load_bytes<S: ForkStore>(
     ensures code { IfErr result (λ code. code ≡ OsErr.IoErr) }
     ensures some { OnErr result (0 < size) }
     ensures loans { KeepsLoans memory.old memory.new }
+    ensures lent { memory.new.heap.table.lent ≡ memory.old.heap.table.lent }
     ensures shape { memory.new.shape ≡ memory.old.shape }
     ensures files { All S.is_honest files.old.stores → files.new.files ≡ files.old.files }
     ensures forks { All S.is_honest files.old.stores → map S.fork files.new.stores ≡ map S.fork files.old.stores }

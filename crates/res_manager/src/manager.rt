@@ -75,6 +75,7 @@ fn make_quiet<S: ForkStore>(
     requires passed { Passes (state_of S.fork memory.old files.old) (early_tests call.now) }
     ensures quiet { All S.is_honest files.old.stores → IfOk result (λ outcome. EndsQuietly S.fork memory.old files.old call.now outcome memory.new files.new) }
     ensures loans { KeepsLoans memory.old memory.new }
+    ensures lent { memory.new.heap.table.lent ≡ memory.old.heap.table.lent }
     ensures shape { memory.new.shape ≡ memory.old.shape }
     ensures stores { files.new.stores ≡ files.old.stores }
     ensures unchanged { OnErr result (memory.new ≡ memory.old) }

@@ -34,6 +34,7 @@ pub(crate) fn update<S: ForkStore>(
     ensures step { All S.is_honest files.old.stores → IfOk result (λ outcome.
         ResourceSteps S.fork S.failures S.may_leave memory.old files.old call.now [] outcome memory.new files.new) }
     ensures loans { KeepsLoans memory.old memory.new }
+    ensures lent { memory.new.heap.table.lent ≡ memory.old.heap.table.lent }
     ensures shape { memory.new.shape ≡ memory.old.shape }
     ensures honest { All S.is_honest files.old.stores ↔ All S.is_honest files.new.stores }
     ensures count { length files.new.stores ≡ length files.old.stores }
@@ -96,6 +97,7 @@ fn close<S: ForkStore>(
         → update_of number (updated memory.old.heap.table Selection.AllChanged) files.old.files ≡ Some u
         → WritesFile S.fork S.failures S.may_leave memory.old files.old (call.CloseResFile None) u outcome memory.new files.new) }
     ensures loans { KeepsLoans memory.old memory.new }
+    ensures lent { memory.new.heap.table.lent ≡ memory.old.heap.table.lent }
     ensures shape { memory.new.shape ≡ memory.old.shape }
     ensures honest { All S.is_honest files.old.stores ↔ All S.is_honest files.new.stores }
     ensures count { length files.new.stores ≡ length files.old.stores }

@@ -6,6 +6,7 @@ use Rattle.mac_base.specs.Releasing.{heap_released}
 use Rattle.mac_base.specs.declared.releasing.ReleasingCall.TheVariants.{DisposesHandle}
 use Rattle.res_files.specs.FilesOn.{FilesOn}
 use Rattle.res_manager.proofs.GettingRows.{IsGot, some-holds, long_then, loaded_then, refuses, faults, attaches}
+use Rattle.res_manager.proofs.Lent.{lent_placed}
 use Rattle.res_manager.proofs.load.get_row.Goals as goal
 use Rattle.res_manager.proofs.load.get_row.Goals.{in-Some+else-serves, in_default, then-loads+in_ok-load_bytes, else-loads}
 
@@ -81,3 +82,15 @@ returns-clause-loans g c = elim c.if-loads.branch [
   | then-loads+in_ok-load_bytes w ↦ rw w.memory-is (λ x loan held. w.load_bytes.ensures.loans x loan (c.make_place.ensures.loans x loan held))
   | else-loads w ↦ rw w.memory-is c.make_place.ensures.loans
 ]
+
+pub returns-in_err-handle-clause-lent : goal.returns-in_err-handle-clause-lent
+returns-in_err-handle-clause-lent g c = let step = c.make_place.ensures.step in lent_placed c.args.memory.now c.make_place.new.memory c.match-own.own c.unwrap-row.result.now.resource.datum.length c.args.loads (g.G.GrowZone.asks c.make_place.new.procedure) step.0 step.1
+
+pub returns-in_err-load_bytes-clause-lent : goal.returns-in_err-load_bytes-clause-lent
+returns-in_err-load_bytes-clause-lent g c = let step = c.make_place.ensures.step in c.load_bytes.ensures.lent ∙ lent_placed c.args.memory.now c.make_place.new.memory c.match-own.own c.unwrap-row.result.now.resource.datum.length c.args.loads (g.G.GrowZone.asks c.make_place.new.procedure) step.0 step.1
+
+pub returns-clause-lent : goal.returns-clause-lent
+returns-clause-lent g c =
+    let step = c.make_place.ensures.step in
+    let placed = lent_placed c.args.memory.now c.make_place.new.memory c.match-own.own c.unwrap-row.result.now.resource.datum.length c.args.loads (g.G.GrowZone.asks c.make_place.new.procedure) step.0 step.1 in
+    elim c.if-loads.branch [ then-loads+in_ok-load_bytes w ↦ rw w.memory-is (w.load_bytes.ensures.lent ∙ placed) | else-loads w ↦ rw w.memory-is placed ]
