@@ -6,4 +6,4 @@ use Rattle.res_manager.proofs.Lent.{lent_disposed}
 use Rattle.res_manager.proofs.updating.close.Goals as goal
 
 pub returns-clause-lent : goal.returns-clause-lent
-returns-clause-lent g c = ap (λ (heap : Heap). heap.table.lent) c.dispose_all.ensures.heap ∙ lent_disposed _ _ c.args.memory.now.heap
+returns-clause-lent g c = ap (λ (heap : Heap). heap.table.lent) c.dispose_all.ensures.heap ∙ lent_disposed c.args.memory.now.shape (handles_of (rows_of c.args.number c.write_file.new.files.files)) c.args.memory.now.heap
