@@ -8,15 +8,12 @@ use Rattle.std.proofs.lemmas.List.{append-nil}
 use Rattle.std.specs.Ordering.{nat_cmp}
 use Rattle.std.specs.FinMap.Entries.{by_order}
 use Rattle.std.proofs.lemmas.Bool.Decides.{nat_tests}
-use Rattle.mac_base.specs.declared.error.OsErr.{OsErr}
 use Rattle.mac_base.specs.HeadKind.{Shape}
-use Rattle.mac_base.specs.FlagState.{flags_from, state_locks}
-use Rattle.mac_base.specs.HandleTable.{HandleTable, Live, FullHandle, bytes_of, live_at, live_bytes, live_full, live_handle, is_lent, no_flags, refilled, with_bytes, with_live, with_flags, without, zeros}
-use Rattle.mac_base.specs.Heap.{Heap, with_table, with_emptied}
-use Rattle.mac_base.specs.Releasing.{heap_released}
-use Rattle.mac_base.specs.declared.releasing.ReleasingCall.TheVariants.{DisposesHandle}
+use Rattle.mac_base.specs.FlagState.{state_locks}
+use Rattle.mac_base.specs.HandleTable.{Live, FullHandle, bytes_of, live_at, live_bytes, is_lent, no_flags, refilled, with_bytes, with_live, zeros}
+use Rattle.mac_base.specs.Heap.{Heap, with_table}
 use Rattle.mac_calls.specs.declared.memory_call.MemoryCall.{MemoryCall}
-use Rattle.mac_calls.specs.declared.memory_call.MemoryCall.TheVariants.{DisposeHandle, EmptyHandle, HSetState}
+use Rattle.mac_calls.specs.declared.memory_call.MemoryCall.TheVariants.{HSetState}
 use Rattle.mac_calls.specs.Effect.{request_of, effect_of}
 use Rattle.mac_calls.specs.ExactStep.{IsExactStep, StepEnd, step_unless, step_asking, rearranged}
 use Rattle.mac_calls.specs.GrowZone.{Ask, answers_in}

@@ -1,5 +1,5 @@
 -- Handles that the rows forget, one behind another.
-use Rattle.std.proofs.Common.{◌≡◌, ℕ, zero, suc, Bool, true, false, cond, List, [], ◌∷◌, map, Option, Some, None, refl, ap, sym, ◌∙◌}
+use Rattle.std.proofs.Common.{◌≡◌, ℕ, zero, suc, true, false, List, [], ◌∷◌, map, Option, Some, None, refl, ap, ◌∙◌}
 use Rattle.std.specs.Prelude.{◌==◌, find, slice_get, option_map, option_and_then, if◌then◌else◌}
 use Rattle.res_base.specs.declared.resource.Resource.{Resource}
 use Rattle.res_table.specs.declared.chain.OpenFile.{OpenFile}

@@ -1,5 +1,5 @@
 -- The end of a load, by the call that made the place for the row's bytes and by what was read into it.
-use Rattle.std.proofs.Common.{◌≡◌, ℕ, ◌<◌, Bool, true, false, cond, List, [], length, map, All, IfSome, IsSome, Option, Some, None, Result, Ok, Err, IsFalse, refl, ap, sym, ◌∙◌, subst, arith}
+use Rattle.std.proofs.Common.{◌≡◌, ℕ, ◌<◌, Bool, true, false, List, length, map, IfSome, IsSome, Option, Some, None, Result, Ok, Err, refl, ap, sym, ◌∙◌, subst, arith}
 use Rattle.std.specs.Prelude.{◌==◌, ◌||◌, ◌&&◌, not, is_some, unwrap_or, if◌then◌else◌}
 use Rattle.std.proofs.lemmas.Bool.Decides.{nat_tests}
 use Rattle.mac_base.specs.declared.error.OsErr.{OsErr}
@@ -10,7 +10,6 @@ use Rattle.mac_base.specs.Heap.{Heap, with_emptied}
 use Rattle.mac_base.specs.Releasing.{heap_released}
 use Rattle.mac_base.specs.ZoneState.{ZoneState}
 use Rattle.mac_calls.specs.declared.resource_call.ResourceCall.{ResourceCall}
-use Rattle.mac_calls.specs.declared.reply.Results.{Results}
 use Rattle.mac_calls.specs.declared.reply.Results.TheVariants.{Handle}
 use Rattle.mac_calls.specs.GrowZone.{Ask}
 use Rattle.mac_calls.specs.Outcomes.{Outcome}
@@ -22,7 +21,7 @@ use Rattle.res_table.specs.Rows.{with_handle}
 use Rattle.res_calls.specs.Changes.{FileRow, handles_forgotten, row_changed}
 use Rattle.res_calls.specs.Device.{Device, Works as Working, FailsBefore}
 use Rattle.res_calls.specs.Files.{ResState, ResourceEnd, refused_with, with_heap, with_files}
-use Rattle.res_calls.specs.Loads.{loads_bytes, placing, loaded, unloaded, loaded_results, read_fails, load_end, placed_end, handle_made}
+use Rattle.res_calls.specs.Loads.{loads_bytes, placing, loaded, unloaded, loaded_results, read_fails, load_end, placed_end}
 use Rattle.res_calls.specs.Steps.{LeaveRelation, GetsPlace, behind_memory, disposed_in}
 use Rattle.res_files.specs.FilesOn.{FilesOn, SomeFailed}
 use Rattle.res_manager.specs.Loading.{LoadSteps, HasBytes, place_call, handle_placed}

@@ -1,11 +1,11 @@
 -- What a call of the Memory Manager leaves in the handle table whose request was served.
-use Rattle.std.proofs.Common.{◌≡◌, ℕ, ◌-◌, Bool, true, false, List, [], ◌∷◌, ◌++◌, length, Option, Some, None, Result, Ok, Err, MatchOption, refl, ap, sym, ◌∙◌, subst}
+use Rattle.std.proofs.Common.{◌≡◌, ℕ, ◌-◌, Bool, true, false, List, [], ◌∷◌, length, Option, Some, None, Ok, MatchOption, ◌∙◌, subst}
 use Rattle.std.specs.Prelude.{◌==◌, MatchBool, ◌&&◌}
 use Rattle.mac_base.specs.declared.error.OsErr.{OsErr}
 use Rattle.mac_base.specs.HeadKind.{Shape}
 use Rattle.mac_base.specs.HandleTable.{HandleTable}
 use Rattle.mac_base.specs.Heap.{Heap, table_granted, every_slot_live}
-use Rattle.mac_base.specs.Trial.{Serves, prepared_by}
+use Rattle.mac_base.specs.Trial.{prepared_by}
 use Rattle.mac_base.specs.declared.request.Request.{Request}
 use Rattle.mac_base.specs.Request.{makes_handle}
 use Rattle.mac_calls.specs.declared.memory_call.MemoryCall.{MemoryCall}

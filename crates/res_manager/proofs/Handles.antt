@@ -1,5 +1,5 @@
 -- The walk over the rows of a file that have handles.
-use Rattle.std.proofs.Common.{◌≡◌, ℕ, zero, suc, ◌+◌, ◌<◌, ◌≤◌, Bool, true, false, ◌||◌, List, [], ◌∷◌, ◌++◌, All, length, drop, filter_map, slice_get, Option, Some, None, option_map, option_and_then, map, refl, sym, ap, subst, ◌∙◌, add-one, arith, length-append, length-drop}
+use Rattle.std.proofs.Common.{◌≡◌, ℕ, zero, suc, ◌+◌, ◌<◌, ◌≤◌, Bool, true, false, ◌||◌, List, [], ◌∷◌, ◌++◌, All, length, drop, slice_get, Option, Some, None, option_and_then, refl, sym, ap, subst, ◌∙◌, add-one, arith, length-append, length-drop}
 use Rattle.std.specs.Prelude.{◌&&◌}
 use Rattle.std.specs.List.{list_any}
 use Rattle.std.specs.Option.{option_map_or}

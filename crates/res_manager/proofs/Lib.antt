@@ -8,7 +8,6 @@ pub mod Lent
 pub mod Noting
 pub mod OpenedFiles
 pub mod Placing
-pub mod QuietCalls
 pub mod Refusals
 pub mod RowUpdates
 pub mod States

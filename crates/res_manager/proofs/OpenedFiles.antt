@@ -1,16 +1,15 @@
 -- How opening a file ends.
-use Rattle.std.proofs.Common.{◌≡◌, ℕ, ◌-◌, List, [], map, slice_get, Option, Some, None, Result, Ok, Err, unwrap_or, option_map, refl, sym, ap, subst, ◌∙◌, ◌⊎◌, inl, inr}
+use Rattle.std.proofs.Common.{◌≡◌, ℕ, ◌-◌, List, [], map, slice_get, Option, Some, None, Ok, Err, unwrap_or, option_map, refl, sym, ap, subst, ◌∙◌, ◌⊎◌, inl, inr}
 use Rattle.std.specs.Option.{option_map_or}
 use Rattle.std.proofs.lemmas.Option.{slice_get-map}
 use Rattle.mac_base.specs.declared.error.OsErr.{OsErr}
 use Rattle.mac_base.specs.declared.error.OsErr.TheVariants.{IoErr}
 use Rattle.mac_base.specs.ZoneState.{ZoneState}
 use Rattle.mac_calls.specs.declared.reply.Results.TheVariants.{Number}
-use Rattle.res_calls.specs.Changes.{FileTable, Files}
+use Rattle.res_calls.specs.Changes.{FileTable}
 use Rattle.res_calls.specs.Device.{Disk, Reads, ReadsBy}
 use Rattle.res_calls.specs.Device as device
 use Rattle.res_calls.specs.Files.{ResState, disk_of}
-use Rattle.res_calls.specs.Steps.{opened_end}
 use Rattle.res_files.specs.FilesOn.{FilesOn, SomeFailed, fork_of}
 use Rattle.res_table.specs.OpenFiles.{file_opened}
 use Rattle.res_manager.specs.Ends.{OpensFile}

@@ -1,6 +1,6 @@
 -- The place for a row's bytes: what stands in the heap once it is made, and which handles serve as they are.
-use Rattle.std.proofs.Common.{◌≡◌, ℕ, ◌+◌, ◌≤◌, Bool, true, false, cond, eqb, List, [], Option, Some, None, Result, Ok, Err, refl, ap, sym, ◌∙◌, subst, arith}
-use Rattle.std.specs.Prelude.{◌==◌, ◌||◌, not, IfOk, is_ok}
+use Rattle.std.proofs.Common.{◌≡◌, ℕ, Bool, true, false, cond, List, [], Option, Some, None, Result, Ok, Err, refl, ap, sym, ◌∙◌, subst, arith}
+use Rattle.std.specs.Prelude.{◌==◌, ◌||◌, IfOk, is_ok}
 use Rattle.std.specs.Option.{option_or}
 use Rattle.std.specs.Result.{result_and}
 use Rattle.std.proofs.lemmas.Bool.{true≢false}
@@ -20,7 +20,7 @@ use Rattle.mac_calls.specs.declared.reply.Results.{Results}
 use Rattle.mac_calls.specs.declared.reply.Results.TheVariants.{Handle, Nothing}
 use Rattle.mac_calls.specs.GrowZone.{Ask}
 use Rattle.mac_calls.specs.MemoryStep.{MemoryStep, StepUnless}
-use Rattle.mac_calls.specs.Outcomes.{Outcome, done_outcome, handle_outcome, number_outcome}
+use Rattle.mac_calls.specs.Outcomes.{done_outcome, handle_outcome, number_outcome}
 use Rattle.mac_calls.specs.RequestRun.{RequestRun}
 use Rattle.mac_calls.specs.Tests.{refusal}
 use Rattle.zone_laws.proofs.SlotPlaces.{slots_at-above}

@@ -1,5 +1,5 @@
 -- A call is refused by its early tests, or else by that of what it writes.
-use Rattle.std.proofs.Common.{◌≡◌, ℕ, List, [], ◌∷◌, ◌++◌, Option, Some, None, refl, ap, ◌∙◌}
+use Rattle.std.proofs.Common.{◌≡◌, List, [], ◌∷◌, ◌++◌, Option, Some, None, refl, ap, ◌∙◌}
 use Rattle.std.specs.Option.{option_or}
 use Rattle.mac_base.specs.declared.error.OsErr.{OsErr}
 use Rattle.mac_calls.specs.declared.resource_call.ResourceCall.{ResourceCall}

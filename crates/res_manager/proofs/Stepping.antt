@@ -1,7 +1,6 @@
 -- Steps of calls that ask nothing.
-use Rattle.std.proofs.Common.{◌≡◌, ℕ, Bool, true, false, List, [], ◌∷◌, map, Option, Some, None, Result, Ok, Err, refl, sym, ap, subst, ◌∙◌}
+use Rattle.std.proofs.Common.{◌≡◌, ℕ, Bool, true, false, List, [], Option, Some, None, Result, Ok, Err, refl, sym, subst, ◌∙◌}
 use Rattle.std.specs.Prelude.{IfOk, IsFalse, MatchBool, if◌then◌else◌}
-use Rattle.std.specs.Option.{option_map_or}
 use Rattle.mac_base.specs.declared.error.OsErr.{OsErr}
 use Rattle.mac_base.specs.declared.error.OsErr.TheVariants.{DskFulErr}
 use Rattle.mac_base.specs.ZoneState.{ZoneState}
@@ -9,20 +8,19 @@ use Rattle.mac_calls.specs.declared.resource_call.ResourceCall.{ResourceCall}
 use Rattle.mac_calls.specs.declared.resource_call.ResourceCall.TheVariants as call
 use Rattle.mac_calls.specs.Outcomes.{Outcome}
 use Rattle.mac_calls.specs.Tests.{unless_passed}
-use Rattle.res_calls.specs.Changes.{FileTable}
 use Rattle.res_calls.specs.Device.{Device, ReadsBy, device_works}
 use Rattle.res_calls.specs.Device as device
 use Rattle.res_calls.specs.Files.{ResState, ResourceEnd, disk_of, refused_with}
 use Rattle.res_calls.specs.Steps.{LeaveRelation, LeavesDisk, StepsUnless, Work, Quiet, Opens, Updates, work_of, opened_end, updating}
 use Rattle.res_calls.specs.Steps as steps
 use Rattle.res_calls.specs.Tests.{resource_refusal, first_refused_for}
-use Rattle.res_calls.specs.Updates.{Update, fits_fork, can_be_made, update_end}
+use Rattle.res_calls.specs.Updates.{Update, fits_fork, update_end}
 use Rattle.res_files.specs.FilesOn.{FilesOn, SomeFailed}
 use Rattle.res_table.specs.OpenFiles.{is_open}
 use Rattle.res_manager.specs.Ends.{EndsQuietly, OpensFile, WritesFile}
 use Rattle.res_manager.specs.Steps.{Memory, ResourceSteps, state_of}
 use Rattle.res_manager.specs.Tests.{early_tests, late_tests}
-use Rattle.res_manager.proofs.Refusals.{refused-early, passed-early}
+use Rattle.res_manager.proofs.Refusals.{refused-early}
 
 -- what holds of what is given
 pub if_ok : {T E : Type 0} (P Q : T → Type 0) (result : Result T E) → ((x : T) → P x → Q x) → IfOk result P → IfOk result Q

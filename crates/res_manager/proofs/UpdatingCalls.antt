@@ -1,11 +1,10 @@
 -- Calls that write a file, by the update that they make.
-use Rattle.std.proofs.Common.{◌≡◌, ℕ, Bool, true, false, cond, not, ◌||◌, List, [], ◌∷◌, find, map, Option, Some, None, Result, Ok, Err, option_map, refl, sym, ap, subst, ◌∙◌}
-use Rattle.std.specs.Prelude.{IsTrue, OnErr, IfOk, ◌&&◌}
+use Rattle.std.proofs.Common.{◌≡◌, ℕ, Bool, true, false, cond, not, ◌||◌, List, [], ◌∷◌, find, Option, Some, None, Result, Ok, Err, option_map, refl, sym, ap, subst, ◌∙◌}
+use Rattle.std.specs.Prelude.{OnErr, ◌&&◌}
 use Rattle.std.specs.List.{list_any}
 use Rattle.std.specs.Option.{option_or, option_map_or}
-use Rattle.mac_base.specs.HandleTable.{HandleTable}
 use Rattle.mac_base.specs.declared.error.OsErr.{OsErr}
-use Rattle.mac_base.specs.declared.error.OsErr.TheVariants.{DskFulErr, MemLockedErr, ResFNotFound}
+use Rattle.mac_base.specs.declared.error.OsErr.TheVariants.{DskFulErr, MemLockedErr}
 use Rattle.mac_base.specs.ZoneState.{ZoneState}
 use Rattle.mac_calls.specs.declared.resource_call.ResourceCall.{ResourceCall}
 use Rattle.mac_calls.specs.declared.resource_call.ResourceCall.TheVariants.{WriteResource, UpdateResFile, CloseResFile}
@@ -13,13 +12,13 @@ use Rattle.mac_calls.specs.Outcomes.{Outcome}
 use Rattle.mac_calls.specs.Tests.{unless_passed}
 use Rattle.res_calls.specs.Changes.{FileRow, FileTable, Files, rows_of}
 use Rattle.res_calls.specs.Files.{ResState, file_named}
-use Rattle.res_calls.specs.Steps.{LeaveRelation, Work, Updates, updating, work_of}
+use Rattle.res_calls.specs.Steps.{LeaveRelation, Updates, updating, work_of}
 use Rattle.res_calls.specs.Tests.{resource_refusal, first_refused_for, refused_for, is_lent_row, rows_named, IsOpen, AllUnlent, HasFile}
 use Rattle.res_calls.specs.Updates.{Update, can_be_made, file_update, fits_fork, row_passes, row_update, update_of, updated_at}
 use Rattle.res_files.specs.FilesOn.{FilesOn}
 use Rattle.res_table.specs.declared.chain.OpenFile.{OpenFile}
 use Rattle.res_table.specs.declared.chain.RowPlace.{RowPlace}
-use Rattle.res_table.specs.OpenFiles.{is_numbered, is_open, place_of_handle, table_in, table_of}
+use Rattle.res_table.specs.OpenFiles.{is_numbered, is_open, place_of_handle, table_in}
 use Rattle.res_table.specs.Rows.{is_changed}
 use Rattle.res_update.specs.Selected.{updated, reads_lent}
 use Rattle.res_update.specs.declared.selection.Selection.TheVariants.{AllChanged, RowAt}

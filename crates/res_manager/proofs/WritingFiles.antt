@@ -1,5 +1,5 @@
 -- How writing a file ends.
-use Rattle.std.proofs.Common.{◌≡◌, ℕ, Bool, true, false, List, map, Option, Some, None, Ok, Err, option_map, refl, sym, ap, subst, ◌∙◌}
+use Rattle.std.proofs.Common.{◌≡◌, ℕ, Bool, true, false, List, map, Option, Some, None, Ok, Err, option_map, refl, sym, subst, ◌∙◌}
 use Rattle.std.specs.Prelude.{IsFalse, MatchBool}
 use Rattle.fork_bytes.specs.Written.{written}
 use Rattle.mac_base.specs.ZoneState.{ZoneState}

@@ -1,9 +1,6 @@
 -- What a call of the Resource Manager does to the zone and the resource files.
-use Rattle.std.specs.Prelude.{ℕ, Bool, true, false, List, map, Ok, IsFalse}
-use Rattle.mac_base.specs.HeadKind.{Shape}
-use Rattle.mac_base.specs.Heap.{Heap}
+use Rattle.std.specs.Prelude.{ℕ, Bool, true, false, List, map, IsFalse}
 use Rattle.mac_base.specs.ZoneState.{ZoneState}
-use Rattle.mac_calls.specs.declared.memory_call.MemoryCall.{MemoryCall}
 use Rattle.mac_calls.specs.declared.resource_call.ResourceCall.{ResourceCall}
 use Rattle.mac_calls.specs.declared.resource_call.ResourceCall.TheVariants as call
 use Rattle.mac_calls.specs.ExactStep.{IsExactStep}

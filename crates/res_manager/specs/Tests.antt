@@ -1,5 +1,5 @@
 -- Which tests of a call come before all work. Whether a fork can hold what is written is seen when it is written.
-use Rattle.std.specs.Prelude.{◌≡◌, ℕ, Bool, true, false, List, [], ◌∷◌, Option, None, Some, if◌then◌else◌, Result}
+use Rattle.std.specs.Prelude.{◌≡◌, Bool, true, false, List, [], ◌∷◌, None, Some, if◌then◌else◌, Result}
 use Rattle.mac_base.specs.declared.error.OsErr.{OsErr}
 use Rattle.mac_base.specs.declared.error.OsErr.TheVariants.{ResNotFound, RmvResFailed, ResAttrErr}
 use Rattle.mac_calls.specs.declared.resource_call.ResourceCall.{ResourceCall}
