@@ -1,6 +1,6 @@
 -- The stores of files, opened one after the other.
-use Rattle.std.proofs.Common.{◌≡◌, ◌+◌, ◌<◌, ℕ, List, [], ◌∷◌, ◌++◌, Some, None, take, length, get_or, map, refl, ap, sym, subst, ◌∙◌, inl, inr}
-use Rattle.std.proofs.lemmas.List.{take_more, map-append}
+use Rattle.std.proofs.Common.{◌≡◌, ◌+◌, ◌<◌, ◌≤◌, arith, zero, suc, ℕ, List, [], ◌∷◌, ◌++◌, Some, None, take, length, get_or, map, refl, ap, sym, subst, ◌∙◌, inl, inr}
+use Rattle.std.proofs.lemmas.List.{length-map, take_all, take_more, map-append}
 use Rattle.std.proofs.Math.Seq.{split_at}
 use Rattle.clap.specs.Words.{Text}
 use Rattle.macheap.specs.Stores.{AreOf, CantBeOpened, Opening}
@@ -35,3 +35,13 @@ pub cant_at : {S B : Type 0} (gives : Opening S) (names : List B) (now : B → T
 cant_at {B = B} gives names now at name lt is none =
     subst (CantBeOpened gives) (sym (ap (map now) (split_at names at name lt) ∙ map-append now (take at names) _))
     (cant-append gives (map now (take at names)) (now (get_or names at name)) _ (subst (λ (b : B). gives (now b) None) is none))
+
+-- what stands at an index that is there
+pub same_default : {B : Type 0} (xs : List B) (at : ℕ) (d e : B) → at < length xs → get_or xs at d ≡ get_or xs at e
+same_default [] at d e lt = absurd (omega (arith, lt))
+same_default (x ∷ xs) zero d e lt = refl
+same_default (x ∷ xs) (suc at) d e lt = same_default xs at d e (omega (arith, lt))
+
+-- as many stores as files, once all are opened
+pub all_opened : {S B : Type 0} (gives : Opening S) (names : List B) (now : B → Text) (at : ℕ) (stores : List S) → length names ≤ at → AreOf gives (map now (take at names)) stores → length stores ≡ length names
+all_opened gives names now at stores le are = AreOf-length gives (map now (take at names)) stores are ∙ length-map (take at names) now ∙ ap length (take_all at names le)

@@ -99,7 +99,10 @@ fn opened<S: ForkStore + Drop, O: Opens<S>>(
 {
     let mut stores = Vec::new(alloc);
     for name in names {
-        stores.push(opener.open(name).ok_or(NoStores::CannotOpen)?)?;
+        let Some(store) = opener.open(name) else {
+            return Err(NoStores::CannotOpen);
+        };
+        stores.push(store)?;
     }
     Ok(stores)
 }
