@@ -1,6 +1,6 @@
 //! A fork whose bytes are known, before and after an update of its resource.
 
-ghost use Rattle.std.specs.Prelude.{◌≡◌, [], ◌∷◌, None, Some, IfOk};
+ghost use Rattle.std.specs.Prelude.{◌≡◌, [], ◌∷◌, None, Some, IfOk, pos};
 ghost use Rattle.mac_base.specs.HandleTable.{no_flags};
 ghost use Rattle.mac_base.specs.HandleTable.{FullHandle};
 
@@ -93,7 +93,7 @@ pub(crate) fn table_of(
     attributes: ResAttrs,
 ) -> Result<ResourceTable<Place>, HostFull>
     ensures { IfOk result (λ table. table.rows ≡ record {
-      resource = record { kind = 84 ∷ 69 ∷ 88 ∷ 84 ∷ []; id = 128; name = None; attributes = attributes; datum = record { offset = 260; length = 2 } };
+      resource = record { kind = 84 ∷ 69 ∷ 88 ∷ 84 ∷ []; id = pos 128; name = None; attributes = attributes; datum = record { offset = 260; length = 2 } };
       handle = Some 0x10003C;
     } ∷ []) }
 {
