@@ -1,8 +1,7 @@
 //! A fork whose bytes are known, before and after an update of its resource.
 
 ghost use Rattle.std.specs.Prelude.{◌≡◌, [], ◌∷◌, None, Some, IfOk, pos};
-ghost use Rattle.mac_base.specs.HandleTable.{no_flags};
-ghost use Rattle.mac_base.specs.HandleTable.{FullHandle};
+ghost use Rattle.mac_base.specs.HandleTable.{FullHandle, no_flags};
 
 use fork_disk::store::PlainStore;
 use fork_disk::{FailAt, MemDisk};
