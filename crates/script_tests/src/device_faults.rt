@@ -1,11 +1,17 @@
 //! Runs over resource files on disks of which each call fails in turn: a load, an update, and a file that is closed.
 
 use crate::forks::{
-    check_printed, check_turn, disk_of, hi, pair, run_over, shorter_pair, store_of,
+    Ran, check_printed, check_turn, disk_of, hi, pair, run_over, shorter_pair, store_of,
 };
 use std::alloc::Global;
 use std::process::Abort;
 use std::test::Fail;
+
+/// The disk of one file has these bytes, and had the call that fails.
+fn check_disk(rt: &impl Abort, ran: &Ran, turn: u64, after: &[u8]) {
+    assert_eq!(rt; disk_of(ran, 0), after, "call {turn}");
+    check_turn(rt, ran, 0, turn);
+}
 
 /// A run over one file, whose disk's call of a number fails: it prints this, and leaves these bytes.
 pub(crate) fn check_fault(
@@ -21,8 +27,7 @@ pub(crate) fn check_fault(
     stores.push(store_of(before, turn))?;
     let ran = run_over(alloc, script, stores)?;
     check_printed(rt, &ran, script, output);
-    assert_eq!(rt; disk_of(&ran, 0), after, "call {turn}");
-    check_turn(rt, &ran, 0, turn);
+    check_disk(rt, &ran, turn, after);
     Ok(())
 }
 
@@ -35,42 +40,46 @@ k = GetResource 'TEXT' 128
 Peek k 0 2
 ";
 
-/// What that prints where the file isn't opened at first, where the load fails, and where no call does.
-const LOAD_FAULTS: [&str; 3] = [
-    "\
+/// What that prints where the file isn't opened at first.
+const LOAD_UNOPENED: &str = "\
 0 OpenResFile -36
 1 GetResource -193
 2 Peek -109
 3 OpenResFile 1 0
 4 GetResource $0010003C 0
 5 Peek \"Hi\" 0
-",
-    "\
+";
+
+/// What it prints where the load fails.
+const LOAD_FAILED: &str = "\
 1 GetResource -36
 2 Peek -109
 3 OpenResFile 1 0
 4 GetResource $0010003C 0
 5 Peek \"Hi\" 0
-",
-    "\
+";
+
+/// What it prints where no call fails.
+const LOAD_WHOLE: &str = "\
 1 GetResource $0010003C 0
 2 Peek \"Hi\" 0
 3 OpenResFile 1 0
 4 GetResource $0010003C 0
 5 Peek \"Hi\" 0
-",
-];
+";
+
+/// A run of that over the fork of "Hi".
+fn check_load(rt: &impl Abort, alloc: Global, row: (u64, &str)) -> Result<(), Fail> {
+    check_fault(rt, alloc, LOAD, row, hi(alloc)?, &hi(alloc)?)
+}
 
 #[test]
 fn a_load_fails_in_turn(rt: HostRuntime) -> Result<(), Fail> {
-    let alloc = rt.alloc();
-    let [unopened, unloaded, whole] = LOAD_FAULTS;
-    let fork = hi(alloc)?;
     for turn in 1..=5 {
-        check_fault(&rt, alloc, LOAD, (turn, unopened), hi(alloc)?, &fork)?;
+        check_load(&rt, rt.alloc(), (turn, LOAD_UNOPENED))?;
     }
-    check_fault(&rt, alloc, LOAD, (6, unloaded), hi(alloc)?, &fork)?;
-    check_fault(&rt, alloc, LOAD, (7, whole), hi(alloc)?, &fork)
+    check_load(&rt, rt.alloc(), (6, LOAD_FAILED))?;
+    check_load(&rt, rt.alloc(), (7, LOAD_WHOLE))
 }
 
 /// A call that gets a resource is refused where the load fails: the zone is as it was.
@@ -132,10 +141,8 @@ GetHandleSize h
 CurResFile
 ";
 
-/// What that prints where the file isn't opened, where the load fails, where the update fails before its first write or behind it, and
-/// where no call fails.
-const UPDATE_FAULTS: [&str; 5] = [
-    "\
+/// What that prints where the file isn't opened.
+const UPDATE_UNOPENED: &str = "\
 0 OpenResFile -36
 1 GetIndResource -193
 2 SetHandleSize -109
@@ -144,8 +151,10 @@ const UPDATE_FAULTS: [&str; 5] = [
 5 GetResAttrs -193
 6 GetHandleSize -109
 7 CurResFile 0 0
-",
-    "\
+";
+
+/// What it prints where the load fails.
+const UPDATE_UNLOADED: &str = "\
 1 GetIndResource -36
 2 SetHandleSize -109
 3 ChangedResource -192
@@ -153,8 +162,10 @@ const UPDATE_FAULTS: [&str; 5] = [
 5 GetResAttrs -192
 6 GetHandleSize -109
 7 CurResFile 1 0
-",
-    "\
+";
+
+/// What it prints where the update fails before its first write.
+const UPDATE_UNREAD: &str = "\
 1 GetIndResource $0010003C 0
 2 SetHandleSize 0
 3 ChangedResource 0
@@ -162,8 +173,10 @@ const UPDATE_FAULTS: [&str; 5] = [
 5 GetResAttrs 2 0
 6 GetHandleSize 0 0
 7 CurResFile 1 0
-",
-    "\
+";
+
+/// What it prints where the update fails behind its first write.
+const UPDATE_TORN: &str = "\
 1 GetIndResource $0010003C 0
 2 SetHandleSize 0
 3 ChangedResource 0
@@ -171,8 +184,10 @@ const UPDATE_FAULTS: [&str; 5] = [
 5 GetResAttrs -193
 6 GetHandleSize 0 0
 7 CurResFile 0 0
-",
-    "\
+";
+
+/// What it prints where no call fails.
+const UPDATE_WHOLE: &str = "\
 1 GetIndResource $0010003C 0
 2 SetHandleSize 0
 3 ChangedResource 0
@@ -180,8 +195,7 @@ const UPDATE_FAULTS: [&str; 5] = [
 5 GetResAttrs 0 0
 6 GetHandleSize 0 0
 7 CurResFile 1 0
-",
-];
+";
 
 /// A run of the update over the fork of "a" and "b".
 fn check_update(
@@ -193,30 +207,39 @@ fn check_update(
     check_fault(rt, alloc, UPDATE, row, pair(alloc, b'a', b'b')?, after)
 }
 
-#[test]
-fn an_update_fails_before_its_first_write(rt: HostRuntime) -> Result<(), Fail> {
-    let alloc = rt.alloc();
-    let [unopened, unloaded, unread, _, _] = UPDATE_FAULTS;
-    let old = pair(alloc, b'a', b'b')?;
-    for turn in 1..=6 {
-        check_update(&rt, alloc, (turn, unopened), &old)?;
-    }
-    check_update(&rt, alloc, (7, unloaded), &old)?;
-    check_update(&rt, alloc, (8, unread), &old)
+/// Such a run, which leaves the old fork.
+fn check_old(rt: &impl Abort, alloc: Global, row: (u64, &str)) -> Result<(), Fail> {
+    check_update(rt, alloc, row, &pair(alloc, b'a', b'b')?)
 }
 
-/// A write that fails leaves the old fork here, a cut the new one with the last byte of the old, and a sync the new one.
+/// Such a run, which leaves the new fork.
+fn check_new(rt: &impl Abort, alloc: Global, row: (u64, &str)) -> Result<(), Fail> {
+    check_update(rt, alloc, row, &shorter_pair(alloc)?)
+}
+
+#[test]
+fn an_update_fails_before_its_first_write(rt: HostRuntime) -> Result<(), Fail> {
+    for turn in 1..=6 {
+        check_old(&rt, rt.alloc(), (turn, UPDATE_UNOPENED))?;
+    }
+    check_old(&rt, rt.alloc(), (7, UPDATE_UNLOADED))?;
+    check_old(&rt, rt.alloc(), (8, UPDATE_UNREAD))
+}
+
+/// A write that fails leaves the old fork here, and a sync the new one.
 #[test]
 fn an_update_fails_behind_its_first_write(rt: HostRuntime) -> Result<(), Fail> {
-    let alloc = rt.alloc();
-    let [_, _, _, torn, whole] = UPDATE_FAULTS;
-    let new = shorter_pair(alloc)?;
-    let mut longer = shorter_pair(alloc)?;
+    check_old(&rt, rt.alloc(), (9, UPDATE_TORN))?;
+    check_new(&rt, rt.alloc(), (11, UPDATE_TORN))?;
+    check_new(&rt, rt.alloc(), (12, UPDATE_WHOLE))
+}
+
+/// A cut that fails leaves the new fork with the last byte of the old.
+#[test]
+fn an_update_fails_at_its_cut(rt: HostRuntime) -> Result<(), Fail> {
+    let mut longer = shorter_pair(rt.alloc())?;
     longer.push(0)?;
-    check_update(&rt, alloc, (9, torn), &pair(alloc, b'a', b'b')?)?;
-    check_update(&rt, alloc, (10, torn), &longer)?;
-    check_update(&rt, alloc, (11, torn), &new)?;
-    check_update(&rt, alloc, (12, whole), &new)
+    check_update(&rt, rt.alloc(), (10, UPDATE_TORN), &longer)
 }
 
 /// The update fails before its first write, and is made again.
@@ -263,33 +286,35 @@ GetResAttrs h
 GetHandleSize h
 ";
 
-/// What that prints where the call that closes fails before its first write, behind it, and where no call fails.
-const CLOSE_FAULTS: [&str; 3] = [
-    "\
+/// What that prints where the call that closes fails before its first write.
+const CLOSE_UNREAD: &str = "\
 1 GetIndResource $0010003C 0
 2 SetHandleSize 0
 3 ChangedResource 0
 4 CloseResFile -36
 5 GetResAttrs 2 0
 6 GetHandleSize 0 0
-",
-    "\
+";
+
+/// What it prints where that call fails behind its first write.
+const CLOSE_TORN: &str = "\
 1 GetIndResource $0010003C 0
 2 SetHandleSize 0
 3 ChangedResource 0
 4 CloseResFile -36
 5 GetResAttrs -193
 6 GetHandleSize 0 0
-",
-    "\
+";
+
+/// What it prints where no call fails.
+const CLOSE_WHOLE: &str = "\
 1 GetIndResource $0010003C 0
 2 SetHandleSize 0
 3 ChangedResource 0
 4 CloseResFile 0
 5 GetResAttrs -193
 6 GetHandleSize -111
-",
-];
+";
 
 /// A run of that over the fork of "a" and "b".
 fn check_close(rt: &impl Abort, alloc: Global, row: (u64, &str), after: &[u8]) -> Result<(), Fail> {
@@ -298,12 +323,15 @@ fn check_close(rt: &impl Abort, alloc: Global, row: (u64, &str), after: &[u8]) -
 
 #[test]
 fn a_close_that_fails_keeps_the_handles(rt: HostRuntime) -> Result<(), Fail> {
-    let alloc = rt.alloc();
-    let [unread, torn, whole] = CLOSE_FAULTS;
-    let old = pair(alloc, b'a', b'b')?;
-    let new = shorter_pair(alloc)?;
-    check_close(&rt, alloc, (8, unread), &old)?;
-    check_close(&rt, alloc, (9, torn), &old)?;
-    check_close(&rt, alloc, (11, torn), &new)?;
-    check_close(&rt, alloc, (12, whole), &new)
+    let old = pair(rt.alloc(), b'a', b'b')?;
+    check_close(&rt, rt.alloc(), (8, CLOSE_UNREAD), &old)?;
+    check_close(&rt, rt.alloc(), (9, CLOSE_TORN), &old)
+}
+
+/// A sync that fails leaves the new fork, and keeps the handles too.
+#[test]
+fn a_close_frees_the_handles_behind_its_last_call(rt: HostRuntime) -> Result<(), Fail> {
+    let new = shorter_pair(rt.alloc())?;
+    check_close(&rt, rt.alloc(), (11, CLOSE_TORN), &new)?;
+    check_close(&rt, rt.alloc(), (12, CLOSE_WHOLE), &new)
 }

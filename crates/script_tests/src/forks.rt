@@ -1,5 +1,7 @@
 //! Forks whose bytes are known, and runs of scripts over disks that have them.
 
+ghost use Rattle.std.specs.Prelude.{◌≤◌, length, IfOk};
+
 use fork_disk::store::PlainStore;
 use fork_disk::{FailAt, MemDisk};
 use mac_base::zone_spec::ZoneSpec;
@@ -132,6 +134,17 @@ pub(crate) fn store_of(bytes: Vec<u8>, turn: u64) -> TestStore {
     PlainStore {
         disk: FailAt::new(MemDisk::from_bytes(bytes), turn),
     }
+}
+
+/// The store of one new file in memory.
+pub(crate) fn new_file(alloc: Global) -> Result<Vec<PlainStore<MemDisk>>, AllocError>
+    ensures { IfOk result (λ stores. length stores.items ≤ 8) }
+{
+    let mut stores = Vec::new(alloc);
+    stores.push(PlainStore {
+        disk: MemDisk::new(alloc),
+    })?;
+    Ok(stores)
 }
 
 /// How a run ended, what it printed, and the disks then.

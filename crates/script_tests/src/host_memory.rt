@@ -2,7 +2,6 @@
 
 use crate::forks::{disk_of, hi, no, run_over, store_of};
 use script_run::RunEnd;
-use std::process::Abort;
 use std::test::Fail;
 
 /// A load, a change and an update.
@@ -39,16 +38,14 @@ fn replies_before(text: &[u8]) -> (usize, &[u8]) {
 
 /// A run printed all replies, and the disk has the new fork; or it printed `no memory` behind some, and the disk has the old fork up to
 /// the update's line and the new one behind it, either at that line.
-fn check_end(rt: &impl Abort, end: RunEnd, text: &[u8], is_old: bool, is_new: bool) {
+fn ends_well(end: RunEnd, text: &[u8], is_old: bool, is_new: bool) -> bool {
     let (count, rest) = replies_before(text);
-    if end == RunEnd::Finished {
-        assert!(rt; count == 5 && rest.is_empty() && is_new, "{text:?}");
-    } else {
-        assert_eq!(rt; end, RunEnd::NoMemory);
-        assert_eq!(rt; rest, b"no memory\n".as_slice(), "{text:?}");
-        let may_be_old = is_old && count <= 3;
-        let may_be_new = is_new && count >= 3;
-        assert!(rt; may_be_old || may_be_new, "{text:?}");
+    match end {
+        RunEnd::Finished => count == 5 && rest.is_empty() && is_new,
+        RunEnd::NoMemory => {
+            rest == b"no memory\n".as_slice() && (is_old && count <= 3 || is_new && count >= 3)
+        }
+        RunEnd::ReadFault | RunEnd::WriteFault | RunEnd::ScriptFault(_) => false,
     }
 }
 
@@ -62,6 +59,7 @@ fn without_host_memory_a_run_ends_behind_whole_replies(rt: HostRuntime) -> Resul
     let ran = run_over(alloc, SCRIPT, stores)?;
     let is_old = disk_of(&ran, 0) == old.as_slice();
     let is_new = disk_of(&ran, 0) == new.as_slice();
-    check_end(&rt, ran.end, &ran.text, is_old, is_new);
+    let is_well = ends_well(ran.end, &ran.text, is_old, is_new);
+    assert!(rt; is_well, "{:?}: {:?}", ran.end, ran.text);
     Ok(())
 }

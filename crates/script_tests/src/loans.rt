@@ -1,17 +1,27 @@
 //! Runs of scripts that lend blocks, and of scripts on zones of 32-bit blocks.
 
-use fork_disk::MemDisk;
-use fork_disk::store::PlainStore;
+use crate::forks::new_file;
 use mac_base::block::HeadKind;
 use mac_base::zone_spec::ZoneSpec;
 use script_run::{Counted, RunEnd, run};
-use std::alloc::Global;
+use std::alloc::{AllocError, Global};
 use std::io;
 use std::io::Write;
 use std::process::Abort;
 use std::test::Fail;
 
-/// A run of a script on a zone of 4096 bytes at $00100000 finishes, and writes this.
+/// How a run of a script ends on a zone of 4096 bytes at $00100000 of blocks of this kind, and what it writes.
+fn run_in(alloc: Global, heads: HeadKind, script: &str) -> Result<(RunEnd, Vec<u8>), Fail> {
+    let spec = ZoneSpec::with_kind(0x10_0000, 4096, 4096, heads)?;
+    let mut reader = Counted::new(script.as_bytes());
+    let mut writer = Counted::new(Vec::new(alloc));
+    let stores = new_file(alloc)?;
+    let (end, stores) = run(alloc, &mut reader, &mut writer, spec, stores);
+    drop(stores);
+    Ok((end, writer.into_inner()))
+}
+
+/// A run of a script on such a zone of 24-bit blocks finishes, and writes this.
 fn check_run(rt: &impl Abort, alloc: Global, script: &str, output: &str) -> Result<(), Fail> {
     check_run_in(rt, alloc, HeadKind::Bits24, script, output)
 }
@@ -24,17 +34,9 @@ fn check_run_in(
     script: &str,
     output: &str,
 ) -> Result<(), Fail> {
-    let spec = ZoneSpec::with_kind(0x10_0000, 4096, 4096, heads)?;
-    let mut reader = Counted::new(script.as_bytes());
-    let mut writer = Counted::new(Vec::new(alloc));
-    let mut stores = Vec::new(alloc);
-    stores.push(PlainStore {
-        disk: MemDisk::new(alloc),
-    })?;
-    let (end, stores) = run(alloc, &mut reader, &mut writer, spec, stores);
-    drop(stores);
-    assert_eq!(rt; end, RunEnd::Finished, "{script}");
-    assert_eq!(rt; writer.inner().as_slice(), output.as_bytes(), "{script}");
+    let (end, text) = run_in(alloc, heads, script)?;
+    let ended = (end, text.as_slice());
+    assert_eq!(rt; ended, (RunEnd::Finished, output.as_bytes()), "{script}");
     Ok(())
 }
 
@@ -195,6 +197,18 @@ Lend h: -117
 Lend p: -117
 ";
 
+/// What such a call prints behind what six lines have told, between two maps that are the same.
+fn refused_output(
+    alloc: Global,
+    told: &str,
+    map: &str,
+    row: (&str, &str),
+) -> Result<String, AllocError> {
+    let (call, code) = row;
+    let name = call.split(' ').next().unwrap_or("");
+    format!(in alloc; "{told}7 {map}8 {name} {code}\n9 MemError {code} 0\n10 {map}")
+}
+
 /// A refused call behind the six lines of a script, between two maps that are the same.
 fn check_refused(
     rt: &impl Abort,
@@ -204,10 +218,9 @@ fn check_refused(
     row: (&str, &str),
 ) -> Result<(), Fail> {
     let (before, told) = prepared;
-    let (call, code) = row;
-    let name = call.split(' ').next().unwrap_or("");
+    let call = row.0;
     let script = format!(in alloc; "{before}ZoneMap\n{call}\nMemError\nZoneMap\n")?;
-    let output = format!(in alloc; "{told}7 {map}8 {name} {code}\n9 MemError {code} 0\n10 {map}")?;
+    let output = refused_output(alloc, told, map, row)?;
     check_run(rt, alloc, script.as_str(), output.as_str())
 }
 
@@ -268,10 +281,7 @@ fn end_on(alloc: Global, room: usize) -> Result<RunEnd, Fail> {
     let spec = ZoneSpec::new(0x10_0000, 4096, 4096)?;
     let mut reader = Counted::new(script.as_bytes());
     let mut writer = Counted::new(Strip { room });
-    let mut stores = Vec::new(alloc);
-    stores.push(PlainStore {
-        disk: MemDisk::new(alloc),
-    })?;
+    let stores = new_file(alloc)?;
     let (end, stores) = run(alloc, &mut reader, &mut writer, spec, stores);
     drop(stores);
     Ok(end)

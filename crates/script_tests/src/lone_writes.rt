@@ -21,9 +21,8 @@ GetResAttrs b
 Peek a 0 1
 ";
 
-/// What that prints where the file isn't opened, where the first load fails, and where the second does.
-const ALONE_UNLOADED: [&str; 3] = [
-    "\
+/// What that prints where the file isn't opened.
+const ALONE_UNOPENED: &str = "\
 0 OpenResFile -36
 1 GetIndResource -193
 2 GetIndResource -193
@@ -35,8 +34,10 @@ const ALONE_UNLOADED: [&str; 3] = [
 8 GetResAttrs -193
 9 GetResAttrs -193
 10 Peek -109
-",
-    "\
+";
+
+/// What it prints where the first load fails.
+const FIRST_UNLOADED: &str = "\
 1 GetIndResource -36
 2 GetIndResource $0010003C 0
 3 Poke -109
@@ -47,8 +48,10 @@ const ALONE_UNLOADED: [&str; 3] = [
 8 GetResAttrs -192
 9 GetResAttrs 0 0
 10 Peek -109
-",
-    "\
+";
+
+/// What it prints where the second load fails.
+const SECOND_UNLOADED: &str = "\
 1 GetIndResource $0010003C 0
 2 GetIndResource -36
 3 Poke 0
@@ -59,8 +62,7 @@ const ALONE_UNLOADED: [&str; 3] = [
 8 GetResAttrs 2 0
 9 GetResAttrs -192
 10 Peek \"x\" 0
-",
-];
+";
 
 /// What it prints where both are loaded.
 const ALONE_LOADED: &str = "\
@@ -72,27 +74,29 @@ const ALONE_LOADED: &str = "\
 6 ChangedResource 0
 ";
 
-/// What it prints behind that where the write fails before its first write, behind it, and where no call fails.
-const ALONE_FAULTS: [&str; 3] = [
-    "\
+/// What it prints behind that where the write fails before its first write.
+const ALONE_UNREAD: &str = "\
 7 WriteResource -36
 8 GetResAttrs 2 0
 9 GetResAttrs 2 0
 10 Peek \"x\" 0
-",
-    "\
+";
+
+/// What it prints there where the write fails behind its first write.
+const ALONE_TORN: &str = "\
 7 WriteResource -36
 8 GetResAttrs -193
 9 GetResAttrs -193
 10 Peek \"x\" 0
-",
-    "\
+";
+
+/// What it prints there where no call fails.
+const ALONE_WHOLE: &str = "\
 7 WriteResource 0
 8 GetResAttrs 2 0
 9 GetResAttrs 0 0
 10 Peek \"x\" 0
-",
-];
+";
 
 /// A run of that over the fork of "a" and "b", which leaves the second resource with this byte.
 fn check_alone(rt: &impl Abort, alloc: Global, row: (u64, &str), second: u8) -> Result<(), Fail> {
@@ -102,28 +106,25 @@ fn check_alone(rt: &impl Abort, alloc: Global, row: (u64, &str), second: u8) -> 
 
 #[test]
 fn a_write_of_one_resource_is_left_out_where_its_load_failed(rt: HostRuntime) -> Result<(), Fail> {
-    let alloc = rt.alloc();
-    let [unopened, first, second] = ALONE_UNLOADED;
     for turn in 1..=6 {
-        check_alone(&rt, alloc, (turn, unopened), b'b')?;
+        check_alone(&rt, rt.alloc(), (turn, ALONE_UNOPENED), b'b')?;
     }
-    check_alone(&rt, alloc, (7, first), b'y')?;
-    check_alone(&rt, alloc, (8, second), b'b')
+    check_alone(&rt, rt.alloc(), (7, FIRST_UNLOADED), b'y')?;
+    check_alone(&rt, rt.alloc(), (8, SECOND_UNLOADED), b'b')
+}
+
+/// So with a run in which both are loaded.
+fn check_loaded(rt: &impl Abort, alloc: Global, row: (u64, &str), second: u8) -> Result<(), Fail> {
+    let (turn, rest) = row;
+    let output = format!(in alloc; "{ALONE_LOADED}{rest}")?;
+    check_alone(rt, alloc, (turn, output.as_str()), second)
 }
 
 #[test]
 fn a_write_of_one_resource_fails_in_turn(rt: HostRuntime) -> Result<(), Fail> {
-    let alloc = rt.alloc();
-    let [unread, torn, whole] = ALONE_FAULTS;
-    for (turn, rest, second) in [
-        (9, unread, b'b'),
-        (10, torn, b'b'),
-        (11, torn, b'y'),
-        (12, torn, b'y'),
-        (13, whole, b'y'),
-    ] {
-        let output = format!(in alloc; "{ALONE_LOADED}{rest}")?;
-        check_alone(&rt, alloc, (turn, output.as_str()), second)?;
-    }
-    Ok(())
+    check_loaded(&rt, rt.alloc(), (9, ALONE_UNREAD), b'b')?;
+    check_loaded(&rt, rt.alloc(), (10, ALONE_TORN), b'b')?;
+    check_loaded(&rt, rt.alloc(), (11, ALONE_TORN), b'y')?;
+    check_loaded(&rt, rt.alloc(), (12, ALONE_TORN), b'y')?;
+    check_loaded(&rt, rt.alloc(), (13, ALONE_WHOLE), b'y')
 }

@@ -1,6 +1,6 @@
 //! What a call that is refused leaves.
 
-use crate::forks::{check_printed, disk_of, run_over, store_of};
+use crate::forks::check_run;
 use std::alloc::Global;
 use std::process::Abort;
 use std::test::Fail;
@@ -19,6 +19,36 @@ pub(crate) struct Given {
 /// The five calls by which that is seen.
 const PROBES: &str = "ZoneMap\nCountResources 'TEXT'\nCountTypes\nGetResAttrs h\nCurResFile\n";
 
+/// What the five calls print where they stand in these lines of a script.
+fn seen_in(alloc: Global, given: &Given, lines: [u32; 5]) -> Result<String, Fail> {
+    let [first, second, third, fourth, fifth] = lines;
+    let Given {
+        map,
+        count,
+        types,
+        attributes,
+        current,
+        ..
+    } = given;
+    let seen = format!(in alloc;
+        "{first} {map}{second} {count}\n{third} {types}\n{fourth} {attributes}\n{fifth} {current}\n"
+    )?;
+    Ok(seen)
+}
+
+/// What a run prints of ten lines, of a call that is refused by a code, and of ResError, where the same is seen before and after it.
+fn output_of(alloc: Global, given: &Given, row: (&str, &str)) -> Result<String, Fail> {
+    let (call, code) = row;
+    let name = call.split(' ').next().unwrap_or("");
+    let replies = given.replies;
+    let before = seen_in(alloc, given, [11, 12, 13, 14, 15])?;
+    let after = seen_in(alloc, given, [18, 19, 20, 21, 22])?;
+    let output = format!(in alloc;
+        "{replies}{before}16 {name} {code}\n17 ResError {code} 0\n{after}"
+    )?;
+    Ok(output)
+}
+
 /// A run of ten lines, of a call that is refused by a code, and of ResError, where the same is seen before and after it, and the disk has the
 /// same bytes.
 pub(crate) fn check_refusal(
@@ -28,33 +58,12 @@ pub(crate) fn check_refusal(
     given: &Given,
     row: (&str, &str),
 ) -> Result<(), Fail> {
-    let Given {
-        lines,
-        replies,
-        map,
-        count,
-        types,
-        attributes,
-        current,
-    } = given;
-    let (call, code) = row;
-    let name = call.split(' ').next().unwrap_or("");
+    let lines = given.lines;
+    let call = row.0;
     let script = format!(in alloc; "{lines}{PROBES}{call}\nResError\n{PROBES}")?;
-    let before = format!(in alloc;
-        "11 {map}12 {count}\n13 {types}\n14 {attributes}\n15 {current}\n"
-    )?;
-    let after = format!(in alloc;
-        "18 {map}19 {count}\n20 {types}\n21 {attributes}\n22 {current}\n"
-    )?;
-    let output = format!(in alloc;
-        "{replies}{before}16 {name} {code}\n17 ResError {code} 0\n{after}"
-    )?;
-    let mut stores = Vec::new(alloc);
-    stores.push(store_of(fork.to_vec(alloc)?, 0))?;
-    let ran = run_over(alloc, script.as_str(), stores)?;
-    check_printed(rt, &ran, script.as_str(), output.as_str());
-    assert_eq!(rt; disk_of(&ran, 0), fork, "{call}");
-    Ok(())
+    let output = output_of(alloc, given, row)?;
+    let before = fork.to_vec(alloc)?;
+    check_run(rt, alloc, (script.as_str(), output.as_str()), before, fork)
 }
 
 /// So for each line of calls with their codes.

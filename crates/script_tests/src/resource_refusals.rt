@@ -2,7 +2,7 @@
 
 use crate::forks::hi;
 use crate::refused::{Given, check_refusal, check_refusals};
-use std::alloc::Global;
+use std::alloc::{AllocError, Global};
 use std::process::Abort;
 use std::test::Fail;
 
@@ -116,13 +116,17 @@ SetResAttrs H 256: -192
 RemoveResource H: -196
 ";
 
+/// A call with a handle in the place of H.
+fn call_on(alloc: Global, call: &str, handle: &str) -> Result<String, AllocError> {
+    let (name, rest) = call.split_once(" H").unwrap_or((call, ""));
+    format!(in alloc; "{name} {handle}{rest}")
+}
+
 /// Such a call with a handle in the place of H.
 fn check_handle(rt: &impl Abort, alloc: Global, line: &str, handle: &str) -> Result<(), Fail> {
-    let fork = hi(alloc)?;
     let (call, code) = line.split_once(": ").unwrap_or((line, ""));
-    let (name, rest) = call.split_once(" H").unwrap_or((call, ""));
-    let call = format!(in alloc; "{name} {handle}{rest}")?;
-    check_refusal(rt, alloc, &fork, &PREPARED, (call.as_str(), code))
+    let call = call_on(alloc, call, handle)?;
+    check_refusal(rt, alloc, &hi(alloc)?, &PREPARED, (call.as_str(), code))
 }
 
 /// Such a call with each handle of none in the place of H.

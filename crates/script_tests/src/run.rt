@@ -1,10 +1,9 @@
 //! Whole runs: what they write, and how they end.
 
-use fork_disk::MemDisk;
-use fork_disk::store::PlainStore;
+use crate::forks::new_file;
 use mac_base::zone_spec::ZoneSpec;
 use script_run::{Counted, RunEnd, run, status};
-use std::alloc::Global;
+use std::alloc::{AllocError, Global};
 use std::io;
 use std::io::{ErrorKind, Read, Write};
 use std::process::Abort;
@@ -108,10 +107,7 @@ fn run_on(alloc: Global, reader: Pieces<'_>, writer: Paper) -> Result<Seen, Fail
     let spec = ZoneSpec::new(0x10_0000, 4096, 4096)?;
     let mut reader = Counted::new(reader);
     let mut writer = Counted::new(writer);
-    let mut stores = Vec::new(alloc);
-    stores.push(PlainStore {
-        disk: MemDisk::new(alloc),
-    })?;
+    let stores = new_file(alloc)?;
     let (end, stores) = run(alloc, &mut reader, &mut writer, spec, stores);
     drop(stores);
     let failures = (reader.failures(), writer.failures());
@@ -390,15 +386,21 @@ Peek h 9 0: -50
 Peek p 20 1: -50
 ";
 
+/// What a run of what was prepared, ZoneMap, a call, MemError and ZoneMap writes where the call is refused by this code.
+fn refused_output(alloc: Global, call: &str, code: &str) -> Result<String, AllocError> {
+    let (_, prepared) = PREPARED;
+    let name = call.split_once(' ').unwrap_or((call, "")).0;
+    format!(in alloc;
+        "{prepared}6 {PREPARED_MAP}7 {name} {code}\n8 MemError {code} 0\n9 {PREPARED_MAP}"
+    )
+}
+
 /// A run of what was prepared, ZoneMap, a call, MemError and ZoneMap writes that the call is refused by this code, and the
 /// same map twice.
 fn check_refusal(rt: &impl Abort, alloc: Global, call: &str, code: &str) -> Result<(), Fail> {
-    let (before, prepared) = PREPARED;
-    let name = call.split_once(' ').unwrap_or((call, "")).0;
+    let (before, _) = PREPARED;
     let script = format!(in alloc; "{before}ZoneMap\n{call}\nMemError\nZoneMap\n")?;
-    let output = format!(in alloc;
-        "{prepared}6 {PREPARED_MAP}7 {name} {code}\n8 MemError {code} 0\n9 {PREPARED_MAP}"
-    )?;
+    let output = refused_output(alloc, call, code)?;
     check_run(
         rt,
         alloc,

@@ -221,20 +221,26 @@ fn counts_lines_and_bytes(rt: HostRuntime) -> Result<(), AllocError> {
     Ok(())
 }
 
-/// The operands of these kinds that a text is, where only `x` has been assigned.
+/// The names of a script in which only `x` has been assigned.
+fn names_of_x(alloc: Global) -> Result<Names, HostFull> {
+    let mut names = Names::new(alloc);
+    names.add(b"x")?;
+    Ok(names)
+}
+
+/// The operands of these kinds that a text is, where these names have been assigned.
 fn read_operands<'a>(
     alloc: Global,
     arena: &'a Bump,
+    names: &Names,
     kinds: &[OperandKind],
     text: &'a [u8],
 ) -> Result<Option<Operands<'a>>, HostFull> {
-    let mut names = Names::new(alloc);
-    names.add(b"x")?;
     let mut tokens = Vec::new(alloc);
     if !read_tokens(text, &mut tokens)? {
         return Ok(None);
     }
-    operands(arena, kinds, &tokens, &names)
+    operands(arena, kinds, &tokens, names)
 }
 
 /// The last of some operands in words, or `none` where there are none.
@@ -252,7 +258,8 @@ fn last_in_words(alloc: Global, found: &Option<Operands<'_>>) -> Result<String, 
 /// The last of the operands of these kinds that a text is, in words.
 fn last_operand(alloc: Global, kinds: &[OperandKind], text: &[u8]) -> Result<String, HostFull> {
     let arena = Bump::new(alloc);
-    let found = read_operands(alloc, &arena, kinds, text)?;
+    let names = names_of_x(alloc)?;
+    let found = read_operands(alloc, &arena, &names, kinds, text)?;
     last_in_words(alloc, &found)
 }
 

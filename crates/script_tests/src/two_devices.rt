@@ -1,6 +1,8 @@
 //! Runs over two resource files, where each call of either disk fails in turn.
 
-use crate::forks::{check_printed, check_turn, disk_of, hi, no, pair, run_over, store_of};
+use crate::forks::{
+    Ran, TestStore, check_printed, check_turn, disk_of, hi, no, pair, run_over, store_of,
+};
 use std::alloc::Global;
 use std::process::Abort;
 use std::test::Fail;
@@ -187,6 +189,22 @@ const FIRST_TORN: &str = "\
 16 UseResFile -193
 ";
 
+/// The two files' disks, of which these calls fail, 0 for none.
+fn stores_of(alloc: Global, turns: (u64, u64)) -> Result<Vec<TestStore>, Fail> {
+    let mut stores = Vec::new(alloc);
+    stores.push(store_of(hi(alloc)?, turns.0))?;
+    stores.push(store_of(pair(alloc, b'a', b'b')?, turns.1))?;
+    Ok(stores)
+}
+
+/// The disks have these bytes, and had the calls that fail.
+fn check_disks(rt: &impl Abort, ran: &Ran, turns: (u64, u64), after: (&[u8], &[u8])) {
+    let disks = (disk_of(ran, 0), disk_of(ran, 1));
+    assert_eq!(rt; disks, after, "calls {turns:?}");
+    check_turn(rt, ran, 0, turns.0);
+    check_turn(rt, ran, 1, turns.1);
+}
+
 /// A run of that where these calls of the two disks fail, 0 for none: it prints this.
 fn check_turns(
     rt: &impl Abort,
@@ -195,62 +213,59 @@ fn check_turns(
     output: &str,
     after: (&[u8], &[u8]),
 ) -> Result<(), Fail> {
-    let (first, second) = turns;
-    let mut stores = Vec::new(alloc);
-    stores.push(store_of(hi(alloc)?, first))?;
-    stores.push(store_of(pair(alloc, b'a', b'b')?, second))?;
-    let ran = run_over(alloc, SCRIPT, stores)?;
+    let ran = run_over(alloc, SCRIPT, stores_of(alloc, turns)?)?;
     check_printed(rt, &ran, SCRIPT, output);
-    assert_eq!(rt; disk_of(&ran, 0), after.0, "calls {turns:?}");
-    assert_eq!(rt; disk_of(&ran, 1), after.1, "calls {turns:?}");
-    check_turn(rt, &ran, 0, first);
-    check_turn(rt, &ran, 1, second);
+    check_disks(rt, &ran, turns, after);
     Ok(())
+}
+
+/// So where a call of the second disk fails, and the first resource of its fork has this byte then. The first disk has the new fork.
+fn check_second(rt: &impl Abort, alloc: Global, row: (u64, &str), byte: u8) -> Result<(), Fail> {
+    let (turn, output) = row;
+    let second = pair(alloc, byte, b'b')?;
+    check_turns(rt, alloc, (0, turn), output, (&no(alloc)?, &second))
 }
 
 #[test]
 fn the_second_disk_fails_before_its_first_write(rt: HostRuntime) -> Result<(), Fail> {
-    let alloc = rt.alloc();
-    let first = no(alloc)?;
-    let old = pair(alloc, b'a', b'b')?;
     for turn in 1..=6 {
-        check_turns(&rt, alloc, (0, turn), SECOND_UNOPENED, (&first, &old))?;
+        check_second(&rt, rt.alloc(), (turn, SECOND_UNOPENED), b'a')?;
     }
-    check_turns(&rt, alloc, (0, 7), SECOND_UNLOADED, (&first, &old))?;
-    check_turns(&rt, alloc, (0, 8), SECOND_UNREAD, (&first, &old))
+    check_second(&rt, rt.alloc(), (7, SECOND_UNLOADED), b'a')?;
+    check_second(&rt, rt.alloc(), (8, SECOND_UNREAD), b'a')
 }
 
 /// A write that fails leaves the old fork here, a cut and a sync the new one, which is as long.
 #[test]
 fn the_second_disk_fails_behind_its_first_write(rt: HostRuntime) -> Result<(), Fail> {
-    let alloc = rt.alloc();
-    let first = no(alloc)?;
-    let old = pair(alloc, b'a', b'b')?;
-    let new = pair(alloc, b'c', b'b')?;
-    check_turns(&rt, alloc, (0, 9), SECOND_TORN, (&first, &old))?;
-    check_turns(&rt, alloc, (0, 10), SECOND_TORN, (&first, &new))?;
-    check_turns(&rt, alloc, (0, 11), SECOND_TORN, (&first, &new))?;
-    check_turns(&rt, alloc, (0, 12), WHOLE, (&first, &new))
+    check_second(&rt, rt.alloc(), (9, SECOND_TORN), b'a')?;
+    check_second(&rt, rt.alloc(), (10, SECOND_TORN), b'c')?;
+    check_second(&rt, rt.alloc(), (11, SECOND_TORN), b'c')?;
+    check_second(&rt, rt.alloc(), (12, WHOLE), b'c')
 }
 
-#[test]
-fn the_first_disk_fails_before_its_first_write(rt: HostRuntime) -> Result<(), Fail> {
-    let alloc = rt.alloc();
-    let old = hi(alloc)?;
+/// So where a call of the first disk fails, which has these bytes then. The second has the new fork.
+fn check_first(rt: &impl Abort, alloc: Global, row: (u64, &str), first: &[u8]) -> Result<(), Fail> {
+    let (turn, output) = row;
     let second = pair(alloc, b'c', b'b')?;
+    check_turns(rt, alloc, (turn, 0), output, (first, &second))
+}
+
+/// A write that fails leaves the old fork here too.
+#[test]
+fn the_first_disk_fails_before_its_first_cut(rt: HostRuntime) -> Result<(), Fail> {
+    let old = hi(rt.alloc())?;
     for turn in 1..=5 {
-        check_turns(&rt, alloc, (turn, 0), FIRST_UNOPENED, (&old, &second))?;
+        check_first(&rt, rt.alloc(), (turn, FIRST_UNOPENED), &old)?;
     }
-    check_turns(&rt, alloc, (6, 0), FIRST_UNLOADED, (&old, &second))
+    check_first(&rt, rt.alloc(), (6, FIRST_UNLOADED), &old)?;
+    check_first(&rt, rt.alloc(), (7, FIRST_TORN), &old)
 }
 
 #[test]
 fn the_first_disk_fails_behind_its_first_write(rt: HostRuntime) -> Result<(), Fail> {
-    let alloc = rt.alloc();
-    let new = no(alloc)?;
-    let second = pair(alloc, b'c', b'b')?;
-    check_turns(&rt, alloc, (7, 0), FIRST_TORN, (&hi(alloc)?, &second))?;
-    check_turns(&rt, alloc, (8, 0), FIRST_TORN, (&new, &second))?;
-    check_turns(&rt, alloc, (9, 0), FIRST_TORN, (&new, &second))?;
-    check_turns(&rt, alloc, (10, 0), WHOLE, (&new, &second))
+    let new = no(rt.alloc())?;
+    check_first(&rt, rt.alloc(), (8, FIRST_TORN), &new)?;
+    check_first(&rt, rt.alloc(), (9, FIRST_TORN), &new)?;
+    check_first(&rt, rt.alloc(), (10, WHOLE), &new)
 }

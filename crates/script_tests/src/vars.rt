@@ -72,16 +72,20 @@ fn assign_first(
     Ok(())
 }
 
+/// The lines of a script are a NewHandle and a Poke of what it gives.
+fn check_calls(rt: &impl Abort, lines: &[Line<'_>], vars: &mut Vars) -> Result<(), Fault> {
+    assign_first(rt, call_at(lines, 0)?, vars, 0x0010_003C)?;
+    let second = resolve(call_at(lines, 1)?, vars);
+    assert!(rt; is_poke(&second, (0x0010_003C, 0), b"\x00\xFF"));
+    Ok(())
+}
+
 #[test]
 fn resolves_calls(rt: HostRuntime) -> Result<(), Fault> {
     let alloc = rt.alloc();
     let arena = Bump::new(alloc);
     let lines = parse_script(alloc, &arena, b"h = NewHandle 4\nPoke h 0 $\"00FF\"\n")?;
-    let mut vars = Vars::new(alloc);
-    assign_first(&rt, call_at(&lines, 0)?, &mut vars, 0x0010_003C)?;
-    let second = resolve(call_at(&lines, 1)?, &vars);
-    assert!(rt; is_poke(&second, (0x0010_003C, 0), b"\x00\xFF"));
-    Ok(())
+    check_calls(&rt, &lines, &mut Vars::new(alloc))
 }
 
 /// The number that a call of an answer is of, and its name's letter.
@@ -94,22 +98,37 @@ fn in_short(call: &Option<ReleasingCall>) -> (u8, u32) {
     }
 }
 
+/// A line's answer has this value, and these calls in short.
+fn check_answer(
+    rt: &impl Abort,
+    line: &AnswerLine<'_>,
+    vars: &Vars,
+    value: u32,
+    wanted: &[(u8, u32)],
+) {
+    let answer = answer_of(line, vars);
+    assert_eq!(rt; answer.value(), value);
+    for (call, wanted) in answer.calls().iter().zip(wanted) {
+        assert_eq!(rt; in_short(call), *wanted);
+    }
+}
+
+/// The lines of a script are a NewHandle and two answers, one with three calls and one without.
+fn check_answers(rt: &impl Abort, lines: &[Line<'_>], vars: &mut Vars) -> Result<(), Fault> {
+    assign_first(rt, call_at(lines, 0)?, vars, 60)?;
+    let calls = [(b'e', 60), (b'p', 5), (b'h', 60), (b'-', 0)];
+    check_answer(rt, answer_at(lines, 1)?, vars, 40, &calls);
+    check_answer(rt, answer_at(lines, 2)?, vars, 60, &[(b'-', 0)]);
+    Ok(())
+}
+
 #[test]
 fn reads_answers(rt: HostRuntime) -> Result<(), Fault> {
     let alloc = rt.alloc();
     let arena = Bump::new(alloc);
     let text = b"h = NewHandle 4\ngz 40 EmptyHandle h; DisposePtr 5;DisposeHandle h\ngz h\n";
     let lines = parse_script(alloc, &arena, text)?;
-    let mut vars = Vars::new(alloc);
-    assign_first(&rt, call_at(&lines, 0)?, &mut vars, 60)?;
-    let first = answer_of(answer_at(&lines, 1)?, &vars);
-    let second = answer_of(answer_at(&lines, 2)?, &vars);
-    assert_eq!(rt; (first.value(), second.value()), (40, 60));
-    let wanted = [(b'e', 60), (b'p', 5), (b'h', 60), (b'-', 0)];
-    for (call, wanted) in first.calls().iter().zip(&wanted) {
-        assert_eq!(rt; in_short(call), *wanted);
-    }
-    Ok(())
+    check_answers(&rt, &lines, &mut Vars::new(alloc))
 }
 
 /// The first number of such a reply is this.
