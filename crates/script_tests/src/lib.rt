@@ -2,32 +2,14 @@
 #![tactic(auto)]
 
 #[cfg(test)]
-mod device_faults;
-#[cfg(test)]
-mod file_refusals;
-#[cfg(test)]
-mod files;
-#[cfg(test)]
-mod forks;
-#[cfg(test)]
-mod host_memory;
-#[cfg(test)]
 mod loans;
-#[cfg(test)]
-mod lone_writes;
-#[cfg(test)]
-mod refused;
 #[cfg(test)]
 mod reply;
 #[cfg(test)]
-mod resource_refusals;
-#[cfg(test)]
-mod resources;
-#[cfg(test)]
 mod run;
 #[cfg(test)]
-mod text;
+mod stores;
 #[cfg(test)]
-mod two_devices;
+mod text;
 #[cfg(test)]
 mod vars;

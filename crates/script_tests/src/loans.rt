@@ -1,6 +1,6 @@
 //! Runs of scripts that lend blocks, and of scripts on zones of 32-bit blocks.
 
-use crate::forks::new_file;
+use crate::stores::new_file;
 use mac_base::block::HeadKind;
 use mac_base::zone_spec::ZoneSpec;
 use script_run::{Counted, RunEnd, run};

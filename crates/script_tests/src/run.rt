@@ -1,6 +1,6 @@
 //! Whole runs: what they write, and how they end.
 
-use crate::forks::new_file;
+use crate::stores::new_file;
 use mac_base::zone_spec::ZoneSpec;
 use script_run::{Counted, RunEnd, run, status};
 use std::alloc::{AllocError, Global};

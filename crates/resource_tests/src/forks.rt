@@ -1,7 +1,5 @@
 //! Forks whose bytes are known, and runs of scripts over disks that have them.
 
-ghost use Rattle.std.specs.Prelude.{◌≤◌, length, IfOk};
-
 use fork_disk::store::PlainStore;
 use fork_disk::{FailAt, MemDisk};
 use mac_base::zone_spec::ZoneSpec;
@@ -111,12 +109,6 @@ pub(crate) fn shorter_pair(alloc: Global) -> Result<Vec<u8>, AllocError> {
     fork_of(alloc, &header_of(9, 62), data, TWO_ROWS)
 }
 
-/// The fork of 'TEXT' 128 with the bytes "Hi" and 'TEXT' 5 with three of zero, of 331 bytes.
-pub(crate) fn hi_and_zeros(alloc: Global) -> Result<Vec<u8>, AllocError> {
-    let data = b"\x00\x00\x00\x02Hi\x00\x00\x00\x03\x00\x00\x00";
-    fork_of(alloc, &header_of(13, 62), data, OTHER_ROWS)
-}
-
 /// A fork of 5,459 resources 'TEXT' 5 without names that share one datum of no bytes. The map has 65,546 bytes, and the name list can't be
 /// put behind the references, since two bytes don't hold its place.
 pub(crate) fn too_many(alloc: Global) -> Result<Vec<u8>, AllocError> {
@@ -134,17 +126,6 @@ pub(crate) fn store_of(bytes: Vec<u8>, turn: u64) -> TestStore {
     PlainStore {
         disk: FailAt::new(MemDisk::from_bytes(bytes), turn),
     }
-}
-
-/// The store of one new file in memory.
-pub(crate) fn new_file(alloc: Global) -> Result<Vec<PlainStore<MemDisk>>, AllocError>
-    ensures { IfOk result (λ stores. length stores.items ≤ 8) }
-{
-    let mut stores = Vec::new(alloc);
-    stores.push(PlainStore {
-        disk: MemDisk::new(alloc),
-    })?;
-    Ok(stores)
 }
 
 /// How a run ended, what it printed, and the disks then.

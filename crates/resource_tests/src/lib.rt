@@ -1,0 +1,17 @@
+//! Tests of whole runs over resource files on disks in memory, of which a call may fail.
+#![tactic(auto)]
+
+#[cfg(test)]
+mod device_faults;
+#[cfg(test)]
+mod files;
+#[cfg(test)]
+mod forks;
+#[cfg(test)]
+mod host_memory;
+#[cfg(test)]
+mod lone_writes;
+#[cfg(test)]
+mod resources;
+#[cfg(test)]
+mod two_devices;
