@@ -31,11 +31,6 @@ const TWO_ROWS: &[u8] =
     b"\x00\x00\x00\x00\x00\x00\x00\x00\x00\x1c\x00\x3e\x00\x00TEXT\x00\x01\x00\x0a\
 \x00\x05\xff\xff\x00\x00\x00\x00\x00\x00\x00\x00\x00\x05\xff\xff\x00\x00\x00\x05\x00\x00\x00\x00";
 
-/// The map of 'TEXT' 128 with two bytes and 'TEXT' 5, without names: 62 bytes.
-const OTHER_ROWS: &[u8] =
-    b"\x00\x00\x00\x00\x00\x00\x00\x00\x00\x1c\x00\x3e\x00\x00TEXT\x00\x01\x00\x0a\
-\x00\x80\xff\xff\x00\x00\x00\x00\x00\x00\x00\x00\x00\x05\xff\xff\x00\x00\x00\x06\x00\x00\x00\x00";
-
 /// The header of a fork with so many bytes of data, from 256 on, and so many of its map behind them.
 fn header_of(data: u8, map: u8) -> [u8; 16] {
     [0, 0, 1, 0, 0, 0, 1, data, 0, 0, 0, data, 0, 0, 0, map]
@@ -109,12 +104,6 @@ pub(crate) fn longer_pair(alloc: Global) -> Result<Vec<u8>, AllocError> {
 pub(crate) fn shorter_pair(alloc: Global) -> Result<Vec<u8>, AllocError> {
     let data = b"\x00\x00\x00\x01a\x00\x00\x00\x00";
     fork_of(alloc, &header_of(9, 62), data, TWO_ROWS)
-}
-
-/// The fork of 'TEXT' 128 with the bytes "Hi" and 'TEXT' 5 with three of zero, of 331 bytes.
-pub(crate) fn hi_and_zeros(alloc: Global) -> Result<Vec<u8>, AllocError> {
-    let data = b"\x00\x00\x00\x02Hi\x00\x00\x00\x03\x00\x00\x00";
-    fork_of(alloc, &header_of(13, 62), data, OTHER_ROWS)
 }
 
 /// A fork of 5,459 resources 'TEXT' 5 without names that share one datum of no bytes. The map has 65,546 bytes, and the name list can't be

@@ -4,8 +4,6 @@
 #[cfg(test)]
 mod device_faults;
 #[cfg(test)]
-mod file_refusals;
-#[cfg(test)]
 mod files;
 #[cfg(test)]
 mod forks;
@@ -16,11 +14,7 @@ mod loans;
 #[cfg(test)]
 mod lone_writes;
 #[cfg(test)]
-mod refused;
-#[cfg(test)]
 mod reply;
-#[cfg(test)]
-mod resource_refusals;
 #[cfg(test)]
 mod resources;
 #[cfg(test)]
