@@ -1,12 +1,14 @@
 #!/usr/bin/env python3
-"""Checks what a macheap program prints and leaves on its resource files, on the rows below.
+"""Checks what a macheap program prints and leaves on its resource files, on the rows below and on the calls of tools/refusals.txt.
 
     tools/check_files.py PROGRAM
 
 A row has the bytes of its files, a script whose lines are parted by ` / `, the lines that are printed, where `..` stands for
 lines that aren't compared, and what the files have then: their bytes, or how many there are.
 """
+import itertools
 import os
+import re
 import subprocess
 import sys
 import tempfile
@@ -14,10 +16,17 @@ import tempfile
 from check_forks import NoFork, read_fork
 from check_runs import are_wanted, lines_of
 
+REFUSALS = os.path.join(os.path.dirname(os.path.abspath(__file__)), "refusals.txt")
+PROBES = "ZoneMap / CountResources 'TEXT' / CountTypes / GetResAttrs h / CurResFile"
 MAP = "00000000 0000 0000 001C 0032 0000 54455854 0000 000A 0080 FFFF 00 000000 00000000"
 # the fork of one resource 'TEXT' 128, "Hi", and the same with its map first
 HI = bytes.fromhex("00000100 00000106 00000006 00000032" + "00" * 240 + "00000002 4869" + "00000100 00000106 00000006 00000032" + MAP)
 HI_MAP_FIRST = bytes.fromhex("00000132 00000100 00000006 00000032" + "00" * 240 + "00000100 00000106 00000006 00000032" + MAP + "00000002 4869")
+# the first of these with 'TEXT' 5 behind its resource, of three bytes of zero
+HI_AND_ZEROS = bytes.fromhex(
+    "00000100 0000010D 0000000D 0000003E" + "00" * 240 + "00000002 4869 00000003 000000" + "00000100 0000010D 0000000D 0000003E"
+    "00000000 0000 0000 001C 003E 0000 54455854 0001 000A 0080 FFFF 00 000000 00000000 0005 FFFF 00 000006 00000000"
+)
 # two resources 'TEXT' 5, "a" and "b"
 AB = bytes.fromhex(
     "00000100 0000010A 0000000A 0000003E" + "00" * 240 + "00000001 61 00000001 62" + "00000100 0000010A 0000000A 0000003E"
@@ -30,6 +39,10 @@ def many(count):
     the_map += bytes.fromhex("0000 54455854") + (count - 1).to_bytes(2, "big") + bytes.fromhex("000A") + references
     header = b"".join(it.to_bytes(4, "big") for it in (256, 260, 4, 16 + len(the_map)))
     return header + bytes(240) + bytes(4) + header + the_map
+
+
+# the files of the refusals
+FORKS = {"HI": HI, "TOO_MANY": many(5459)}
 
 
 # what a row's files have then, where it is the list of their resources
@@ -129,7 +142,64 @@ ROWS = [
         "1 OpenResFile 2 0 / 2 CurResFile 2 0 / 3 GetResource $0010003C 0 / 4 Get1Resource -192 / 5 HomeResFile 1 0 / 6 NewHandle $00100040 0 / 7 AddResource 0 / 8 Get1Resource $00100040 0 / 9 GetResource $00100040 0 / 10 UseResFile 0 / 11 GetResource $0010003C 0 / 12 UpdateResFile 0 / 13 CloseResFile 0 / 14 CurResFile 1 0 / 15 OpenResFile -43 / 16 UseResFile -193",
         [HI, 311],
     ),
+    # calls that need no open file
+    (
+        [HI],
+        "CloseResFile / CurResFile / SetResLoad 0 / OpenResFile 1 / CurResFile / OpenResFile 1 / h = GetResource 'TEXT' 128 / GetHandleSize h",
+        "1 CloseResFile 0 / 2 CurResFile 0 0 / 3 SetResLoad 0 / 4 OpenResFile 1 0 / 5 CurResFile 1 0 / 6 OpenResFile 1 0 / 7 GetResource $0010003C 0 / 8 GetHandleSize -109",
+        [HI],
+    ),
+    # other calls work on lent blocks; an update writes what its lent handles don't change, and the file is closed once all are returned
+    (
+        [HI],
+        "h = GetResource 'TEXT' 128 / HLock h / Lend h / a = NewHandle 3 / AddResource a 'TEXT' 5 / HLock a / Lend a / GetResource 'TEXT' 128 / LoadResource h / WriteResource h / ReleaseResource a / Return a / UpdateResFile / CloseResFile / Return h / CloseResFile",
+        "1 GetResource $0010003C 0 / 2 HLock 0 / 3 Lend 0 / 4 NewHandle $00100040 0 / 5 AddResource 0 / 6 HLock 0 / 7 Lend 0 / 8 GetResource $0010003C 0 / 9 LoadResource 0 / 10 WriteResource 0 / 11 ReleaseResource 0 / 12 Return 0 / 13 UpdateResFile 0 / 14 CloseResFile -117 / 15 Return 0 / 16 CloseResFile 0",
+        [HI_AND_ZEROS],
+    ),
+    # a lent handle is told of, marked, taken out and added again; it is written once it is returned
+    (
+        [HI],
+        "h = GetResource 'TEXT' 128 / HLock h / Lend h / SizeResource h / GetResInfo h / HomeResFile h / ChangedResource h / SetResAttrs h 16 / GetResAttrs h / UpdateResFile / RemoveResource h / CountResources 'TEXT' / AddResource h 'TEXT' 128 / WriteResource h / Return h / WriteResource h / GetResAttrs h / HGetState h",
+        "1 GetResource $0010003C 0 / 2 HLock 0 / 3 Lend 0 / 4 SizeResource 2 0 / 5 GetResInfo 128 'TEXT' none 0 / 6 HomeResFile 1 0 / 7 ChangedResource 0 / 8 SetResAttrs 0 / 9 GetResAttrs 18 0 / 10 UpdateResFile -117 / 11 RemoveResource 0 / 12 CountResources 0 0 / 13 AddResource 0 / 14 WriteResource -117 / 15 Return 0 / 16 WriteResource 0 / 17 GetResAttrs 0 0 / 18 HGetState 160 0",
+        [HI],
+    ),
+    # a lent handle is detached, and outlives its file
+    (
+        [HI],
+        "h = GetResource 'TEXT' 128 / HLock h / Lend h / DetachResource h / CloseResFile / LentPeek h 0 2 / Return h / HGetState h",
+        '1 GetResource $0010003C 0 / 2 HLock 0 / 3 Lend 0 / 4 DetachResource 0 / 5 CloseResFile 0 / 6 LentPeek "Hi" 0 / 7 Return 0 / 8 HGetState 128 0',
+        [HI],
+    ),
 ]
+
+
+def calls_of(line):
+    """The calls of a line: A|B stands for A and for B, and n*256 for 256 letters n."""
+    line = re.sub(r"(\w)\*(\d+)", lambda it: it[1] * int(it[2]), line)
+    return map(" ".join, itertools.product(*(word.split("|") for word in line.split(" "))))
+
+
+def numbered(lines):
+    """Printed lines with the numbers of the script's lines. Those of a map, which begin with blanks, have none."""
+    numbers = itertools.count(1)
+    return [line if line.startswith("  ") else f"{next(numbers)} {line}" for line in lines.split(" / ")]
+
+
+def refusals(table):
+    """The rows of tools/refusals.txt."""
+    for line in table.read().split("\n"):
+        mark, _, rest = line.partition(" ")
+        if mark == ">":
+            name, script = rest.split(" : ")
+        elif mark == "=":
+            replies = rest
+        elif mark == "?":
+            seen = rest
+        elif line and mark != "#":
+            calls, code = line.split(": ")
+            for call in calls_of(calls):
+                lines = f"{replies} / {seen} / {call.split(' ')[0]} {code} / ResError {code} 0 / {seen}"
+                yield [FORKS[name]], f"{script} / {PROBES} / {call} / ResError / {PROBES}", " / ".join(numbered(lines)), [FORKS[name]]
 
 
 def is_left(wanted, left):
@@ -145,8 +215,11 @@ def is_left(wanted, left):
 
 def main(program):
     failed = 0
+    with open(REFUSALS, encoding="utf-8") as table:
+        refused = list(refusals(table))
+    rows = ROWS + refused
     with tempfile.TemporaryDirectory() as folder:
-        for disks, script, printed, wanted in ROWS:
+        for disks, script, printed, wanted in rows:
             paths = [os.path.join(folder, f"file{index}") for index in range(len(disks))]
             words = [program]
             for path, disk in zip(paths, disks):
@@ -162,8 +235,8 @@ def main(program):
             if ran.returncode != 0 or not right or not all(map(is_left, wanted, left)):
                 failed += 1
                 print(f"{script}: status {ran.returncode}, {ran.stdout!r}, files of {[len(it) for it in left]} bytes")
-    print(f"scripts over resource files: {len(ROWS) - failed} as they should be, {failed} not")
-    return 1 if failed else 0
+    print(f"scripts over resource files: {len(rows) - failed} as they should be, {failed} not; {len(refused)} are of calls that are refused")
+    return 1 if failed or not refused else 0
 
 
 if __name__ == "__main__":
