@@ -1,3 +1,2 @@
 mod Front
 mod Opened
-pub mod Grouped

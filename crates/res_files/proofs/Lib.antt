@@ -1,4 +1,3 @@
-pub mod Grouped
 pub mod Mapped
 pub mod Stands
 pub mod On
