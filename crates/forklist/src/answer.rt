@@ -1,6 +1,8 @@
 //! What is shown of a fork.
 
-ghost use Rattle.std.specs.Prelude.{◌≡◌, IfErr};
+ghost use Rattle.std.specs.Prelude.{◌≡◌, ◌≢◌, ◌+◌, IfErr, IfOk, IfSome, take};
+ghost use Rattle.std.specs.IoError.{error_kind};
+ghost use Rattle.fork_bytes.specs.Fork.{max_fork};
 ghost use Rattle.forklist.specs.Answer.{Answers, Shows, IsQuiet};
 
 use crate::request::{Request, Wanted};
@@ -11,7 +13,7 @@ use fork_reader::read_fork;
 use fork_text::{find_row, listing};
 use std::alloc::{AllocError, Global};
 use std::io;
-use std::io::{Read, Write};
+use std::io::{ErrorKind, Read, Write};
 use thiserror::Error;
 
 /// Why nothing is shown, or not all of it.
@@ -43,7 +45,10 @@ impl From<AllocError> for Failure {
 }
 
 /// The bytes that the reader gives, or as many of them as show that they are too many for a fork.
-pub fn read_front<R: Read + Drop>(alloc: Global, reader: R) -> io::Result<Vec<u8>> {
+pub fn read_front<R: Read + Drop>(alloc: Global, reader: R) -> io::Result<Vec<u8>>
+    ensures front { IfOk result (λ bytes. IfSome (R.remaining reader) (λ all. bytes.items ≡ take (max_fork + 1) all)) }
+    ensures retried { IfErr result (λ error. error_kind error ≢ ErrorKind.Interrupted) }
+{
     let mut bytes = Vec::new(alloc);
     reader.take(MAX_FORK as u64 + 1).read_to_end(&mut bytes)?;
     Ok(bytes)
