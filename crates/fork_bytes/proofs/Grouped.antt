@@ -7,7 +7,7 @@ use Rattle.fork_bytes.specs.declared.layout.TypeCount.{TypeCount}
 use Rattle.fork_bytes.specs.declared.table.Table.{Table}
 use Rattle.fork_bytes.specs.declared.fault.Condition.TheVariants.{Types}
 use Rattle.fork_bytes.specs.Rows.{Row}
-use Rattle.fork_bytes.specs.Fork.{Reference, TypeEntry, places, references_in, references_of, entries_of, map_row, row_with, data_of, map_of}
+use Rattle.fork_bytes.specs.Fork.{Reference, TypeEntry, places, references_in, references_of, entries_of, map_row, map_rows, row_with, data_of, map_of}
 use Rattle.fork_bytes.specs.Written.{types_of, counted_before}
 use Rattle.fork_bytes.specs.Laws.{IsGrouped, IsReadGrouped}
 
@@ -112,11 +112,13 @@ map_twice : (parts resource_map : List ℕ) (references : List Reference) → ma
 map_twice parts resource_map [] = refl
 map_twice parts resource_map (reference ∷ references) = ap (λ (rs : List Row). row_for parts resource_map reference ∷ rs) (map_twice parts resource_map references)
 
+-- what a map lists is grouped, where no type stands twice in its type list
+pub map_grouped : (parts resource_map : List ℕ) → AllPairs (λ (a b : TypeEntry). a.kind ≢ b.kind) (entries_of resource_map) → IsGrouped (map (row_with parts) (map_rows resource_map))
+map_grouped parts resource_map distinct =
+    let run = entries_run parts resource_map (entries_of resource_map) (distinct_from entered (entries_of resource_map) distinct) in
+    let P : List Row → Type 0 = IsGrouped in
+    subst P (sym (map_twice parts resource_map (references_of resource_map))) (distinct_at counted _ run.distinct)
+
 -- what bytes stand for is grouped
 pub read_grouped : IsReadGrouped
-read_grouped fork table stands =
-    let resource_map = map_of fork in let parts = data_of fork in
-    let run = entries_run parts resource_map (entries_of resource_map) (distinct_from entered (entries_of resource_map) (stands.0.holds Types).distinct) in
-    let P : List Row → Type 0 = IsGrouped in
-    subst (λ (t : Table). IsGrouped t.rows) (sym stands.1)
-    (subst P (sym (map_twice parts resource_map (references_of resource_map))) (distinct_at counted _ run.distinct))
+read_grouped fork table stands = subst (λ (t : Table). IsGrouped t.rows) (sym stands.1) (map_grouped (data_of fork) (map_of fork) (stands.0.holds Types).distinct)

@@ -8,7 +8,7 @@ mod ReadEntries
 mod ReadData
 mod ReadRows
 mod ReadAgain
-mod Grouped
+pub mod Grouped
 mod ReadWhole
 mod Blank
 pub mod Lengths

@@ -1,2 +1,3 @@
 mod Front
 mod Opened
+pub mod Grouped

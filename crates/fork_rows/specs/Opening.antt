@@ -3,8 +3,10 @@ use Rattle.std.specs.Prelude.{◌≡◌, ℕ, ◌+◌, ◌≤◌, List, map, ⊤
 use Rattle.fork_bytes.specs.declared.fault.Condition.{Condition}
 use Rattle.fork_bytes.specs.declared.table.Table.{Table}
 use Rattle.fork_bytes.specs.Fork.{map_of, extra_of, attributes_of, max_fork, IsFork, Refuses}
+use Rattle.fork_bytes.specs.Laws.{IsGrouped}
 use Rattle.fork_disk.specs.Disk.{Rose}
 use Rattle.fork_reader.specs.Reading.{PlacedRow, placed_rows, row_at, FaultsAt}
+use Rattle.res_base.specs.declared.resource.Resource.{Resource}
 use Rattle.fork_rows.specs.declared.fault.OpenFault.{OpenFault}
 use Rattle.fork_rows.specs.declared.fault.OpenFault.TheVariants.{Fork, Device}
 use Rattle.fork_rows.specs.declared.table.PlacedTable.{PlacedTable}
@@ -28,6 +30,14 @@ filled fork table = record {
 -- the bytes of a row end where the longest fork does at the latest
 abbrev pub FitsInFork : PlacedRow → Type 0
 FitsInFork row = row.datum.offset + row.datum.length ≤ max_fork
+
+-- the types of rows
+abbrev pub kinds_in : {X : Type 0} → List (Resource X) → List (List ℕ)
+kinds_in rows = map (λ row. row.kind) rows
+
+-- the rows of one type stand together, whatever the bytes at their places
+abbrev pub AreGrouped : List PlacedRow → Type 0
+AreGrouped rows = (fork : List ℕ) → IsGrouped (map (row_at fork) rows)
 
 -- the bytes are a fork, and this is its table with places
 abbrev pub HasPlaces : List ℕ → PlacedTable → Type 0

@@ -4,7 +4,7 @@ ghost use Rattle.std.specs.Prelude.{◌≡◌, ◌<◌, ◌≤◌, ◌↔◌, �
 ghost use Rattle.std.specs.List.{AllByRecursion};
 ghost use Rattle.fork_bytes.specs.Fork.{max_rows, StandsFor};
 ghost use Rattle.fork_reader.specs.Reading.{IsWithin, AreFewBytes};
-ghost use Rattle.fork_rows.specs.Opening.{HasPlaces, FitsInFork, filled, RefusesToOpen, CountsDevice};
+ghost use Rattle.fork_rows.specs.Opening.{HasPlaces, FitsInFork, AreGrouped, filled, RefusesToOpen, CountsDevice};
 
 use crate::fault::OpenFault;
 use crate::part::{find_rows, read_front, read_part};
@@ -27,6 +27,7 @@ pub fn read_rows<S: ForkStore>(alloc: Global, store: &mut S) -> Result<PlacedTab
     ensures inside { IfOk result (λ table. AllByRecursion FitsInFork table.rows) }
     ensures most { IfOk result (λ table. length table.rows ≤ max_rows) }
     ensures few { IfOk result (λ table. AreFewBytes table.rows) }
+    ensures grouped { IfOk result (λ table. AreGrouped table.rows) }
     ensures refuses { S.is_honest store.old → IfErr result (RefusesToOpen (S.fork store.old)) }
     ensures end { S.is_honest store.old → length (S.fork store.old) < 16
         → IfErr result (λ fault. (fault ≡ OpenFault.Fork ForkFault.EndOfFile) ⊎ (fault ≡ OpenFault.Device)) }

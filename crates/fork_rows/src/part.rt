@@ -4,7 +4,7 @@ ghost use Rattle.std.specs.Prelude.{◌≡◌, ◌<◌, ◌≤◌, ◌+◌, ◌�
 ghost use Rattle.fork_bytes.specs.Fork.{bytes_at, header_of, data_of, extra_of, max_fork, HasParts, HasData};
 ghost use Rattle.std.specs.List.{AllByRecursion};
 ghost use Rattle.fork_reader.specs.Reading.{placed_row, HasDatum};
-ghost use Rattle.fork_rows.specs.Opening.{FaultsIn, FitsInFork, CountsDevice};
+ghost use Rattle.fork_rows.specs.Opening.{FaultsIn, FitsInFork, CountsDevice, kinds_in};
 
 use crate::fault::OpenFault;
 use byteorder::{BigEndian, ByteOrder};
@@ -88,6 +88,7 @@ fn read_row<S: ForkStore>(
     requires parts { S.is_honest store.old → HasParts (length (S.fork store.old)) header }
     ensures row { S.is_honest store.old → IfOk result (λ found. found ≡ placed_row (S.fork store.old) row) }
     ensures has { S.is_honest store.old → IfOk result (λ _. HasDatum (data_of (S.fork store.old)) row) }
+    ensures kind { IfOk result (λ found. found.kind ≡ row.kind) }
     ensures inside { IfOk result FitsInFork }
     ensures refuses { S.is_honest store.old → IfErr result (FaultsIn Condition.Places (¬ HasDatum (data_of (S.fork store.old)) row)) }
     ensures same { S.is_honest store.old → S.fork store.new ≡ S.fork store.old }
@@ -116,6 +117,7 @@ pub(crate) fn find_rows<S: ForkStore>(
     ensures rows { S.is_honest store.old → IfOk result (λ found. found.items ≡ map (placed_row (S.fork store.old)) rows.items) }
     ensures has { S.is_honest store.old → IfOk result (λ _. HasData (data_of (S.fork store.old)) rows.items) }
     ensures count { IfOk result (λ found. length found.items ≡ length rows.items) }
+    ensures kinds { IfOk result (λ found. kinds_in found.items ≡ kinds_in rows.items) }
     ensures inside { IfOk result (λ found. AllByRecursion FitsInFork found.items) }
     ensures refuses { S.is_honest store.old → IfErr result (FaultsIn Condition.Places (¬ HasData (data_of (S.fork store.old)) rows.items)) }
     ensures same { S.is_honest store.old → S.fork store.new ≡ S.fork store.old }

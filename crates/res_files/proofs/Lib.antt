@@ -1,3 +1,4 @@
+pub mod Grouped
 pub mod Mapped
 pub mod Stands
 pub mod On

@@ -1,6 +1,6 @@
 -- What is the same of rows and files whose data are given in another way.
-use Rattle.std.proofs.Common.{◌≡◌, refl, sym, ap, ◌∙◌, ℕ, ℤ, zero, suc, ◌+◌, List, [], ◌∷◌, ◌++◌, length, map, take, drop, set, slice_get, Bool, true, false, not, cond, Option, None, Some, position, find, remove, filter, pos, subst, ◌≤◌, arith}
-use Rattle.std.specs.Prelude.{if◌then◌else◌, ◌||◌, ◌&&◌, ◌==◌, nat_lt}
+use Rattle.std.proofs.Common.{◌≡◌, refl, sym, ap, ◌∙◌, ℕ, ℤ, zero, suc, ◌+◌, List, [], ◌∷◌, ◌++◌, length, map, take, drop, set, slice_get, Bool, true, false, not, cond, Option, None, Some, position, find, filter, pos, subst, ◌≤◌, arith}
+use Rattle.std.specs.Prelude.{if◌then◌else◌, ◌||◌, ◌&&◌, nat_lt}
 use Rattle.std.specs.List.{list_any, position_or_len}
 use Rattle.std.specs.Option.{option_map, option_or, option_map_or, option_and_then}
 use Rattle.std.proofs.lemmas.Bool.{eqb-true}
@@ -12,7 +12,7 @@ use Rattle.res_table.specs.declared.chain.OpenFile.{OpenFile}
 use Rattle.res_table.specs.declared.chain.RowPlace.{RowPlace}
 use Rattle.res_table.specs.Rows.{is_of_type, is_resource, has_handle, added, forgotten, forgetting, with_handle, changed_at, removed_at, indexes_from, index_of_ith, ith, count_of_type, free_id_from, unique_id}
 use Rattle.res_table.specs.Saved.{bare, saved_row}
-use Rattle.res_table.specs.OpenFiles.{OpenFiles, is_numbered, is_open, table_in, table_of, place_in, earliest_place, latest_place, count_up_to, searched, place_of_resource, place_of_handle, file_forgotten, handle_forgotten, file_opened, file_used, last_number, without, is_current, file_closed, row_at, place_in_file, place_here, with_rows, changed_file, rows_changed}
+use Rattle.res_table.specs.OpenFiles.{OpenFiles, is_numbered, is_open, table_in, table_of, place_in, earliest_place, latest_place, count_up_to, searched, place_of_resource, place_of_handle, file_forgotten, handle_forgotten, file_opened, last_number, without, is_current, file_closed, row_at, place_in_file, place_here, with_rows, changed_file, rows_changed}
 
 -- a row with its datum given so
 abbrev pub mapped_row : {D E : Type 0} → (D → E) → Row D → Row E

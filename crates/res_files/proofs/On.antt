@@ -1,19 +1,19 @@
 -- The open files as they are seen, by the files with places: what is asked of them, and what changes them.
-use Rattle.std.proofs.Common.{◌≡◌, refl, sym, ap, ◌∙◌, subst, arith, ℕ, zero, suc, ◌+◌, ◌<◌, ◌≤◌, List, [], ◌∷◌, length, map, take, drop, Bool, true, false, Option, None, Some, Result, Ok, Err, IfSome, IfNone, OnOk, OnErr, IsSome, IsTrue, All, slice_get}
-use Rattle.std.specs.Prelude.{◌&&◌, nat_le}
+use Rattle.std.proofs.Common.{◌≡◌, refl, sym, ap, ◌∙◌, subst, arith, ℕ, zero, suc, ◌<◌, List, [], length, map, Bool, true, false, Option, None, Some, Result, Ok, Err, IfNone, OnOk, OnErr, IsSome, IsTrue, All}
+use Rattle.std.specs.Prelude.{◌&&◌}
 use Rattle.std.specs.Option.{option_map, option_map_or, option_and_then}
 use Rattle.std.proofs.lemmas.Bool.{leb-true}
 use Rattle.std.proofs.lemmas.List.{length-map, length-take, length-drop}
-use Rattle.fork_bytes.specs.Fork.{max_rows, bytes_at}
+use Rattle.fork_bytes.specs.Fork.{max_rows}
 use Rattle.fork_reader.specs.declared.place.Place.{Place}
 use Rattle.res_table.specs.declared.row.Row.{Row}
 use Rattle.res_table.specs.declared.chain.ResourceTable.{ResourceTable}
 use Rattle.res_table.specs.declared.chain.RowPlace.{RowPlace}
 use Rattle.res_table.specs.Rows.{added, ith, index_of_ith}
 use Rattle.res_table.specs.Saved.{bare, saved_row}
-use Rattle.res_table.specs.OpenFiles.{OpenFiles, is_open, row_at, table_of, table_in}
+use Rattle.res_table.specs.OpenFiles.{OpenFiles, is_open, row_at, table_of}
 use Rattle.res_calls.specs.Changes.{Files, FileRow, FileTable, rows_of, current_rows, rows_in}
-use Rattle.res_calls.specs.Fitting.{rows_fit, names_fit}
+use Rattle.res_calls.specs.Fitting.{rows_fit}
 use Rattle.res_update.specs.Placed.{bytes_on, row_on, IsInside}
 use Rattle.res_files.specs.FilesOn.{FilesOn, Shows}
 use Rattle.res_files.specs.Standing.{fork_at, files_on, StandOn, placed_rows, placed_rows_of}

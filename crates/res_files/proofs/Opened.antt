@@ -13,7 +13,7 @@ use Rattle.fork_rows.specs.declared.fault.OpenFault.{OpenFault}
 use Rattle.fork_rows.specs.Opening.{CountsFault}
 use Rattle.res_table.specs.declared.chain.ResourceTable.{ResourceTable}
 use Rattle.res_table.specs.OpenFiles.{OpenFiles, is_open, file_opened}
-use Rattle.res_calls.specs.Changes.{Files, FileTable}
+use Rattle.res_calls.specs.Changes.{FileTable}
 use Rattle.res_calls.specs.Device.{Reads}
 use Rattle.res_update.specs.Placed.{table_on, AreInside}
 use Rattle.res_files.specs.FilesOn.{FilesOn, fork_of, SomeFailed}

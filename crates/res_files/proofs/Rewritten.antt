@@ -31,6 +31,7 @@ use Rattle.res_update.specs.Selected.{updated, reads_lent, CountsUpdate}
 use Rattle.res_files.specs.FilesOn.{FilesOn, fork_of, forks_with}
 use Rattle.res_files.specs.Standing.{fork_at, files_on, AreSmall, Holds, StandsOn, StandOn}
 use Rattle.res_files.specs.Updating.{row_placed, rows_placed}
+use Rattle.res_files.proofs.Grouped.{placed_grouped, updated_grouped}
 use Rattle.res_files.proofs.Mapped.{mapped_row, mapped_rows, mapped_table, any-mapped, get-mapped, set-mapped, table-mapped, without-mapped, closed-mapped}
 use Rattle.res_files.proofs.On.{seen, bytes_in}
 use Rattle.res_files.proofs.Stands.{table_stands, stand_closed, any_changed, apart_changed}
@@ -186,13 +187,12 @@ module _ {S : Type 0} (fork : S → List ℕ) (is_ready is_honest : S → Type 0
       -- and what it stands for
       pub stands_seen : (t : HandleTable) (selection : Selection)
           → (is_honest old → IsGrouped (saved_table (updated t selection (table_on (fork old) table))).rows → StandsFor (fork new) (saved_table (updated t selection (table_on (fork old) table))))
-          → All is_honest now.stores → IfSome (table_of k now.files) (λ shown. IsGrouped (saved_table (updated t selection shown)).rows
-          → StandsFor (fork_of fork k (set stores (k - 1) new)) (saved_table (updated t selection shown)))
+          → All is_honest now.stores → IfSome (table_of k now.files) (λ shown. StandsFor (fork_of fork k (set stores (k - 1) new)) (saved_table (updated t selection shown)))
       stands_seen t selection is honest =
           let saved = saved_table (updated t selection (table_on (fork old) table)) in
           let new_is : fork_of fork k (set stores (k - 1) new) ≡ fork new = ap (λ (found : Option S). option_map_or fork found []) (get_set stores (k - 1) new within) in
-          of_table (λ shown. IsGrouped (saved_table (updated t selection shown)).rows → StandsFor (fork_of fork k (set stores (k - 1) new)) (saved_table (updated t selection shown)))
-          (λ grouped. subst (λ (bytes : List ℕ). StandsFor bytes saved) (sym new_is) (is (honest_here honest) grouped))
+          of_table (λ shown. StandsFor (fork_of fork k (set stores (k - 1) new)) (saved_table (updated t selection shown)))
+          (subst (λ (bytes : List ℕ). StandsFor bytes saved) (sym new_is) (is (honest_here honest) (updated_grouped t selection (fork old) table small.grouped)))
 
       -- the rows at their places
       placed_seen : (t : HandleTable) (selection : Selection) (places : List Place) → map (bytes_on (fork new)) places ≡ map (λ (r : FileRow). r.resource.datum) (updated t selection (table_on (fork old) table)).rows
@@ -261,7 +261,7 @@ module _ {S : Type 0} (fork : S → List ℕ) (is_ready is_honest : S → Type 0
           own rows = rows_placed selection 0 rows places
 
           small_now : AreSmall (own table.rows)
-          small_now = record { few = subst (λ (n : ℕ). n ≤ max_rows) (sym (long_placed selection 0 table.rows places)) small.few; near = all_at_places IsNear selection 0 table.rows places long near }
+          small_now = record { few = subst (λ (n : ℕ). n ≤ max_rows) (sym (long_placed selection 0 table.rows places)) small.few; grouped = placed_grouped selection 0 table.rows places small.grouped; near = all_at_places IsNear selection 0 table.rows places long near }
 
           holds_now : Holds fork is_ready is_honest (own table.rows) new
           holds_now honest = let was = same.1 honest in (ready was, all_at_places (IsInside (fork new)) selection 0 table.rows places long (inside was))

@@ -1,10 +1,10 @@
 -- The files stand on their stores: what follows of a row, and what keeps it.
-use Rattle.std.proofs.Common.{◌≡◌, ◌≢◌, refl, sym, ap, ◌∙◌, subst, arith, ℕ, zero, suc, ◌+◌, ◌-◌, ◌<◌, ◌≤◌, List, [], ◌∷◌, ◌++◌, length, map, set, slice_get, get_or, Bool, true, false, not, cond, Option, None, Some, find, remove, IfSome, IsSome, IsTrue, All, take, drop, unwrap_or, ◌||◌, if◌then◌else◌}
+use Rattle.std.proofs.Common.{◌≡◌, refl, sym, ap, ◌∙◌, subst, arith, ℕ, zero, suc, ◌-◌, ◌<◌, ◌≤◌, List, [], ◌∷◌, ◌++◌, length, map, set, slice_get, get_or, Bool, true, false, not, cond, Option, None, Some, find, remove, IfSome, IsTrue, All, take, drop, unwrap_or, ◌||◌, if◌then◌else◌}
 use Rattle.std.specs.Prelude.{◌==◌, ◌&&◌}
 use Rattle.std.specs.List.{list_any, AllByRecursion}
 use Rattle.std.specs.Option.{option_map, option_or, option_map_or, option_and_then}
 use Rattle.std.proofs.lemmas.Bool.{eqb-true, eqb-false, eq-eqb, ne_eqb}
-use Rattle.std.proofs.lemmas.List.Elements.{All-set, All-cons, All-nil, All-append, All-take, All-drop, All-head, All-tail, All-map}
+use Rattle.std.proofs.lemmas.List.Elements.{All-set, All-cons, All-nil, All-append, All-take, All-drop, All-head, All-tail}
 use Rattle.std.proofs.lemmas.Option.{slice_get-map, slice_get_within, slice_get_read, get_or_from_slice_get, same_Some}
 use Rattle.fork_bytes.specs.Fork.{max_rows}
 use Rattle.fork_reader.specs.declared.place.Place.{Place}
@@ -14,8 +14,9 @@ use Rattle.res_table.specs.declared.chain.OpenFile.{OpenFile}
 use Rattle.res_table.specs.declared.chain.RowPlace.{RowPlace}
 use Rattle.res_table.specs.Rows.{is_of_type, has_handle, added, changed_at, removed_at, forgotten, forgetting, with_handle}
 use Rattle.res_table.specs.OpenFiles.{OpenFiles, is_numbered, is_open, table_in, table_of, row_at, with_rows, changed_file, rows_changed, without, last_number, is_current, file_closed, file_opened, file_used, file_forgotten, handle_forgotten}
-use Rattle.res_update.specs.Placed.{AreInside, AreNear, IsInside, IsNear}
+use Rattle.res_update.specs.Placed.{AreInside, IsInside, IsNear}
 use Rattle.res_files.specs.Standing.{fork_at, AreSmall, Holds, StandsOn, AreApart, StandOn, placed_rows, placed_rows_of}
+use Rattle.res_files.proofs.Grouped.{changed_grouped, removed_grouped, forgotten_grouped, added_grouped}
 
 -- a change of rows after which they stand where they stood
 pub record Keeps (change : List (Row Place) → List (Row Place)) : Type 0 where
@@ -42,10 +43,11 @@ long_changed_at at change rows = by (slice_get rows at)
     by None = refl
     by (Some r) = as_long rows at (change r)
 
-pub keeps_changed_at : (at : ℕ) (change : Row Place → Row Place) → ((r : Row Place) → (change r).resource.datum ≡ r.resource.datum) → Keeps (changed_at at change)
-keeps_changed_at at change same = record {
+pub keeps_changed_at : (at : ℕ) (change : Row Place → Row Place) → ((r : Row Place) → (change r).resource.datum ≡ r.resource.datum) → ((r : Row Place) → (change r).resource.kind ≡ r.resource.kind) → Keeps (changed_at at change)
+keeps_changed_at at change same same_kind = record {
   small = λ rows small. record {
     few = subst (λ (n : ℕ). n ≤ max_rows) (sym (long_changed_at at change rows)) small.few;
+    grouped = changed_grouped at change rows same_kind small.grouped;
     near = all_changed_at (λ r. IsNear r.resource.datum) at change rows (λ r near. subst IsNear (sym (same r)) near) small.near;
   };
   inside = λ fork rows inside. all_changed_at (λ r. IsInside fork r.resource.datum) at change rows (λ r in'. subst (IsInside fork) (sym (same r)) in') inside;
@@ -62,6 +64,7 @@ pub keeps_removed : (at : ℕ) → Keeps (removed_at at)
 keeps_removed at = record {
   small = λ rows small. record {
     few = let shorter = long_removed rows at in let few = small.few in omega arith;
+    grouped = removed_grouped at rows small.grouped;
     near = All-append (λ r. IsNear r.resource.datum) (take at rows) (drop (suc at) rows) (All-take (λ r. IsNear r.resource.datum) at rows small.near) (All-drop (λ r. IsNear r.resource.datum) (suc at) rows small.near);
   };
   inside = λ fork rows inside. All-append (λ r. IsInside fork r.resource.datum) (take at rows) (drop (suc at) rows) (All-take (λ r. IsInside fork r.resource.datum) at rows inside) (All-drop (λ r. IsInside fork r.resource.datum) (suc at) rows inside);
@@ -84,6 +87,7 @@ pub keeps_forgotten : (h : ℕ) → Keeps (forgotten h)
 keeps_forgotten h = record {
   small = λ rows small. record {
     few = subst (λ (n : ℕ). n ≤ max_rows) (sym (long_forgotten h rows)) small.few;
+    grouped = forgotten_grouped h rows small.grouped;
     near = all_forgotten (λ r. IsNear r.resource.datum) h rows (λ r near. near) small.near;
   };
   inside = λ fork rows inside. all_forgotten (λ r. IsInside fork r.resource.datum) h rows (λ r in'. in') inside;
@@ -362,6 +366,7 @@ module _ {S : Type 0} (fork : S → List ℕ) (is_ready is_honest : S → Type 0
     to_count = stands.to_count;
     small = record {
       few = subst (λ (n : ℕ). n ≤ max_rows) (sym (long_added new f.table.rows)) (omega (arith, room));
+      grouped = added_grouped new f.table.rows stands.small.grouped;
       near = all_added (λ r. IsNear r.resource.datum) new f.table.rows near stands.small.near;
     };
     held = by (slice_get stores (f.number - 1)) stands.held;

@@ -5,7 +5,7 @@ use Rattle.std.proofs.lemmas.List.{length-map}
 use Rattle.std.proofs.lemmas.List.Elements.{All-cons, All-nil}
 use Rattle.mac_base.specs.declared.error.HostFull.{HostFull}
 use Rattle.mac_base.specs.declared.error.OsErr.{OsErr}
-use Rattle.mac_base.specs.declared.error.OsErr.TheVariants.{EofErr, MapReadErr, IoErr}
+use Rattle.mac_base.specs.declared.error.OsErr.TheVariants.{IoErr}
 use Rattle.fork_disk.specs.Disk.{Rose}
 use Rattle.fork_bytes.specs.Fork.{max_rows, StandsFor}
 use Rattle.fork_bytes.specs.declared.fault.ForkFault.TheVariants as bytes
@@ -14,15 +14,16 @@ use Rattle.fork_reader.specs.Reading.{PlacedRow, row_at, IsWithin}
 use Rattle.fork_rows.specs.declared.fault.OpenFault.{OpenFault}
 use Rattle.fork_rows.specs.declared.fault.OpenFault.TheVariants.{Fork, Device}
 use Rattle.fork_rows.specs.declared.table.PlacedTable.{PlacedTable}
-use Rattle.fork_rows.specs.Opening.{FitsInFork, filled, RefusesToOpen, CountsFault}
+use Rattle.fork_rows.specs.Opening.{FitsInFork, AreGrouped, filled, RefusesToOpen, CountsFault}
 use Rattle.res_table.specs.declared.row.Row.{Row}
 use Rattle.res_table.specs.Rows.{opened_row}
-use Rattle.res_calls.specs.Changes.{FileRow, FileTable}
+use Rattle.res_calls.specs.Changes.{FileRow}
 use Rattle.res_calls.specs.Device.{Reads}
 use Rattle.res_calls.specs.Device as device
 use Rattle.res_update.specs.Placed.{row_on, rows_on, table_on, AreInside, IsInside, IsNear}
 use Rattle.res_files.specs.Opening.{RefusesFile, code_of}
 use Rattle.res_files.specs.Standing.{AreSmall}
+use Rattle.res_files.proofs.Grouped.{none_grouped, opened_grouped}
 
 -- the rows that were read, with their bytes
 rows_read : (disk : List ℕ) (rows : List PlacedRow) → rows_on disk (map opened_row rows) ≡ map opened_row (map (row_at disk) rows)
@@ -44,9 +45,10 @@ all_opened P (r ∷ rows) all = All-cons (λ (x : Row Place). P x.resource.datum
 pub inside_opened : (disk : List ℕ) (placed : List PlacedRow) (rows : List (Row Place)) → rows ≡ map opened_row placed → AllByRecursion (IsWithin disk) placed → AreInside disk rows
 inside_opened disk placed rows is all = subst (AreInside disk) (sym is) (all_opened (IsInside disk) placed all)
 
-pub small_opened : (placed : List PlacedRow) (rows : List (Row Place)) → rows ≡ map opened_row placed → AllByRecursion FitsInFork placed → length placed ≤ max_rows → AreSmall rows
-small_opened placed rows is all few = subst AreSmall (sym is) (record {
+pub small_opened : (placed : List PlacedRow) (rows : List (Row Place)) → rows ≡ map opened_row placed → AllByRecursion FitsInFork placed → length placed ≤ max_rows → AreGrouped placed → AreSmall rows
+small_opened placed rows is all few grouped = subst AreSmall (sym is) (record {
   few = subst (λ (n : ℕ). n ≤ max_rows) (sym (length-map placed opened_row)) few;
+  grouped = opened_grouped placed grouped;
   near = all_opened IsNear placed all;
 })
 
@@ -59,7 +61,7 @@ pub reads_empty : (disk : List ℕ) → length disk ≡ 0 → Reads disk (Ok dev
 reads_empty disk none = device.empty (no_bytes disk none)
 
 pub no_rows_small : AreSmall []
-no_rows_small = record { few = omega arith; near = All-nil (λ (r : Row Place). IsNear r.resource.datum) }
+no_rows_small = record { few = omega arith; grouped = none_grouped; near = All-nil (λ (r : Row Place). IsNear r.resource.datum) }
 
 pub no_rows_inside : (disk : List ℕ) → AreInside disk []
 no_rows_inside disk = All-nil (λ (r : Row Place). IsInside disk r.resource.datum)

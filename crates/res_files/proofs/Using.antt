@@ -1,21 +1,14 @@
 -- A call of the store on which a row stands, that leaves the fork as it is: what follows of all files.
-use Rattle.std.proofs.Common.{◌≡◌, refl, sym, ap, ◌∙◌, subst, arith, ℕ, ◌+◌, ◌-◌, ◌<◌, ◌≤◌, List, length, map, set, get_or, take, drop, Bool, Option, None, Some, Result, Ok, Err, MatchResult, IfSome, All}
+use Rattle.std.proofs.Common.{◌≡◌, sym, ap, ◌∙◌, subst, ℕ, ◌<◌, List, length, map, set, get_or, Bool, Result, Ok, Err, MatchResult, All}
 use Rattle.std.specs.Prelude.{◌↔◌}
-use Rattle.std.specs.Option.{option_map}
 use Rattle.std.proofs.Math.Seq.{map-set_same}
 use Rattle.fork_disk.specs.Disk.{Rose}
 use Rattle.fork_reader.specs.declared.place.Place.{Place}
-use Rattle.res_table.specs.declared.row.Row.{Row}
-use Rattle.res_table.specs.declared.chain.RowPlace.{RowPlace}
-use Rattle.res_table.specs.OpenFiles.{OpenFiles, row_at}
-use Rattle.res_calls.specs.Changes.{Files, FileRow}
-use Rattle.res_update.specs.Placed.{row_on}
+use Rattle.res_table.specs.OpenFiles.{OpenFiles}
 use Rattle.res_files.specs.FilesOn.{FilesOn, NoneFailed, SomeFailed}
-use Rattle.res_files.specs.Standing.{fork_at, files_on, StandOn}
-use Rattle.res_files.proofs.Mapped.{row-mapped}
-use Rattle.res_files.proofs.Stands.{row_stands}
+use Rattle.res_files.specs.Standing.{files_on, StandOn}
 use Rattle.res_files.proofs.Stores.{all_same, one_failed, stand_set}
-use Rattle.res_files.proofs.On.{seen, bytes_in, asked}
+use Rattle.res_files.proofs.On.{seen}
 
 pub match_then : {A E : Type 0} (r : Result A E) (P Q P' Q' : Type 0) → MatchResult r (λ _. P) (λ _. Q) → (P → P') → (Q → Q') → MatchResult r (λ _. P') (λ _. Q')
 match_then (Ok x) P Q P' Q' is ok err = ok is

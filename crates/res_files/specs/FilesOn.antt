@@ -1,5 +1,5 @@
 -- The open files with the bytes of their rows, and the stores of all files.
-use Rattle.std.specs.Prelude.{◌≡◌, ℕ, ◌-◌, ◌<◌, Bool, List, [], length, map, set, slice_get, All, Option}
+use Rattle.std.specs.Prelude.{◌≡◌, ℕ, ◌-◌, ◌<◌, Bool, List, [], length, map, set, slice_get}
 use Rattle.std.specs.Option.{option_map_or}
 use Rattle.fork_disk.specs.Disk.{Rose}
 use Rattle.fork_reader.specs.declared.place.Place.{Place}

@@ -1,13 +1,15 @@
 -- How the open files stand on the stores: by the places of their rows' bytes in the forks.
-use Rattle.std.specs.Prelude.{◌≡◌, ℕ, ◌-◌, ◌≤◌, Bool, false, List, [], ◌∷◌, length, map, slice_get, unwrap_or, IfSome, IsTrue}
+use Rattle.std.specs.Prelude.{◌≡◌, ℕ, ◌-◌, ◌≤◌, false, List, [], ◌∷◌, length, map, slice_get, unwrap_or, IfSome, IsTrue}
 use Rattle.std.specs.List.{list_any, AllByRecursion}
 use Rattle.std.specs.Option.{option_map_or}
 use Rattle.fork_bytes.specs.Fork.{max_rows}
+use Rattle.fork_bytes.specs.Laws.{IsGrouped}
 use Rattle.fork_reader.specs.declared.place.Place.{Place}
 use Rattle.res_table.specs.declared.row.Row.{Row}
 use Rattle.res_table.specs.declared.chain.ResourceTable.{ResourceTable}
 use Rattle.res_table.specs.declared.chain.OpenFile.{OpenFile}
 use Rattle.res_table.specs.OpenFiles.{OpenFiles, is_numbered, is_open, table_of}
+use Rattle.res_table.specs.Saved.{bare}
 use Rattle.res_calls.specs.Changes.{Files}
 use Rattle.res_update.specs.Placed.{table_on, AreInside, AreNear}
 
@@ -23,9 +25,10 @@ file_on forks file = record { number = file.number; table = table_on (fork_at fo
 abbrev pub files_on : List (List ℕ) → OpenFiles Place → Files
 files_on forks chain = record { files = map (file_on forks) chain.files; current = chain.current }
 
--- rows that a fork may have: not too many, and no place ends behind the longest fork
+-- rows that a fork may have: not too many, those of each type together, and no place ends behind the longest fork
 pub record AreSmall (rows : List (Row Place)) : Type 0 where
   pub few : length rows ≤ max_rows
+  pub grouped : IsGrouped (bare rows)
   pub near : AreNear rows
 
 -- where a store is honest it is ready, and the places of the rows lie within its fork

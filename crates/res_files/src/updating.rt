@@ -2,7 +2,6 @@
 
 ghost use Rattle.std.specs.Prelude.{◌≡◌, ◌↔◌, List, ℕ, length, map, All, IsTrue, IsFalse, OnOk, IfSome, IsErrOf};
 ghost use Rattle.fork_bytes.specs.Fork.{StandsFor};
-ghost use Rattle.fork_bytes.specs.Laws.{IsGrouped};
 ghost use Rattle.fork_bytes.specs.Written.{written};
 ghost use Rattle.res_table.specs.OpenFiles.{is_open, rows_changed, file_closed, table_of};
 ghost use Rattle.res_calls.specs.Changes.{rows_of, saved_table};
@@ -36,9 +35,9 @@ fn close_file(chain: &mut Chain<Place>, number: u8)
 
 impl<S: ForkStore> ResourceFiles<S> {
     /// Writes the file of a number anew, which is open. The selected rows have the bytes of their handles then, and are no longer
-    /// changed; all others keep what they have on the disk. Where the rows of each type stand together, the new fork stands for the
-    /// table: it is read as it. TooBig comes exactly where no fork holds the table. Where the device failed
-    /// behind the first write, the file is closed; in any other case of an error nothing is changed.
+    /// changed; all others keep what they have on the disk. The new fork stands for the table: it is read as it.
+    /// TooBig comes exactly where no fork holds the table. Where the device failed behind the first write, the file is closed; in any
+    /// other case of an error nothing is changed.
     pub fn update<C: Contents>(
         &mut self,
         number: u8,
@@ -52,8 +51,7 @@ impl<S: ForkStore> ResourceFiles<S> {
         ensures written { All S.is_honest self.old.stores → OnOk result (IfSome (table_of number self.old.files) (λ table.
             map S.fork self.new.stores ≡ forks_with S.fork number (written (saved_table (updated (C.table contents.now) selection table))) self.old.stores)) }
         ensures stands { All S.is_honest self.old.stores → OnOk result (IfSome (table_of number self.old.files) (λ table.
-            IsGrouped (saved_table (updated (C.table contents.now) selection table)).rows
-            → StandsFor (fork_of S.fork number self.new.stores) (saved_table (updated (C.table contents.now) selection table)))) }
+            StandsFor (fork_of S.fork number self.new.stores) (saved_table (updated (C.table contents.now) selection table)))) }
         ensures too_big { All S.is_honest self.old.stores → IfSome (table_of number self.old.files) (λ table.
             IsErrOf result UpdateFault.TooBig ↔ IsFalse (fits_fork (updated (C.table contents.now) selection table))) }
         ensures untouched { IsErrOf result UpdateFault.TooBig → self.new ≡ self.old }

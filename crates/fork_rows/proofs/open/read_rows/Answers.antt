@@ -1,13 +1,14 @@
 use Rattle.std.proofs.Common.{◌≡◌, ◌≤◌, ◌∙◌, List, ℕ, length, map, subst, sym, ap, arith}
 use Rattle.std.proofs.lemmas.List.{length-map}
 use Rattle.std.proofs.lemmas.Result.{err_from_is_err_and}
-use Rattle.fork_bytes.specs.declared.fault.Condition.TheVariants.{RowCount, Places}
+use Rattle.fork_bytes.specs.declared.fault.Condition.TheVariants.{RowCount, Places, Types}
 use Rattle.fork_bytes.specs.declared.fault.ForkFault.{ForkFault}
 use Rattle.fork_bytes.specs.Fork.{references_of, map_row, extra_of, attributes_of, data_of, HasData, Refuses}
 use Rattle.fork_bytes.specs.Rows.{MapRow}
 use Rattle.fork_reader.specs.Reading.{PlacedRow, placed_row, AreFewBytes}
+use Rattle.fork_rows.proofs.Grouped.{grouped_in}
 use Rattle.fork_rows.proofs.Opened.{mapped, places_refused, bytes_refused, has_places, has_table, are_within}
-use Rattle.fork_rows.specs.Opening.{FaultsIn}
+use Rattle.fork_rows.specs.Opening.{FaultsIn, AreGrouped, kinds_in}
 use Rattle.fork_rows.proofs.open.read_rows.Goals as goal
 
 pub returns-in_err-rows-clause-refuses : goal.returns-in_err-rows-clause-refuses
@@ -94,3 +95,8 @@ returns-clause-most g c =
     let listed = ap (λ (r : List MapRow). length r) c.in_ok-read_map.ensures.rows ∙ length-map (references_of m) (map_row m) in
     let placed = ap (λ (r : List PlacedRow). length r) c.new.ensures ∙ c.in_ok-rows.ensures.count in
     omega arith
+
+pub returns-clause-grouped : goal.returns-clause-grouped
+returns-clause-grouped g c =
+    let P : List PlacedRow → Type 0 = AreGrouped in
+    subst P (sym c.new.ensures) (grouped_in c.deref.result.now c.in_ok-rows.rows.items (c.in_ok-read_map.ensures.holds Types) (c.in_ok-rows.ensures.kinds ∙ ap (λ (rows : List MapRow). kinds_in rows) c.in_ok-read_map.ensures.rows))

@@ -2,7 +2,7 @@ use Rattle.std.proofs.Common.{◌≡◌, ◌↔◌, length, map}
 use Rattle.std.specs.List.{AllByRecursion}
 use Rattle.fork_bytes.specs.Fork.{data_of, HasData}
 use Rattle.fork_reader.specs.Reading.{placed_row}
-use Rattle.fork_rows.specs.Opening.{FitsInFork}
+use Rattle.fork_rows.specs.Opening.{FitsInFork, kinds_in}
 use Rattle.fork_rows.proofs.part.find_rows.Given as goal
 
 -- the rows so far have places, which lie within the data, and the store is as it was
@@ -16,3 +16,4 @@ invariant-loop-row g l = (goal.iterator-loop-row g).can_next l.row-iterator × (
     × (g.S.ForkStore.is_honest l.initial.store → g.S.ForkStore.is_stable l.initial.store → g.S.ForkStore.is_stable l.store)
     × (g.S.ForkStore.is_honest l.initial.store → l.placed.items ≡ map (placed_row (g.S.ForkStore.fork l.initial.store)) l.yielded)
     × (g.S.ForkStore.is_honest l.initial.store → HasData (data_of (g.S.ForkStore.fork l.initial.store)) l.yielded)
+    × (kinds_in l.placed.items ≡ kinds_in l.yielded)

@@ -54,4 +54,4 @@ returns-clause-inside g c = λ honest.
 
 pub returns-clause-small : goal.returns-clause-small
 returns-clause-small g c =
-    small_opened c.in_ok-table.table.rows c.in-Ok.rows (c.in-Ok.ensures ∙ ap (map opened_row) c.into_vec.ensures) c.in_ok-table.ensures.inside c.in_ok-table.ensures.most
+    small_opened c.in_ok-table.table.rows c.in-Ok.rows (c.in-Ok.ensures ∙ ap (map opened_row) c.into_vec.ensures) c.in_ok-table.ensures.inside c.in_ok-table.ensures.most c.in_ok-table.ensures.grouped

@@ -16,7 +16,7 @@ pub invariant_of-self : goal.invariant_of-self
 invariant_of-self g c =
     subst (λ (chain : OpenFiles Place). StandOn g.S.ForkStore.fork g.S.ForkStore.is_ready g.S.ForkStore.is_honest c.self.inside.stores.items chain) (sym c.set_handle.ensures)
     (stand_changed g.S.ForkStore.fork g.S.ForkStore.is_ready g.S.ForkStore.is_honest c.self.inside.stores.items c.args.place.file (changed_at c.args.place.index (with_handle c.args.handle)) c.self.inside.chain
-    (keeps_changed_at c.args.place.index (with_handle c.args.handle) (λ r. refl)) c.self.invariant)
+    (keeps_changed_at c.args.place.index (with_handle c.args.handle) (λ r. refl) (λ r. refl)) c.self.invariant)
 
 pub returns : goal.returns
 returns g c =
