@@ -4,36 +4,47 @@
     tools/check_files.py PROGRAM
 
 A row has the bytes of its files, a script whose lines are parted by ` / `, the lines that are printed, where `..` stands for
-lines that aren't compared, and what the files have then: their bytes, or how many there are.
+lines that aren't compared, and the bytes that the files have then.
 """
 import itertools
 import os
-import re
 import subprocess
 import sys
 import tempfile
 
-from check_forks import NoFork, read_fork
-from check_runs import are_wanted, lines_of
+from check_runs import are_wanted, calls_of, lines_of
 
 REFUSALS = os.path.join(os.path.dirname(os.path.abspath(__file__)), "refusals.txt")
 PROBES = "ZoneMap / CountResources 'TEXT' / CountTypes / GetResAttrs h / CurResFile"
-MAP = "00000000 0000 0000 001C 0032 0000 54455854 0000 000A 0080 FFFF 00 000000 00000000"
-# the fork of one resource 'TEXT' 128, "Hi", and the same with its map first
-HI = bytes.fromhex("00000100 00000106 00000006 00000032" + "00" * 240 + "00000002 4869" + "00000100 00000106 00000006 00000032" + MAP)
-HI_MAP_FIRST = bytes.fromhex("00000132 00000100 00000006 00000032" + "00" * 240 + "00000100 00000106 00000006 00000032" + MAP + "00000002 4869")
-# the first of these with 'TEXT' 5 behind its resource, of three bytes of zero
-HI_AND_ZEROS = bytes.fromhex(
-    "00000100 0000010D 0000000D 0000003E" + "00" * 240 + "00000002 4869 00000003 000000" + "00000100 0000010D 0000000D 0000003E"
-    "00000000 0000 0000 001C 003E 0000 54455854 0001 000A 0080 FFFF 00 000000 00000000 0005 FFFF 00 000006 00000000"
+
+
+def fork_of(data, rest):
+    """The fork with this data, and behind it the map that has this behind its copy of the header."""
+    data, rest = bytes.fromhex(data), bytes.fromhex(rest)
+    header = b"".join(it.to_bytes(4, "big") for it in (256, 256 + len(data), len(data), 16 + len(rest)))
+    return header + bytes(240) + data + header + rest
+
+
+# forks of no resource, and of 'TEXT' 128 with the bytes "Hi", with a byte of zero, with none, and with a name
+NONE = fork_of("", "00000000 0000 0000 001C 001E FFFF")
+ONE = "00000000 0000 0000 001C 0032 0000 54455854 0000 000A 0080 FFFF 00 000000 00000000"
+HI, ZERO, BARE = fork_of("00000002 4869", ONE), fork_of("00000001 00", ONE), fork_of("00000000", ONE)
+NAMED = fork_of("00000002 4869", ONE.replace("FFFF", "0000") + "01 6E")
+# the first of these with its map first
+HI_MAP_FIRST = bytes.fromhex("00000132 00000100 00000006 00000032") + bytes(240) + HI[262:] + HI[256:262]
+# "Hi" with 'TEXT' 5 behind its resource, of three bytes of zero
+HI_AND_ZEROS = fork_of(
+    "00000002 4869 00000003 000000",
+    "00000000 0000 0000 001C 003E 0000 54455854 0001 000A 0080 FFFF 00 000000 00000000 0005 FFFF 00 000006 00000000",
 )
-# two resources 'TEXT' 5, "a" and "b"
-AB = bytes.fromhex(
-    "00000100 0000010A 0000000A 0000003E" + "00" * 240 + "00000001 61 00000001 62" + "00000100 0000010A 0000000A 0000003E"
-    "00000000 0000 0000 001C 003E 0000 54455854 0001 000A 0005 FFFF 00 000000 00000000 0005 FFFF 00 000005 00000000"
-)
-# so many resources 'TEXT' without names whose bytes are one empty datum
+# two resources 'TEXT' 5 of a byte, "a" and "b" or zeros, and "a" and "xyz"
+TWO = "00000000 0000 0000 001C 003E 0000 54455854 0001 000A 0005 FFFF 00 000000 00000000 0005 FFFF 00 000005 00000000"
+AB, TWO_ZEROS = fork_of("00000001 61 00000001 62", TWO), fork_of("00000001 00 00000001 00", TWO)
+A_XYZ = fork_of("00000001 61 00000003 78797A", TWO)
+
+
 def many(count):
+    """The fork of so many resources 'TEXT' without names whose bytes are one empty datum."""
     references = b"".join(bytes.fromhex("0005 FFFF 00 000000 00000000") for _ in range(count))
     the_map = bytes.fromhex("00000000 0000 0000 001C") + min(40 + 12 * count, 65535).to_bytes(2, "big")
     the_map += bytes.fromhex("0000 54455854") + (count - 1).to_bytes(2, "big") + bytes.fromhex("000A") + references
@@ -45,15 +56,10 @@ def many(count):
 FORKS = {"HI": HI, "TOO_MANY": many(5459)}
 
 
-# what a row's files have then, where it is the list of their resources
-class Holds(list):
-    pass
-
-
 ROWS = [
     # an update writes a fork also of no resources
-    ([b""], "UpdateResFile", "1 UpdateResFile 0", [286]),
-    ([b""], "h = NewHandle 2 / Poke h 0 \"Hi\" / AddResource h 'TEXT' 128 / UpdateResFile", "..", [HI]),
+    ([b""], "UpdateResFile", "1 UpdateResFile 0", [NONE]),
+    ([b""], "h = NewHandle 2 / Poke h 0 \"Hi\" / AddResource h 'TEXT' 128 / UpdateResFile", "1 NewHandle $0010003C 0 / 2 Poke 0 / 3 AddResource 0 / 4 UpdateResFile 0", [HI]),
     # a purged resource is loaded from the disk again, once there is room
     (
         [HI],
@@ -65,15 +71,15 @@ ROWS = [
     (
         [HI],
         "h = GetResource 'TEXT' 128 / Poke h 0 \"No\" / EmptyHandle h / LoadResource h / Peek h 0 2 / ChangedResource h / EmptyHandle h / UpdateResFile / SizeResource h",
-        '.. / 5 Peek "Hi" 0 / 6 ChangedResource 0 / 7 EmptyHandle 0 / 8 UpdateResFile 0 / 9 SizeResource 0 0',
-        [310],
+        '1 GetResource $0010003C 0 / 2 Poke 0 / 3 EmptyHandle 0 / 4 LoadResource 0 / 5 Peek "Hi" 0 / 6 ChangedResource 0 / 7 EmptyHandle 0 / 8 UpdateResFile 0 / 9 SizeResource 0 0',
+        [BARE],
     ),
     # two resources of one type and id: the first is found, and both are written
     (
         [b""],
         "a = NewHandle 1 / b = NewHandle 1 / AddResource a 'TEXT' 5 / AddResource b 'TEXT' 5 / GetResource 'TEXT' 5 / CountResources 'TEXT' / UpdateResFile",
-        ".. / 5 GetResource $0010003C 0 / 6 CountResources 2 0 / 7 UpdateResFile 0",
-        [Holds([(b"TEXT", 5, None, 0, b"\0"), (b"TEXT", 5, None, 0, b"\0")])],
+        "1 NewHandle $0010003C 0 / 2 NewHandle $00100040 0 / 3 AddResource 0 / 4 AddResource 0 / 5 GetResource $0010003C 0 / 6 CountResources 2 0 / 7 UpdateResFile 0",
+        [TWO_ZEROS],
     ),
     # forks that can't be read, and one whose map stands first
     ([HI[:-1]], "GetResource 'TEXT' 128", "0 OpenResFile -199 / 1 GetResource -193", [HI[:-1]]),
@@ -83,15 +89,15 @@ ROWS = [
     (
         [HI],
         "h = GetResource 'TEXT' 128 / ChangedResource h / DetachResource h / UpdateResFile / DetachResource h / k = GetResource 'TEXT' 128 / Peek k 0 2",
-        '.. / 3 DetachResource -198 / 4 UpdateResFile 0 / 5 DetachResource 0 / 6 GetResource $00100040 0 / 7 Peek "Hi" 0',
+        '1 GetResource $0010003C 0 / 2 ChangedResource 0 / 3 DetachResource -198 / 4 UpdateResFile 0 / 5 DetachResource 0 / 6 GetResource $00100040 0 / 7 Peek "Hi" 0',
         [HI],
     ),
     # refusals, a protected resource, and a file that is closed
     (
         [b""],
         "h = NewHandle 1 / LoadResource h / AddResource h 'TEXT' 1 / AddResource h 'TEXT' 2 / SetResAttrs h 8 / GetResAttrs h / ChangedResource h / RemoveResource h / SetResAttrs h 0 / RemoveResource h / CloseResFile / GetResource 'TEXT' 1",
-        ".. / 2 LoadResource -192 / 3 AddResource 0 / 4 AddResource -194 / 5 SetResAttrs 0 / 6 GetResAttrs 10 0 / 7 ChangedResource -198 / 8 RemoveResource -196 / 9 SetResAttrs 0 / 10 RemoveResource 0 / 11 CloseResFile 0 / 12 GetResource -193",
-        [286],
+        "1 NewHandle $0010003C 0 / 2 LoadResource -192 / 3 AddResource 0 / 4 AddResource -194 / 5 SetResAttrs 0 / 6 GetResAttrs 10 0 / 7 ChangedResource -198 / 8 RemoveResource -196 / 9 SetResAttrs 0 / 10 RemoveResource 0 / 11 CloseResFile 0 / 12 GetResource -193",
+        [NONE],
     ),
     # a resource that isn't loaded until LoadResource does
     (
@@ -104,14 +110,14 @@ ROWS = [
     (
         [b""],
         "h = NewHandle 2 / Poke h 0 \"Hi\" / AddResource h 'TEXT' 128 \"n\" / UniqueID 'TEXT' / CountTypes / GetIndType 1 / GetIndType 2 / ReleaseResource h / WriteResource h / GetResInfo h / SizeResource h / ReleaseResource h / GetHandleSize h / ResError / k = GetResource 'TEXT' 128 / Peek k 0 2",
-        ".. / 4 UniqueID 129 0 / 5 CountTypes 1 0 / 6 GetIndType 'TEXT' 0 / 7 GetIndType -192 / 8 ReleaseResource 0 / 9 WriteResource 0 / 10 GetResInfo 128 'TEXT' \"n\" 0 / 11 SizeResource 2 0 / 12 ReleaseResource 0 / 13 GetHandleSize -111 / 14 ResError 0 0 / 15 GetResource $0010003C 0 / 16 Peek \"Hi\" 0",
-        [314],
+        "1 NewHandle $0010003C 0 / 2 Poke 0 / 3 AddResource 0 / 4 UniqueID 129 0 / 5 CountTypes 1 0 / 6 GetIndType 'TEXT' 0 / 7 GetIndType -192 / 8 ReleaseResource 0 / 9 WriteResource 0 / 10 GetResInfo 128 'TEXT' \"n\" 0 / 11 SizeResource 2 0 / 12 ReleaseResource 0 / 13 GetHandleSize -111 / 14 ResError 0 0 / 15 GetResource $0010003C 0 / 16 Peek \"Hi\" 0",
+        [NAMED],
     ),
     # a handle that is disposed of is forgotten
     (
         [HI],
         "h = GetResource 'TEXT' 128 / DisposeHandle h / LoadResource h / k = GetResource 'TEXT' 128 / HGetState k",
-        ".. / 3 LoadResource -192 / 4 GetResource $0010003C 0 / 5 HGetState 32 0",
+        "1 GetResource $0010003C 0 / 2 DisposeHandle 0 / 3 LoadResource -192 / 4 GetResource $0010003C 0 / 5 HGetState 32 0",
         [HI],
     ),
     # more resources than a written fork can have
@@ -125,22 +131,32 @@ ROWS = [
     (
         [HI],
         "h = GetResource 'TEXT' 128 / EmptyHandle h / p = NewHandle 3772 / gz 1 DisposeHandle h; DisposeHandle p / LoadResource h / Peek h 0 2",
-        '.. / 5 LoadResource 0 /   gz 12 1 / 6 Peek "Hi" 0',
+        '1 GetResource $0010003C 0 / 2 EmptyHandle 0 / 3 NewHandle $00100040 0 / 5 LoadResource 0 /   gz 12 1 / 6 Peek "Hi" 0',
         [HI],
     ),
     # a change is written, and the others keep their bytes
     (
         [AB],
         "h = GetIndResource 'TEXT' 2 / SetHandleSize h 3 / Poke h 0 \"xyz\" / ChangedResource h / k = GetIndResource 'TEXT' 1 / Poke k 0 \"-\" / UpdateResFile",
-        "..",
-        [Holds([(b"TEXT", 5, None, 0, b"a"), (b"TEXT", 5, None, 0, b"xyz")])],
+        "1 GetIndResource $0010003C 0 / 2 SetHandleSize 0 / 3 Poke 0 / 4 ChangedResource 0 / 5 GetIndResource $00100040 0 / 6 Poke 0 / 7 UpdateResFile 0",
+        [A_XYZ],
     ),
     # two files: resources are looked for from the current one back
     (
         [HI, b""],
         "OpenResFile 2 / CurResFile / h = GetResource 'TEXT' 128 / Get1Resource 'TEXT' 128 / HomeResFile h / n = NewHandle 1 / AddResource n 'TEXT' 128 / Get1Resource 'TEXT' 128 / GetResource 'TEXT' 128 / UseResFile 1 / GetResource 'TEXT' 128 / UpdateResFile 2 / CloseResFile 2 / CurResFile / OpenResFile 3 / UseResFile 2",
         "1 OpenResFile 2 0 / 2 CurResFile 2 0 / 3 GetResource $0010003C 0 / 4 Get1Resource -192 / 5 HomeResFile 1 0 / 6 NewHandle $00100040 0 / 7 AddResource 0 / 8 Get1Resource $00100040 0 / 9 GetResource $00100040 0 / 10 UseResFile 0 / 11 GetResource $0010003C 0 / 12 UpdateResFile 0 / 13 CloseResFile 0 / 14 CurResFile 1 0 / 15 OpenResFile -43 / 16 UseResFile -193",
-        [HI, 311],
+        [HI, ZERO],
+    ),
+    # a second file that is none: the first stays the current one
+    *(
+        (
+            [HI, HI[:length]],
+            "OpenResFile 2 / ResError / CurResFile / UseResFile 2 / GetResource 'TEXT' 128",
+            f"1 OpenResFile {code} / 2 ResError {code} 0 / 3 CurResFile 1 0 / 4 UseResFile -193 / 5 GetResource $0010003C 0",
+            [HI, HI[:length]],
+        )
+        for length, code in ((1, -39), (15, -39), (16, -199), (311, -199))
     ),
     # calls that need no open file
     (
@@ -173,12 +189,6 @@ ROWS = [
 ]
 
 
-def calls_of(line):
-    """The calls of a line: A|B stands for A and for B, and n*256 for 256 letters n."""
-    line = re.sub(r"(\w)\*(\d+)", lambda it: it[1] * int(it[2]), line)
-    return map(" ".join, itertools.product(*(word.split("|") for word in line.split(" "))))
-
-
 def numbered(lines):
     """Printed lines with the numbers of the script's lines. Those of a map, which begin with blanks, have none."""
     numbers = itertools.count(1)
@@ -202,17 +212,6 @@ def refusals(table):
                 yield [FORKS[name]], f"{script} / {PROBES} / {call} / ResError / {PROBES}", " / ".join(numbered(lines)), [FORKS[name]]
 
 
-def is_left(wanted, left):
-    """Whether a file has what it should."""
-    if isinstance(wanted, Holds):
-        try:
-            rows = read_fork(left)
-        except NoFork:
-            return False
-        return [(it.kind, it.ident, it.name, it.attributes, it.data) for it in rows] == list(wanted)
-    return len(left) == wanted if isinstance(wanted, int) else left == wanted
-
-
 def main(program):
     failed = 0
     with open(REFUSALS, encoding="utf-8") as table:
@@ -232,7 +231,7 @@ def main(program):
                 with open(path, "rb") as file:
                     left.append(file.read())
             right = are_wanted(ran.stdout, printed.split(" / "))
-            if ran.returncode != 0 or not right or not all(map(is_left, wanted, left)):
+            if ran.returncode != 0 or not right or left != wanted:
                 failed += 1
                 print(f"{script}: status {ran.returncode}, {ran.stdout!r}, files of {[len(it) for it in left]} bytes")
     print(f"scripts over resource files: {len(rows) - failed} as they should be, {failed} not; {len(refused)} are of calls that are refused")

@@ -11,18 +11,10 @@ use std::test::Fail;
 /// A fork on a disk of which one call may fail.
 pub(crate) type TestStore = PlainStore<FailAt<MemDisk>>;
 
-/// The map of no resources, behind the copy of the header: 30 bytes with it. From its start the type list stands at 28.
-const NO_ROWS: &[u8] = b"\x00\x00\x00\x00\x00\x00\x00\x00\x00\x1c\x00\x1e\xff\xff";
-
 /// The map of 'TEXT' 128 without a name: 50 bytes. The type list stands at 28, the reference at 38.
 const ONE_ROW: &[u8] =
     b"\x00\x00\x00\x00\x00\x00\x00\x00\x00\x1c\x00\x32\x00\x00TEXT\x00\x00\x00\x0a\
 \x00\x80\xff\xff\x00\x00\x00\x00\x00\x00\x00\x00";
-
-/// The map of 'TEXT' 128 with the name "n": 52 bytes. The name stands at 50.
-const NAMED_ROW: &[u8] =
-    b"\x00\x00\x00\x00\x00\x00\x00\x00\x00\x1c\x00\x32\x00\x00TEXT\x00\x00\x00\x0a\
-\x00\x80\x00\x00\x00\x00\x00\x00\x00\x00\x00\x00\x01n";
 
 /// The map of 'TEXT' 5 and 'TEXT' 5 without names, of which the first has one byte: 62 bytes.
 const TWO_ROWS: &[u8] =
@@ -44,11 +36,6 @@ fn fork_of(alloc: Global, header: &[u8], data: &[u8], map: &[u8]) -> Result<Vec<
     Ok(fork)
 }
 
-/// The fork of no resources, of 286 bytes.
-pub(crate) fn no_rows(alloc: Global) -> Result<Vec<u8>, AllocError> {
-    fork_of(alloc, &header_of(0, 30), b"", NO_ROWS)
-}
-
 /// The fork of 'TEXT' 128 with the bytes "Hi", of 312 bytes.
 pub(crate) fn hi(alloc: Global) -> Result<Vec<u8>, AllocError> {
     fork_of(alloc, &header_of(6, 50), b"\x00\x00\x00\x02Hi", ONE_ROW)
@@ -59,61 +46,16 @@ pub(crate) fn no(alloc: Global) -> Result<Vec<u8>, AllocError> {
     fork_of(alloc, &header_of(6, 50), b"\x00\x00\x00\x02No", ONE_ROW)
 }
 
-/// The same with a byte of zero, of 311 bytes.
-pub(crate) fn zero(alloc: Global) -> Result<Vec<u8>, AllocError> {
-    fork_of(alloc, &header_of(5, 50), b"\x00\x00\x00\x01\x00", ONE_ROW)
-}
-
-/// The same without bytes, of 310 bytes.
-pub(crate) fn bare(alloc: Global) -> Result<Vec<u8>, AllocError> {
-    fork_of(alloc, &header_of(4, 50), b"\x00\x00\x00\x00", ONE_ROW)
-}
-
-/// The fork of 'TEXT' 128 with the name "n" and the bytes "Hi", of 314 bytes.
-pub(crate) fn named(alloc: Global) -> Result<Vec<u8>, AllocError> {
-    fork_of(alloc, &header_of(6, 52), b"\x00\x00\x00\x02Hi", NAMED_ROW)
-}
-
-/// The fork of 'TEXT' 128 with the bytes "Hi" in which the map stands at 256 and the data behind it, at 306.
-pub(crate) fn hi_behind_map(alloc: Global) -> Result<Vec<u8>, AllocError> {
-    let mut fork = b"\x00\x00\x01\x32\x00\x00\x01\x00\x00\x00\x00\x06\x00\x00\x00\x32".to_vec(
-        alloc,
-    )?;
-    fork.resize(256, 0)?;
-    fork.extend_from_slice(&header_of(6, 50))?;
-    fork.extend_from_slice(ONE_ROW)?;
-    fork.extend_from_slice(b"\x00\x00\x00\x02Hi")?;
-    Ok(fork)
-}
-
 /// The fork of 'TEXT' 5 and 'TEXT' 5, with a byte each, of 328 bytes.
 pub(crate) fn pair(alloc: Global, first: u8, second: u8) -> Result<Vec<u8>, AllocError> {
     let data = [0, 0, 0, 1, first, 0, 0, 0, 1, second];
     fork_of(alloc, &header_of(10, 62), &data, TWO_ROWS)
 }
 
-/// The same with the bytes "a" and "xyz", of 330 bytes.
-pub(crate) fn longer_pair(alloc: Global) -> Result<Vec<u8>, AllocError> {
-    let data = b"\x00\x00\x00\x01a\x00\x00\x00\x03xyz";
-    fork_of(alloc, &header_of(12, 62), data, TWO_ROWS)
-}
-
 /// The same with the byte "a" and none, of 327 bytes.
 pub(crate) fn shorter_pair(alloc: Global) -> Result<Vec<u8>, AllocError> {
     let data = b"\x00\x00\x00\x01a\x00\x00\x00\x00";
     fork_of(alloc, &header_of(9, 62), data, TWO_ROWS)
-}
-
-/// A fork of 5,459 resources 'TEXT' 5 without names that share one datum of no bytes. The map has 65,546 bytes, and the name list can't be
-/// put behind the references, since two bytes don't hold its place.
-pub(crate) fn too_many(alloc: Global) -> Result<Vec<u8>, AllocError> {
-    let header = b"\x00\x00\x01\x00\x00\x00\x01\x04\x00\x00\x00\x04\x00\x01\x00\x0a";
-    let map = b"\x00\x00\x00\x00\x00\x00\x00\x00\x00\x1c\xff\xff\x00\x00TEXT\x15\x52\x00\x0a";
-    let mut fork = fork_of(alloc, header, b"\x00\x00\x00\x00", map)?;
-    for _ in 0..5459 {
-        fork.extend_from_slice(b"\x00\x05\xff\xff\x00\x00\x00\x00\x00\x00\x00\x00")?;
-    }
-    Ok(fork)
 }
 
 /// A disk with these bytes, whose call of this number fails. With 0 none does.
@@ -175,21 +117,4 @@ pub(crate) fn check_turn(rt: &impl Abort, ran: &Ran, index: usize, turn: u64) {
         calls_of(ran, index).saturating_add(1) >= turn,
         "call {turn}"
     );
-}
-
-/// A run of a script over one file finishes, prints this, and leaves these bytes on the disk.
-pub(crate) fn check_run(
-    rt: &impl Abort,
-    alloc: Global,
-    row: (&str, &str),
-    before: Vec<u8>,
-    after: &[u8],
-) -> Result<(), Fail> {
-    let (script, output) = row;
-    let mut stores = Vec::new(alloc);
-    stores.push(store_of(before, 0))?;
-    let ran = run_over(alloc, script, stores)?;
-    check_printed(rt, &ran, script, output);
-    assert_eq!(rt; disk_of(&ran, 0), after, "{script}");
-    Ok(())
 }

@@ -4,14 +4,10 @@
 #[cfg(test)]
 mod device_faults;
 #[cfg(test)]
-mod files;
-#[cfg(test)]
 mod forks;
 #[cfg(test)]
 mod host_memory;
 #[cfg(test)]
 mod lone_writes;
-#[cfg(test)]
-mod resources;
 #[cfg(test)]
 mod two_devices;

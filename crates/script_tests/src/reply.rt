@@ -1,7 +1,6 @@
 //! What replies print.
 
 use mac_base::block::{Block, Entry, Flags, Kind};
-use mac_base::bytes::Bytes;
 use mac_base::error::{HostFull, OsErr};
 use mac_base::handle::{Handle, Ptr};
 use mac_calls::{Asked, BlockList, CallName, Reply, Results};
@@ -43,36 +42,6 @@ fn printed(alloc: Global, number: u32, call: CallName, reply: &Reply) -> Vec<u8>
     text
 }
 
-/// Whether the reply to the first line's call prints this text where the call gives these results.
-fn prints(alloc: Global, call: CallName, results: Results, text: &[u8]) -> bool {
-    printed(alloc, 1, call, &reply(results)).as_slice() == text
-}
-
-/// Whether the reply to the call of the fourth line prints this text where it is refused by this code.
-fn prints_refusal(alloc: Global, call: CallName, error: OsErr, text: &[u8]) -> bool {
-    let outcome = Err(error);
-    printed(alloc, 4, call, &Reply { outcome }).as_slice() == text
-}
-
-/// Whether the reply to a Peek of the first line prints this text where it gives these bytes.
-fn prints_bytes(alloc: Global, bytes: &[u8], text: &[u8]) -> Result<bool, HostFull> {
-    let bytes = Bytes::new(Vec::from_slice(alloc, bytes)?);
-    Ok(prints(alloc, CallName::Peek, Results::Bytes(bytes), text))
-}
-
-#[test]
-fn prints_bytes_as_text_or_digits(rt: HostRuntime) -> Result<(), HostFull> {
-    let table: [(&[u8], &[u8]); 3] = [
-        (b"BB", b"1 Peek \"BB\" 0\n"),
-        (b"\x00\xFF\"", b"1 Peek $\"00FF22\" 0\n"),
-        (b"", b"1 Peek \"\" 0\n"),
-    ];
-    for (bytes, text) in table {
-        assert!(rt; prints_bytes(rt.alloc(), bytes, text)?, "at {text:?}");
-    }
-    Ok(())
-}
-
 #[test]
 fn prints_blocks(rt: HostRuntime) -> Result<(), HostFull> {
     let reply = block_reply(rt.alloc())?;
@@ -85,69 +54,11 @@ fn prints_blocks(rt: HostRuntime) -> Result<(), HostFull> {
 }
 
 #[test]
-fn prints_line_numbers_and_refusals(rt: HostRuntime) {
-    let alloc = rt.alloc();
-    assert!(rt;
-        prints_refusal(
-            alloc,
-            CallName::NewHandle,
-            OsErr::MemFullErr,
-            b"4 NewHandle -108\n"
-        )
-    );
-    assert!(rt; prints(alloc, CallName::Poke, Results::Nothing, b"1 Poke 0\n"));
-}
-
-#[test]
 fn prints_the_lines_of_no_call(rt: HostRuntime) -> Result<(), HostFull> {
     let fault = fault_line(rt.alloc(), 2)?;
     assert_eq!(rt; fault.as_slice(), b"script fault at line 2\n".as_slice());
     assert_eq!(rt; NO_MEMORY, b"no memory\n".as_slice());
     Ok(())
-}
-
-#[test]
-fn prints_results(rt: HostRuntime) {
-    let earlier = Some(OsErr::NilHandleErr);
-    let pointer = Ptr::new(0x0010_0144);
-    let handle = Handle::new(0x0010_003C);
-    let table: [(CallName, Results, &[u8]); 8] = [
-        (
-            CallName::NewHandle,
-            Results::Handle(handle),
-            b"1 NewHandle $0010003C 0\n",
-        ),
-        (
-            CallName::NewPtr,
-            Results::Pointer(pointer),
-            b"1 NewPtr $00100144 0\n",
-        ),
-        (
-            CallName::Deref,
-            Results::Address(0x0010_01AC),
-            b"1 Deref $001001AC 0\n",
-        ),
-        (
-            CallName::GetPtrSize,
-            Results::Number(20),
-            b"1 GetPtrSize 20 0\n",
-        ),
-        (
-            CallName::HGetState,
-            Results::Number(192),
-            b"1 HGetState 192 0\n",
-        ),
-        (CallName::HLock, Results::Nothing, b"1 HLock 0\n"),
-        (CallName::MemError, Results::Code(None), b"1 MemError 0 0\n"),
-        (
-            CallName::MemError,
-            Results::Code(earlier),
-            b"1 MemError -109 0\n",
-        ),
-    ];
-    for (call, results, text) in table {
-        assert!(rt; prints(rt.alloc(), call, results, text), "at {call:?}");
-    }
 }
 
 #[test]
