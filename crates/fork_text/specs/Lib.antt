@@ -1,3 +1,4 @@
 pub mod Attributes
 pub mod Find
+pub mod Kind
 pub mod Listing

@@ -1,4 +1,4 @@
-use Rattle.std.proofs.Common.{rules, ◌++◌, ◌∷◌, [], List, arith}
+use Rattle.std.proofs.Common.{rules, ◌++◌, ◌∷◌, [], List}
 use Rattle.std.proofs.Output.{has_written_append}
 use Rattle.fork_text.specs.declared.attribute.Attribute.{Attribute}
 use Rattle.fork_text.specs.declared.attribute.Attribute.TheVariants.{Bit7, SysHeap, Purgeable, Locked, Protected, Preload, Changed, Bit0}
