@@ -6,14 +6,8 @@ mod attempt;
 #[cfg(test)]
 mod gaps;
 #[cfg(test)]
-mod growth;
-#[cfg(test)]
 mod place;
 #[cfg(test)]
 mod region;
-#[cfg(test)]
-mod replace;
-#[cfg(test)]
-mod size;
 #[cfg(test)]
 mod zone;
