@@ -8,6 +8,7 @@ pub mod Lent
 pub mod Noting
 pub mod OpenedFiles
 pub mod Placing
+pub mod ReadingBack
 pub mod Refusals
 pub mod RowUpdates
 pub mod States

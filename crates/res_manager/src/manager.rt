@@ -5,7 +5,7 @@ ghost use Rattle.linked_zone.specs.Loans.{KeepsLoans};
 ghost use Rattle.res_calls.specs.Tests.{resource_refusal};
 ghost use Rattle.mac_calls.specs.declared.resource_call.ResourceCall.TheVariants as call;
 ghost use Rattle.res_manager.specs.Ends.{EndsQuietly, copies, is_quiet};
-ghost use Rattle.res_manager.specs.Steps.{ResourceSteps, state_of, takes_memory};
+ghost use Rattle.res_manager.specs.Steps.{ReadsBack, ResourceSteps, state_of, takes_memory};
 ghost use Rattle.res_manager.specs.Tests.{Passes, early_tests};
 
 use crate::getting::get;
@@ -25,7 +25,8 @@ const MOST_FILES: usize = 8;
 
 /// Makes a call of the Resource Manager. One that loads a resource makes its place by a call of the Memory Manager, which asks the
 /// grow-zone procedure where it finds no room. HostFull comes only where the call isn't refused, from calls that take host memory for
-/// a row, a name, a fork or a table, and before any device call of an update; then neither zone nor files have changed.
+/// a row, a name, a fork or a table, and before any device call of an update; then neither zone nor files have changed. A file that
+/// was updated with success reads back as the table that was saved.
 pub fn make<S: ForkStore, G: GrowZone>(
     files: &mut ResourceFiles<S>,
     memory: &mut MemoryManager,
@@ -36,6 +37,7 @@ pub fn make<S: ForkStore, G: GrowZone>(
     requires { G.asks procedure.old ≡ [] }
     ensures step { All S.is_honest files.old.stores → IfOk result (λ outcome.
         ResourceSteps S.fork S.failures S.may_leave memory.old files.old call.now (G.asks procedure.new) outcome memory.new files.new) }
+    ensures reads_back { All S.is_honest files.old.stores → IfOk result (λ outcome. ReadsBack (state_of S.fork memory.old files.old) call.now outcome (state_of S.fork memory.new files.new)) }
     ensures source { G.source procedure.new ≡ G.source procedure.old }
     ensures loans { KeepsLoans memory.old memory.new }
     ensures lent { memory.new.heap.table.lent ≡ memory.old.heap.table.lent }

@@ -1,13 +1,13 @@
 //! The calls that write files.
 
-ghost use Rattle.std.specs.Prelude.{◌≡◌, ◌↔◌, [], All, IfOk, OnErr, IsTrue, IsFalse, Some, None, length};
+ghost use Rattle.std.specs.Prelude.{◌≡◌, ◌↔◌, [], All, IfOk, OnOk, OnErr, IsTrue, IsFalse, Some, None, length};
 ghost use Rattle.linked_zone.specs.Loans.{KeepsLoans};
 ghost use Rattle.mac_calls.specs.declared.resource_call.ResourceCall.TheVariants as call;
 ghost use Rattle.res_calls.specs.Changes.{rows_of};
 ghost use Rattle.res_calls.specs.Tests.{resource_refusal};
 ghost use Rattle.res_calls.specs.Updates.{Update, disposed, fits_fork, handles_of, update_of};
 ghost use Rattle.res_manager.specs.Ends.{WritesFile, writes};
-ghost use Rattle.res_manager.specs.Steps.{ResourceSteps, state_of, takes_memory};
+ghost use Rattle.res_manager.specs.Steps.{IsSaved, ReadsBack, ResourceSteps, state_of, takes_memory};
 ghost use Rattle.res_manager.specs.Tests.{Passes, early_tests};
 ghost use Rattle.res_table.specs.OpenFiles.{is_open};
 ghost use Rattle.res_update.specs.Selected.{updated, reads_lent};
@@ -33,6 +33,7 @@ pub(crate) fn update<S: ForkStore>(
     requires passed { Passes (state_of S.fork memory.old files.old) (early_tests call.now) }
     ensures step { All S.is_honest files.old.stores → IfOk result (λ outcome.
         ResourceSteps S.fork S.failures S.may_leave memory.old files.old call.now [] outcome memory.new files.new) }
+    ensures reads_back { All S.is_honest files.old.stores → IfOk result (λ outcome. ReadsBack (state_of S.fork memory.old files.old) call.now outcome (state_of S.fork memory.new files.new)) }
     ensures loans { KeepsLoans memory.old memory.new }
     ensures lent { memory.new.heap.table.lent ≡ memory.old.heap.table.lent }
     ensures shape { memory.new.shape ≡ memory.old.shape }
@@ -70,6 +71,7 @@ fn write_resource<S: ForkStore>(
     requires { Passes (state_of S.fork memory.now files.old) (early_tests (call.WriteResource handle)) }
     ensures step { All S.is_honest files.old.stores → IfOk result (λ outcome.
         ResourceSteps S.fork S.failures S.may_leave memory.now files.old (call.WriteResource handle) [] outcome memory.now files.new) }
+    ensures reads_back { All S.is_honest files.old.stores → IfOk result (λ outcome. ReadsBack (state_of S.fork memory.now files.old) (call.WriteResource handle) outcome (state_of S.fork memory.now files.new)) }
     ensures honest { All S.is_honest files.old.stores ↔ All S.is_honest files.new.stores }
     ensures count { length files.new.stores ≡ length files.old.stores }
     ensures same { OnErr result (files.new ≡ files.old) }
@@ -96,6 +98,8 @@ fn close<S: ForkStore>(
     ensures written { All S.is_honest files.old.stores → IfOk result (λ outcome. (u : Update)
         → update_of number (updated memory.old.heap.table Selection.AllChanged) files.old.files ≡ Some u
         → WritesFile S.fork S.failures S.may_leave memory.old files.old (call.CloseResFile None) u outcome memory.new files.new) }
+    ensures saved { All S.is_honest files.old.stores → IfOk result (λ outcome.
+        OnOk outcome (IsSaved (update_of number (updated memory.old.heap.table Selection.AllChanged) files.old.files) (state_of S.fork memory.new files.new))) }
     ensures loans { KeepsLoans memory.old memory.new }
     ensures lent { memory.new.heap.table.lent ≡ memory.old.heap.table.lent }
     ensures shape { memory.new.shape ≡ memory.old.shape }
@@ -128,6 +132,8 @@ fn write_file<S: ForkStore>(
     ensures written { All S.is_honest files.old.stores → IfOk result (λ outcome. (u : Update)
         → update_of number (updated memory.now.heap.table selection) files.old.files ≡ Some u
         → WritesFile S.fork S.failures S.may_leave memory.now files.old (call.UpdateResFile None) u outcome memory.now files.new) }
+    ensures saved { All S.is_honest files.old.stores → IfOk result (λ outcome.
+        OnOk outcome (IsSaved (update_of number (updated memory.now.heap.table selection) files.old.files) (state_of S.fork memory.now files.new))) }
     ensures honest { All S.is_honest files.old.stores ↔ All S.is_honest files.new.stores }
     ensures count { length files.new.stores ≡ length files.old.stores }
     ensures same { OnErr result (files.new ≡ files.old) }

@@ -23,7 +23,7 @@ use Rattle.res_calls.specs.Loads.{loads_bytes, placing}
 use Rattle.res_calls.specs.Steps.{GetsPlace, GetsRow, Gets, LeaveRelation, MemoryRelation, Opens, Quiet, ResourceStepBy, StepsUnless, Updates, Work, Works, work_of}
 use Rattle.res_calls.specs.Tests.{resource_refusal}
 use Rattle.res_files.specs.FilesOn.{FilesOn}
-use Rattle.res_manager.specs.Steps.{Memory as MayStep}
+use Rattle.res_manager.specs.Steps.{Memory as MayStep, ReadsBack}
 use Rattle.fork_disk.specs.declared.store.ForkStore.{Ghosts}
 use Rattle.toolbox.specs.Steps.{Gives, ResourceGives, Unchanged}
 use Rattle.toolbox.specs.ToolState.{ToolState, IsHonest, resource_state, without_handles}
@@ -59,10 +59,11 @@ tool zone loans refused on resource_refused = record { shape = zone.shape; heap 
 -- what a call of the Resource Manager gives, where it had its host memory
 pub resource_gives : {S : Type 0} (store : Ghosts S) (old new : ZoneState) (loans : Loans) (refused : Option OsErr) (on new_on : FilesOn S) (resource_refused : Option OsErr) (call : ResourceCall) (asks : List Ask) (result : Result Outcome HostFull)
     → (IsHonest store (tool old loans refused on resource_refused) → IfOk result (λ outcome. ResourceGives store MayStep (tool old loans refused on resource_refused) call asks outcome (tool new loans refused new_on resource_refused)))
+    → (IsHonest store (tool old loans refused on resource_refused) → IfOk result (λ outcome. ReadsBack (resource_state store (tool old loans refused on resource_refused)) call outcome (resource_state store (tool new loans refused new_on resource_refused))))
     → (IsHonest store (tool old loans refused on resource_refused) ↔ IsHonest store (tool new loans refused new_on resource_refused)) → length new_on.stores ≡ length on.stores
     → IfOk result (λ outcome. Gives store (tool old loans refused on resource_refused) (Resource call) asks outcome (tool new loans refused new_on resource_refused))
-resource_gives store old new loans refused on new_on resource_refused call asks (Ok outcome) step honest count = (step, refl, honest, count)
-resource_gives store old new loans refused on new_on resource_refused call asks (Err full) step honest count = tt
+resource_gives store old new loans refused on new_on resource_refused call asks (Ok outcome) step reads honest count = (step, refl, honest, count, reads)
+resource_gives store old new loans refused on new_on resource_refused call asks (Err full) step reads honest count = tt
 
 -- a call of the Resource Manager that has no host memory changes nothing
 pub resource_unchanged : {S : Type 0} (store : Ghosts S) (old new : ZoneState) (loans : Loans) (refused : Option OsErr) (on new_on : FilesOn S) (resource_refused : Option OsErr) (call : ResourceCall) (result : Result Outcome HostFull) → OnErr result (new ≡ old)
@@ -114,5 +115,6 @@ opening_gives store old new k asks (Ok outcome) gives = (
   gives.1,
   gives.2,
   gives.3,
+  gives.4,
 )
 opening_gives store old new k asks (Err full) gives = tt

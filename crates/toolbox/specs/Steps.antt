@@ -23,7 +23,7 @@ use Rattle.res_calls.specs.Device.{Device, device_works}
 use Rattle.res_calls.specs.Steps.{MemoryRelation, ResourceStepBy, disposed_in}
 use Rattle.res_calls.specs.Tests.{resource_refusal}
 use Rattle.res_files.specs.FilesOn.{SomeFailed}
-use Rattle.res_manager.specs.Steps.{takes_memory as resource_takes_memory, Memory as MayStep}
+use Rattle.res_manager.specs.Steps.{takes_memory as resource_takes_memory, Memory as MayStep, ReadsBack}
 use Rattle.toolbox.specs.ToolState.{ToolState, IsHonest, resource_state, without_handles}
 
 -- From the old zone, the call with these asks may have this outcome and leave the new zone: it is a memory step, and just that
@@ -48,13 +48,15 @@ ResourceGives store Inner old call asks outcome new = (device : Device)
     × (IsFalse (device_works device) → SomeFailed store.failures old.resources.stores new.resources.stores)
 
 -- What a call gives and does to the heap, the loans and the resource files. MemError gives the code of the last call of the Memory
--- Manager, ResError that of the last one of the Resource Manager, and both do nothing.
+-- Manager, ResError that of the last one of the Resource Manager, and both do nothing. A file that was updated with success reads back
+-- as the table that was saved.
 abbrev pub Gives : {S : Type 0} → Ghosts S → ToolState S → Call → List Ask → Outcome → ToolState S → Type 0
 Gives store old (Memory call) asks outcome new = MemoryStep old.shape old.heap call asks outcome new.heap × IsExactStep old.shape old.heap call asks outcome new.heap × (new.loans ≡ old.loans)
     × (new.resources ≡ without_handles (disposed_of call asks outcome) old.resources)
 Gives store old (Loan call) asks outcome new = (asks ≡ []) × LoanStep old.shape old.loans old.heap call outcome new.loans new.heap × (new.resources ≡ old.resources)
 Gives store old (Resource call) asks outcome new = (IsHonest store old → ResourceGives store MayStep old call asks outcome new) × (new.loans ≡ old.loans)
     × (IsHonest store old ↔ IsHonest store new) × (length new.resources.stores ≡ length old.resources.stores)
+    × (IsHonest store old → ReadsBack (resource_state store old) call outcome (resource_state store new))
 Gives store old MemError asks outcome new = (asks ≡ []) × (outcome ≡ Ok (Code old.refused)) × (new.heap ≡ old.heap) × (new.loans ≡ old.loans) × (new.resources ≡ old.resources)
 Gives store old ResError asks outcome new = (asks ≡ []) × (outcome ≡ Ok (Code old.resource_refused)) × (new.heap ≡ old.heap) × (new.loans ≡ old.loans) × (new.resources ≡ old.resources)
 

@@ -1,9 +1,11 @@
 use Rattle.std.proofs.Common.{None, ap}
 use Rattle.mac_calls.specs.declared.resource_call.ResourceCall.{ResourceCall}
 use Rattle.mac_calls.specs.declared.resource_call.ResourceCall.TheVariants.{CloseResFile, UpdateResFile}
-use Rattle.res_calls.specs.Updates.{behind_update}
+use Rattle.res_calls.specs.Updates.{behind_update, update_of}
 use Rattle.res_update.specs.Selected.{updated}
 use Rattle.res_update.specs.declared.selection.Selection.TheVariants.{AllChanged}
+use Rattle.res_manager.specs.Steps.{state_of}
+use Rattle.res_manager.proofs.ReadingBack.{made_reads}
 use Rattle.res_manager.proofs.Stepping.{if_ok}
 use Rattle.res_manager.proofs.UpdatingCalls.{closing_unlent, made_late, made_steps, makes_closed, makes_file, on_err, open_update}
 use Rattle.res_manager.proofs.WritingFiles.{writes_as}
@@ -26,6 +28,17 @@ returns-in-Ok-clause-step g c = λ honest.
     let made = makes_file fork zone on c.args.call.now c.in-UpdateResFile.named c.in-Ok.number o.0 c.in-UpdateResFile.is c.requires.passed c.in-Ok.ensures.value.0 o.1 in
     if_ok _ _ c.write_file.result (λ outcome written. made_steps fork zone on failures leave new after c.args.call.now o.0 outcome made
     (writes_as fork failures leave zone new on after o.0 (UpdateResFile None) c.args.call.now outcome (λ k state. ap (λ (d : ResourceCall). behind_update d k state) c.in-UpdateResFile.is) (written o.0 o.1))) (c.write_file.ensures.written honest)
+
+pub returns-in-Ok-clause-reads_back : goal.returns-in-Ok-clause-reads_back
+returns-in-Ok-clause-reads_back g c = λ honest.
+    let fork = g.S.ForkStore.fork in
+    let zone = c.args.memory.now in
+    let on = c.args.files.now in
+    let new = state_of fork zone c.write_file.new.files in
+    let update = update_of c.in-Ok.number (updated zone.heap.table AllChanged) on.files in
+    let o = open_update c.in-Ok.number (updated zone.heap.table AllChanged) on.files c.in-Ok.ensures.value.1 in
+    let made = makes_file fork zone on c.args.call.now c.in-UpdateResFile.named c.in-Ok.number o.0 c.in-UpdateResFile.is c.requires.passed c.in-Ok.ensures.value.0 o.1 in
+    if_ok _ _ c.write_file.result (λ outcome saved. made_reads fork zone on c.args.call.now o.0 update outcome new made o.1 saved) (c.write_file.ensures.saved honest)
 
 pub returns-in-Ok-clause-late : goal.returns-in-Ok-clause-late
 returns-in-Ok-clause-late g c = λ honest.
@@ -58,6 +71,17 @@ returns-in-Ok-test_open-clause-step g c = λ honest.
     let made = makes_closed fork zone on c.args.call.now c.in-CloseResFile.named c.in-Ok-test_open.number o.0 c.in-CloseResFile.is c.requires.passed c.in-Ok-test_open.ensures.value.0 o.1 in
     if_ok _ _ c.close.result (λ outcome written. made_steps fork zone on failures leave new after c.args.call.now o.0 outcome made
     (writes_as fork failures leave zone new on after o.0 (CloseResFile None) c.args.call.now outcome (λ k state. ap (λ (d : ResourceCall). behind_update d k state) c.in-CloseResFile.is) (written o.0 o.1))) (c.close.ensures.written honest)
+
+pub returns-in-Ok-test_open-clause-reads_back : goal.returns-in-Ok-test_open-clause-reads_back
+returns-in-Ok-test_open-clause-reads_back g c = λ honest.
+    let fork = g.S.ForkStore.fork in
+    let zone = c.args.memory.now in
+    let on = c.args.files.now in
+    let new = state_of fork c.close.new.memory c.close.new.files in
+    let update = update_of c.in-Ok-test_open.number (updated zone.heap.table AllChanged) on.files in
+    let o = open_update c.in-Ok-test_open.number (updated zone.heap.table AllChanged) on.files c.in-Ok-test_open.ensures.value.1 in
+    let made = makes_closed fork zone on c.args.call.now c.in-CloseResFile.named c.in-Ok-test_open.number o.0 c.in-CloseResFile.is c.requires.passed c.in-Ok-test_open.ensures.value.0 o.1 in
+    if_ok _ _ c.close.result (λ outcome saved. made_reads fork zone on c.args.call.now o.0 update outcome new made o.1 saved) (c.close.ensures.saved honest)
 
 pub returns-in-Ok-test_open-clause-late : goal.returns-in-Ok-test_open-clause-late
 returns-in-Ok-test_open-clause-late g c = λ honest.

@@ -3,11 +3,13 @@ use Rattle.mac_base.specs.ZoneState.{ZoneState}
 use Rattle.fork_disk.specs.declared.store.ReplaceFault.{ReplaceFault}
 use Rattle.mac_base.specs.declared.error.OsErr.TheVariants.{IoErr}
 use Rattle.res_manager.specs.Ends.{WritesFile}
+use Rattle.res_manager.specs.Steps.{IsSaved, state_of}
 use Rattle.res_update.specs.Selected.{updated}
 use Rattle.res_update.specs.declared.fault.UpdateFault.TheVariants.{Device}
 use Rattle.mac_calls.specs.declared.reply.Results.TheVariants.{Nothing}
 use Rattle.mac_calls.specs.declared.resource_call.ResourceCall.TheVariants.{UpdateResFile}
 use Rattle.res_calls.specs.Updates.{Update, fits_fork, update_of}
+use Rattle.res_manager.proofs.ReadingBack.{saved_update}
 use Rattle.res_manager.proofs.WritingFiles.{true_unless, update_found, writes_all, writes_faulted}
 use Rattle.res_manager.proofs.updating.write_file.Goals as goal
 
@@ -22,6 +24,14 @@ returns-in-Ok-clause-written g c = λ honest u is.
     let v : Update = record { file = c.args.number; table = updated t c.args.selection f.table } in
     let P : Update → Type 0 = λ w. WritesFile g.S.ForkStore.fork g.S.ForkStore.failures g.S.ForkStore.may_leave c.args.memory.now c.args.files.now (UpdateResFile None) w (Ok Nothing) c.args.memory.now c.update.new.self in
     subst P f.is (writes_all g.S.ForkStore.fork g.S.ForkStore.failures g.S.ForkStore.may_leave c.args.memory.now c.args.files.now c.update.new.self v (true_unless (fits_fork v.table) (λ h. absurd (cc (big.1 h)))) rows forks c.update.ensures.loads)
+
+pub returns-in-Ok-clause-saved : goal.returns-in-Ok-clause-saved
+returns-in-Ok-clause-saved g c = λ honest.
+    let fork = g.S.ForkStore.fork in
+    let zone = c.args.memory.now in
+    let after = c.update.new.self in
+    let Q : ZoneState → Type 0 = λ z. IsSaved (update_of c.args.number (updated z.heap.table c.args.selection) c.args.files.now.files) (state_of fork zone after) in
+    subst Q c.new-contents.ensures (saved_update fork zone after c.args.number (updated c.new-contents.result.heap.table c.args.selection) c.args.files.now.files (c.in-Ok.ensures.stands honest))
 
 pub returns-in-Err-Device-clause-written : goal.returns-in-Err-Device-clause-written
 returns-in-Err-Device-clause-written g c = λ honest u is.

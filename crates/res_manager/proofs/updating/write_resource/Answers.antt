@@ -1,10 +1,12 @@
 use Rattle.std.proofs.Common.{◌≡◌, true, Some, None, rules, refl, sym, ◌∙◌}
 use Rattle.mac_calls.specs.declared.resource_call.ResourceCall.TheVariants.{UpdateResFile, WriteResource}
 use Rattle.res_calls.specs.Changes.{FileRow}
-use Rattle.res_calls.specs.Updates.{row_passes}
+use Rattle.res_calls.specs.Updates.{row_passes, update_of}
 use Rattle.res_table.specs.Rows.{is_changed}
 use Rattle.res_update.specs.Selected.{updated}
 use Rattle.res_update.specs.declared.selection.Selection.TheVariants.{RowAt}
+use Rattle.res_manager.specs.Steps.{state_of}
+use Rattle.res_manager.proofs.ReadingBack.{made_reads}
 use Rattle.res_manager.proofs.RowUpdates.{row_open}
 use Rattle.res_manager.proofs.Stepping.{if_ok}
 use Rattle.res_manager.proofs.UpdatingCalls.{made_late, made_steps, makes_row, on_err, open_update}
@@ -27,6 +29,18 @@ returns-clause-step g c = λ honest.
     let made = makes_row fork zone on c.args.handle c.in-Some.place o.0 c.requires (sym c.row_of_handle.ensures.value ∙ c.in-Some.is) changed o.1 in
     if_ok _ _ c.write_file.result (λ outcome written. made_steps fork zone on failures leave zone after (WriteResource c.args.handle) o.0 outcome made
     (writes_as fork failures leave zone zone on after o.0 (UpdateResFile None) (WriteResource c.args.handle) outcome (λ k state. refl) (written o.0 o.1))) (c.write_file.ensures.written honest)
+
+pub returns-clause-reads_back : goal.returns-clause-reads_back
+returns-clause-reads_back g c = λ honest.
+    let fork = g.S.ForkStore.fork in
+    let zone = c.args.memory.now in
+    let on = c.args.files.now in
+    let new = state_of fork zone c.write_file.new.files in
+    let changed : row_passes is_changed c.args.handle c.args.files.now.files ≡ true = search rules in
+    let update = update_of c.in-Some.place.file (updated zone.heap.table (RowAt c.in-Some.place.index)) on.files in
+    let o = open_update c.in-Some.place.file (updated zone.heap.table (RowAt c.in-Some.place.index)) on.files (row_open c.in-Some.place on.files (λ (r : FileRow). r.handle ≡ Some c.args.handle) c.in-Some.ensures.there) in
+    let made = makes_row fork zone on c.args.handle c.in-Some.place o.0 c.requires (sym c.row_of_handle.ensures.value ∙ c.in-Some.is) changed o.1 in
+    if_ok _ _ c.write_file.result (λ outcome saved. made_reads fork zone on (WriteResource c.args.handle) o.0 update outcome new made o.1 saved) (c.write_file.ensures.saved honest)
 
 pub returns-clause-late : goal.returns-clause-late
 returns-clause-late g c = λ honest.
