@@ -1,6 +1,6 @@
 -- Opening a file, and a call that has no host memory, keep every fork.
-use Rattle.std.proofs.Common.{◌≡◌, ℕ, List, Option, Some, None, Result, Ok, Err, Bool, true, false, sym, ap, subst}
-use Rattle.std.specs.Prelude.{All, map, OnErr, if◌then◌else◌}
+use Rattle.std.proofs.Common.{◌≡◌, ℕ, List, Option, Some, None, Result, Ok, Err, Bool, true, false, refl, sym, ap, subst}
+use Rattle.std.specs.Prelude.{[], All, map, OnOk, OnErr, if◌then◌else◌}
 use Rattle.mac_base.specs.declared.error.OsErr.{OsErr}
 use Rattle.mac_calls.specs.declared.call.Call.{Call}
 use Rattle.mac_calls.specs.declared.call.Call.TheVariants.{Memory, Loan, Resource, MemError, ResError}
@@ -17,7 +17,8 @@ use Rattle.res_calls.specs.Tests.{resource_refusal}
 use Rattle.res_manager.specs.Steps.{Memory as MayStep}
 use Rattle.toolbox.specs.Steps.{Gives, Unchanged}
 use Rattle.toolbox.specs.ToolState.{ToolState, resource_state}
-use Rattle.script_run.specs.Line.{SameForks}
+use Rattle.script_run.specs.declared.machine.Machine.{Machine}
+use Rattle.script_run.specs.Line.{OpensFirst, SameForks, opening_text}
 
 module _ (One : MemoryRelation) (MayLeave : LeaveRelation) (device : Device) (old : ResState) (k : ℕ) (asks : List Ask) (end : ResourceEnd) where
   by_read : (read : Result FileTable OsErr) → end ≡ opened_end k old read → end.state.disks ≡ old.disks
@@ -52,6 +53,16 @@ unchanged_keeps_forks store old new (Memory made) same = untouched store old new
 unchanged_keeps_forks store old new (Loan made) same = untouched store old new same
 unchanged_keeps_forks store old new MemError same = untouched store old new same
 unchanged_keeps_forks store old new ResError same = untouched store old new same
+
+-- a machine whose toolbox has opened file 1
+pub machine_opened : {S : Type 0} (store : Ghosts S) (old : Machine S) (new : ToolState S) (outcome : Outcome) (text : List ℕ) → Gives store old.toolbox (Resource (call.OpenResFile 1)) [] outcome new → new.shape ≡ old.toolbox.shape
+    → new.refused ≡ old.toolbox.refused → new.resource_refused ≡ old.toolbox.resource_refused → text ≡ opening_text outcome → OpensFirst store old text (record old { toolbox = new })
+machine_opened store old new outcome text gives shape refused resource_refused is = (outcome, gives, shape, refused, resource_refused, refl, refl, is)
+
+-- what is said of a value
+pub on_value : {T E : Type 0} (Said More : Type 0) (result : Result T E) → (Said → More) → OnOk result Said → OnOk result More
+on_value Said More (Ok value) so said = so said
+on_value Said More (Err fault) so said = said
 
 -- what is said of a fault
 pub on_fault : {T E Said : Type 0} (result : Result T E) → Said → OnErr result Said
