@@ -1,4 +1,5 @@
 pub mod Changing
+pub mod ClosingFiles
 pub mod Filling
 pub mod Forgetting
 pub mod GettingCalls

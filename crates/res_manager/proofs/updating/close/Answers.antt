@@ -1,9 +1,27 @@
-use Rattle.std.proofs.Common.{◌∙◌, ap}
+use Rattle.std.proofs.Common.{◌≡◌, ◌∙◌, sym, ap}
 use Rattle.mac_base.specs.Heap.{Heap}
 use Rattle.res_calls.specs.Changes.{rows_of}
-use Rattle.res_calls.specs.Updates.{handles_of}
+use Rattle.res_calls.specs.Updates.{Update, disposed, handles_of}
+use Rattle.res_table.specs.OpenFiles.{file_closed}
+use Rattle.res_update.specs.Selected.{updated}
+use Rattle.res_update.specs.declared.selection.Selection.TheVariants.{AllChanged}
+use Rattle.res_manager.proofs.ClosingFiles.{closes_written}
 use Rattle.res_manager.proofs.Lent.{lent_disposed}
+use Rattle.res_manager.proofs.WritingFiles.{update_found}
 use Rattle.res_manager.proofs.updating.close.Goals as goal
 
 pub returns-clause-lent : goal.returns-clause-lent
 returns-clause-lent g c = ap (λ (heap : Heap). heap.table.lent) c.dispose_all.ensures.heap ∙ lent_disposed c.args.memory.now.shape (handles_of (rows_of c.args.number c.write_file.new.files.files)) c.args.memory.now.heap
+
+pub returns-clause-written : goal.returns-clause-written
+returns-clause-written g c = λ honest u is.
+    let zone = c.args.memory.now in
+    let on = c.args.files.now in
+    let mid = c.write_file.new.files in
+    let found = update_found c.args.number (updated zone.heap.table AllChanged) on.files u is in
+    let number : c.args.number ≡ u.file = ap (λ (v : Update). v.file) found.is in
+    closes_written g.S.ForkStore.fork g.S.ForkStore.failures g.S.ForkStore.may_leave zone c.dispose_all.new.memory on mid c.close.new.self u c.in_ok-outcome.outcome
+    (sym c.is_err.ensures.value ∙ c.if-is_err.false) c.dispose_all.ensures.shape
+    (c.dispose_all.ensures.heap ∙ ap (λ k. disposed zone.shape (handles_of (rows_of k mid.files)) zone.heap) number)
+    (c.close.ensures ∙ ap (λ k. record mid { files = file_closed k mid.files }) number)
+    (c.in_ok-outcome.ensures.written honest u is)
