@@ -1,9 +1,12 @@
 //! The words of the command line.
 
+ghost use Rattle.std.specs.Prelude.{codes, map, option_map};
+ghost use Rattle.clap.specs.Words.{found_of, first_value, kind_of, matched_of, raw_values};
+ghost use Rattle.forklist.specs.Asked.{IsRequest, IsTold, MeansNoRequest, Names, Requests};
+
 use crate::request::{Request, Wanted};
 use clap::error::ErrorKind;
 use clap::{Arg, ArgAction, ArgMatches, Command};
-use fork_text::kind_of;
 use std::alloc::{AllocError, Global};
 use std::convert::AsStr;
 use thiserror::Error;
@@ -35,6 +38,11 @@ pub enum NotAsked {
 }
 
 impl From<AllocError> for NotAsked {
+    ghost use Rattle.std.specs.Prelude.{◌≡◌};
+    ghost use Rattle.forklist.specs.declared.asked.NotAsked.TheVariants.{HostFull};
+
+    ghost from_gives = { λ _ e. e ≡ HostFull };
+
     fn from(_: AllocError) -> NotAsked {
         NotAsked::HostFull
     }
@@ -65,7 +73,9 @@ fn command<'a>(alloc: Global) -> Result<Command<'a>, AllocError> {
 }
 
 /// What the words ask for, of which the first is the program's name.
-pub fn asked_by<'a, S: AsStr>(alloc: Global, words: &'a [S]) -> Result<Asked<'a>, NotAsked> {
+pub fn asked_by<'a, S: AsStr>(alloc: Global, words: &'a [S]) -> Result<Asked<'a>, NotAsked>
+    ensures { IsTold result }
+{
     match command(alloc)?.try_get_matches_from(words) {
         Ok(matches) => shown_by(&matches),
         Err(error) => not_matched(error),
@@ -73,24 +83,41 @@ pub fn asked_by<'a, S: AsStr>(alloc: Global, words: &'a [S]) -> Result<Asked<'a>
 }
 
 /// What words that match ask for.
-fn shown_by<'a>(matches: &ArgMatches<'a>) -> Result<Asked<'a>, NotAsked> {
+fn shown_by<'a>(matches: &ArgMatches<'a>) -> Result<Asked<'a>, NotAsked>
+    ensures { Requests (first_value (found_of matches.now) (codes "file")) (option_map raw_values (matched_of (found_of matches.now) (codes "extract"))) result }
+{
     let path = matches.get_str("file").unwrap_or("");
-    let request = match matches.get_strs("extract") {
-        Some([kind, id]) => Request::Extract(wanted(kind, id)?),
-        Some(_) | None => Request::List,
-    };
+    let request = requested(matches.get_strs("extract"))?;
     Ok(Asked::Show(path, request))
 }
 
+/// What the operands of `--extract` ask for, where it stands there.
+fn requested(operands: Option<&[&str]>) -> Result<Request, NotAsked>
+    ensures { IsRequest (option_map (λ operands. map (λ word. word.now) operands.now) operands.entry) result }
+{
+    match operands {
+        Some([kind, id]) => Ok(Request::Extract(wanted(kind, id)?)),
+        Some(_) | None => Ok(Request::List),
+    }
+}
+
 /// The resource that the operands of `--extract` name.
-fn wanted(kind: &str, id: &str) -> Result<Wanted, NotAsked> {
-    let kind = kind_of(kind).ok_or(NotAsked::NoType)?;
-    let id = id.parse::<i16>().map_err(|_| NotAsked::NoId)?;
-    Ok(Wanted { kind, id })
+fn wanted(kind: &str, id: &str) -> Result<Wanted, NotAsked>
+    ensures { Names kind.now id.now result }
+{
+    let Some(kind) = fork_text::kind_of(kind) else {
+        return Err(NotAsked::NoType);
+    };
+    match id.parse::<i16>() {
+        Ok(id) => Ok(Wanted { kind, id }),
+        Err(_) => Err(NotAsked::NoId),
+    }
 }
 
 /// What it means that the words don't match.
-fn not_matched<'a>(error: clap::Error) -> Result<Asked<'a>, NotAsked> {
+fn not_matched<'a>(error: clap::Error) -> Result<Asked<'a>, NotAsked>
+    ensures { MeansNoRequest (kind_of error) result }
+{
     match error.kind() {
         ErrorKind::DisplayHelp => Ok(Asked::Help(error)),
         ErrorKind::OutOfMemory => Err(NotAsked::HostFull),
