@@ -1,0 +1,29 @@
+use Rattle.std.proofs.Common.{rules, ◌≡◌, ℕ, List, ◌∷◌, drop, refl, arith}
+use Rattle.fork_journal.specs.declared.pair.Side.TheVariants.{Journal}
+use Rattle.fork_journal.proofs.Along.{begins, writes, along_same, along_sync, settles}
+use Rattle.fork_journal.specs.Crash.{LeftWith, Contents}
+use Rattle.fork_journal.proofs.Joining.{gate_joins}
+use Rattle.fork_journal.proofs.steps.put_gate.Goals as goal
+
+pub returns-in_err-write_at-clause-any_moment : goal.returns-in_err-write_at-clause-any_moment
+returns-in_err-write_at-clause-any_moment g c honest =
+    let R = λ (old new : List ℕ). drop 1 new ≡ drop 1 old in
+    writes Journal R _ 0 1 _ _ gate_joins (begins Journal R _ (λ x. refl)) (c.write_at.ensures.crash honest)
+
+pub returns-in_err-sync-clause-any_moment : goal.returns-in_err-sync-clause-any_moment
+returns-in_err-sync-clause-any_moment g c honest =
+    let R = λ (old new : List ℕ). drop 1 new ≡ drop 1 old in
+    let written = writes Journal R _ 0 1 _ _ gate_joins (begins Journal R _ (λ x. refl)) (c.write_at.ensures.crash honest) in
+    along_same _ _ _ _ written (c.in_err-sync.ensures.unstable (c.write_at.ensures.honest.0 honest))
+
+pub returns-clause-any_moment : goal.returns-clause-any_moment
+returns-clause-any_moment g c honest =
+    let R = λ (old new : List ℕ). drop 1 new ≡ drop 1 old in
+    let written = writes Journal R _ 0 1 _ _ gate_joins (begins Journal R _ (λ x. refl)) (c.write_at.ensures.crash honest) in
+    along_sync _ Journal _ _ _ _ written (c.in_ok-sync.ensures.durable (c.write_at.ensures.honest.0 honest))
+
+pub returns-clause-stable : goal.returns-clause-stable
+returns-clause-stable g c honest =
+    let R = λ (old new : List ℕ). drop 1 new ≡ drop 1 old in
+    let written = writes Journal R _ 0 1 _ _ gate_joins (begins Journal R _ (λ x. refl)) (c.write_at.ensures.crash honest) in
+    settles Journal R _ _ _ _ _ written (c.in_ok-sync.ensures.durable (c.write_at.ensures.honest.0 honest)) (c.in_ok-write_at.ensures.written honest).0

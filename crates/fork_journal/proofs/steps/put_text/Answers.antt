@@ -1,0 +1,67 @@
+use Rattle.std.proofs.Common.{rules, ◌≡◌, ℕ, ◌+◌, ◌≤◌, List, ◌∷◌, ◌++◌, length, take, drop, refl, ◌∙◌, ap, arith}
+use Rattle.byteorder.specs.Endian.{big_bytes}
+use Rattle.fork_journal.specs.Crash.{Contents}
+use Rattle.fork_journal.specs.declared.pair.Side.TheVariants.{Journal}
+use Rattle.fork_journal.proofs.Joining.{text_joins, text_cut_joins, text_put}
+use Rattle.fork_journal.proofs.Along.{begins, writes, cuts, along_same, along_sync, settles}
+use Rattle.fork_journal.proofs.steps.put_text.Goals as goal
+
+pub returns-in_err-put_length-clause-any_moment : goal.returns-in_err-put_length-clause-any_moment
+returns-in_err-put_length-clause-any_moment g c honest =
+    let R = λ (old new : List ℕ). take 1 new ≡ take 1 old in
+    writes Journal R _ 1 4 _ _ (text_joins 1 4 (omega arith)) (begins Journal R _ (λ x. refl)) (c.put_length.ensures.crash honest)
+
+pub returns-in_err-write_at-clause-any_moment : goal.returns-in_err-write_at-clause-any_moment
+returns-in_err-write_at-clause-any_moment g c honest =
+    let R = λ (old new : List ℕ). take 1 new ≡ take 1 old in
+    let told = writes Journal R _ 1 4 _ _ (text_joins 1 4 (omega arith)) (begins Journal R _ (λ x. refl)) (c.put_length.ensures.crash honest) in
+    writes Journal R _ 5 _ _ _ (text_joins 5 _ (omega arith)) told (c.write_at.ensures.crash (c.put_length.ensures.honest.0 honest))
+
+pub returns-in_err-cut-clause-any_moment : goal.returns-in_err-cut-clause-any_moment
+returns-in_err-cut-clause-any_moment g c honest =
+    let R = λ (old new : List ℕ). take 1 new ≡ take 1 old in
+    let told = writes Journal R _ 1 4 _ _ (text_joins 1 4 (omega arith)) (begins Journal R _ (λ x. refl)) (c.put_length.ensures.crash honest) in
+    let then = c.put_length.ensures.honest.0 honest in
+    let written = writes Journal R _ 5 _ _ _ (text_joins 5 _ (omega arith)) told (c.write_at.ensures.crash then) in
+    cuts Journal R _ _ _ _ (text_cut_joins _ (omega arith)) written (c.cut.ensures.crash (c.write_at.ensures.honest.0 then))
+
+pub returns-in_err-sync-clause-any_moment : goal.returns-in_err-sync-clause-any_moment
+returns-in_err-sync-clause-any_moment g c honest =
+    let R = λ (old new : List ℕ). take 1 new ≡ take 1 old in
+    let told = writes Journal R _ 1 4 _ _ (text_joins 1 4 (omega arith)) (begins Journal R _ (λ x. refl)) (c.put_length.ensures.crash honest) in
+    let then = c.put_length.ensures.honest.0 honest in
+    let written = writes Journal R _ 5 _ _ _ (text_joins 5 _ (omega arith)) told (c.write_at.ensures.crash then) in
+    let later = c.write_at.ensures.honest.0 then in
+    let cut = cuts Journal R _ _ _ _ (text_cut_joins _ (omega arith)) written (c.cut.ensures.crash later) in
+    along_same _ _ _ _ cut (c.in_err-sync.ensures.unstable (c.cut.ensures.honest.0 later))
+
+pub returns-clause-any_moment : goal.returns-clause-any_moment
+returns-clause-any_moment g c honest =
+    let R = λ (old new : List ℕ). take 1 new ≡ take 1 old in
+    let told = writes Journal R _ 1 4 _ _ (text_joins 1 4 (omega arith)) (begins Journal R _ (λ x. refl)) (c.put_length.ensures.crash honest) in
+    let then = c.put_length.ensures.honest.0 honest in
+    let written = writes Journal R _ 5 _ _ _ (text_joins 5 _ (omega arith)) told (c.write_at.ensures.crash then) in
+    let later = c.write_at.ensures.honest.0 then in
+    let cut = cuts Journal R _ _ _ _ (text_cut_joins _ (omega arith)) written (c.cut.ensures.crash later) in
+    along_sync _ Journal _ _ _ _ cut (c.in_ok-sync.ensures.durable (c.cut.ensures.honest.0 later))
+
+reads_as : goal.returns-clause-put
+reads_as g c honest =
+    let then = c.put_length.ensures.honest.0 honest in
+    let later = c.write_at.ensures.honest.0 then in
+    let same = c.sync.ensures.same (c.cut.ensures.honest.0 later) in
+    ap (λ (d : Contents). d.journal) same ∙ text_put _ (big_bytes 4 (length c.args.fork.now)) c.args.fork.now _ _ _ _ (c.requires.gate honest) refl (c.in_ok-put_length.ensures.put honest) (omega arith) (c.in_ok-write_at.ensures.written then).0 (c.in_ok-cut.ensures.cut later).0
+
+pub returns-clause-put : goal.returns-clause-put
+returns-clause-put g c honest = reads_as g c honest
+
+pub returns-clause-stable : goal.returns-clause-stable
+returns-clause-stable g c honest =
+    let R = λ (old new : List ℕ). take 1 new ≡ take 1 old in
+    let told = writes Journal R _ 1 4 _ _ (text_joins 1 4 (omega arith)) (begins Journal R _ (λ x. refl)) (c.put_length.ensures.crash honest) in
+    let then = c.put_length.ensures.honest.0 honest in
+    let written = writes Journal R _ 5 _ _ _ (text_joins 5 _ (omega arith)) told (c.write_at.ensures.crash then) in
+    let later = c.write_at.ensures.honest.0 then in
+    let cut = cuts Journal R _ _ _ _ (text_cut_joins _ (omega arith)) written (c.cut.ensures.crash later) in
+    let reads = text_put _ (big_bytes 4 (length c.args.fork.now)) c.args.fork.now _ _ _ _ (c.requires.gate honest) refl (c.in_ok-put_length.ensures.put honest) (omega arith) (c.in_ok-write_at.ensures.written then).0 (c.in_ok-cut.ensures.cut later).0 in
+    settles Journal R _ _ _ _ _ cut (c.in_ok-sync.ensures.durable (c.cut.ensures.honest.0 later)) reads

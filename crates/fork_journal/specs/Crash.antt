@@ -1,0 +1,59 @@
+-- What a crash may leave of a fork and its journal, which are one device with one clock.
+use Rattle.std.specs.Prelude.{◌≡◌, ℕ, ◌⊎◌, List, [], ◌∷◌}
+use Rattle.fork_disk.specs.Disk.{Torn, CutShort}
+use Rattle.fork_journal.specs.declared.pair.Side.{Side}
+use Rattle.fork_journal.specs.declared.pair.Side.TheVariants.{Fork, Journal}
+
+-- the bytes of both sides
+pub record Contents : Type 0 where
+  pub fork : List ℕ
+  pub journal : List ℕ
+
+abbrev pub side_of : Side → Contents → List ℕ
+side_of Fork c = c.fork
+side_of Journal c = c.journal
+
+-- a step of one side, while the other stays
+abbrev pub OnSide : Side → (List ℕ → List ℕ → Type 0) → Contents → Contents → Type 0
+OnSide Fork step old new = step old.fork new.fork × (new.journal ≡ old.journal)
+OnSide Journal step old new = step old.journal new.journal × (new.fork ≡ old.fork)
+
+-- What happened to a pair: it was found so at a start; n bytes of a side were written at an offset, or a side was cut to n bytes, at least in part; a side was synced while it read so.
+pub data Event : Type 0 where
+  Found : Contents → Event
+  Wrote : Side → ℕ → ℕ → Event
+  Cut : Side → ℕ → Event
+  Synced : Side → List ℕ → Event
+
+-- the events of both sides since a start, the last one first
+abbrev pub History : Type 0
+History = List Event
+
+-- What a crash after these events may leave: each write and each cut may be done in part or not at all, by itself, and of this a sync leaves only what its side read then.
+abbrev pub MayLeave : History → Contents → Type 0
+MayLeave [] c = ⊥
+MayLeave (Found d ∷ past) c = c ≡ d
+MayLeave (Wrote side at n ∷ past) c = (d : Contents) × MayLeave past d × OnSide side (Torn at n) d c
+MayLeave (Cut side n ∷ past) c = (d : Contents) × MayLeave past d × OnSide side (CutShort n) d c
+MayLeave (Synced side bytes ∷ past) c = MayLeave past c × (side_of side c ≡ bytes)
+
+-- each outcome of a crash now has P
+abbrev pub Leaves : (Contents → Type 0) → History → Type 0
+Leaves P history = (c : Contents) → MayLeave history c → P c
+
+-- each outcome of a crash has P, whenever it comes: before the first event behind the old history, or behind any that came since
+pub data AlwaysLeaves (P : Contents → Type 0) (old : History) : History → Type 0 where
+  at_first : Leaves P old → AlwaysLeaves P old old
+  and_then : {event : Event} {past : History} → AlwaysLeaves P old past → Leaves P (event ∷ past) → AlwaysLeaves P old (event ∷ past)
+
+-- the event came, or none did
+abbrev pub Follows : Event → History → History → Type 0
+Follows event old new = (new ≡ event ∷ old) ⊎ (new ≡ old)
+
+-- what an older crash might have left, and then a step of one side
+abbrev pub LeftWith : Side → (List ℕ → List ℕ → Type 0) → History → Contents → Type 0
+LeftWith side step old c = (d : Contents) × MayLeave old d × OnSide side step d c
+
+-- a crash leaves these bytes on this side, and on the other what it might have left before
+abbrev pub Settles : Side → List ℕ → History → History → Type 0
+Settles side bytes old new = Leaves (LeftWith side (λ _ now. now ≡ bytes) old) new

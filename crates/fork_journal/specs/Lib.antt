@@ -1,0 +1,4 @@
+pub mod Crash
+pub mod Form
+pub mod Recovery
+pub mod Faults
