@@ -1,5 +1,5 @@
 -- What recovering gives, by the gate and the text.
-use Rattle.std.proofs.Common.{◌≡◌, ◌⊎◌, inl, inr, ℕ, ◌+◌, ◌≤◌, ◌<◌, ◌^◌, ◌==◌, ◌&&◌, ◌||◌, Bool, true, false, nat_le, if◌then◌else◌, List, [], ◌∷◌, ◌++◌, length, take, drop, get_or, refl, sym, ◌∙◌, ap, subst, arith}
+use Rattle.std.proofs.Common.{◌≡◌, ◌⊎◌, inl, inr, ℕ, ◌+◌, ◌≤◌, ◌<◌, ◌^◌, ◌==◌, ◌&&◌, ◌||◌, Bool, true, false, nat_le, if◌then◌else◌, List, [], ◌∷◌, ◌++◌, length, take, drop, get_or, refl, sym, ◌∙◌, ap, subst, arith, length-append}
 use Rattle.std.proofs.lemmas.List.{get_or-take, nil_from_length, take_rest, drop-drop, take_all, length-drop}
 use Rattle.std.proofs.lemmas.Bool.Decides.{nat_tests}
 use Rattle.fork_journal.specs.Crash.{Contents}
@@ -42,14 +42,14 @@ shut_and : (gate whole : Bool) → gate ≡ false → (gate && whole) ≡ false
 shut_and gate whole shut = ap (λ (g : Bool). g && whole) shut
 
 pub unusable_shut : (journal : Bytes) → is_open journal ≡ false → is_usable journal ≡ false
-unusable_shut journal shut = shut_and is_open journal (is_whole (drop 1 journal)) shut
+unusable_shut journal shut = shut_and (is_open journal) (is_whole (drop 1 journal)) shut
 
 and_false : (gate : Bool) → (gate && false) ≡ false
 and_false true = refl
 and_false false = refl
 
 pub unusable_short : (journal : Bytes) → is_whole (drop 1 journal) ≡ false → is_usable journal ≡ false
-unusable_short journal short = ap (λ (w : Bool). is_open journal && w) short ∙ and_false is_open journal
+unusable_short journal short = ap (λ (w : Bool). is_open journal && w) short ∙ and_false (is_open journal)
 
 -- an unusable journal whose gate has to be shut has no whole text
 nothing_whole : is_whole [] ≡ false
@@ -77,15 +77,15 @@ some_from [] is = absurd (cc)
 some_from (x ∷ xs) is = omega arith
 
 pub short_where_open : (journal : Bytes) → is_usable journal ≡ false → must_shut journal ≡ true → is_whole (drop 1 journal) ≡ false
-short_where_open journal unusable must = elim (or_cases (length journal == 0) is_open journal must) [
+short_where_open journal unusable must = elim (or_cases (length journal == 0) (is_open journal) must) [
   | inl empty ↦ ap (λ (j : Bytes). is_whole (drop 1 j)) (empty_from journal empty) ∙ nothing_whole
-  | inr gate ↦ open_short is_open journal (is_whole (drop 1 journal)) gate unusable
+  | inr gate ↦ open_short (is_open journal) (is_whole (drop 1 journal)) gate unusable
 ]
 
 -- a gate that need not be shut is shut
 pub shut_where_not : (c : Contents) → must_shut c.journal ≡ false → IsShut c.fork c
 shut_where_not c not =
-    let both = or_neither (length c.journal == 0) (get_or c.journal 0 0 == 1) not in
+    let both = or_neither (length c.journal == 0) (is_open c.journal) not in
     record { has_gate = some_from c.journal both.0; shut = both.1; fork = refl }
 
 -- a new text keeps the gate
@@ -102,10 +102,10 @@ tells fork short = big_number-reads_back 4 (length fork) fork short
 
 pub text_whole : (fork : Bytes) → length fork < 2 ^ 32 → is_whole (text_of fork) ≡ true
 unfolding is_whole
-text_whole fork short = whole_at (big_number 4 (text_of fork)) (tells fork short)
+text_whole fork short = whole_at (big_number 4 (text_of fork)) (length (text_of fork)) (tells fork short) (length-append (big_bytes 4 (length fork)) fork)
   where
-    whole_at : (n : ℕ) → n ≡ length fork → nat_le (4 + n) (4 + length fork) ≡ true
-    whole_at n is = grind (arith, nat_tests)
+    whole_at : (n all : ℕ) → n ≡ length fork → all ≡ 4 + length fork → nat_le (4 + n) all ≡ true
+    whole_at n all is long = grind (arith, nat_tests)
 
 pub text_fork : (fork : Bytes) → length fork < 2 ^ 32 → fork_in (text_of fork) ≡ fork
 unfolding fork_in
