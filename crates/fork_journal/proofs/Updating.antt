@@ -141,3 +141,7 @@ recovers contents fork side bytes start mid same new outcome settles is calm sec
 
 pub settled_read : (was now : Contents) (fork : Bytes) → now ≡ was → is_usable now.journal ≡ true → fork ≡ fork_in (drop 1 now.journal) → settled_fork was ≡ fork
 settled_read was now fork same usable is = ap settled_fork (sym same) ∙ settled_usable now usable ∙ sym is
+
+pub refuses : (contents : Contents) (after : Bytes) (start new : History) → IsReady contents start → new ≡ start → AlwaysLeaves (IsBeforeOrAfter (settled_fork contents) after) start new
+refuses contents after start new ready same =
+    along_weaker _ _ start new (λ c gives. inl (gives ∙ sym (settled_unusable contents ready.unusable))) (rests contents start new ready same)

@@ -2,6 +2,7 @@
 #![tactic(auto)]
 
 pub mod faults;
+mod journal;
 pub mod pair;
 mod reading;
 pub mod recovery;
@@ -9,4 +10,5 @@ mod steps;
 pub mod update;
 
 pub use faults::RecoverFault;
+pub use journal::Journal;
 pub use pair::{PairDisk, Side};

@@ -1,0 +1,144 @@
+//! The fork of a resource file that has a journal.
+
+ghost use Rattle.std.specs.Prelude.{◌≡◌, ◌+◌, ◌≤◌, ◌<◌, ◌^◌, ◌↔◌, ◌⊎◌, [], ◌∷◌, length, IfOk, OnOk, IsErrOf};
+ghost use Rattle.fork_disk.specs.Disk.{bytes_at, Counts, Rose};
+ghost use Rattle.fork_journal.specs.Crash.{AlwaysLeaves, Found};
+ghost use Rattle.fork_journal.specs.Form.{text_of};
+ghost use Rattle.fork_journal.specs.Recovery.{recovered, settled_fork, IsReady, IsRecoverable, IsStable, IsBeforeOrAfter, IsSameChoice, IsEither};
+
+use crate::faults::RecoverFault;
+use crate::pair::{PairDisk, Side};
+use crate::{recovery, update};
+use fork_disk::disk::DiskFault;
+use fork_disk::store::{ForkStore, ReplaceFault};
+use std::alloc::Global;
+
+/// A fork that is replaced by way of its journal, so that whenever a crash comes, the old fork or the new one is there once the pair is
+/// recovered. What has to be refused for want of memory, or since no journal holds so long a fork, is counted as a failure of the
+/// device, and nothing has changed then.
+#[derive(Drop)]
+pub struct Journal<P: PairDisk> {
+    alloc: Global,
+    pair: P,
+    refusals: u64,
+    ghost recoverable: { P.is_honest pair → IsRecoverable (P.contents pair) (P.history pair) },
+}
+
+impl<P: PairDisk> Journal<P> {
+    /// The store of a pair as a start finds it, whatever a crash left. It has to be recovered before it is read.
+    pub fn new(alloc: Global, pair: P) -> Journal<P>
+        requires { P.is_honest pair → P.history pair ≡ Found (P.contents pair) ∷ [] }
+        ensures { result.pair ≡ pair }
+    {
+        Journal {
+            alloc,
+            pair,
+            refusals: 0,
+        }
+    }
+
+    /// The pair inside.
+    pub fn pair(&self) -> &P
+        ensures { result.now ≡ self.now.pair }
+    {
+        &self.pair
+    }
+
+    /// Counts what the store itself refuses.
+    fn refuse(&mut self)
+        ensures pair { self.new.pair ≡ self.old.pair }
+        ensures rose { Rose self.old.refusals self.new.refusals }
+    {
+        self.refusals = self.refusals.saturating_add(1);
+    }
+}
+
+impl<P: PairDisk> ForkStore for Journal<P> {
+    ghost fork = { λ store. settled_fork (P.contents store.pair) };
+
+    ghost is_ready = { λ store. IsReady (P.contents store.pair) (P.history store.pair) };
+
+    ghost is_stable = { λ store. IsStable (P.contents store.pair) (P.history store.pair) };
+
+    ghost is_honest = { λ store. P.is_honest store.pair };
+
+    ghost failures = { λ store. P.failures store.pair + store.refusals };
+
+    ghost may_leave = { IsEither };
+
+    /// Makes the fork ready. Where the host has no memory for the journal's fork, that is counted as a failure of the device.
+    fn recover(&mut self) -> Result<(), DiskFault>
+        ensures same { P.is_honest self.old.pair → settled_fork (P.contents self.new.pair) ≡ settled_fork (P.contents self.old.pair) }
+        ensures ready { P.is_honest self.old.pair → OnOk result (IsReady (P.contents self.new.pair) (P.history self.new.pair)) }
+        ensures still { P.is_honest self.old.pair → IsReady (P.contents self.old.pair) (P.history self.old.pair) → IsReady (P.contents self.new.pair) (P.history self.new.pair) }
+        ensures stable { P.is_honest self.old.pair → IsStable (P.contents self.old.pair) (P.history self.old.pair) → IsStable (P.contents self.new.pair) (P.history self.new.pair) }
+        ensures honest { P.is_honest self.old.pair ↔ P.is_honest self.new.pair }
+        ensures cause { Counts (P.failures self.old.pair + self.old.refusals) (P.failures self.new.pair + self.new.refusals) result }
+        // A crash at any moment of the call leaves a choice that was there before it.
+        ensures any_moment { P.is_honest self.old.pair → AlwaysLeaves (IsSameChoice (P.history self.old.pair)) (P.history self.old.pair) (P.history self.new.pair) }
+        ensures recovered { P.is_honest self.old.pair → OnOk result (P.contents self.new.pair ≡ recovered (P.contents self.old.pair)) }
+    {
+        match recovery::recover(self.alloc, &mut self.pair) {
+            Ok(()) => Ok(()),
+            Err(RecoverFault::Device) => Err(DiskFault),
+            Err(RecoverFault::Host) => {
+                self.refuse();
+                Err(DiskFault)
+            }
+        }
+    }
+
+    fn len(&mut self) -> Result<u64, DiskFault>
+        requires { P.is_honest self.old.pair → IsReady (P.contents self.old.pair) (P.history self.old.pair) }
+        ensures value { P.is_honest self.old.pair → IfOk result (λ n. n ≡ length (settled_fork (P.contents self.old.pair))) }
+        ensures same { P.is_honest self.old.pair → settled_fork (P.contents self.new.pair) ≡ settled_fork (P.contents self.old.pair) }
+        ensures ready { P.is_honest self.old.pair → IsReady (P.contents self.new.pair) (P.history self.new.pair) }
+        ensures stable { P.is_honest self.old.pair → IsStable (P.contents self.old.pair) (P.history self.old.pair) → IsStable (P.contents self.new.pair) (P.history self.new.pair) }
+        ensures honest { P.is_honest self.old.pair ↔ P.is_honest self.new.pair }
+        ensures cause { Counts (P.failures self.old.pair + self.old.refusals) (P.failures self.new.pair + self.new.refusals) result }
+        ensures contents { P.is_honest self.old.pair → P.contents self.new.pair ≡ P.contents self.old.pair }
+        ensures calm { P.is_honest self.old.pair → P.history self.new.pair ≡ P.history self.old.pair }
+    {
+        self.pair.len(Side::Fork)
+    }
+
+    fn read_at(&mut self, at: u64, buffer: &mut [u8]) -> Result<(), DiskFault>
+        requires ready { P.is_honest self.old.pair → IsReady (P.contents self.old.pair) (P.history self.old.pair) }
+        requires there { P.is_honest self.old.pair → at + length buffer.old ≤ length (settled_fork (P.contents self.old.pair)) }
+        ensures read { P.is_honest self.old.pair → OnOk result (buffer.new ≡ bytes_at (length buffer.old) at (settled_fork (P.contents self.old.pair))) }
+        ensures same { P.is_honest self.old.pair → settled_fork (P.contents self.new.pair) ≡ settled_fork (P.contents self.old.pair) }
+        ensures ready { P.is_honest self.old.pair → IsReady (P.contents self.new.pair) (P.history self.new.pair) }
+        ensures stable { P.is_honest self.old.pair → IsStable (P.contents self.old.pair) (P.history self.old.pair) → IsStable (P.contents self.new.pair) (P.history self.new.pair) }
+        ensures honest { P.is_honest self.old.pair ↔ P.is_honest self.new.pair }
+        ensures cause { Counts (P.failures self.old.pair + self.old.refusals) (P.failures self.new.pair + self.new.refusals) result }
+        ensures contents { P.is_honest self.old.pair → P.contents self.new.pair ≡ P.contents self.old.pair }
+        ensures calm { P.is_honest self.old.pair → P.history self.new.pair ≡ P.history self.old.pair }
+    {
+        self.pair.read_at(Side::Fork, at, buffer)
+    }
+
+    /// Puts another fork in the place of the one that is there. Where it succeeds, a crash leaves the new one.
+    fn replace(&mut self, new: &[u8]) -> Result<(), ReplaceFault>
+        requires { P.is_honest self.old.pair → IsReady (P.contents self.old.pair) (P.history self.old.pair) }
+        ensures replaced { P.is_honest self.old.pair → OnOk result (settled_fork (P.contents self.new.pair) ≡ new.now) }
+        ensures before { P.is_honest self.old.pair → IsErrOf result ReplaceFault.BeforeFirstWrite → settled_fork (P.contents self.new.pair) ≡ settled_fork (P.contents self.old.pair) }
+        ensures left { P.is_honest self.old.pair → IsErrOf result ReplaceFault.Later → IsEither new.now (settled_fork (P.contents self.old.pair)) (settled_fork (P.contents self.new.pair)) }
+        ensures ready { P.is_honest self.old.pair → OnOk result (IsReady (P.contents self.new.pair) (P.history self.new.pair)) }
+        ensures still { P.is_honest self.old.pair → IsErrOf result ReplaceFault.BeforeFirstWrite → IsReady (P.contents self.new.pair) (P.history self.new.pair) }
+        ensures stable { P.is_honest self.old.pair → OnOk result (IsStable (P.contents self.new.pair) (P.history self.new.pair)) }
+        ensures honest { P.is_honest self.old.pair ↔ P.is_honest self.new.pair }
+        ensures cause { Counts (P.failures self.old.pair + self.old.refusals) (P.failures self.new.pair + self.new.refusals) result }
+        // A crash at any moment of the call leaves the fork from before it or the new one, and so does a fault.
+        ensures any_moment { P.is_honest self.old.pair
+            → AlwaysLeaves (IsBeforeOrAfter (settled_fork (P.contents self.old.pair)) new.now) (P.history self.old.pair) (P.history self.new.pair) }
+        ensures journal { P.is_honest self.old.pair → OnOk result ((P.contents self.new.pair).journal ≡ 0 ∷ text_of new.now) }
+        ensures same { P.is_honest self.old.pair → IsErrOf result ReplaceFault.BeforeFirstWrite → P.contents self.new.pair ≡ P.contents self.old.pair }
+        ensures calm { P.is_honest self.old.pair → IsErrOf result ReplaceFault.BeforeFirstWrite → P.history self.new.pair ≡ P.history self.old.pair }
+    {
+        if new.len() > u32::MAX as usize {
+            self.refuse();
+            return Err(ReplaceFault::BeforeFirstWrite);
+        }
+        update::replace(&mut self.pair, new)
+    }
+}
