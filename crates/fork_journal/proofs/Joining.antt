@@ -39,4 +39,4 @@ pub text_put : (old bytes fork : Bytes) (n : ℕ) (told written cut : Bytes) →
 text_put old bytes fork n told written cut some four tells is writes cuts =
     let front : take 5 told ≡ take 1 old ++ bytes = ap (λ (l : Bytes). take 5 l) tells ∙ take_at (take 1 old ++ bytes) _ 5 (length_of old bytes some four) in
     cut_behind told fork 5 n written cut (long_enough old bytes told some four tells) is writes cuts
-      ∙ ap (λ (l : Bytes). l ++ fork) front ∙ append_assoc (take 1 old) bytes fork
+    ∙ ap (λ (l : Bytes). l ++ fork) front ∙ append_assoc (take 1 old) bytes fork

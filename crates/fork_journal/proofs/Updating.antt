@@ -77,7 +77,7 @@ module _ (before fork : Bytes) (start mid new : History) (shut : Leaves (IsShut 
 
     pub opens : AlwaysLeaves (LeftWith Journal OfText start) start mid → AlwaysLeaves (IsBeforeOrAfter before fork) start new
     opens first = along_then _ start mid new (texts first) (along_weaker _ _ mid new (λ c left.
-      let now = staged c left in settled_one c before fork (ap fork_in now.0 ∙ text_fork fork short) now.1) second)
+        let now = staged c left in settled_one c before fork (ap fork_in now.0 ∙ text_fork fork short) now.1) second)
 
     pub opens_recoverable : (contents : Contents) → contents.fork ≡ before → IsRecoverable contents new
     opens_recoverable contents here c left not = (staged c (leaves_now _ mid new second c left)).1 ∙ sym here
@@ -137,7 +137,7 @@ syncs side bytes start mid new is same =
 pub recovers : (contents : Contents) (fork : Bytes) (side : Side) (bytes : Bytes) (start mid same new : History) → MayLeave start contents → settled_fork contents ≡ fork → mid ≡ Synced side bytes ∷ start → same ≡ mid → AlwaysLeaves (λ c. settled_fork c ≡ fork) same new → AlwaysLeaves (IsSameChoice start) start new
 recovers contents fork side bytes start mid same new outcome settles is calm second =
     along_then _ start same new (syncs side bytes start mid same is calm)
-      (along_weaker _ _ same new (λ c gives. (contents, outcome, gives ∙ sym settles)) second)
+    (along_weaker _ _ same new (λ c gives. (contents, outcome, gives ∙ sym settles)) second)
 
 pub settled_read : (was now : Contents) (fork : Bytes) → now ≡ was → is_usable now.journal ≡ true → fork ≡ fork_in (drop 1 now.journal) → settled_fork was ≡ fork
 settled_read was now fork same usable is = ap settled_fork (sym same) ∙ settled_usable now usable ∙ sym is

@@ -2,3 +2,5 @@ pub mod Crash
 pub mod Form
 pub mod Recovery
 pub mod Faults
+pub mod Record
+pub mod Outcome

@@ -3,6 +3,7 @@
 
 pub mod faults;
 mod journal;
+mod mem_pair;
 pub mod pair;
 mod reading;
 pub mod recovery;
@@ -11,4 +12,5 @@ pub mod update;
 
 pub use faults::RecoverFault;
 pub use journal::Journal;
+pub use mem_pair::{Call, MemPair};
 pub use pair::{PairDisk, Side};

@@ -37,7 +37,12 @@ fn told_length(head: &[u8; 5]) -> u64
 }
 
 /// So many bytes of the journal.
-fn read_journal<P: PairDisk>(alloc: Global, pair: &mut P, at: u64, len: u64) -> Result<Vec<u8>, RecoverFault>
+fn read_journal<P: PairDisk>(
+    alloc: Global,
+    pair: &mut P,
+    at: u64,
+    len: u64,
+) -> Result<Vec<u8>, RecoverFault>
     requires { P.is_honest pair.old → at + len ≤ length (P.contents pair.old).journal }
     ensures value { P.is_honest pair.old → IfOk result (λ bytes. bytes.items ≡ bytes_at len at (P.contents pair.old).journal) }
     ensures same { P.is_honest pair.old → P.contents pair.new ≡ P.contents pair.old }
@@ -51,7 +56,10 @@ fn read_journal<P: PairDisk>(alloc: Global, pair: &mut P, at: u64, len: u64) -> 
 }
 
 /// The fork of a usable journal.
-pub(crate) fn usable_fork<P: PairDisk>(alloc: Global, pair: &mut P) -> Result<Option<Vec<u8>>, RecoverFault>
+pub(crate) fn usable_fork<P: PairDisk>(
+    alloc: Global,
+    pair: &mut P,
+) -> Result<Option<Vec<u8>>, RecoverFault>
     ensures value { P.is_honest pair.old → IfOk result (λ found. MatchOption found (is_usable (P.contents pair.old).journal ≡ false)
         (λ fork. (is_usable (P.contents pair.old).journal ≡ true) × (fork.items ≡ fork_in (drop 1 (P.contents pair.old).journal)))) }
     ensures same { P.is_honest pair.old → P.contents pair.new ≡ P.contents pair.old }

@@ -21,9 +21,8 @@ returns-clause-value g c honest =
     let later = c.read_at.ensures.honest.0 then in
     let journal = (g.P.PairDisk.contents c.args.pair.now).journal in
     let reads = c.in_ok-read_at.ensures.read then ∙ ap (λ (d : Contents). bytes_at 5 0 d.journal) (c.len.ensures.same honest) in
-    let same = c.read_at.ensures.same then ∙ c.len.ensures.same honest in
-    (
+    let same = c.read_at.ensures.same then ∙ c.len.ensures.same honest in (
       usable_whole journal c.read_at.new.buffer c.in_ok-len.len c.told_length-told.result (c.in_ok-len.ensures.value honest) c.if-len-lt5.false reads c.told_length-told.ensures.value c.if-len-told.false c.if-head-ne1.false,
       c.in_ok-fork.ensures.value later ∙ ap (λ (d : Contents). bytes_at c.told_length-told.result 5 d.journal) same
-      ∙ fork_read journal c.read_at.new.buffer c.in_ok-len.len c.told_length-told.result (c.in_ok-len.ensures.value honest) c.if-len-lt5.false reads c.told_length-told.ensures.value,
+          ∙ fork_read journal c.read_at.new.buffer c.in_ok-len.len c.told_length-told.result (c.in_ok-len.ensures.value honest) c.if-len-lt5.false reads c.told_length-told.ensures.value,
     )
