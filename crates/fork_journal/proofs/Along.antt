@@ -1,9 +1,9 @@
 -- How what a crash may leave goes on from call to call.
-use Rattle.std.proofs.Common.{◌≡◌, ◌⊎◌, inl, inr, ℕ, List, [], ◌∷◌, refl, sym, ◌∙◌, subst}
+use Rattle.std.proofs.Common.{◌≡◌, inl, inr, ℕ, List, ◌∷◌, refl, sym, ◌∙◌, subst}
 use Rattle.fork_journal.specs.declared.pair.Side.{Side}
 use Rattle.fork_journal.specs.declared.pair.Side.TheVariants.{Fork, Journal}
 use Rattle.fork_disk.specs.Disk.{Torn, CutShort}
-use Rattle.fork_journal.specs.Crash.{Contents, Event, Found, Wrote, Cut, Synced, History, side_of, OnSide, MayLeave, Follows, AlwaysLeaves, at_first, and_then, LeftWith, Settles}
+use Rattle.fork_journal.specs.Crash.{Contents, Event, Wrote, Cut, Synced, History, side_of, OnSide, MayLeave, Follows, AlwaysLeaves, at_first, and_then, LeftWith, Settles}
 
 abbrev pub Bytes : Type 0
 Bytes = List ℕ

@@ -1,5 +1,5 @@
 -- One call more in the record of a pair in memory.
-use Rattle.std.proofs.Common.{◌≡◌, ◌⊎◌, inl, inr, ℕ, ◌+◌, ◌≤◌, nat_le, Bool, true, false, if◌then◌else◌, List, [], ◌∷◌, ◌++◌, length, take, drop, refl, sym, ◌∙◌, ap, subst, arith, Vec, Global, Result, Ok, Err}
+use Rattle.std.proofs.Common.{◌≡◌, inl, inr, ℕ, ◌+◌, ◌≤◌, nat_le, Bool, true, if◌then◌else◌, List, [], ◌∷◌, ◌++◌, length, take, drop, refl, sym, ◌∙◌, ap, arith, Vec, Global, Result, Ok, Err}
 use Rattle.std.specs.declared.alloc.AllocError.{AllocError}
 use Rattle.std.specs.Prelude.{OnOk, OnErr}
 use Rattle.std.proofs.lemmas.Bool.Decides.{nat_tests}
@@ -7,8 +7,8 @@ use Rattle.fork_journal.specs.declared.pair.Side.{Side}
 use Rattle.fork_journal.specs.declared.pair.Side.TheVariants.{Fork, Journal}
 use Rattle.fork_journal.specs.declared.mem_pair.Call.{Call}
 use Rattle.fork_journal.specs.declared.mem_pair.Call.TheVariants as calls
-use Rattle.fork_journal.specs.Crash.{Contents, Event, Wrote, Cut, Synced, History, Follows, side_of}
-use Rattle.fork_journal.specs.Record.{with_side, overwritten, Kept, after_call, after_calls, after_calls-push}
+use Rattle.fork_journal.specs.Crash.{Contents, Wrote, Cut, Synced, History, Follows, side_of}
+use Rattle.fork_journal.specs.Record.{overwritten, Kept, after_call, after_calls, after_calls-push}
 
 abbrev Bytes : Type 0
 Bytes = List ℕ

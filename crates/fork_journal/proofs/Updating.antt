@@ -1,12 +1,11 @@
 -- The steps of an update, one behind another.
-use Rattle.std.proofs.Common.{◌≡◌, ◌⊎◌, inl, inr, ⊎_elim, ℕ, ◌+◌, ◌-◌, ◌<◌, ◌≤◌, ◌^◌, ◌==◌, Bool, true, false, List, [], ◌∷◌, ◌++◌, length, take, drop, get_or, refl, sym, ◌∙◌, ap, subst, arith, length-append, length-take}
+use Rattle.std.proofs.Common.{◌≡◌, inl, inr, ⊎_elim, ℕ, ◌<◌, ◌≤◌, ◌^◌, true, false, List, [], ◌∷◌, ◌++◌, length, take, drop, refl, sym, ◌∙◌, ap, subst, arith, length-take}
 use Rattle.std.specs.Prelude.{⊤}
-use Rattle.std.proofs.lemmas.List.{take_rest}
 use Rattle.fork_journal.specs.declared.pair.Side.{Side}
 use Rattle.fork_journal.specs.declared.pair.Side.TheVariants.{Fork, Journal}
 use Rattle.fork_journal.specs.Crash.{Contents, History, MayLeave, Synced, Leaves, AlwaysLeaves, LeftWith, Settles, at_first}
 use Rattle.fork_journal.specs.Form.{text_of, is_whole, fork_in, is_usable, must_shut}
-use Rattle.fork_journal.specs.Recovery.{settled_fork, IsReady, IsRecoverable, IsBeforeOrAfter, IsSameChoice, IsStable, IsShut}
+use Rattle.fork_journal.specs.Recovery.{settled_fork, IsReady, IsRecoverable, IsBeforeOrAfter, IsSameChoice, IsShut}
 use Rattle.fork_journal.proofs.Along.{along_weaker, along_then, along_same, along_sync, leaves_now}
 use Rattle.fork_journal.proofs.Settling.{settled_at, settled_usable, settled_both, settled_one, settled_unusable, unusable_shut, unusable_short, short_where_open, shut_behind, text_whole, text_fork, never}
 

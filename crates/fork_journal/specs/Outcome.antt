@@ -1,14 +1,14 @@
 -- A crash may leave a pair in memory as it reads.
-use Rattle.std.proofs.Common.{◌≡◌, ◌≤◌, ℕ, ◌+◌, min, max, nat_le, Bool, true, false, if◌then◌else◌, List, [], ◌∷◌, ◌++◌, length, take, drop, refl, sym, ◌∙◌, ap, subst, arith, length-append, length-take, length-drop}
+use Rattle.std.proofs.Common.{◌≡◌, ◌≤◌, ℕ, ◌+◌, nat_le, Bool, true, false, if◌then◌else◌, List, [], ◌∷◌, ◌++◌, length, take, drop, refl, sym, ◌∙◌, ap, subst, arith, length-append, length-take, length-drop}
 use Rattle.std.proofs.lemmas.List.{take_at, drop_at, take-take, append_assoc}
 use Rattle.std.proofs.lemmas.Bool.Decides.{nat_tests}
 use Rattle.fork_journal.specs.declared.pair.Side.{Side}
 use Rattle.fork_journal.specs.declared.pair.Side.TheVariants.{Fork, Journal}
 use Rattle.fork_journal.specs.declared.mem_pair.Call.{Call}
 use Rattle.fork_journal.specs.declared.mem_pair.Call.TheVariants as calls
-use Rattle.fork_disk.specs.Disk.{put_at, Torn, CutShort}
-use Rattle.fork_journal.specs.Crash.{Contents, History, MayLeave, OnSide, side_of}
-use Rattle.fork_journal.specs.Record.{with_side, overwritten, Kept, after_call, after_calls, found}
+use Rattle.fork_disk.specs.Disk.{Torn, CutShort}
+use Rattle.fork_journal.specs.Crash.{Contents, MayLeave, OnSide, side_of}
+use Rattle.fork_journal.specs.Record.{with_side, Kept, after_call, after_calls, found}
 
 on_side : (side : Side) (R : List ℕ → List ℕ → Type 0) (bytes : List ℕ) (c : Contents) → R (side_of side c) bytes → OnSide side R c (with_side side bytes c)
 on_side Fork R bytes c holds = (holds, refl)

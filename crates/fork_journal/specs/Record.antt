@@ -5,7 +5,7 @@ use Rattle.fork_journal.specs.declared.pair.Side.TheVariants.{Fork, Journal}
 use Rattle.fork_journal.specs.declared.mem_pair.Call.{Call}
 use Rattle.fork_journal.specs.declared.mem_pair.Call.TheVariants as calls
 use Rattle.fork_disk.specs.Disk.{put_at}
-use Rattle.fork_journal.specs.Crash.{Contents, Event, Found, Wrote, Cut, Synced, History, side_of}
+use Rattle.fork_journal.specs.Crash.{Contents, Found, Wrote, Cut, Synced, History, side_of}
 
 -- a pair with other bytes on one side
 abbrev pub with_side : Side → List ℕ → Contents → Contents

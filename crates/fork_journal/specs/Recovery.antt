@@ -1,5 +1,5 @@
 -- What a recovery makes of a fork and its journal, and what may be said of every outcome of a crash.
-use Rattle.std.specs.Prelude.{◌≡◌, ℕ, ◌≤◌, ◌⊎◌, true, false, if◌then◌else◌, List, ◌∷◌, length, drop}
+use Rattle.std.specs.Prelude.{◌≡◌, ℕ, ◌≤◌, ◌⊎◌, false, if◌then◌else◌, List, ◌∷◌, length, drop}
 use Rattle.fork_journal.specs.Crash.{Contents, History, MayLeave, Leaves}
 use Rattle.fork_journal.specs.Form.{fork_in, is_open, is_usable}
 

@@ -1,7 +1,6 @@
-use Rattle.std.proofs.Common.{◌≡◌, ◌+◌, ◌≤◌, ◌<◌, length, sym, ◌∙◌, ap, subst, arith}
+use Rattle.std.proofs.Common.{◌∙◌, ap}
 use Rattle.fork_disk.specs.Disk.{bytes_at}
 use Rattle.fork_journal.specs.Crash.{Contents}
-use Rattle.fork_journal.specs.Form.{is_usable, fork_in}
 use Rattle.fork_journal.proofs.Usable.{unusable_under, unusable_cut, usable_whole, fork_read}
 use Rattle.fork_journal.proofs.reading.usable_fork.Goals as goal
 

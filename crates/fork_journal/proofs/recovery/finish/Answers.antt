@@ -1,4 +1,4 @@
-use Rattle.std.proofs.Common.{sym, ◌∙◌}
+use Rattle.std.proofs.Common.{◌∙◌}
 use Rattle.fork_journal.proofs.Updating.{forks, forks_recoverable, shuts, shuts_recoverable}
 use Rattle.fork_journal.proofs.recovery.finish.Goals as goal
 

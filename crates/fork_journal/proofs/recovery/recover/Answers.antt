@@ -1,4 +1,4 @@
-use Rattle.std.proofs.Common.{sym, ◌∙◌}
+use Rattle.std.proofs.Common.{◌∙◌}
 use Rattle.fork_journal.specs.declared.pair.Side.TheVariants.{Journal}
 use Rattle.fork_journal.proofs.Updating.{chooses, syncs, recovers, settled_read}
 use Rattle.fork_journal.proofs.recovery.recover.Goals as goal

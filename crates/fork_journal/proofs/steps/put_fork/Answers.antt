@@ -1,6 +1,5 @@
-use Rattle.std.proofs.Common.{rules, ◌≡◌, ℕ, ◌+◌, ◌≤◌, List, ◌∷◌, ◌++◌, length, take, drop, refl, arith}
+use Rattle.std.proofs.Common.{◌≡◌, ℕ, List, arith}
 use Rattle.std.specs.Prelude.{⊤}
-use Rattle.std.proofs.lemmas.Grind.{common_steps}
 use Rattle.fork_journal.specs.declared.pair.Side.TheVariants.{Fork}
 use Rattle.fork_journal.proofs.Joining.{cut_behind}
 use Rattle.fork_journal.proofs.Along.{begins, writes, cuts, along_same, along_sync, settles}

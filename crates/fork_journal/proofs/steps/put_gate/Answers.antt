@@ -1,7 +1,6 @@
-use Rattle.std.proofs.Common.{rules, ◌≡◌, ℕ, List, ◌∷◌, drop, refl, arith}
+use Rattle.std.proofs.Common.{◌≡◌, ℕ, List, drop, refl}
 use Rattle.fork_journal.specs.declared.pair.Side.TheVariants.{Journal}
 use Rattle.fork_journal.proofs.Along.{begins, writes, along_same, along_sync, settles}
-use Rattle.fork_journal.specs.Crash.{LeftWith, Contents}
 use Rattle.fork_journal.proofs.Joining.{gate_joins}
 use Rattle.fork_journal.proofs.steps.put_gate.Goals as goal
 

@@ -1,4 +1,4 @@
-use Rattle.std.proofs.Common.{rules, ◌≡◌, ℕ, ◌+◌, ◌≤◌, List, ◌∷◌, ◌++◌, length, take, drop, refl, ◌∙◌, ap, arith}
+use Rattle.std.proofs.Common.{◌≡◌, ℕ, List, length, take, refl, ◌∙◌, ap, arith}
 use Rattle.byteorder.specs.Endian.{big_bytes}
 use Rattle.fork_journal.specs.Crash.{Contents}
 use Rattle.fork_journal.specs.declared.pair.Side.TheVariants.{Journal}

@@ -1,4 +1,4 @@
-use Rattle.std.proofs.Common.{◌≡◌, ◌≤◌, length, take, sym, ◌∙◌, arith, length-take}
+use Rattle.std.proofs.Common.{◌∙◌}
 use Rattle.fork_journal.proofs.Updating.{texts, texts_recoverable, opens, opens_recoverable, front_of}
 use Rattle.fork_journal.proofs.update.stage.Goals as goal
 
