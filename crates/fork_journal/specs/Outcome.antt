@@ -30,11 +30,11 @@ whole_write at bytes old within =
 no_write : (at n : ℕ) (old : List ℕ) → Torn at n old old
 no_write at n old = record { before = refl; after = refl; no_shorter = omega arith; no_longer = omega arith }
 
-write_outcome : (at : ℕ) (bytes old : List ℕ) (fits : Bool) → nat_le at (length old) ≡ fits → Torn at (length bytes) old (if fits then take at old ++ bytes ++ drop (at + length bytes) old else old)
+pub write_outcome : (at : ℕ) (bytes old : List ℕ) (fits : Bool) → nat_le at (length old) ≡ fits → Torn at (length bytes) old (if fits then take at old ++ bytes ++ drop (at + length bytes) old else old)
 write_outcome at bytes old true is = let within : at ≤ length old = grind (arith, nat_tests) in whole_write at bytes old within
 write_outcome at bytes old false is = no_write at (length bytes) old
 
-cut_outcome : (n : ℕ) (old : List ℕ) → CutShort n old (take n old)
+pub cut_outcome : (n : ℕ) (old : List ℕ) → CutShort n old (take n old)
 cut_outcome n old = record {
   before = take-take n n old (omega arith);
   no_shorter = omega (arith, length-take n old);

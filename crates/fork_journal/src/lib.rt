@@ -1,8 +1,10 @@
 //! A journal beside a resource fork: an update of the fork is all there or not at all, also when the machine stops in it.
 #![tactic(auto)]
 
+mod crash_pair;
 pub mod faults;
 mod journal;
+mod leaving;
 mod mem_pair;
 pub mod pair;
 mod reading;
@@ -10,7 +12,9 @@ pub mod recovery;
 mod steps;
 pub mod update;
 
+pub use crash_pair::CrashPair;
 pub use faults::RecoverFault;
 pub use journal::Journal;
+pub use leaving::{Choice, Fate};
 pub use mem_pair::{Call, MemPair};
 pub use pair::{PairDisk, Side};

@@ -2,6 +2,7 @@
 
 ghost use Rattle.std.specs.Prelude.{◌≡◌, ◌≤◌, ⊤, [], ◌∷◌, ◌++◌, ◌+◌, length, take, IfOk, OnOk, OnErr};
 ghost use Rattle.fork_disk.specs.Disk.{put_at, Rose};
+ghost use Rattle.fork_journal.specs.Crash.{Found};
 ghost use Rattle.fork_journal.specs.Record.{after_calls, found};
 ghost use Rattle.fork_journal.specs.Outcome.{read_outcome};
 
@@ -40,9 +41,8 @@ impl MemPair {
     pub fn new(alloc: Global, fork: Vec<u8>, journal: Vec<u8>) -> Result<MemPair, AllocError>
         ensures fork { IfOk result (λ pair. pair.fork.items ≡ fork.items) }
         ensures journal { IfOk result (λ pair. pair.journal.items ≡ journal.items) }
-        ensures first_fork { IfOk result (λ pair. pair.first_fork.items ≡ fork.items) }
-        ensures first_journal { IfOk result (λ pair. pair.first_journal.items ≡ journal.items) }
-        ensures calls { IfOk result (λ pair. pair.calls.items ≡ []) }
+        ensures start { IfOk result (λ pair. (after_calls pair.calls.items (found pair.first_fork.items pair.first_journal.items)).history
+            ≡ Found (record { fork = pair.fork.items; journal = pair.journal.items }) ∷ []) }
     {
         Ok(MemPair {
             alloc,
@@ -76,6 +76,20 @@ impl MemPair {
         &self.calls
     }
 
+    /// The fork's bytes at the start.
+    pub(crate) fn first_fork(&self) -> &[u8]
+        ensures { result.now ≡ self.now.first_fork.items }
+    {
+        &self.first_fork
+    }
+
+    /// The journal's bytes at the start.
+    pub(crate) fn first_journal(&self) -> &[u8]
+        ensures { result.now ≡ self.now.first_journal.items }
+    {
+        &self.first_journal
+    }
+
     /// Counts a failure.
     fn fail(&mut self) -> DiskFault
         ensures rose { Rose self.old.failures self.new.failures }
@@ -100,7 +114,12 @@ fn remember(calls: &mut Vec<Call>, call: Call) -> Result<(), AllocError>
 }
 
 /// What stands there once these bytes are put at an offset, over what was there and past the end.
-fn overwritten(alloc: Global, old: &[u8], at: usize, bytes: &[u8]) -> Result<Vec<u8>, AllocError>
+pub(crate) fn overwritten(
+    alloc: Global,
+    old: &[u8],
+    at: usize,
+    bytes: &[u8],
+) -> Result<Vec<u8>, AllocError>
     requires { at ≤ length old.now }
     ensures { IfOk result (λ next. next.items ≡ put_at at bytes.now old.now) }
 {

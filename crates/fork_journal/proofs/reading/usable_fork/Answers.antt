@@ -1,4 +1,4 @@
-use Rattle.std.proofs.Common.{◌∙◌, ap}
+use Rattle.std.proofs.Common.{◌∙◌, ap, arith}
 use Rattle.fork_disk.specs.Disk.{bytes_at}
 use Rattle.fork_journal.specs.Crash.{Contents}
 use Rattle.fork_journal.proofs.Usable.{unusable_under, unusable_cut, usable_whole, fork_read}
@@ -12,7 +12,7 @@ returns-then-len-told-clause-value g c honest =
     let then = c.len.ensures.honest.0 honest in
     let journal = (g.P.PairDisk.contents c.args.pair.now).journal in
     let reads = c.in_ok-read_at.ensures.read then ∙ ap (λ (d : Contents). bytes_at 5 0 d.journal) (c.len.ensures.same honest) in
-    unusable_cut journal c.read_at.new.buffer c.in_ok-len.len c.told_length-told.result (c.in_ok-len.ensures.value honest) c.if-len-lt5.false reads c.told_length-told.ensures.value c.if-len-told.true
+    unusable_cut journal c.read_at.new.buffer c.in_ok-len.len c.told_length-told.result (c.in_ok-len.ensures.value honest) c.if-len-lt5.false reads c.told_length-told.ensures.value (omega (arith, c.if-len-told.true))
 
 pub returns-clause-value : goal.returns-clause-value
 returns-clause-value g c honest =
@@ -21,7 +21,7 @@ returns-clause-value g c honest =
     let journal = (g.P.PairDisk.contents c.args.pair.now).journal in
     let reads = c.in_ok-read_at.ensures.read then ∙ ap (λ (d : Contents). bytes_at 5 0 d.journal) (c.len.ensures.same honest) in
     let same = c.read_at.ensures.same then ∙ c.len.ensures.same honest in (
-      usable_whole journal c.read_at.new.buffer c.in_ok-len.len c.told_length-told.result (c.in_ok-len.ensures.value honest) c.if-len-lt5.false reads c.told_length-told.ensures.value c.if-len-told.false c.if-head-ne1.false,
+      usable_whole journal c.read_at.new.buffer c.in_ok-len.len c.told_length-told.result (c.in_ok-len.ensures.value honest) c.if-len-lt5.false reads c.told_length-told.ensures.value (omega (arith, c.if-len-told.false)) c.if-head-ne1.false,
       c.in_ok-fork.ensures.value later ∙ ap (λ (d : Contents). bytes_at c.told_length-told.result 5 d.journal) same
           ∙ fork_read journal c.read_at.new.buffer c.in_ok-len.len c.told_length-told.result (c.in_ok-len.ensures.value honest) c.if-len-lt5.false reads c.told_length-told.ensures.value,
     )

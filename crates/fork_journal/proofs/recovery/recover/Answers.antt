@@ -1,5 +1,4 @@
 use Rattle.std.proofs.Common.{◌∙◌}
-use Rattle.fork_journal.specs.declared.pair.Side.TheVariants.{Journal}
 use Rattle.fork_journal.proofs.Updating.{chooses, syncs, recovers, settled_read}
 use Rattle.fork_journal.proofs.recovery.recover.Goals as goal
 
@@ -8,11 +7,11 @@ returns-in_err-sync-clause-any_moment g c honest = chooses _ _ (c.in_err-sync.en
 
 pub returns-in_err-fork-clause-any_moment : goal.returns-in_err-fork-clause-any_moment
 returns-in_err-fork-clause-any_moment g c honest =
-    syncs Journal _ _ _ _ (c.in_ok-sync.ensures.durable honest) (c.usable_fork.ensures.calm (c.sync.ensures.honest.0 honest))
+    syncs _ _ _ _ _ (c.in_ok-sync.ensures.durable honest) (c.usable_fork.ensures.calm (c.sync.ensures.honest.0 honest))
 
 pub returns-in_default-clause-any_moment : goal.returns-in_default-clause-any_moment
 returns-in_default-clause-any_moment g c honest =
-    syncs Journal _ _ _ _ (c.in_ok-sync.ensures.durable honest) (c.usable_fork.ensures.calm (c.sync.ensures.honest.0 honest))
+    syncs _ _ _ _ _ (c.in_ok-sync.ensures.durable honest) (c.usable_fork.ensures.calm (c.sync.ensures.honest.0 honest))
 
 pub returns-in_err-finish-clause-any_moment : goal.returns-in_err-finish-clause-any_moment
 returns-in_err-finish-clause-any_moment g c honest =
@@ -20,7 +19,7 @@ returns-in_err-finish-clause-any_moment g c honest =
     let later = c.usable_fork.ensures.honest.0 then in
     let found = rw c.in-Some.is at (c.in_ok-fork.ensures.value then) in
     let gives = settled_read (g.P.PairDisk.contents c.args.pair.now) (g.P.PairDisk.contents c.sync.new.self) c.deref.result.now (c.sync.ensures.same honest) found.0 (c.deref.ensures.value ∙ found.1) in
-    recovers (g.P.PairDisk.contents c.args.pair.now) c.deref.result.now Journal _ _ _ _ _ (g.met.P.PairDisk.reads_is_outcome c.args.pair.now honest) gives (c.in_ok-sync.ensures.durable honest) (c.usable_fork.ensures.calm then) (c.finish.ensures.any_moment later)
+    recovers (g.P.PairDisk.contents c.args.pair.now) c.deref.result.now _ _ _ _ _ _ (g.met.P.PairDisk.reads_is_outcome c.args.pair.now honest) gives (c.in_ok-sync.ensures.durable honest) (c.usable_fork.ensures.calm then) (c.finish.ensures.any_moment later)
 
 pub returns-clause-any_moment : goal.returns-clause-any_moment
 returns-clause-any_moment g c honest =
@@ -28,4 +27,4 @@ returns-clause-any_moment g c honest =
     let later = c.usable_fork.ensures.honest.0 then in
     let found = rw c.in-Some.is at (c.in_ok-fork.ensures.value then) in
     let gives = settled_read (g.P.PairDisk.contents c.args.pair.now) (g.P.PairDisk.contents c.sync.new.self) c.deref.result.now (c.sync.ensures.same honest) found.0 (c.deref.ensures.value ∙ found.1) in
-    recovers (g.P.PairDisk.contents c.args.pair.now) c.deref.result.now Journal _ _ _ _ _ (g.met.P.PairDisk.reads_is_outcome c.args.pair.now honest) gives (c.in_ok-sync.ensures.durable honest) (c.usable_fork.ensures.calm then) (c.finish.ensures.any_moment later)
+    recovers (g.P.PairDisk.contents c.args.pair.now) c.deref.result.now _ _ _ _ _ _ (g.met.P.PairDisk.reads_is_outcome c.args.pair.now honest) gives (c.in_ok-sync.ensures.durable honest) (c.usable_fork.ensures.calm then) (c.finish.ensures.any_moment later)

@@ -29,7 +29,7 @@ returns-clause-any_moment g c honest =
     let written = writes Fork Any _ 0 _ _ _ (λ x y z r t. tt) (begins Fork Any _ (λ x. tt)) (c.write_at.ensures.crash honest) in
     let honest_then = c.write_at.ensures.honest.0 honest in
     let cut = cuts Fork Any _ _ _ _ (λ x y z r t. tt) written (c.cut.ensures.crash honest_then) in
-    along_sync _ Fork _ _ _ _ cut (c.in_ok-sync.ensures.durable (c.cut.ensures.honest.0 honest_then))
+    along_sync _ _ _ _ _ _ cut (c.in_ok-sync.ensures.durable (c.cut.ensures.honest.0 honest_then))
 
 pub returns-clause-stable : goal.returns-clause-stable
 returns-clause-stable g c honest =

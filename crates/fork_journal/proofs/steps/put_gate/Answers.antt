@@ -19,7 +19,7 @@ pub returns-clause-any_moment : goal.returns-clause-any_moment
 returns-clause-any_moment g c honest =
     let R = λ (old new : List ℕ). drop 1 new ≡ drop 1 old in
     let written = writes Journal R _ 0 1 _ _ gate_joins (begins Journal R _ (λ x. refl)) (c.write_at.ensures.crash honest) in
-    along_sync _ Journal _ _ _ _ written (c.in_ok-sync.ensures.durable (c.write_at.ensures.honest.0 honest))
+    along_sync _ _ _ _ _ _ written (c.in_ok-sync.ensures.durable (c.write_at.ensures.honest.0 honest))
 
 pub returns-clause-stable : goal.returns-clause-stable
 returns-clause-stable g c honest =

@@ -43,7 +43,7 @@ returns-clause-any_moment g c honest =
     let written = writes Journal R _ 5 _ _ _ (text_joins 5 _ (omega arith)) told (c.write_at.ensures.crash then) in
     let later = c.write_at.ensures.honest.0 then in
     let cut = cuts Journal R _ _ _ _ (text_cut_joins _ (omega arith)) written (c.cut.ensures.crash later) in
-    along_sync _ Journal _ _ _ _ cut (c.in_ok-sync.ensures.durable (c.cut.ensures.honest.0 later))
+    along_sync _ _ _ _ _ _ cut (c.in_ok-sync.ensures.durable (c.cut.ensures.honest.0 later))
 
 reads_as : goal.returns-clause-put
 reads_as g c honest =

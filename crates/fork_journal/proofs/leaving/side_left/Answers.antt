@@ -1,0 +1,16 @@
+use Rattle.std.proofs.Common.{◌+◌, drop, sym, subst}
+use Rattle.fork_journal.specs.declared.leaving.Replayed.{Replayed}
+use Rattle.fork_journal.specs.Leaving.{AreLeft}
+use Rattle.fork_journal.proofs.Choosing.{own_more, other_more}
+use Rattle.fork_journal.proofs.leaving.side_left.Goals as goal
+use Rattle.fork_journal.proofs.leaving.side_left.Goals.{then-is_call_on+in_ok-follow, else-is_call_on}
+
+pub loop-index-preserved : goal.loop-index-preserved
+loop-index-preserved c = elim c.if-is_call_on.branch [
+  | then-is_call_on+in_ok-follow w ↦ λ end later.
+      let behind = subst (λ (now : Replayed). AreLeft c.args.side (drop (c.loop-index.index + 1) c.args.calls.now) now.read.items now.left.items end) w.now-is later in
+      c.loop-index.invariant end (own_more c.args.side c.args.calls.now c.loop-index.index _ c.index-calls-index.result _ _ _ _ end c.loop-index-test.true c.index-calls-index.is (sym w.if-is_call_on.ensures) w.in_ok-follow.ensures.read w.in_ok-follow.ensures.left behind)
+  | else-is_call_on w ↦ λ end later.
+      let behind = subst (λ (now : Replayed). AreLeft c.args.side (drop (c.loop-index.index + 1) c.args.calls.now) now.read.items now.left.items end) w.now-is later in
+      c.loop-index.invariant end (other_more c.args.side c.args.calls.now c.loop-index.index _ c.index-calls-index.result _ _ end c.loop-index-test.true c.index-calls-index.is (sym w.if-is_call_on.ensures) behind)
+]
