@@ -1,0 +1,199 @@
+//! Crashes at each moment: what a start then finds is the fork before the update or the one after it.
+
+use crate::forks::{front, one_row, started, two_rows};
+use fork_disk::store::ForkStore;
+use fork_journal::{Call, Choice, CrashPair, Fate, Journal, MemPair};
+use std::alloc::{AllocError, Global};
+use std::process::Abort;
+use std::test::Fail;
+
+/// More writes, cuts and syncs than an update or a recovery makes.
+const MANY: u64 = 20;
+
+/// What a crash may leave of a write: lost, kept or filled, at the old length or the new one.
+const OF_WRITE: [Choice; 6] = [
+    Choice {
+        fate: Fate::Lost,
+        has_new_length: false,
+    },
+    Choice {
+        fate: Fate::Lost,
+        has_new_length: true,
+    },
+    Choice {
+        fate: Fate::Kept,
+        has_new_length: false,
+    },
+    Choice {
+        fate: Fate::Kept,
+        has_new_length: true,
+    },
+    Choice {
+        fate: Fate::Filled,
+        has_new_length: false,
+    },
+    Choice {
+        fate: Fate::Filled,
+        has_new_length: true,
+    },
+];
+
+/// And of a cut.
+const OF_CUT: [Choice; 3] = [
+    Choice {
+        fate: Fate::Kept,
+        has_new_length: true,
+    },
+    Choice {
+        fate: Fate::Kept,
+        has_new_length: false,
+    },
+    Choice {
+        fate: Fate::Filled,
+        has_new_length: false,
+    },
+];
+
+/// How many calls there are up to the last sync, with it.
+fn count_synced(calls: &[Call]) -> usize {
+    let mut count = 0;
+    for (index, call) in calls.iter().enumerate() {
+        if matches!(call, Call::Sync(_)) {
+            count = index + 1;
+        }
+    }
+    count
+}
+
+/// How many outcomes a crash may have by what was done behind the last sync.
+fn count_outcomes(calls: &[Call]) -> u64 {
+    let mut count: u64 = 1;
+    for call in calls.iter().skip(count_synced(calls)) {
+        let ways = if matches!(call, Call::Write(..)) {
+            6
+        } else {
+            3
+        };
+        count = count.saturating_mul(ways);
+    }
+    count
+}
+
+/// The n-th of these outcomes.
+fn outcome(alloc: Global, pair: &CrashPair, n: u64) -> Result<MemPair, AllocError> {
+    let calls = pair.pair().calls();
+    let synced = count_synced(calls);
+    let mut rest = n;
+    let mut picked = Vec::new(alloc);
+    for (index, call) in calls.iter().enumerate() {
+        if index < synced {
+            picked.push(Choice::WHOLE)?;
+        } else if matches!(call, Call::Write(..)) {
+            picked.push(OF_WRITE[(rest % 6) as usize])?;
+            rest /= 6;
+        } else {
+            picked.push(OF_CUT[(rest % 3) as usize])?;
+            rest /= 3;
+        }
+    }
+    pair.outcome(alloc, &picked)
+}
+
+/// The fork behind a start that nothing stops.
+fn recovered(rt: &impl Abort, alloc: Global, found: &MemPair) -> Result<Vec<u8>, Fail> {
+    let mut store = started(alloc, found.fork(), found.journal(), MANY)?;
+    assert!(rt; store.recover().is_ok());
+    Ok(store.pair().pair().fork().to_vec(alloc)?)
+}
+
+/// Stops a recovery behind each of its calls, and recovers each outcome of that: always the same fork. How many were seen.
+fn stop_recovery(
+    rt: &impl Abort,
+    alloc: Global,
+    found: &MemPair,
+    want: &[u8],
+) -> Result<u64, Fail> {
+    let mut seen: u64 = 0;
+    for calls in 0..MANY {
+        let mut store = started(alloc, found.fork(), found.journal(), calls)?;
+        let is_done = store.recover().is_ok();
+        for n in 0..count_outcomes(store.pair().pair().calls()) {
+            let left = outcome(alloc, store.pair(), n)?;
+            assert!(rt;
+                recovered(rt, alloc, &left)?.as_slice() == want,
+                "recovery call {calls}, outcome {n}"
+            );
+            seen = seen.saturating_add(1);
+        }
+        if is_done {
+            break;
+        }
+    }
+    Ok(seen)
+}
+
+/// Whether an update was answered as done.
+fn is_replaced(store: &mut Journal<CrashPair>, new: &[u8]) -> bool {
+    match store.recover() {
+        Ok(()) => store.replace(new).is_ok(),
+        Err(_) => false,
+    }
+}
+
+/// Stops an update behind each of its calls, and each recovery of each outcome. How many outcomes were seen.
+fn stop_update(
+    rt: &impl Abort,
+    alloc: Global,
+    old: &[u8],
+    journal: &[u8],
+    new: &[u8],
+) -> Result<u64, Fail> {
+    let mut seen: u64 = 0;
+    for calls in 0..MANY {
+        let mut store = started(alloc, old, journal, calls)?;
+        let is_done = is_replaced(&mut store, new);
+        for n in 0..count_outcomes(store.pair().pair().calls()) {
+            let left = outcome(alloc, store.pair(), n)?;
+            let found = recovered(rt, alloc, &left)?;
+            let fork = found.as_slice();
+            assert!(rt;
+                fork == new || (!is_done && fork == old),
+                "call {calls}, outcome {n}"
+            );
+            seen = seen.saturating_add(stop_recovery(rt, alloc, &left, fork)?);
+        }
+        if is_done {
+            break;
+        }
+    }
+    Ok(seen)
+}
+
+/// A journal with this gate, that tells 312 bytes, and with these behind it.
+fn journal_of(alloc: Global, gate: u8, bytes: &[u8]) -> Result<Vec<u8>, AllocError> {
+    let mut journal = vec![in alloc; gate, 0, 0, 1, 0x38]?;
+    journal.extend_from_slice(bytes)?;
+    Ok(journal)
+}
+
+/// An update where there is no journal yet, one behind a gate that is open over too short a text, one back with the journal of the
+/// first, and one back with a longer journal of any bytes.
+#[test]
+fn leaves_the_fork_before_or_after(rt: HostRuntime) -> Result<(), Fail> {
+    let alloc = rt.alloc();
+    let (first, second) = (two_rows(alloc)?, one_row(alloc)?);
+    let cut_short = journal_of(alloc, 1, front(&second, 311))?;
+    let written = journal_of(alloc, 0, &second)?;
+    let long = journal_of(alloc, 2, &[1; 400])?;
+    let mut seen: u64 = 0;
+    for (old, journal, new) in [
+        (&first, &[] as &[u8], &second),
+        (&first, &cut_short, &second),
+        (&second, &written, &first),
+        (&second, &long, &first),
+    ] {
+        seen = seen.saturating_add(stop_update(&rt, alloc, old, journal, new)?);
+    }
+    assert!(rt; seen >= 5000, "{seen} outcomes");
+    Ok(())
+}

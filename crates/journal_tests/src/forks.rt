@@ -1,0 +1,55 @@
+//! The forks of the tests, and pairs that have them.
+
+use fork_journal::{CrashPair, Journal, MemPair};
+use std::alloc::{AllocError, Global};
+
+/// A header, 240 bytes of zeros, and what follows.
+fn fork_of(alloc: Global, header: &[u8; 16], rest: &[u8]) -> Result<Vec<u8>, AllocError> {
+    let mut fork = header.to_vec(alloc)?;
+    fork.extend_from_slice(&[0; 240])?;
+    fork.extend_from_slice(rest)?;
+    Ok(fork)
+}
+
+/// One row, 'TEXT' 128 with the bytes "Hi": 312 bytes.
+pub fn one_row(alloc: Global) -> Result<Vec<u8>, AllocError> {
+    fork_of(
+        alloc,
+        b"\0\0\x01\0\0\0\x01\x06\0\0\0\x06\0\0\0\x32",
+        b"\0\0\0\x02Hi\
+          \0\0\x01\0\0\0\x01\x06\0\0\0\x06\0\0\0\x32\
+          \0\0\0\0\0\0\0\0\0\x1C\0\x32\
+          \0\0TEXT\0\0\0\x0A\
+          \0\x80\xFF\xFF\0\0\0\0\0\0\0\0",
+    )
+}
+
+/// Two rows of one id, 'TEXT' 5 with the bytes "a" and "b": 328 bytes.
+pub fn two_rows(alloc: Global) -> Result<Vec<u8>, AllocError> {
+    fork_of(
+        alloc,
+        b"\0\0\x01\0\0\0\x01\x0A\0\0\0\x0A\0\0\0\x3E",
+        b"\0\0\0\x01a\0\0\0\x01b\
+          \0\0\x01\0\0\0\x01\x0A\0\0\0\x0A\0\0\0\x3E\
+          \0\0\0\0\0\0\0\0\0\x1C\0\x3E\
+          \0\0TEXT\0\x01\0\x0A\
+          \0\x05\xFF\xFF\0\0\0\0\0\0\0\0\
+          \0\x05\xFF\xFF\0\0\0\x05\0\0\0\0",
+    )
+}
+
+/// A store as a start finds it with these bytes, whose pair stops behind so many writes, cuts and syncs.
+pub fn started(
+    alloc: Global,
+    fork: &[u8],
+    journal: &[u8],
+    calls: u64,
+) -> Result<Journal<CrashPair>, AllocError> {
+    let pair = MemPair::new(alloc, fork.to_vec(alloc)?, journal.to_vec(alloc)?)?;
+    Ok(Journal::new(alloc, CrashPair::new(pair, calls)))
+}
+
+/// The first bytes of some, so many as there are.
+pub fn front(bytes: &[u8], count: usize) -> &[u8] {
+    bytes.get(..count).unwrap_or(bytes)
+}

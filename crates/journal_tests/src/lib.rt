@@ -1,0 +1,9 @@
+//! Tests of the journal: crashes at each moment of an update and of a recovery, and what stands in the bytes.
+#![tactic(auto)]
+
+#[cfg(test)]
+mod crashes;
+#[cfg(test)]
+mod forks;
+#[cfg(test)]
+mod whole;
