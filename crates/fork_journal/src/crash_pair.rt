@@ -41,13 +41,6 @@ impl CrashPair {
         &self.pair
     }
 
-    /// How many writes, cuts and syncs are left.
-    pub fn calls_left(&self) -> u64
-        ensures { result ≡ self.now.calls_left }
-    {
-        self.calls_left
-    }
-
     /// What a start finds after a crash now, by a choice for each call of the record, from the first on. A call without one was done whole,
     /// and of a call that a sync of its side follows the choice says nothing.
     pub fn outcome(&self, alloc: Global, choices: &[Choice]) -> Result<MemPair, AllocError>
