@@ -5,7 +5,7 @@ use Rattle.fork_journal.specs.declared.pair.Side.{Side}
 use Rattle.fork_journal.specs.declared.pair.Side.TheVariants.{Fork, Journal}
 use Rattle.fork_journal.specs.Crash.{Contents, History, MayLeave, Synced, Leaves, AlwaysLeaves, LeftWith, Settles, at_first}
 use Rattle.fork_journal.specs.Form.{text_of, is_whole, fork_in, is_usable, must_shut}
-use Rattle.fork_journal.specs.Recovery.{settled_fork, IsReady, IsRecoverable, IsBeforeOrAfter, IsSameChoice, IsShut}
+use Rattle.fork_journal.specs.Recovery.{settled_fork, IsReady, IsRecoverable, IsBeforeOrAfter, IsSameChoice, IsStable, IsShut}
 use Rattle.fork_journal.proofs.Along.{along_weaker, along_then, along_same, along_sync, leaves_now}
 use Rattle.fork_journal.proofs.Settling.{settled_at, settled_usable, settled_both, settled_one, settled_unusable, unusable_shut, unusable_short, short_where_open, shut_behind, text_whole, text_fork, never}
 
@@ -144,3 +144,7 @@ settled_read was now fork same usable is = ap settled_fork (sym same) ∙ settle
 pub refuses : (contents : Contents) (after : Bytes) (start new : History) → IsReady contents start → new ≡ start → AlwaysLeaves (IsBeforeOrAfter (settled_fork contents) after) start new
 refuses contents after start new ready same =
     along_weaker _ _ start new (λ c gives. inl (gives ∙ sym (settled_unusable contents ready.unusable))) (rests contents start new ready same)
+
+-- a recovery that has one choice
+pub one_fork : (contents : Contents) (start new : History) → IsStable contents start → AlwaysLeaves (IsSameChoice start) start new → AlwaysLeaves (λ c. settled_fork c ≡ settled_fork contents) start new
+one_fork contents start new stable always = along_weaker _ _ start new (λ c same. same.2 ∙ stable same.0 same.1) always

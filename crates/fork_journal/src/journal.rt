@@ -28,7 +28,8 @@ impl<P: PairDisk> Journal<P> {
     /// The store of a pair as a start finds it, whatever a crash left. It has to be recovered before it is read.
     pub fn new(alloc: Global, pair: P) -> Journal<P>
         requires { P.is_honest pair → P.history pair ≡ Found (P.contents pair) ∷ [] }
-        ensures { result.pair ≡ pair }
+        ensures pair { result.pair ≡ pair }
+        ensures stable { P.is_honest pair → IsStable (P.contents pair) (P.history pair) }
     {
         Journal {
             alloc,
@@ -76,6 +77,9 @@ impl<P: PairDisk> ForkStore for Journal<P> {
         ensures cause { Counts (P.failures self.old.pair + self.old.refusals) (P.failures self.new.pair + self.new.refusals) result }
         // A crash at any moment of the call leaves a choice that was there before it.
         ensures any_moment { P.is_honest self.old.pair → AlwaysLeaves (IsSameChoice (P.history self.old.pair)) (P.history self.old.pair) (P.history self.new.pair) }
+        // Where each crash before the call left one fork, as behind a start, each within it leaves that one.
+        ensures one_fork { P.is_honest self.old.pair → IsStable (P.contents self.old.pair) (P.history self.old.pair)
+            → AlwaysLeaves (λ c. settled_fork c ≡ settled_fork (P.contents self.old.pair)) (P.history self.old.pair) (P.history self.new.pair) }
         ensures recovered { P.is_honest self.old.pair → OnOk result (P.contents self.new.pair ≡ recovered (P.contents self.old.pair)) }
     {
         match recovery::recover(self.alloc, &mut self.pair) {

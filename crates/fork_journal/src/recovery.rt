@@ -5,7 +5,7 @@ ghost use Rattle.fork_disk.specs.Disk.{Counts};
 ghost use Rattle.fork_journal.specs.Crash.{AlwaysLeaves, Leaves};
 ghost use Rattle.fork_journal.specs.Faults.{CountsDevice};
 ghost use Rattle.fork_journal.specs.Form.{fork_in, is_usable};
-ghost use Rattle.fork_journal.specs.Recovery.{recovered, settled_fork, IsReady, IsRecoverable, IsSameChoice};
+ghost use Rattle.fork_journal.specs.Recovery.{recovered, settled_fork, IsReady, IsRecoverable, IsStable, IsSameChoice};
 
 use crate::faults::RecoverFault;
 use crate::pair::{PairDisk, Side};
@@ -38,6 +38,9 @@ pub fn recover<P: PairDisk>(alloc: Global, pair: &mut P) -> Result<(), RecoverFa
     requires { P.is_honest pair.old → IsRecoverable (P.contents pair.old) (P.history pair.old) }
     // A crash at any moment of the call leaves a choice that was there before it.
     ensures any_moment { P.is_honest pair.old → AlwaysLeaves (IsSameChoice (P.history pair.old)) (P.history pair.old) (P.history pair.new) }
+    // Where each crash before the call left one fork, as behind a start, each within it leaves that one.
+    ensures one_fork { P.is_honest pair.old → IsStable (P.contents pair.old) (P.history pair.old)
+        → AlwaysLeaves (λ c. settled_fork c ≡ settled_fork (P.contents pair.old)) (P.history pair.old) (P.history pair.new) }
     ensures recovered { P.is_honest pair.old → OnOk result (P.contents pair.new ≡ recovered (P.contents pair.old)) }
     ensures same { P.is_honest pair.old → settled_fork (P.contents pair.new) ≡ settled_fork (P.contents pair.old) }
     ensures ready { P.is_honest pair.old → OnOk result (IsReady (P.contents pair.new) (P.history pair.new)) }

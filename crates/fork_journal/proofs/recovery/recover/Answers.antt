@@ -1,5 +1,5 @@
 use Rattle.std.proofs.Common.{◌∙◌}
-use Rattle.fork_journal.proofs.Updating.{chooses, syncs, recovers, settled_read}
+use Rattle.fork_journal.proofs.Updating.{chooses, syncs, recovers, settled_read, one_fork}
 use Rattle.fork_journal.proofs.recovery.recover.Goals as goal
 
 pub returns-in_err-sync-clause-any_moment : goal.returns-in_err-sync-clause-any_moment
@@ -28,3 +28,18 @@ returns-clause-any_moment g c honest =
     let found = rw c.in-Some.is at (c.in_ok-fork.ensures.value then) in
     let gives = settled_read (g.P.PairDisk.contents c.args.pair.now) (g.P.PairDisk.contents c.sync.new.self) c.deref.result.now (c.sync.ensures.same honest) found.0 (c.deref.ensures.value ∙ found.1) in
     recovers (g.P.PairDisk.contents c.args.pair.now) c.deref.result.now _ _ _ _ _ _ (g.met.P.PairDisk.reads_is_outcome c.args.pair.now honest) gives (c.in_ok-sync.ensures.durable honest) (c.usable_fork.ensures.calm then) (c.finish.ensures.any_moment later)
+
+pub returns-in_err-sync-clause-one_fork : goal.returns-in_err-sync-clause-one_fork
+returns-in_err-sync-clause-one_fork g c honest stable = one_fork (g.P.PairDisk.contents c.args.pair.now) _ _ stable (returns-in_err-sync-clause-any_moment g c honest)
+
+pub returns-in_err-fork-clause-one_fork : goal.returns-in_err-fork-clause-one_fork
+returns-in_err-fork-clause-one_fork g c honest stable = one_fork (g.P.PairDisk.contents c.args.pair.now) _ _ stable (returns-in_err-fork-clause-any_moment g c honest)
+
+pub returns-in_default-clause-one_fork : goal.returns-in_default-clause-one_fork
+returns-in_default-clause-one_fork g c honest stable = one_fork (g.P.PairDisk.contents c.args.pair.now) _ _ stable (returns-in_default-clause-any_moment g c honest)
+
+pub returns-in_err-finish-clause-one_fork : goal.returns-in_err-finish-clause-one_fork
+returns-in_err-finish-clause-one_fork g c honest stable = one_fork (g.P.PairDisk.contents c.args.pair.now) _ _ stable (returns-in_err-finish-clause-any_moment g c honest)
+
+pub returns-clause-one_fork : goal.returns-clause-one_fork
+returns-clause-one_fork g c honest stable = one_fork (g.P.PairDisk.contents c.args.pair.now) _ _ stable (returns-clause-any_moment g c honest)
