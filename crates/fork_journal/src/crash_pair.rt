@@ -1,6 +1,6 @@
 //! A pair that stops, as a machine does when its power goes.
 
-ghost use Rattle.std.specs.Prelude.{◌≡◌, ◌+◌, ◌≤◌, ⊤, [], ◌∷◌, IfOk, OnOk};
+ghost use Rattle.std.specs.Prelude.{◌≡◌, ◌+◌, ◌↔◌, ⊤, [], ◌∷◌, IfOk, OnOk, IsErr};
 ghost use Rattle.fork_disk.specs.Disk.{Counts};
 ghost use Rattle.fork_journal.specs.Crash.{Found, MayLeave};
 ghost use Rattle.fork_journal.specs.Record.{after_calls, found};
@@ -69,7 +69,8 @@ impl CrashPair {
     /// Fails a read where the pair has stopped.
     fn look(&mut self) -> Result<(), DiskFault>
         ensures pair { self.new.pair ≡ self.old.pair }
-        ensures goes { OnOk result (1 ≤ self.new.calls_left) }
+        ensures calls_left { self.new.calls_left ≡ self.old.calls_left }
+        ensures stopped { IsErr result ↔ (self.old.calls_left ≡ 0) }
         ensures cause { Counts self.old.refusals self.new.refusals result }
     {
         if self.calls_left == 0 {
@@ -82,6 +83,8 @@ impl CrashPair {
     /// Fails a write, a cut or a sync where the pair has stopped, and counts it down else.
     fn go(&mut self) -> Result<(), DiskFault>
         ensures pair { self.new.pair ≡ self.old.pair }
+        ensures counted { OnOk result (self.new.calls_left + 1 ≡ self.old.calls_left) }
+        ensures stopped { IsErr result ↔ (self.old.calls_left ≡ 0) }
         ensures cause { Counts self.old.refusals self.new.refusals result }
     {
         self.look()?;
