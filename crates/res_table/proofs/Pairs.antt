@@ -1,6 +1,6 @@
--- The rows that have a handle, in the order of handles.
-use Rattle.std.proofs.Common.{◌≡◌, refl, sym, ap, ◌∙◌, subst, arith, ℕ, zero, suc, ◌+◌, ◌-◌, ◌<◌, ◌≤◌, List, [], ◌∷◌, length, map, get_or, set, remove, slice_get, Bool, true, false, ◌||◌, ◌&&◌, ◌==◌, Option, Some, None, position, if◌then◌else◌}
-use Rattle.std.specs.Prelude.{insert, nat_lt, nat_le, All}
+-- The rows that have a handle, in the order of the handles' keys.
+use Rattle.std.proofs.Common.{◌≡◌, refl, sym, ap, ◌∙◌, subst, arith, ℕ, zero, suc, ◌+◌, ◌-◌, ◌*◌, ◌%◌, ◌<◌, ◌≤◌, List, [], ◌∷◌, length, map, get_or, take, drop, set, remove, slice_get, Bool, true, false, ◌||◌, ◌&&◌, ◌==◌, Option, Some, None, position, if◌then◌else◌}
+use Rattle.std.specs.Prelude.{insert, nat_lt, nat_le, not, All, IsTrue, ◌↔◌}
 use Rattle.std.specs.List.{position_from}
 use Rattle.std.specs.List.Sorted.{IsPartitionedBy}
 use Rattle.std.proofs.lemmas.Bool.Decides.{nat_tests}
@@ -11,43 +11,43 @@ use Rattle.std.specs.Option.{option_map_or}
 use Rattle.std.proofs.lemmas.List.{length-set, get_or-set_same}
 use Rattle.res_base.specs.declared.resource.Resource.{Resource}
 use Rattle.res_table.specs.Rows.{has_handle, with_handle, changed_at, opened_row}
-use Rattle.res_table.specs.Held.{is_before, rank, with_pair, without_pair, with_held, without_held, pairs_from, pairs_of, pushed_back, pulled_up, first_place, NoneBefore, AreInOrder}
+use Rattle.res_table.specs.Held.{key_of, is_before, rank, with_pair, without_pair, with_held, without_held, pairs_from, pairs_of, pushed_back, pulled_up, first_place, NoneBefore, AreInOrder}
 
 -- pairs stand in an order
 by_numbers : (g h a b : ℕ) → (nat_lt g h || (g == h && nat_lt a b)) ≡ true → (nat_lt h g || (h == g && nat_lt b a)) ≡ false
 by_numbers g h a b is = grind (arith, nat_tests)
 
 pub never_both : (p q : Held) → is_before p q ≡ true → is_before q p ≡ false
-never_both p q is = by_numbers p.handle q.handle p.place q.place is
+never_both p q is = by_numbers p.key q.key p.place q.place is
 
 through : (g h i a b c : ℕ) → (nat_lt h g || (h == g && nat_lt b a)) ≡ false → (nat_lt i h || (i == h && nat_lt c b)) ≡ false → (nat_lt i g || (i == g && nat_lt c a)) ≡ false
 through g h i a b c first second = grind (arith, nat_tests)
 
 pub none_through : (p q r : Held) → is_before q p ≡ false → is_before r q ≡ false → is_before r p ≡ false
-none_through p q r first second = through p.handle q.handle r.handle p.place q.place r.place first second
+none_through p q r first second = through p.key q.key r.key p.place q.place r.place first second
 
 onto : (g h i a b c : ℕ) → (nat_lt g h || (g == h && nat_lt a b)) ≡ true → (nat_lt g i || (g == i && nat_lt a c)) ≡ false → (nat_lt i h || (i == h && nat_lt c b)) ≡ true
 onto g h i a b c first second = grind (arith, nat_tests)
 
 -- what stands before one, and not before another
 pub between : (z x y : Held) → is_before z x ≡ true → is_before z y ≡ false → is_before y x ≡ true
-between z x y first second = onto z.handle x.handle y.handle z.place x.place y.place first second
+between z x y first second = onto z.key x.key y.key z.place x.place y.place first second
 
 not_itself : (g a : ℕ) → (nat_lt g g || (g == g && nat_lt a a)) ≡ false
 not_itself g a = grind (arith, nat_tests)
 
 pub never_itself : (p : Held) → is_before p p ≡ false
-never_itself p = not_itself p.handle p.place
+never_itself p = not_itself p.key p.place
 
 tied : (g h a b : ℕ) → (nat_lt g h || (g == h && nat_lt a b)) ≡ false → (nat_lt h g || (h == g && nat_lt b a)) ≡ false → (g ≡ h) × (a ≡ b)
 tied g h a b first second = (grind (arith, nat_tests), grind (arith, nat_tests))
 
-same_pair : (p q : Held) → p.handle ≡ q.handle → p.place ≡ q.place → p ≡ q
+same_pair : (p q : Held) → p.key ≡ q.key → p.place ≡ q.place → p ≡ q
 same_pair p q handles places =
-    ap (λ (h : ℕ). let pair : Held = record { handle = h; place = p.place } in pair) handles ∙ ap (λ (a : ℕ). let pair : Held = record { handle = q.handle; place = a } in pair) places
+    ap (λ (h : ℕ). let pair : Held = record { key = h; place = p.place } in pair) handles ∙ ap (λ (a : ℕ). let pair : Held = record { key = q.key; place = a } in pair) places
 
 pub neither : (p q : Held) → is_before p q ≡ false → is_before q p ≡ false → p ≡ q
-neither p q first second = let e = tied p.handle q.handle p.place q.place first second in same_pair p q e.0 e.1
+neither p q first second = let e = tied p.key q.key p.place q.place first second in same_pair p q e.0 e.1
 
 -- two pairs at the front
 two : (x y : Held) (ps : List Held) → (if is_before y x then y ∷ x ∷ ps else x ∷ y ∷ ps) ≡ (if is_before x y then x ∷ y ∷ ps else y ∷ x ∷ ps)
@@ -98,11 +98,11 @@ without_held_with None a ps = refl
 without_held_with (Some h) a ps = without_with _ ps
 
 -- pairs move, and stay in their order
-moved : (k g h a b : ℕ) → is_before (pushed_back k (record { handle = g; place = a })) (pushed_back k (record { handle = h; place = b })) ≡ (nat_lt g h || (g == h && nat_lt a b))
+moved : (k g h a b : ℕ) → is_before (pushed_back k (record { key = g; place = a })) (pushed_back k (record { key = h; place = b })) ≡ (nat_lt g h || (g == h && nat_lt a b))
 moved k g h a b = by (nat_le k a) (nat_le k b) refl refl
   where
     by : (c d : Bool) → nat_le k a ≡ c → nat_le k b ≡ d
-        → is_before (if c then record { handle = g; place = a + 1 } else record { handle = g; place = a }) (if d then record { handle = h; place = b + 1 } else record { handle = h; place = b })
+        → is_before (if c then record { key = g; place = a + 1 } else record { key = g; place = a }) (if d then record { key = h; place = b + 1 } else record { key = h; place = b })
         ≡ (nat_lt g h || (g == h && nat_lt a b))
     by true true e f = let s : nat_lt (a + 1) (b + 1) ≡ nat_lt a b = grind (arith, nat_tests) in ap (λ (t : Bool). nat_lt g h || (g == h && t)) s
     by true false e f = let s : nat_lt (a + 1) b ≡ nat_lt a b = grind (arith, nat_tests) in ap (λ (t : Bool). nat_lt g h || (g == h && t)) s
@@ -110,7 +110,7 @@ moved k g h a b = by (nat_le k a) (nat_le k b) refl refl
     by false false e f = refl
 
 pub same_order : (k : ℕ) (p q : Held) → is_before (pushed_back k p) (pushed_back k q) ≡ is_before p q
-same_order k p q = moved k p.handle q.handle p.place q.place
+same_order k p q = moved k p.key q.key p.place q.place
 
 pub push_with : (k : ℕ) (p : Held) (ps : List Held) → map (pushed_back k) (with_pair p ps) ≡ with_pair (pushed_back k p) (map (pushed_back k) ps)
 push_with k p [] = refl
@@ -121,14 +121,14 @@ push_with k p (q ∷ qs) = by (is_before q p) (same_order k q p) (push_with k p 
     by true e deeper = rw e (ap (λ (rs : List Held). pushed_back k q ∷ rs) deeper)
     by false e deeper = rw e refl
 
-push_at : (k a b : ℕ) (h : Option ℕ) (ps : List Held) → ((g : ℕ) → pushed_back k (record { handle = g; place = a }) ≡ record { handle = g; place = b }) → map (pushed_back k) (with_held h a ps) ≡ with_held h b (map (pushed_back k) ps)
+push_at : (k a b : ℕ) (h : Option ℕ) (ps : List Held) → ((g : ℕ) → pushed_back k (record { key = g; place = a }) ≡ record { key = g; place = b }) → map (pushed_back k) (with_held h a ps) ≡ with_held h b (map (pushed_back k) ps)
 push_at k a b None ps is = refl
-push_at k a b (Some g) ps is = push_with k _ ps ∙ ap (λ (p : Held). with_pair p (map (pushed_back k) ps)) (is g)
+push_at k a b (Some g) ps is = push_with k _ ps ∙ ap (λ (p : Held). with_pair p (map (pushed_back k) ps)) (is (key_of g))
 
-behind : (k a : ℕ) (g : ℕ) → k ≤ a → pushed_back k (record { handle = g; place = a }) ≡ record { handle = g; place = a + 1 }
+behind : (k a : ℕ) (g : ℕ) → k ≤ a → pushed_back k (record { key = g; place = a }) ≡ record { key = g; place = a + 1 }
 behind k a g at_least = let e : nat_le k a ≡ true = grind (arith, nat_tests) in rw e refl
 
-before : (k a : ℕ) (g : ℕ) → a < k → pushed_back k (record { handle = g; place = a }) ≡ record { handle = g; place = a }
+before : (k a : ℕ) (g : ℕ) → a < k → pushed_back k (record { key = g; place = a }) ≡ record { key = g; place = a }
 before k a g below = let e : nat_le k a ≡ false = grind (arith, nat_tests) in rw e refl
 
 -- all rows stand behind
@@ -150,16 +150,16 @@ pairs_insert at (suc i) k r (q ∷ qs) is within =
     ∙ ap (with_held r.handle k) (sym (push_at k at at q.handle (pairs_from (at + 1) qs) (λ g. before k at g (omega arith))))
 
 -- and taken out
-back : (k g a : ℕ) → pulled_up k (pushed_back k (record { handle = g; place = a })) ≡ record { handle = g; place = a }
+back : (k g a : ℕ) → pulled_up k (pushed_back k (record { key = g; place = a })) ≡ record { key = g; place = a }
 back k g a = by (nat_le k a) refl
   where
-    by : (b : Bool) → nat_le k a ≡ b → pulled_up k (if b then record { handle = g; place = a + 1 } else record { handle = g; place = a }) ≡ record { handle = g; place = a }
+    by : (b : Bool) → nat_le k a ≡ b → pulled_up k (if b then record { key = g; place = a + 1 } else record { key = g; place = a }) ≡ record { key = g; place = a }
     by true e = let f : nat_lt k (a + 1) ≡ true = grind (arith, nat_tests) in let s : (a + 1) - 1 ≡ a = omega arith in rw (f, s) refl
     by false e = let f : nat_lt k a ≡ false = grind (arith, nat_tests) in rw f refl
 
 pub pull_push : (k : ℕ) (ps : List Held) → map (pulled_up k) (map (pushed_back k) ps) ≡ ps
 pull_push k [] = refl
-pull_push k (p ∷ ps) = ap (λ (q : Held). q ∷ map (pulled_up k) (map (pushed_back k) ps)) (back k p.handle p.place) ∙ ap (λ (qs : List Held). p ∷ qs) (pull_push k ps)
+pull_push k (p ∷ ps) = ap (λ (q : Held). q ∷ map (pulled_up k) (map (pushed_back k) ps)) (back k p.key p.place) ∙ ap (λ (qs : List Held). p ∷ qs) (pull_push k ps)
 
 insert_removed : {X : Type 0} (xs : List X) (i : ℕ) (d : X) → i < length xs → insert (remove xs i) i (get_or xs i d) ≡ xs
 insert_removed [] i d within = absurd (omega arith)
@@ -215,7 +215,7 @@ few_pairs at (r ∷ rows) = by r.handle (few_pairs (at + 1) rows)
   where
     by : (h : Option ℕ) → length (pairs_from (at + 1) rows) ≤ length rows → length (with_held h at (pairs_from (at + 1) rows)) ≤ suc (length rows)
     by None deeper = omega arith
-    by (Some g) deeper = let one = length-with (record { handle = g; place = at }) (pairs_from (at + 1) rows) in omega arith
+    by (Some g) deeper = let one = length-with (record { key = key_of g; place = at }) (pairs_from (at + 1) rows) in omega arith
 
 -- they stand in order
 none_before_with : (q p : Held) (ps : List Held) → is_before p q ≡ false → NoneBefore q ps → NoneBefore q (with_pair p ps)
@@ -286,6 +286,73 @@ rank_is x (p ∷ ps) zero within below above = rw (above 0 p (omega arith) (omeg
 rank_is x (p ∷ ps) (suc i) within below above =
     rw (below 0 p (omega arith)) (ap suc (rank_is x ps i (omega arith) (λ k d less. below (suc k) d (omega arith)) (λ k d least less. above (suc k) d (omega arith) (omega arith))))
 
+-- a pair belongs behind those before it, and not behind others
+pub rank_over : (x : Held) (ps : List Held) (i : ℕ) (d : Held) → AreInOrder ps → i < length ps → is_before (get_or ps i d) x ≡ true → i < rank x ps
+rank_over x [] i d order within is = absurd (omega arith)
+rank_over x (p ∷ ps) zero d order within is = rw is (omega arith)
+rank_over x (p ∷ ps) (suc i) d order within is = rw (partitioned x (p ∷ ps) order 0 (suc i) d (omega arith) within is) (let deeper = rank_over x ps i d order.1 (omega arith) is in omega arith)
+
+pub rank_up_to : (x : Held) (ps : List Held) (i : ℕ) (d : Held) → i < length ps → is_before (get_or ps i d) x ≡ false → rank x ps ≤ i
+rank_up_to x [] i d within is = absurd (omega arith)
+rank_up_to x (p ∷ ps) zero d within is = rw is (omega arith)
+rank_up_to x (p ∷ ps) (suc i) d within is = by (is_before p x) (rank_up_to x ps i d (omega arith) is)
+  where
+    by : (b : Bool) → rank x ps ≤ i → (if b then suc (rank x ps) else 0) ≤ suc i
+    by true deeper = omega arith
+    by false deeper = omega arith
+
+-- as a test tells
+pub told_from : (x : Held) (ps : List Held) (i at : ℕ) (d : Held) (test : Bool) → AreInOrder ps → at ≡ i + 1 → i < length ps → test ≡ is_before (get_or ps i d) x → IsTrue test ↔ at ≤ rank x ps
+told_from x ps i at d true order next within is = (λ t. let over = rank_over x ps i d order within (sym is) in omega arith, λ from. refl)
+told_from x ps i at d false order next within is = (λ t. absurd (cc t), λ from. absurd (let up = rank_up_to x ps i d within (sym is) in omega arith))
+
+pub told_up_to : (x : Held) (ps : List Held) (i : ℕ) (d : Held) (test : Bool) → AreInOrder ps → i < length ps → test ≡ is_before (get_or ps i d) x → IsTrue (not test) ↔ rank x ps ≤ i
+told_up_to x ps i d true order within is = (λ t. absurd (cc t), λ up. absurd (let over = rank_over x ps i d order within (sym is) in omega arith))
+told_up_to x ps i d false order within is = (λ t. rank_up_to x ps i d within (sym is), λ up. refl)
+
+-- where it belongs among some of them
+rank_dropped : (x : Held) (ps : List Held) (n : ℕ) → n ≤ rank x ps → rank x ps ≡ n + rank x (drop n ps)
+rank_dropped x ps zero from = omega arith
+rank_dropped x [] (suc n) from = absurd (omega arith)
+rank_dropped x (p ∷ ps) (suc n) from = by (is_before p x) from (rank_dropped x ps n)
+  where
+    by : (b : Bool) → suc n ≤ (if b then suc (rank x ps) else 0) → (n ≤ rank x ps → rank x ps ≡ n + rank x (drop n ps)) → (if b then suc (rank x ps) else 0) ≡ suc n + rank x (drop n ps)
+    by true over deeper = let e = deeper (omega arith) in omega arith
+    by false over deeper = absurd (omega arith)
+
+rank_taken : (x : Held) (ps : List Held) (n : ℕ) → rank x ps ≤ n → rank x (take n ps) ≡ rank x ps
+rank_taken x [] zero up = refl
+rank_taken x [] (suc n) up = refl
+rank_taken x (p ∷ ps) zero up = omega arith
+rank_taken x (p ∷ ps) (suc n) up = by (is_before p x) up (rank_taken x ps n)
+  where
+    by : (b : Bool) → (if b then suc (rank x ps) else 0) ≤ suc n → (rank x ps ≤ n → rank x (take n ps) ≡ rank x ps) → (if b then suc (rank x (take n ps)) else 0) ≡ (if b then suc (rank x ps) else 0)
+    by true over deeper = ap suc (deeper (omega arith))
+    by false over deeper = refl
+
+pub rank_between : (x : Held) (ps : List Held) (from to : ℕ) → from ≤ rank x ps → rank x ps ≤ to → rank x ps ≡ from + rank x (take (to - from) (drop from ps))
+rank_between x ps from to least most =
+    let e = rank_dropped x ps from least in
+    let f : rank x (take (to - from) (drop from ps)) ≡ rank x (drop from ps) = rank_taken x (drop from ps) (to - from) (omega arith) in omega arith
+
+-- some of them in a row stand in order too
+pub order_dropped : (ps : List Held) (n : ℕ) → AreInOrder ps → AreInOrder (drop n ps)
+order_dropped ps zero order = order
+order_dropped [] (suc n) order = tt
+order_dropped (p ∷ ps) (suc n) order = order_dropped ps n order.1
+
+none_before_taken : (p : Held) (ps : List Held) (n : ℕ) → NoneBefore p ps → NoneBefore p (take n ps)
+none_before_taken p [] zero none = tt
+none_before_taken p [] (suc n) none = tt
+none_before_taken p (q ∷ qs) zero none = tt
+none_before_taken p (q ∷ qs) (suc n) none = (none.0, none_before_taken p qs n none.1)
+
+pub order_taken : (ps : List Held) (n : ℕ) → AreInOrder ps → AreInOrder (take n ps)
+order_taken [] zero order = tt
+order_taken [] (suc n) order = tt
+order_taken (p ∷ ps) zero order = tt
+order_taken (p ∷ ps) (suc n) order = (none_before_taken p ps n order.0, order_taken ps n order.1)
+
 pub rank_within : (x : Held) (ps : List Held) → rank x ps ≤ length ps
 rank_within x [] = omega arith
 rank_within x (p ∷ ps) = by (is_before p x) (rank_within x ps)
@@ -295,26 +362,26 @@ rank_within x (p ∷ ps) = by (is_before p x) (rank_within x ps)
     by false deeper = omega arith
 
 -- the first pair of a handle
-pub first_none : (h : ℕ) (ps : List Held) → length ps ≤ rank (record { handle = h; place = 0 }) ps → first_place h ps ≡ None
+pub first_none : (h : ℕ) (ps : List Held) → length ps ≤ rank (record { key = h; place = 0 }) ps → first_place h ps ≡ None
 first_none h [] past = refl
-first_none h (p ∷ ps) past = by (is_before p (record { handle = h; place = 0 })) past (first_none h ps)
+first_none h (p ∷ ps) past = by (is_before p (record { key = h; place = 0 })) past (first_none h ps)
   where
-    by : (b : Bool) → suc (length ps) ≤ (if b then suc (rank (record { handle = h; place = 0 }) ps) else 0) → (length ps ≤ rank (record { handle = h; place = 0 }) ps → first_place h ps ≡ None)
-        → (if b then first_place h ps else if p.handle == h then Some p.place else None) ≡ None
+    by : (b : Bool) → suc (length ps) ≤ (if b then suc (rank (record { key = h; place = 0 }) ps) else 0) → (length ps ≤ rank (record { key = h; place = 0 }) ps → first_place h ps ≡ None)
+        → (if b then first_place h ps else if p.key == h then Some p.place else None) ≡ None
     by true over deeper = deeper (omega arith)
     by false over deeper = absurd (omega arith)
 
-pub first_some : (h : ℕ) (ps : List Held) (d : Held) → rank (record { handle = h; place = 0 }) ps < length ps
-    → first_place h ps ≡ (if (get_or ps (rank (record { handle = h; place = 0 }) ps) d).handle == h then Some ((get_or ps (rank (record { handle = h; place = 0 }) ps) d).place) else None)
+pub first_some : (h : ℕ) (ps : List Held) (d : Held) → rank (record { key = h; place = 0 }) ps < length ps
+    → first_place h ps ≡ (if (get_or ps (rank (record { key = h; place = 0 }) ps) d).key == h then Some ((get_or ps (rank (record { key = h; place = 0 }) ps) d).place) else None)
 first_some h [] d within = absurd (omega arith)
-first_some h (p ∷ ps) d within = by (is_before p (record { handle = h; place = 0 })) within (first_some h ps d)
+first_some h (p ∷ ps) d within = by (is_before p (record { key = h; place = 0 })) within (first_some h ps d)
   where
     r : ℕ
-    r = rank (record { handle = h; place = 0 }) ps
+    r = rank (record { key = h; place = 0 }) ps
 
-    by : (b : Bool) → (if b then suc r else 0) < suc (length ps) → (r < length ps → first_place h ps ≡ (if (get_or ps r d).handle == h then Some ((get_or ps r d).place) else None))
-        → (if b then first_place h ps else if p.handle == h then Some p.place else None)
-        ≡ (if (get_or (p ∷ ps) (if b then suc r else 0) d).handle == h then Some ((get_or (p ∷ ps) (if b then suc r else 0) d).place) else None)
+    by : (b : Bool) → (if b then suc r else 0) < suc (length ps) → (r < length ps → first_place h ps ≡ (if (get_or ps r d).key == h then Some ((get_or ps r d).place) else None))
+        → (if b then first_place h ps else if p.key == h then Some p.place else None)
+        ≡ (if (get_or (p ∷ ps) (if b then suc r else 0) d).key == h then Some ((get_or (p ∷ ps) (if b then suc r else 0) d).place) else None)
     by true less deeper = deeper (omega arith)
     by false less deeper = refl
 
@@ -322,8 +389,8 @@ first_some h (p ∷ ps) d within = by (is_before p (record { handle = h; place =
 starts_at : (g h a : ℕ) → (nat_lt g h || (g == h && nat_lt a 0)) ≡ nat_lt g h
 starts_at g h a = grind (arith, nat_tests)
 
-starts : (p : Held) (h : ℕ) → is_before p (record { handle = h; place = 0 }) ≡ nat_lt p.handle h
-starts p h = starts_at p.handle h p.place
+starts : (p : Held) (h : ℕ) → is_before p (record { key = h; place = 0 }) ≡ nat_lt p.key h
+starts p h = starts_at p.key h p.place
 
 less_or_same : (g h : ℕ) → nat_lt g h ≡ true → (g == h) ≡ true → ⊥
 less_or_same g h less same = grind (arith, nat_tests)
@@ -359,21 +426,21 @@ pairs_are_from at (r ∷ rows) = by r.handle (from_less at (at + 1) (pairs_from 
     by None deeper = deeper
     by (Some g) deeper = from_with at _ (pairs_from (at + 1) rows) (omega arith) deeper
 
-first_with : (h at g : ℕ) (ps : List Held) → AreFrom (at + 1) ps → first_place h (with_pair (record { handle = g; place = at }) ps) ≡ (if g == h then Some at else first_place h ps)
-first_with h at g [] all = rw (starts (record { handle = g; place = at }) h) (by (nat_lt g h) (g == h) refl refl)
+first_with : (h at g : ℕ) (ps : List Held) → AreFrom (at + 1) ps → first_place h (with_pair (record { key = g; place = at }) ps) ≡ (if g == h then Some at else first_place h ps)
+first_with h at g [] all = rw (starts (record { key = g; place = at }) h) (by (nat_lt g h) (g == h) refl refl)
   where
     by : (e f : Bool) → nat_lt g h ≡ e → (g == h) ≡ f → (if e then None else if f then Some at else None) ≡ (if f then Some at else None)
     by true true e f = absurd (less_or_same g h e f)
     by true false e f = refl
     by false f e is = refl
 first_with h at g (q ∷ qs) all =
-    by (is_before q (record { handle = g; place = at })) (is_before q (record { handle = h; place = 0 })) (g == h) refl refl refl (first_with h at g qs all.1)
+    by (is_before q (record { key = g; place = at })) (is_before q (record { key = h; place = 0 })) (g == h) refl refl refl (first_with h at g qs all.1)
   where
     p : Held
-    p = record { handle = g; place = at }
+    p = record { key = g; place = at }
 
     here : Option ℕ
-    here = if q.handle == h then Some q.place else None
+    here = if q.key == h then Some q.place else None
 
     later : (e f : Bool) → nat_lt g h ≡ e → (g == h) ≡ f → is_before q p ≡ false
         → (if e then first_place h (q ∷ qs) else if f then Some at else None) ≡ (if f then Some at else first_place h (q ∷ qs))
@@ -381,30 +448,58 @@ first_with h at g (q ∷ qs) all =
     later true false e f first = refl
     later false true e f first = refl
     later false false e f first =
-        let none = past_it g h q.handle at q.place first e f in
-        let least : is_before q (record { handle = h; place = 0 }) ≡ false = starts q h ∙ none.0 in
+        let none = past_it g h q.key at q.place first e f in
+        let least : is_before q (record { key = h; place = 0 }) ≡ false = starts q h ∙ none.0 in
         rw (least, none.1) refl
 
-    by : (b c f : Bool) → is_before q p ≡ b → is_before q (record { handle = h; place = 0 }) ≡ c → (g == h) ≡ f
+    by : (b c f : Bool) → is_before q p ≡ b → is_before q (record { key = h; place = 0 }) ≡ c → (g == h) ≡ f
         → first_place h (with_pair p qs) ≡ (if f then Some at else first_place h qs)
         → first_place h (if b then q ∷ with_pair p qs else p ∷ q ∷ qs) ≡ (if f then Some at else if c then first_place h qs else here)
     by true true f first least same deeper = rw least deeper
-    by true false true first least same deeper = absurd (found_before g h q.handle at q.place (let low = all.0 in omega arith) first (sym (starts q h) ∙ least) same)
+    by true false true first least same deeper = absurd (found_before g h q.key at q.place (let low = all.0 in omega arith) first (sym (starts q h) ∙ least) same)
     by true false false first least same deeper = rw least refl
     by false c f first least same deeper =
         rw (starts p h) (later (nat_lt g h) (g == h) refl refl first ∙ ap (λ (t : Bool). if t then Some at else first_place h (q ∷ qs)) same
         ∙ ap (λ (t : Bool). if f then Some at else if t then first_place h qs else here) least)
 
-first_from : {D : Type 0} (h at : ℕ) (rows : List (Row D)) → first_place h (pairs_from at rows) ≡ position_from (has_handle h) at rows
+-- handles with one key are the same
+one_key : (g h a b : ℕ) → a < 4294967296 → b < 4294967296 → a ≡ (g * 2654435761) % 4294967296 → b ≡ (h * 2654435761) % 4294967296 → a * 4294967296 + g ≡ b * 4294967296 + h → g ≡ h
+one_key g h a b low_a low_b is_a is_b same = omega arith
+
+same_number : (g h : ℕ) → (g == h) ≡ true → g ≡ h
+same_number g h is = grind (arith, nat_tests)
+
+told : (g h : ℕ) → g ≡ h → (g == h) ≡ false → ⊥
+told g h same is = grind (arith, nat_tests)
+
+below : (n : ℕ) → n % 4294967296 < 4294967296
+below n = omega arith
+
+same_key : (g h : ℕ) → (key_of g == key_of h) ≡ true → g ≡ h
+same_key g h is = one_key g h _ _ (below (g * 2654435761)) (below (h * 2654435761)) refl refl (same_number (key_of g) (key_of h) is)
+
+key_tells : (g h : ℕ) → (key_of g == key_of h) ≡ (g == h)
+key_tells g h = by (key_of g == key_of h) (g == h) refl refl
+  where
+    by : (e f : Bool) → (key_of g == key_of h) ≡ e → (g == h) ≡ f → e ≡ f
+    by true true e f = refl
+    by false false e f = refl
+    by true false e f = absurd (told g h (same_key g h e) f)
+    by false true e f = absurd (told (key_of g) (key_of h) (ap key_of (same_number g h f)) e)
+
+first_from : {D : Type 0} (h at : ℕ) (rows : List (Row D)) → first_place (key_of h) (pairs_from at rows) ≡ position_from (has_handle h) at rows
 first_from h at [] = refl
 first_from h at (r ∷ rows) = by r.handle (first_from h (at + 1) rows)
   where
-    by : (g : Option ℕ) → first_place h (pairs_from (at + 1) rows) ≡ position_from (has_handle h) (at + 1) rows
-        → first_place h (with_held g at (pairs_from (at + 1) rows)) ≡ (if has_handle h (record r { handle = g }) then Some at else position_from (has_handle h) (at + 1) rows)
+    by : (g : Option ℕ) → first_place (key_of h) (pairs_from (at + 1) rows) ≡ position_from (has_handle h) (at + 1) rows
+        → first_place (key_of h) (with_held g at (pairs_from (at + 1) rows)) ≡ (if has_handle h (record r { handle = g }) then Some at else position_from (has_handle h) (at + 1) rows)
     by None deeper = deeper
-    by (Some g) deeper = first_with h at g (pairs_from (at + 1) rows) (pairs_are_from (at + 1) rows) ∙ ap (λ (found : Option ℕ). if g == h then Some at else found) deeper
+    by (Some g) deeper =
+        first_with (key_of h) at (key_of g) (pairs_from (at + 1) rows) (pairs_are_from (at + 1) rows)
+        ∙ ap (λ (same : Bool). if same then Some at else first_place (key_of h) (pairs_from (at + 1) rows)) (key_tells g h)
+        ∙ ap (λ (found : Option ℕ). if g == h then Some at else found) deeper
 
-pub first_is : {D : Type 0} (h : ℕ) (rows : List (Row D)) → first_place h (pairs_of rows) ≡ position (has_handle h) rows
+pub first_is : {D : Type 0} (h : ℕ) (rows : List (Row D)) → first_place (key_of h) (pairs_of rows) ≡ position (has_handle h) rows
 first_is h rows = first_from h 0 rows ∙ sym (position_from-zero (has_handle h) rows)
 
 -- each row stands before the end
@@ -437,18 +532,20 @@ pub places_below : {D : Type 0} (high : ℕ) (rows : List (Row D)) → length ro
 places_below high rows within k d inside = let low = below_at (length rows) (pairs_of rows) k d (pairs_are_below 0 (length rows) rows (omega arith)) inside in omega arith
 
 -- where a pair is read at its rank
-pub first_at : (h : ℕ) (ps : List Held) (i : ℕ) (p : Held) → i ≡ rank (record { handle = h; place = 0 }) ps → i < length ps → p ≡ get_or ps i p → first_place h ps ≡ (if p.handle == h then Some p.place else None)
+pub first_at : (h : ℕ) (ps : List Held) (i : ℕ) (p : Held) → i ≡ rank (record { key = h; place = 0 }) ps → i < length ps → p ≡ get_or ps i p → first_place h ps ≡ (if p.key == h then Some p.place else None)
 first_at h ps i p is within read =
-    let at : get_or ps (rank (record { handle = h; place = 0 }) ps) p ≡ p = ap (λ (k : ℕ). get_or ps k p) (sym is) ∙ sym read in
-    first_some h ps p (omega arith) ∙ ap (λ (q : Held). if q.handle == h then Some q.place else None) at
+    let at : get_or ps (rank (record { key = h; place = 0 }) ps) p ≡ p = ap (λ (k : ℕ). get_or ps k p) (sym is) ∙ sym read in
+    first_some h ps p (omega arith) ∙ ap (λ (q : Held). if q.key == h then Some q.place else None) at
 
 -- where a pair is put in
-pub put_in : (g : Option ℕ) (a h i : ℕ) (ps new : List Held) → g ≡ Some h → i ≡ rank (record { handle = h; place = a }) ps → new ≡ insert ps i (record { handle = h; place = a }) → new ≡ with_held g a ps
-put_in g a h i ps new some is now = rw some (now ∙ ap (λ (k : ℕ). insert ps k (record { handle = h; place = a })) is ∙ insert_is (record { handle = h; place = a }) ps)
+pub put_in : (g : Option ℕ) (a h k i : ℕ) (ps new : List Held) → g ≡ Some h → k ≡ key_of h → i ≡ rank (record { key = k; place = a }) ps → new ≡ insert ps i (record { key = k; place = a }) → new ≡ with_held g a ps
+put_in g a h k i ps new some key is now =
+    rw some (now ∙ ap (λ (at : ℕ). insert ps at (record { key = k; place = a })) is ∙ insert_is (record { key = k; place = a }) ps
+    ∙ ap (λ (n : ℕ). with_pair (record { key = n; place = a }) ps) key)
 
 -- one less than their number
 pub room_for : (g : Option ℕ) (a h : ℕ) (ps : List Held) (room : ℕ) → g ≡ Some h → length (with_held g a ps) ≤ room → length ps < room
-room_for g a h ps room some few = let one = length-with (record { handle = h; place = a }) ps in let n : length (with_held g a ps) ≡ suc (length ps) = rw some one in omega arith
+room_for g a h ps room some few = let one = length-with (record { key = key_of h; place = a }) ps in let n : length (with_held g a ps) ≡ suc (length ps) = rw some one in omega arith
 
 -- a row is read
 pub row_is : {D : Type 0} (i : ℕ) (r : Row D) (rows : List (Row D)) → i < length rows → r ≡ get_or rows i r → slice_get rows i ≡ Some r

@@ -1,11 +1,15 @@
--- The rows that have a handle, in the order of handles, and among those with the same one in the order of rows.
-use Rattle.std.specs.Prelude.{ℕ, suc, ◌+◌, ◌-◌, ◌==◌, nat_lt, nat_le, Bool, ◌||◌, ◌&&◌, if◌then◌else◌, List, [], ◌∷◌, remove, Option, Some, None, false, ◌≡◌}
+-- The rows that have a handle, in the order of the handles' keys, and among those with the same handle in the order of rows.
+use Rattle.std.specs.Prelude.{ℕ, suc, ◌+◌, ◌-◌, ◌*◌, ◌%◌, ◌==◌, nat_lt, nat_le, Bool, ◌||◌, ◌&&◌, if◌then◌else◌, List, [], ◌∷◌, remove, Option, Some, None, false, ◌≡◌}
 use Rattle.res_table.specs.declared.row.Row.{Row}
 use Rattle.res_table.specs.declared.handles.Held.{Held}
 
+-- the number by which a handle has its place in the order: handles that stand close have keys that are spread evenly
+abbrev pub key_of : ℕ → ℕ
+key_of h = ((h * 2654435761) % 4294967296) * 4294967296 + h
+
 -- whether a pair stands before another
 abbrev pub is_before : Held → Held → Bool
-is_before p q = nat_lt p.handle q.handle || (p.handle == q.handle && nat_lt p.place q.place)
+is_before p q = nat_lt p.key q.key || (p.key == q.key && nat_lt p.place q.place)
 
 -- how many pairs at the front stand before this one
 abbrev pub rank : Held → List Held → ℕ
@@ -24,12 +28,12 @@ without_pair p ps = remove ps (rank p ps)
 -- the pairs with that of a row which has this handle, or none
 abbrev pub with_held : Option ℕ → ℕ → List Held → List Held
 with_held None place ps = ps
-with_held (Some h) place ps = with_pair (record { handle = h; place = place }) ps
+with_held (Some h) place ps = with_pair (record { key = key_of h; place = place }) ps
 
 -- the pairs without that of a row which had this handle, or none
 abbrev pub without_held : Option ℕ → ℕ → List Held → List Held
 without_held None place ps = ps
-without_held (Some h) place ps = without_pair (record { handle = h; place = place }) ps
+without_held (Some h) place ps = without_pair (record { key = key_of h; place = place }) ps
 
 -- the pairs of rows, of which the first stands here
 abbrev pub pairs_from : {D : Type 0} → ℕ → List (Row D) → List Held
@@ -42,16 +46,16 @@ pairs_of rows = pairs_from 0 rows
 
 -- a pair, where a row is put in at an index
 abbrev pub pushed_back : ℕ → Held → Held
-pushed_back at p = if nat_le at p.place then record { handle = p.handle; place = p.place + 1 } else p
+pushed_back at p = if nat_le at p.place then record { key = p.key; place = p.place + 1 } else p
 
 -- a pair, where the row at an index, which isn't its own, is taken out
 abbrev pub pulled_up : ℕ → Held → Held
-pulled_up at p = if nat_lt at p.place then record { handle = p.handle; place = p.place - 1 } else p
+pulled_up at p = if nat_lt at p.place then record { key = p.key; place = p.place - 1 } else p
 
--- the least place of a row with the handle, where pairs stand in order
+-- the least place of a row whose handle has the key, where pairs stand in order
 abbrev pub first_place : ℕ → List Held → Option ℕ
-first_place h [] = None
-first_place h (p ∷ ps) = if is_before p (record { handle = h; place = 0 }) then first_place h ps else if p.handle == h then Some p.place else None
+first_place k [] = None
+first_place k (p ∷ ps) = if is_before p (record { key = k; place = 0 }) then first_place k ps else if p.key == k then Some p.place else None
 
 -- no pair stands before this one
 abbrev pub NoneBefore : Held → List Held → Type 0

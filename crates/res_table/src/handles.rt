@@ -1,16 +1,31 @@
 //! Where the rows stand that have a handle.
 
-ghost use Rattle.std.specs.Prelude.{◌≡◌, ◌<◌, ◌≤◌, ◌+◌, ◌^◌, [], length, map, All, OnOk, vec_len, vec_capacity};
-ghost use Rattle.res_table.specs.Held.{is_before, rank, with_pair, without_pair, with_held, without_held, pushed_back, pulled_up, first_place, AreInOrder};
+ghost use Rattle.std.specs.Prelude.{◌≡◌, ◌<◌, ◌≤◌, ◌+◌, ◌^◌, ◌↔◌, [], length, map, All, OnOk, IfSome, IsTrue, vec_len, vec_capacity};
+ghost use Rattle.res_table.specs.Held.{key_of, is_before, rank, with_pair, without_pair, with_held, without_held, pushed_back, pulled_up, first_place, AreInOrder};
 
 use mac_base::error::HostFull;
 use mac_base::handle::Handle;
 use std::alloc::Global;
 
-/// The handle of a row that has one, and where the row stands.
+/// What handles are multiplied by: those of one zone, which stand close, are then spread evenly.
+const SPREAD: u32 = 2_654_435_761;
+
+/// How far from where a pair should stand it is looked for first, and then.
+const NEAR: usize = 4;
+const FAR: usize = 64;
+
+/// The number by which a handle has its place in the order: the upper half spreads handles evenly, the lower one is the handle.
+fn key_of(handle: Handle) -> u64
+    ensures { result ≡ key_of handle }
+{
+    let number = handle.number();
+    u64::from(number.wrapping_mul(SPREAD)) * 4_294_967_296 + u64::from(number)
+}
+
+/// The key of the handle of a row that has one, and where the row stands.
 #[derive(Clone, Copy, Debug, PartialEq, Eq)]
 pub(crate) struct Held {
-    handle: Handle,
+    key: u64,
     place: usize,
 }
 
@@ -19,8 +34,7 @@ impl Held {
     fn is_before(self, other: Held) -> bool
         ensures { result ≡ is_before self other }
     {
-        self.handle.number() < other.handle.number()
-            || (self.handle == other.handle && self.place < other.place)
+        self.key < other.key || (self.key == other.key && self.place < other.place)
     }
 
     /// The pair, where a row is put in at an index.
@@ -30,7 +44,7 @@ impl Held {
     {
         if at <= self.place {
             Held {
-                handle: self.handle,
+                key: self.key,
                 place: self.place + 1,
             }
         } else {
@@ -44,7 +58,7 @@ impl Held {
     {
         if at < self.place {
             Held {
-                handle: self.handle,
+                key: self.key,
                 place: self.place - 1,
             }
         } else {
@@ -72,8 +86,84 @@ fn pull_up(pairs: &mut [Held], at: usize)
     }
 }
 
-/// The rows that have a handle, in the order of handles, and among those with the same one in the order of rows. So a row is found
-/// by halving.
+/// How many of so many keys that are spread evenly stand in a distance.
+fn count_within(distance: u64, count: usize) -> usize {
+    ((distance >> 32).wrapping_mul(count as u64) >> 32) as usize
+}
+
+/// Where a pair should stand, if the keys are spread evenly: as told by a pair that stands near.
+fn guess(pairs: &[Held], pair: Held) -> usize
+    ensures { result ≤ length pairs.now }
+{
+    let count = pairs.len();
+    let at = count_within(pair.key, count);
+    let Some(held) = pairs.get(at) else {
+        return count;
+    };
+    if held.key <= pair.key {
+        at.saturating_add(count_within(pair.key - held.key, count))
+            .min(count)
+    } else {
+        at.saturating_sub(count_within(held.key - pair.key, count))
+    }
+}
+
+/// Whether a pair stands, or belongs, at an index or behind it.
+fn is_from(pairs: &[Held], pair: Held, index: usize) -> bool
+    requires order { AreInOrder pairs.now }
+    requires within { index ≤ length pairs.now }
+    ensures { IsTrue result ↔ index ≤ rank pair pairs.now }
+{
+    index == 0 || pairs[index - 1].is_before(pair)
+}
+
+/// Whether a pair stands, or belongs, at an index or before it.
+fn is_up_to(pairs: &[Held], pair: Held, index: usize) -> bool
+    requires order { AreInOrder pairs.now }
+    ensures { IsTrue result ↔ rank pair pairs.now ≤ index }
+{
+    index >= pairs.len() || !pairs[index].is_before(pair)
+}
+
+/// Where a pair stands, or belongs, among pairs: by halving.
+fn rank_by_halving(pairs: &[Held], pair: Held) -> usize
+    requires { AreInOrder pairs.now }
+    ensures { result ≡ rank pair pairs.now }
+{
+    pairs.partition_point(|held| held.is_before(pair))
+}
+
+/// Where a pair stands, or belongs, if that is so near to an index.
+fn rank_near(pairs: &[Held], pair: Held, index: usize, reach: usize) -> Option<usize>
+    requires order { AreInOrder pairs.now }
+    requires within { index ≤ length pairs.now }
+    ensures { IfSome result (λ at. at ≡ rank pair pairs.now) }
+{
+    let from = index.saturating_sub(reach);
+    let to = index.saturating_add(reach).min(pairs.len());
+    if !is_from(pairs, pair, from) || !is_up_to(pairs, pair, to) {
+        return None;
+    }
+    Some(from + rank_by_halving(&pairs[from..to], pair))
+}
+
+/// Where a pair stands, or belongs: near to where it should stand, or else by halving.
+fn rank(pairs: &[Held], pair: Held) -> usize
+    requires { AreInOrder pairs.now }
+    ensures { result ≡ rank pair pairs.now }
+{
+    let index = guess(pairs, pair);
+    if let Some(at) = rank_near(pairs, pair, index, NEAR) {
+        return at;
+    }
+    if let Some(at) = rank_near(pairs, pair, index, FAR) {
+        return at;
+    }
+    rank_by_halving(pairs, pair)
+}
+
+/// The rows that have a handle, in the order of the handles' keys, and among those with the same handle in the order of rows. So a
+/// row is found where its key says that it should stand, or else by halving.
 #[derive(Debug, Drop)]
 pub(crate) struct Handles {
     pairs: Vec<Held>,
@@ -105,20 +195,21 @@ impl Handles {
         requires { AreInOrder self.now.pairs.items }
         ensures { result ≡ rank pair self.now.pairs.items }
     {
-        self.pairs.partition_point(|held| held.is_before(pair))
+        rank(&self.pairs, pair)
     }
 
     /// Where the first row with a handle stands.
     pub(crate) fn find(&self, handle: Handle) -> Option<usize>
         requires { AreInOrder self.now.pairs.items }
-        ensures { result ≡ first_place handle self.now.pairs.items }
+        ensures { result ≡ first_place (key_of handle) self.now.pairs.items }
     {
-        let start = self.rank(Held { handle, place: 0 });
+        let key = key_of(handle);
+        let start = self.rank(Held { key, place: 0 });
         if start >= self.pairs.len() {
             return None;
         }
         let held = self.pairs[start];
-        if held.handle == handle {
+        if held.key == key {
             Some(held.place)
         } else {
             None
@@ -133,8 +224,9 @@ impl Handles {
         ensures room { vec_capacity self.new.pairs ≡ vec_capacity self.old.pairs }
     {
         if let Some(handle) = handle {
-            let at = self.rank(Held { handle, place });
-            let _ = self.pairs.insert(at, Held { handle, place });
+            let key = key_of(handle);
+            let at = self.rank(Held { key, place });
+            let _ = self.pairs.insert(at, Held { key, place });
         }
     }
 
@@ -145,7 +237,8 @@ impl Handles {
         ensures room { vec_capacity self.new.pairs ≡ vec_capacity self.old.pairs }
     {
         if let Some(handle) = handle {
-            let at = self.rank(Held { handle, place });
+            let key = key_of(handle);
+            let at = self.rank(Held { key, place });
             if at < self.pairs.len() {
                 let _pair = self.pairs.remove(at);
             }

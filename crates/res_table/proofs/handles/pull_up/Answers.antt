@@ -1,4 +1,5 @@
-use Rattle.std.proofs.Common.{ap, ◌∙◌, arith, set}
+use Rattle.std.proofs.Common.{ap, ◌∙◌, arith, set, get_or}
+use Rattle.std.proofs.lemmas.List.{get_or_default}
 use Rattle.std.proofs.lemmas.List.Edits.{map_over_more}
 use Rattle.res_table.specs.declared.handles.Held.{Held}
 use Rattle.res_table.specs.Held.{pulled_up}
@@ -7,4 +8,5 @@ use Rattle.res_table.proofs.handles.pull_up.Goals as goal
 pub loop-index-preserved : goal.loop-index-preserved
 loop-index-preserved c =
     let xs = c.args.pairs.now in let ys = c.loop-index.pairs in let at = c.loop-index.index in let test = c.loop-index-test.true in
-    ap (λ (p : Held). set ys at p) c.pulled_up.ensures ∙ map_over_more (pulled_up c.args.at) xs ys at c.index-pairs-index.result (omega arith) c.loop-index.invariant c.index-pairs-index.is
+    let long = c.loop-index.auto.pairs in let p = get_or ys at (record { key = 0; place = 0 }) in
+    ap (λ (p : Held). set ys at p) c.pulled_up.ensures ∙ map_over_more (pulled_up c.args.at) xs ys at p (omega arith) c.loop-index.invariant (get_or_default ys at (record { key = 0; place = 0 }) p (omega arith))

@@ -6,7 +6,7 @@ use Rattle.res_table.proofs.handles.Handles.add.Goals as goal
 pub insert-requires : goal.insert-requires
 insert-requires c =
     let ok = c.args.self.now.pairs.ok.0 in let r = c.rank-at.ensures in
-    let within = rank_within (record { handle = c.in-Some.handle; place = c.args.place }) c.args.self.now.pairs.items in
+    let within = rank_within (record { key = c.key_of-key.result; place = c.args.place }) c.args.self.now.pairs.items in
     omega arith
 
 pub returns-in-Some-clause-pairs : goal.returns-in-Some-clause-pairs
@@ -16,7 +16,7 @@ returns-in-Some-clause-pairs c =
     let few = room_for c.args.handle c.args.place c.in-Some.handle ps (vec_capacity c.args.self.now.pairs) c.in-Some.is c.requires.room in
     let room : vec_len c.args.self.now.pairs < vec_capacity c.args.self.now.pairs = omega arith in
     let done : is_ok c.insert.result ≡ true = search (rules, c.insert.ensures.succeeds room) in
-    put_in c.args.handle c.args.place c.in-Some.handle c.rank-at.result ps c.insert.new.self.items c.in-Some.is c.rank-at.ensures (rw done at c.insert.ensures.items)
+    put_in c.args.handle c.args.place c.in-Some.handle c.key_of-key.result c.rank-at.result ps c.insert.new.self.items c.in-Some.is c.key_of-key.ensures c.rank-at.ensures (rw done at c.insert.ensures.items)
 
 pub returns-in-Some-clause-room : goal.returns-in-Some-clause-room
 returns-in-Some-clause-room c =

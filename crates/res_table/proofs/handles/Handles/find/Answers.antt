@@ -1,26 +1,33 @@
-use Rattle.std.proofs.Common.{rules, ◌≡◌, ◌==◌, sym, ap, ◌∙◌, true, false, Bool, arith, Some, None}
+use Rattle.std.proofs.Common.{rules, ◌≡◌, ◌==◌, ℕ, sym, ap, ◌∙◌, true, false, Bool, arith, Some, None, List}
 use Rattle.std.specs.Prelude.{if◌then◌else◌}
+use Rattle.res_table.specs.declared.handles.Held.{Held}
+use Rattle.res_table.specs.Held.{key_of, first_place}
 use Rattle.res_table.proofs.Pairs.{first_none, first_at}
 use Rattle.res_table.proofs.handles.Handles.find.Goals as goal
 
 pub returns-then-start-len : goal.returns-then-start-len
 returns-then-start-len c =
+    let ps = c.args.self.now.pairs.items in
     let ok = c.args.self.now.pairs.ok.0 in
     let r = c.rank-start.ensures in let n = c.len.ensures in let past = c.if-start-len.true in
-    sym (first_none c.args.handle c.args.self.now.pairs.items (omega arith))
+    sym (ap (λ (k : ℕ). first_place k ps) (sym c.key_of-key.ensures) ∙ first_none c.key_of-key.result ps (omega arith))
 
-pub returns-then-eq : goal.returns-then-eq
-returns-then-eq c =
+pub returns-then-held-key : goal.returns-then-held-key
+returns-then-held-key c =
+    let ps = c.args.self.now.pairs.items in let k = c.key_of-key.result in let p = c.index-held.result.now in
     let ok = c.args.self.now.pairs.ok.0 in
     let n = c.len.ensures in let within = c.if-start-len.false in
-    let same : (c.index.result.now.handle == c.args.handle) ≡ true = search (rules, c.if-eq.true, c.if-eq.ensures) in
-    sym (first_at c.args.handle c.args.self.now.pairs.items c.rank-start.result c.index.result.now c.rank-start.ensures (omega arith) c.index.ensures
-    ∙ ap (λ (b : Bool). if b then Some c.index.result.now.place else None) same)
+    let same : (p.key == k) ≡ true = search (rules, c.if-held-key.true) in
+    sym (ap (λ (n : ℕ). first_place n ps) (sym c.key_of-key.ensures)
+    ∙ first_at k ps c.rank-start.result p c.rank-start.ensures (omega arith) c.index-held.ensures
+    ∙ ap (λ (b : Bool). if b then Some p.place else None) same)
 
-pub returns-else-eq : goal.returns-else-eq
-returns-else-eq c =
+pub returns-else-held-key : goal.returns-else-held-key
+returns-else-held-key c =
+    let ps = c.args.self.now.pairs.items in let k = c.key_of-key.result in let p = c.index-held.result.now in
     let ok = c.args.self.now.pairs.ok.0 in
     let n = c.len.ensures in let within = c.if-start-len.false in
-    let same : (c.index.result.now.handle == c.args.handle) ≡ false = search (rules, c.if-eq.false, c.if-eq.ensures) in
-    sym (first_at c.args.handle c.args.self.now.pairs.items c.rank-start.result c.index.result.now c.rank-start.ensures (omega arith) c.index.ensures
-    ∙ ap (λ (b : Bool). if b then Some c.index.result.now.place else None) same)
+    let same : (p.key == k) ≡ false = search (rules, c.if-held-key.false) in
+    sym (ap (λ (n : ℕ). first_place n ps) (sym c.key_of-key.ensures)
+    ∙ first_at k ps c.rank-start.result p c.rank-start.ensures (omega arith) c.index-held.ensures
+    ∙ ap (λ (b : Bool). if b then Some p.place else None) same)
