@@ -4,3 +4,4 @@ pub mod FreeIds
 pub mod Bare
 pub mod Files
 pub mod Pairs
+pub mod Expanded

@@ -5,3 +5,4 @@ pub mod Behind
 pub mod Marks
 pub mod OpenFiles
 pub mod Held
+pub mod Kinds

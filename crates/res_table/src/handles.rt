@@ -12,6 +12,7 @@ const SPREAD: u32 = 2_654_435_761;
 
 /// How far from where a pair should stand it is looked for first, and then.
 const NEAR: usize = 4;
+
 const FAR: usize = 64;
 
 /// The number by which a handle has its place in the order: the upper half spreads handles evenly, the lower one is the handle.

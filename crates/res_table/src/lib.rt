@@ -4,6 +4,7 @@
 pub mod chain;
 mod handles;
 mod ids;
+mod kinds;
 pub mod row;
 pub mod rows;
 mod runs;

@@ -2,6 +2,7 @@
 
 use crate::handles::Handles;
 use crate::ids::{first_free, mark_taken};
+use crate::kinds::Kinds;
 use crate::row::Row;
 use crate::runs::{MAX_OFFSET, names_fit, run_end};
 use fork_bytes::layout::MAX_ROWS;
@@ -11,23 +12,27 @@ use res_base::resource::{ResAttrs, ResType, Resource};
 use std::alloc::Global;
 use std::marker::Model;
 
-/// The rows of an open file, in order. A contract sees the list. A row is found by its handle without going through the rows.
+/// The rows of an open file, in order. A contract sees the list. A row is found by its handle without going through the rows, and
+/// what is asked of a type goes through the runs of rows of one type alone.
 #[derive(Debug, Drop)]
 pub struct Rows<D> {
     rows: Vec<Row<D>>,
     handles: Handles,
+    kinds: Kinds,
 }
 
 impl<D> Model for Rows<D> {
     ghost use Rattle.std.specs.Prelude.{◌≡◌, ◌≤◌, List, length, vec_capacity};
     ghost use Rattle.res_table.specs.declared.row.Row.{Row};
     ghost use Rattle.res_table.specs.Held.{pairs_of};
+    ghost use Rattle.res_table.specs.Kinds.{expanded, kinds_of};
 
     ghost Value = { List (Row D) };
 
     ghost view = { λ r. r.rows.items };
 
-    ghost invariant = { λ r. (r.handles.pairs.items ≡ pairs_of r.rows.items) × (length r.rows.items ≤ vec_capacity r.handles.pairs) };
+    ghost invariant = { λ r. (r.handles.pairs.items ≡ pairs_of r.rows.items) × (length r.rows.items ≤ vec_capacity r.handles.pairs)
+        × (expanded r.kinds.runs.items ≡ kinds_of r.rows.items) };
 }
 
 impl<D> Rows<D> {
@@ -44,6 +49,7 @@ impl<D> Rows<D> {
         Rows {
             rows: Vec::new(alloc),
             handles: Handles::new(alloc),
+            kinds: Kinds::new(alloc),
         }
     }
 
@@ -55,12 +61,19 @@ impl<D> Rows<D> {
         ensures { IfOk result (λ rows. rows ≡ map opened_row resources.items) }
     {
         let mut rows = Vec::with_capacity(alloc, resources.len())?;
+        let mut kinds = Kinds::new(alloc);
         for resource in resources {
-            rows.push(Row::opened(resource))?;
+            let row = Row::opened(resource);
+            kinds.push(row.kind())?;
+            rows.push(row)?;
         }
         let mut handles = Handles::new(alloc);
         handles.reserve(rows.len())?;
-        Ok(Rows { rows, handles })
+        Ok(Rows {
+            rows,
+            handles,
+            kinds,
+        })
     }
 
     /// How many rows there are.
@@ -125,20 +138,14 @@ impl<D> Rows<D> {
     pub fn count_of_type(&self, kind: ResType) -> usize
         ensures { result ≡ count_of_type kind self.now }
     {
-        self.rows.iter().filter(|row| row.is_of_type(kind)).count()
+        self.kinds.count(kind)
     }
 
     /// Where a new row of a type belongs.
     fn end_of_type(&self, kind: ResType) -> usize
         ensures { result ≡ end_of_type kind self.now }
     {
-        let mut end = self.rows.len();
-        for (index, row) in self.rows.iter().enumerate() {
-            if row.is_of_type(kind) {
-                end = index + 1;
-            }
-        }
-        end
+        self.kinds.end(kind, self.rows.len())
     }
 
     /// Adds a row behind the last of its type, or last where there is none. Without host memory nothing is changed.
@@ -148,12 +155,15 @@ impl<D> Rows<D> {
         ensures added { OnOk result (self.new ≡ added row self.old) }
         ensures same { OnErr result (self.new ≡ self.old) }
     {
-        let at = self.end_of_type(row.kind());
+        let kind = row.kind();
+        let at = self.end_of_type(kind);
         let handle = row.handle;
         self.handles.reserve(self.rows.len() + 1)?;
+        self.kinds.reserve()?;
         self.rows.insert(at, row)?;
         self.handles.push_back(at);
         self.handles.add(handle, at);
+        self.kinds.add(kind);
         Ok(())
     }
 
@@ -166,6 +176,7 @@ impl<D> Rows<D> {
         let row = self.rows.remove(index);
         self.handles.remove(row.handle, index);
         self.handles.pull_up(index);
+        self.kinds.remove(index);
         row
     }
 
@@ -182,16 +193,7 @@ impl<D> Rows<D> {
     pub fn index_of_ith(&self, kind: ResType, i: usize) -> Option<usize>
         ensures { result ≡ index_of_ith kind i self.now }
     {
-        let mut left = i;
-        for (index, row) in self.rows.iter().enumerate() {
-            if row.is_of_type(kind) {
-                if left == 1 {
-                    return Some(index);
-                }
-                left = left.saturating_sub(1);
-            }
-        }
-        None
+        self.kinds.ith(kind, i)
     }
 
     /// How many types there are (CountTypes). Rows of one type stand together.

@@ -1,6 +1,4 @@
-use Rattle.std.proofs.Common.{◌<◌, ◌-◌, length, ap, ◌∙◌, arith}
-use Rattle.res_table.specs.declared.handles.Held.{Held}
-use Rattle.res_table.specs.Held.{is_before}
+use Rattle.std.proofs.Common.{◌<◌, ◌-◌, length, arith}
 use Rattle.res_table.proofs.Pairs.{told_from}
 use Rattle.res_table.proofs.handles.is_from.Goals as goal
 

@@ -1,4 +1,4 @@
-use Rattle.std.proofs.Common.{rules, ◌<◌, ◌≤◌, length, ap, ◌∙◌, arith}
+use Rattle.std.proofs.Common.{rules, ◌<◌, length, arith}
 use Rattle.res_table.proofs.Pairs.{told_up_to, rank_within}
 use Rattle.res_table.proofs.handles.is_up_to.Goals as goal
 

@@ -1,6 +1,6 @@
-use Rattle.std.proofs.Common.{rules, ◌≡◌, ◌<◌, ◌≤◌, ◌+◌, ◌-◌, length, take, drop, sym, ap, ◌∙◌, arith}
+use Rattle.std.proofs.Common.{rules, ◌≡◌, ◌<◌, ◌+◌, sym, ap, ◌∙◌, arith}
 use Rattle.res_table.specs.Held.{rank}
-use Rattle.res_table.proofs.Pairs.{rank_within, rank_between, order_dropped, order_taken}
+use Rattle.res_table.proofs.Pairs.{rank_between, order_dropped, order_taken}
 use Rattle.res_table.proofs.handles.rank_near.Goals as goal
 
 pub rank_by_halving-requires : goal.rank_by_halving-requires

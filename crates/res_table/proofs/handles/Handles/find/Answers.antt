@@ -1,7 +1,6 @@
-use Rattle.std.proofs.Common.{rules, ◌≡◌, ◌==◌, ℕ, sym, ap, ◌∙◌, true, false, Bool, arith, Some, None, List}
+use Rattle.std.proofs.Common.{rules, ◌≡◌, ◌==◌, ℕ, sym, ap, ◌∙◌, true, false, Bool, arith, Some, None}
 use Rattle.std.specs.Prelude.{if◌then◌else◌}
-use Rattle.res_table.specs.declared.handles.Held.{Held}
-use Rattle.res_table.specs.Held.{key_of, first_place}
+use Rattle.res_table.specs.Held.{first_place}
 use Rattle.res_table.proofs.Pairs.{first_none, first_at}
 use Rattle.res_table.proofs.handles.Handles.find.Goals as goal
 

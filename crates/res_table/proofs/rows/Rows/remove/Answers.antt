@@ -1,7 +1,9 @@
-use Rattle.std.proofs.Common.{◌<◌, List, length, sym, ap, ◌∙◌, arith, map, slice_get}
+use Rattle.std.proofs.Common.{ℕ, remove, ◌<◌, List, length, sym, ap, ◌∙◌, arith, map, slice_get}
 use Rattle.res_table.specs.declared.row.Row.{Row}
 use Rattle.res_table.specs.Held.{pulled_up, without_held, pairs_of}
 use Rattle.res_table.proofs.Pairs.{order_kept, pairs_removed, row_is}
+use Rattle.res_table.specs.Kinds.{kinds_of}
+use Rattle.res_table.proofs.Expanded.{removed_are, as_many}
 use Rattle.res_table.proofs.rows.Rows.remove.Goals as goal
 
 pub remove-requires : goal.remove-requires
@@ -17,7 +19,14 @@ invariant_of-self g c =
       c.pull_up.ensures.pairs ∙ ap (map (pulled_up i)) (c.remove.ensures.pairs ∙ ap (without_held r.handle i) c.self.invariant.0)
           ∙ pairs_removed i r rows within c.remove-row.ensures.value ∙ ap pairs_of (sym c.remove-row.ensures.items),
       omega arith,
+      c.remove-2.ensures ∙ ap (λ (ks : List (List ℕ)). remove ks i) c.self.invariant.2 ∙ removed_are i rows ∙ ap kinds_of (sym c.remove-row.ensures.items),
     )
+
+pub remove-requires-2 : goal.remove-requires-2
+remove-requires-2 g c =
+    let rows = c.self.inside.rows.items in
+    let long = ap (λ (rs : List (Row _)). length rs) c.self.view_is in
+    let count = ap (λ (ks : List (List ℕ)). length ks) c.self.invariant.2 in let many = as_many rows in let inside = c.requires in omega arith
 
 pub returns-clause-row : goal.returns-clause-row
 returns-clause-row g c =

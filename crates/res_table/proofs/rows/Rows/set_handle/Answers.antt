@@ -1,10 +1,11 @@
-use Rattle.std.proofs.Common.{◌<◌, List, length, subst, sym, ap, ◌∙◌, arith}
+use Rattle.std.proofs.Common.{◌<◌, List, length, refl, subst, sym, ap, ◌∙◌, arith}
 use Rattle.std.specs.Prelude.{vec_capacity}
 use Rattle.std.proofs.lemmas.List.{length-set}
 use Rattle.res_table.specs.declared.row.Row.{Row}
 use Rattle.res_table.specs.Rows.{changed_at, with_handle}
 use Rattle.res_table.specs.Held.{AreInOrder}
 use Rattle.res_table.proofs.Pairs.{order_kept, order_without, replaced_is, replaced_few, changed_is}
+use Rattle.res_table.proofs.Expanded.{kinds_kept}
 use Rattle.res_table.proofs.rows.Rows.set_handle.Goals as goal
 
 pub remove-requires : goal.remove-requires
@@ -35,6 +36,7 @@ invariant_of-self g c =
     let room = c.remove.ensures.room in let last = c.add.ensures.room in let few = c.self.invariant.1 in let n = length-set rows i new in (
       c.add.ensures.pairs ∙ is,
       omega arith,
+      c.self.invariant.2 ∙ sym (kinds_kept i c.index_mut.result.now new rows c.index_mut.ensures.value refl),
     )
 
 pub returns : goal.returns

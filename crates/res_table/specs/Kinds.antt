@@ -1,0 +1,42 @@
+-- The types of rows, in order: one for each row.
+use Rattle.std.specs.Prelude.{ℕ, ◌+◌, Bool, not, ◌&&◌, if◌then◌else◌, List, [], ◌∷◌, ◌++◌, map, replicate, bytes_eq, nat_lt}
+use Rattle.std.specs.List.{list_any}
+use Rattle.fork_bytes.specs.declared.layout.TypeCount.{TypeCount}
+use Rattle.res_table.specs.declared.row.Row.{Row}
+
+-- the types of rows
+abbrev pub kinds_of : {D : Type 0} → List (Row D) → List (List ℕ)
+kinds_of rows = map (λ r. r.resource.kind) rows
+
+-- whether a run has rows of a type
+abbrev pub is_run_of : List ℕ → TypeCount → Bool
+is_run_of kind run = bytes_eq run.kind kind && nat_lt 0 run.count
+
+-- the types that runs stand for: each as often as it is counted
+abbrev pub expanded : List TypeCount → List (List ℕ)
+expanded [] = []
+expanded (run ∷ runs) = replicate run.count run.kind ++ expanded runs
+
+-- whether one of some types is this one
+abbrev pub has_kind : List ℕ → List (List ℕ) → Bool
+has_kind kind ks = list_any (λ k. bytes_eq k kind) ks
+
+-- how many of some types are this one
+abbrev pub count_of : List ℕ → List (List ℕ) → ℕ
+count_of kind [] = 0
+count_of kind (k ∷ ks) = if bytes_eq k kind then count_of kind ks + 1 else count_of kind ks
+
+-- where those of some types stand that are this one, where the first stands here
+abbrev pub places_of : ℕ → List ℕ → List (List ℕ) → List ℕ
+places_of at kind [] = []
+places_of at kind (k ∷ ks) = if bytes_eq k kind then at ∷ places_of (at + 1) kind ks else places_of (at + 1) kind ks
+
+-- the index behind the last that is this one, where the first stands at `at`; `end` where none is
+abbrev pub end_of : List ℕ → ℕ → ℕ → List (List ℕ) → ℕ
+end_of kind end at [] = end
+end_of kind end at (k ∷ ks) = end_of kind (if bytes_eq k kind then at + 1 else end) (at + 1) ks
+
+-- some types with one more, behind the last of the same, or last
+abbrev pub with_kind : List ℕ → List (List ℕ) → List (List ℕ)
+with_kind kind [] = kind ∷ []
+with_kind kind (k ∷ ks) = if bytes_eq k kind && not (has_kind kind ks) then k ∷ kind ∷ ks else k ∷ with_kind kind ks

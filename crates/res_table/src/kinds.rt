@@ -1,0 +1,190 @@
+//! The types of rows, in order: how many rows of one type stand together.
+
+ghost use Rattle.std.specs.Prelude.{◌≡◌, ◌≤◌, ◌<◌, ◌+◌, ◌^◌, ◌++◌, ◌∷◌, [], length, take, drop, get_or, remove, true, false, bytes_eq, if◌then◌else◌, IfSome, IfNone, OnOk, vec_len, vec_capacity};
+ghost use Rattle.res_table.specs.Kinds.{is_run_of, expanded, has_kind, count_of, places_of, end_of, with_kind};
+ghost use Rattle.res_table.specs.Rows.{ith};
+
+use fork_bytes::layout::TypeCount;
+use mac_base::error::HostFull;
+use res_base::resource::ResType;
+use std::alloc::Global;
+
+/// Whether a run has rows of a type.
+fn is_run_of(run: TypeCount, kind: ResType) -> bool
+    ensures { result ≡ is_run_of kind run }
+{
+    run.kind == kind && run.count > 0
+}
+
+/// How many rows of a type a run has.
+fn counted(run: TypeCount, kind: ResType) -> usize
+    ensures { result ≡ (if bytes_eq run.kind kind then run.count else 0) }
+{
+    if run.kind == kind { run.count } else { 0 }
+}
+
+/// The last run that has rows of a type, if there is one.
+fn last_run(runs: &[TypeCount], kind: ResType) -> Option<usize>
+    ensures some { IfSome result (λ at. (at < length runs.now) × (is_run_of kind (get_or runs.now at (record { kind = []; count = 0 })) ≡ true)
+        × (has_kind kind (expanded (drop (at + 1) runs.now)) ≡ false)) }
+    ensures none { IfNone result (has_kind kind (expanded runs.now) ≡ false) }
+{
+    let mut index = runs.len();
+    while index > 0 {
+        if is_run_of(runs[index - 1], kind) {
+            return Some(index - 1);
+        }
+        index -= 1;
+    }
+    None
+}
+
+/// The run that has the row at an index.
+fn run_with(runs: &[TypeCount], place: usize) -> usize
+    requires { place < length (expanded runs.now) }
+    ensures within { result < length runs.now }
+    ensures start { length (expanded (take result runs.now)) ≤ place }
+    ensures end { place < length (expanded (take (result + 1) runs.now)) }
+{
+    let mut left = place;
+    for (index, run) in runs.iter().enumerate() {
+        if left < run.count {
+            return index;
+        }
+        left -= run.count;
+    }
+    unreachable!()
+}
+
+/// The types of rows, in order: each with how many rows of it stand together. So what is asked of a type doesn't go through the rows.
+#[derive(Debug, Drop)]
+pub(crate) struct Kinds {
+    runs: Vec<TypeCount>,
+}
+
+impl Kinds {
+    /// The types of no rows. This takes no memory of the host.
+    pub(crate) fn new(alloc: Global) -> Kinds
+        ensures { expanded result.runs.items ≡ [] }
+    {
+        Kinds {
+            runs: Vec::new(alloc),
+        }
+    }
+
+    /// Makes room for one more run.
+    pub(crate) fn reserve(&mut self) -> Result<(), HostFull>
+        ensures same { self.new.runs.items ≡ self.old.runs.items }
+        ensures room { OnOk result (vec_len self.new.runs < vec_capacity self.new.runs) }
+    {
+        self.runs.reserve(1)?;
+        Ok(())
+    }
+
+    /// Adds the type of a row behind all others.
+    pub(crate) fn push(&mut self, kind: ResType) -> Result<(), HostFull>
+        requires { length (expanded self.old.runs.items) + 1 < 2 ^ 64 }
+        ensures { OnOk result (expanded self.new.runs.items ≡ expanded self.old.runs.items ++ kind ∷ []) }
+    {
+        let count = self.runs.len();
+        if count > 0 {
+            let last = self.runs[count - 1];
+            if last.kind == kind {
+                self.runs[count - 1] = TypeCount {
+                    kind,
+                    count: last.count + 1,
+                };
+                return Ok(());
+            }
+        }
+        self.runs.push(TypeCount { kind, count: 1 })?;
+        Ok(())
+    }
+
+    /// How many rows have a type.
+    pub(crate) fn count(&self, kind: ResType) -> usize
+        requires { length (expanded self.now.runs.items) < 2 ^ 64 }
+        ensures { result ≡ count_of kind (expanded self.now.runs.items) }
+    {
+        let mut count = 0;
+        for run in &self.runs {
+            count += counted(*run, kind);
+        }
+        count
+    }
+
+    /// Where the i-th row of a type stands, counted from 1.
+    pub(crate) fn ith(&self, kind: ResType, i: usize) -> Option<usize>
+        requires { length (expanded self.now.runs.items) < 2 ^ 64 }
+        ensures { result ≡ ith i (places_of 0 kind (expanded self.now.runs.items)) }
+    {
+        if i == 0 {
+            return None;
+        }
+        let mut left = i - 1;
+        let mut at = 0;
+        for run in &self.runs {
+            if is_run_of(*run, kind) {
+                if left < run.count {
+                    return Some(at + left);
+                }
+                left -= run.count;
+            }
+            at += run.count;
+        }
+        None
+    }
+
+    /// Where the last row of a type ends, or this index where there is none.
+    pub(crate) fn end(&self, kind: ResType, none: usize) -> usize
+        requires { length (expanded self.now.runs.items) < 2 ^ 64 }
+        ensures { result ≡ end_of kind none 0 (expanded self.now.runs.items) }
+    {
+        let mut end = none;
+        let mut at = 0;
+        for run in &self.runs {
+            at += run.count;
+            if is_run_of(*run, kind) {
+                end = at;
+            }
+        }
+        end
+    }
+
+    /// Adds the type of a row behind the last of the same type, or last where there is none.
+    pub(crate) fn add(&mut self, kind: ResType)
+        requires small { length (expanded self.old.runs.items) + 1 < 2 ^ 64 }
+        requires room { vec_len self.old.runs < vec_capacity self.old.runs }
+        ensures { expanded self.new.runs.items ≡ with_kind kind (expanded self.old.runs.items) }
+    {
+        match last_run(&self.runs, kind) {
+            Some(index) => {
+                let run = self.runs[index];
+                self.runs[index] = TypeCount {
+                    kind,
+                    count: run.count + 1,
+                };
+            }
+            None => {
+                let _ = self.runs.push(TypeCount { kind, count: 1 });
+            }
+        }
+    }
+
+    /// Takes out the type of the row at an index.
+    pub(crate) fn remove(&mut self, place: usize)
+        requires { place < length (expanded self.old.runs.items) }
+        ensures { expanded self.new.runs.items ≡ remove (expanded self.old.runs.items) place }
+    {
+        let index = run_with(&self.runs, place);
+        let run = self.runs[index];
+        if run.count == 1 {
+            let _run = self.runs.remove(index);
+        } else {
+            self.runs[index] = TypeCount {
+                kind: run.kind,
+                count: run.count - 1,
+            };
+        }
+    }
+}
