@@ -64,6 +64,12 @@ ROWS = [
         "h = NewHandle 2 / Poke h 0 \"Hi\" / AddResource h 'TEXT' 128 \"n\" / UniqueID 'TEXT' / CountTypes / GetIndType 1 / GetIndType 2 / ReleaseResource h / WriteResource h / GetResInfo h / SizeResource h / ReleaseResource h / GetHandleSize h / ResError / k = GetResource 'TEXT' 128 / Peek k 0 2",
         ".. / 4 UniqueID 129 0 / 5 CountTypes 1 0 / 6 GetIndType 'TEXT' 0 / 7 GetIndType -192 / .. / 10 GetResInfo 128 'TEXT' \"n\" 0 / 11 SizeResource 2 0 / .. / 13 GetHandleSize -111 / 14 ResError 0 0 / 15 GetResource $0010003C 0 / 16 Peek \"Hi\" 0",
     ),
+    # a resource is loaded, changed and written
+    (
+        HI,
+        "h = GetResource 'TEXT' 128 / Poke h 0 \"No\" / ChangedResource h / UpdateResFile / GetResAttrs h",
+        "1 GetResource $0010003C 0 / 2 Poke 0 / 3 ChangedResource 0 / 4 UpdateResFile 0 / 5 GetResAttrs 0 0",
+    ),
     # a change is written when the file is closed, beside a resource that is added with a name
     (
         HI,

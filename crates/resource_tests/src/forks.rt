@@ -58,6 +58,18 @@ pub(crate) fn shorter_pair(alloc: Global) -> Result<Vec<u8>, AllocError> {
     fork_of(alloc, &header_of(9, 62), data, TWO_ROWS)
 }
 
+/// A fork of 5,459 resources 'TEXT' 5 without names that share one datum of no bytes. The map has 65,546 bytes, and the name list can't be
+/// put behind the references, since two bytes don't hold its place.
+pub(crate) fn too_many(alloc: Global) -> Result<Vec<u8>, AllocError> {
+    let header = b"\x00\x00\x01\x00\x00\x00\x01\x04\x00\x00\x00\x04\x00\x01\x00\x0a";
+    let map = b"\x00\x00\x00\x00\x00\x00\x00\x00\x00\x1c\xff\xff\x00\x00TEXT\x15\x52\x00\x0a";
+    let mut fork = fork_of(alloc, header, b"\x00\x00\x00\x00", map)?;
+    for _ in 0..5459 {
+        fork.extend_from_slice(b"\x00\x05\xff\xff\x00\x00\x00\x00\x00\x00\x00\x00")?;
+    }
+    Ok(fork)
+}
+
 /// A disk with these bytes, whose call of this number fails. With 0 none does.
 pub(crate) fn store_of(bytes: Vec<u8>, turn: u64) -> TestStore {
     PlainStore {

@@ -6,8 +6,8 @@ mod device_faults;
 #[cfg(test)]
 mod forks;
 #[cfg(test)]
-mod host_memory;
-#[cfg(test)]
 mod lone_writes;
+#[cfg(test)]
+mod rows;
 #[cfg(test)]
 mod two_devices;
