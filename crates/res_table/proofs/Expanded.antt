@@ -1,18 +1,15 @@
 -- Types of rows, and the runs that stand for them.
-use Rattle.std.proofs.Common.{ℤ, ◌≡◌, refl, sym, ap, ◌∙◌, arith, ℕ, zero, suc, ◌+◌, ◌-◌, ◌<◌, ◌≤◌, List, [], ◌∷◌, ◌++◌, length, get_or, take, drop, set, remove, replicate, slice_get, filter, Bool, true, false, not, ◌||◌, ◌&&◌, cond, Some, None, position, bytes_eq, ◌⊎◌, inl, inr, if◌then◌else◌, append_assoc}
+use Rattle.std.proofs.Common.{◌≡◌, refl, sym, ap, ◌∙◌, arith, ℕ, zero, suc, ◌+◌, ◌-◌, ◌<◌, ◌≤◌, List, [], ◌∷◌, ◌++◌, length, get_or, take, drop, set, remove, replicate, slice_get, filter, Bool, true, false, not, ◌||◌, ◌&&◌, cond, Some, bytes_eq, ◌⊎◌, inl, inr, if◌then◌else◌, append_assoc}
 use Rattle.std.proofs.lemmas.List.{append-nil, get_or_default}
-use Rattle.std.specs.Prelude.{nat_lt, insert}
-use Rattle.std.specs.Ordering.{int_eq}
-use Rattle.std.specs.List.{list_any, position_from}
-use Rattle.std.proofs.lemmas.List.Quantifiers.{position-Some}
-use Rattle.std.proofs.lemmas.Iterator.Adapters.{position_from-zero}
+use Rattle.std.specs.Prelude.{nat_lt}
+use Rattle.std.specs.List.{list_any}
 use Rattle.std.proofs.lemmas.Bool.Decides.{nat_tests}
 use Rattle.std.proofs.lemmas.Slice.Eq.{bytes_eq-Decides}
 use Rattle.fork_bytes.specs.declared.layout.TypeCount.{TypeCount}
 use Rattle.res_table.specs.declared.row.Row.{Row}
-use Rattle.res_table.specs.Rows.{is_of_type, is_resource, added, indexes_from, count_of_type}
+use Rattle.res_table.specs.Rows.{is_of_type, added, indexes_from, count_of_type}
 use Rattle.res_table.specs.Behind.{last_of_type}
-use Rattle.res_table.specs.Kinds.{is_run_of, ids_of, is_id, kinds_of, expanded, has_kind, count_of, places_of, end_of, with_kind}
+use Rattle.res_table.specs.Kinds.{is_run_of, kinds_of, expanded, has_kind, count_of, places_of, end_of, with_kind}
 
 -- what is asked of the types of rows is asked of the rows
 pub count_is : {D : Type 0} (kind : List ℕ) (rows : List (Row D)) → count_of kind (kinds_of rows) ≡ count_of_type kind rows
@@ -353,66 +350,3 @@ run_taken runs i place run within is start end one =
 pub run_shorter : (runs : List TypeCount) (i place : ℕ) (run : TypeCount) → i < length runs → run ≡ get_or runs i run → length (expanded (take i runs)) ≤ place → place < length (expanded (take (i + 1) runs))
     → expanded (set runs i (record { kind = run.kind; count = run.count - 1 })) ≡ remove (expanded runs) place
 run_shorter runs i place run within is start end = runs_set runs i (record { kind = run.kind; count = run.count - 1 }) within ∙ sym (left_in runs i place run within is start end)
-
--- the ids of rows
-pub ids_kept : {D : Type 0} (i : ℕ) (r new : Row D) (rows : List (Row D)) → r ≡ get_or rows i r → new.resource.id ≡ r.resource.id → ids_of (set rows i new) ≡ ids_of rows
-ids_kept i r new [] is same = refl
-ids_kept zero r new (q ∷ qs) is same = ap (λ (k : ℤ). k ∷ ids_of qs) (same ∙ ap (λ (x : Row _). x.resource.id) is)
-ids_kept (suc i) r new (q ∷ qs) is same = ap (λ (ks : List ℤ). q.resource.id ∷ ks) (ids_kept i r new qs is same)
-
-pub ids_more : {D : Type 0} (rows : List (Row D)) (r : Row D) → ids_of (rows ++ r ∷ []) ≡ ids_of rows ++ r.resource.id ∷ []
-ids_more [] r = refl
-ids_more (q ∷ qs) r = ap (λ (ks : List ℤ). q.resource.id ∷ ks) (ids_more qs r)
-
-pub ids_inserted : {D : Type 0} (i : ℕ) (r : Row D) (rows : List (Row D)) → insert (ids_of rows) i r.resource.id ≡ ids_of (insert rows i r)
-ids_inserted zero r rows = refl
-ids_inserted (suc i) r [] = refl
-ids_inserted (suc i) r (q ∷ qs) = ap (λ (ks : List ℤ). q.resource.id ∷ ks) (ids_inserted i r qs)
-
-pub ids_removed : {D : Type 0} (i : ℕ) (rows : List (Row D)) → remove (ids_of rows) i ≡ ids_of (remove rows i)
-ids_removed zero [] = refl
-ids_removed (suc i) [] = refl
-ids_removed zero (r ∷ rows) = refl
-ids_removed (suc i) (r ∷ rows) = ap (λ (ks : List ℤ). r.resource.id ∷ ks) (ids_removed i rows)
-
-pub many_ids : {D : Type 0} (rows : List (Row D)) → length (ids_of rows) ≡ length rows
-many_ids [] = refl
-many_ids (r ∷ rows) = ap suc (many_ids rows)
-
--- a search by type and id, where the first row with the id is known
-no_id : {D : Type 0} (kind : List ℕ) (id : ℤ) (at : ℕ) (rows : List (Row D)) → position_from (is_id id) at (ids_of rows) ≡ None → position_from (is_resource kind id) at rows ≡ None
-no_id kind id at [] none = refl
-no_id kind id at (r ∷ rows) none = by (is_of_type kind r) (int_eq r.resource.id id) none (no_id kind id (at + 1) rows)
-  where
-    by : (b c : Bool) → (if c then Some at else position_from (is_id id) (at + 1) (ids_of rows)) ≡ None
-        → (position_from (is_id id) (at + 1) (ids_of rows) ≡ None → position_from (is_resource kind id) (at + 1) rows ≡ None)
-        → (if b && c then Some at else position_from (is_resource kind id) (at + 1) rows) ≡ None
-    by b true none' deeper = absurd (cc none')
-    by true false none' deeper = deeper none'
-    by false false none' deeper = deeper none'
-
-pub none_found : {D : Type 0} (kind : List ℕ) (id : ℤ) (rows : List (Row D)) → position (is_id id) (ids_of rows) ≡ None → position (is_resource kind id) rows ≡ None
-none_found kind id rows none = position_from-zero (is_resource kind id) rows ∙ no_id kind id 0 rows (sym (position_from-zero (is_id id) (ids_of rows)) ∙ none)
-
-pub id_within : {D : Type 0} (id : ℤ) (rows : List (Row D)) (i : ℕ) → position (is_id id) (ids_of rows) ≡ Some i → i < length rows
-id_within id [] i some = absurd (cc some)
-id_within id (r ∷ rows) i some = let found = position-Some (is_id id) (ids_of (r ∷ rows)) i r.resource.id some in let long = many_ids rows in let inside = found.0 in omega arith
-
-first_id : {D : Type 0} (kind : List ℕ) (id : ℤ) (at i : ℕ) (r : Row D) (rows : List (Row D)) → i < length rows → r ≡ get_or rows i r → is_of_type kind r ≡ true
-    → int_eq (get_or (ids_of rows) i id) id ≡ true → ((k : ℕ) → k < i → int_eq (get_or (ids_of rows) k id) id ≡ false) → position_from (is_resource kind id) at rows ≡ Some (at + i)
-first_id kind id at i r [] within is mine same before = absurd (omega arith)
-first_id kind id at zero r (q ∷ rows) within is mine same before =
-    ap (λ (b : Bool). if b && int_eq q.resource.id id then Some at else position_from (is_resource kind id) (at + 1) rows) (sym (ap (is_of_type kind) is) ∙ mine)
-    ∙ ap (λ (b : Bool). if b then Some at else position_from (is_resource kind id) (at + 1) rows) same ∙ (let e : at ≡ at + 0 = omega arith in ap Some e)
-first_id kind id at (suc i) r (q ∷ rows) within is mine same before =
-    ap (λ (b : Bool). if is_of_type kind q && b then Some at else position_from (is_resource kind id) (at + 1) rows) (before 0 (omega arith)) ∙ by (is_of_type kind q)
-    ∙ first_id kind id (at + 1) i r rows (omega arith) is mine same (λ k below. before (suc k) (omega arith)) ∙ (let e : at + 1 + i ≡ at + suc i = omega arith in ap Some e)
-  where
-    by : (b : Bool) → (if b && false then Some at else position_from (is_resource kind id) (at + 1) rows) ≡ position_from (is_resource kind id) (at + 1) rows
-    by true = refl
-    by false = refl
-
-pub id_found : {D : Type 0} (kind : List ℕ) (id : ℤ) (i : ℕ) (r : Row D) (rows : List (Row D)) → position (is_id id) (ids_of rows) ≡ Some i → r ≡ get_or rows i r → is_of_type kind r ≡ true → position (is_resource kind id) rows ≡ Some i
-id_found kind id i r rows some is mine =
-    let found = position-Some (is_id id) (ids_of rows) i id some in
-    position_from-zero (is_resource kind id) rows ∙ first_id kind id 0 i r rows (id_within id rows i some) is mine found.1 found.2 ∙ (let e : 0 + i ≡ i = omega arith in ap Some e)

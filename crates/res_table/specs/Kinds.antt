@@ -1,21 +1,12 @@
--- The types and the ids of rows, in order: one for each row.
-use Rattle.std.specs.Prelude.{ℕ, ℤ, ◌+◌, Bool, not, ◌&&◌, if◌then◌else◌, List, [], ◌∷◌, ◌++◌, map, replicate, bytes_eq, nat_lt}
+-- The types of rows, in order: one for each row.
+use Rattle.std.specs.Prelude.{ℕ, ◌+◌, Bool, not, ◌&&◌, if◌then◌else◌, List, [], ◌∷◌, ◌++◌, map, replicate, bytes_eq, nat_lt}
 use Rattle.std.specs.List.{list_any}
-use Rattle.std.specs.Ordering.{int_eq}
 use Rattle.fork_bytes.specs.declared.layout.TypeCount.{TypeCount}
 use Rattle.res_table.specs.declared.row.Row.{Row}
 
 -- the types of rows
 abbrev pub kinds_of : {D : Type 0} → List (Row D) → List (List ℕ)
 kinds_of rows = map (λ r. r.resource.kind) rows
-
--- the ids of rows
-abbrev pub ids_of : {D : Type 0} → List (Row D) → List ℤ
-ids_of rows = map (λ r. r.resource.id) rows
-
--- whether an id is this one
-abbrev pub is_id : ℤ → ℤ → Bool
-is_id id k = int_eq k id
 
 -- whether a run has rows of a type
 abbrev pub is_run_of : List ℕ → TypeCount → Bool

@@ -1,76 +1,15 @@
-//! The ids of rows, and ids that no row of a type has.
+//! Ids that no row of a type has.
 
-ghost use Rattle.std.specs.Prelude.{◌≡◌, ℕ, ◌+◌, ◌<◌, ◌≤◌, ◌++◌, ◌∷◌, [], insert, remove, position, OnOk, vec_len, vec_capacity, pos, false, length, replicate, get_or, IfSome, IfNone};
+ghost use Rattle.std.specs.Prelude.{◌≡◌, ℕ, ◌+◌, ◌<◌, ◌≤◌, pos, false, length, replicate, get_or, IfSome, IfNone};
 ghost use Rattle.std.specs.Ordering.{int_eq};
 ghost use Rattle.std.specs.List.{list_any};
 ghost use Rattle.fork_bytes.specs.Fork.{max_rows};
 ghost use Rattle.res_table.specs.Rows.{is_resource, unique_id};
 ghost use Rattle.res_table.specs.Marks.{marked};
-ghost use Rattle.res_table.specs.Kinds.{is_id};
 
 use crate::row::Row;
 use fork_bytes::layout::MAX_ROWS;
-use mac_base::error::HostFull;
 use res_base::resource::ResType;
-use std::alloc::Global;
-
-/// The ids of rows, side by side in the order of rows.
-#[derive(Debug, Drop)]
-pub(crate) struct Ids {
-    ids: Vec<i16>,
-}
-
-impl Ids {
-    /// The ids of no rows. This takes no memory of the host.
-    pub(crate) fn new(alloc: Global) -> Ids
-        ensures { result.ids.items ≡ [] }
-    {
-        Ids {
-            ids: Vec::new(alloc),
-        }
-    }
-
-    /// Makes room for one more id.
-    pub(crate) fn reserve(&mut self) -> Result<(), HostFull>
-        ensures same { self.new.ids.items ≡ self.old.ids.items }
-        ensures room { OnOk result (vec_len self.new.ids < vec_capacity self.new.ids) }
-    {
-        self.ids.reserve(1)?;
-        Ok(())
-    }
-
-    /// Adds the id of a row behind all others.
-    pub(crate) fn push(&mut self, id: i16) -> Result<(), HostFull>
-        ensures { OnOk result (self.new.ids.items ≡ self.old.ids.items ++ id ∷ []) }
-    {
-        self.ids.push(id)?;
-        Ok(())
-    }
-
-    /// Where an id stands first.
-    pub(crate) fn first(&self, id: i16) -> Option<usize>
-        ensures { result ≡ position (is_id id) self.now.ids.items }
-    {
-        self.ids.iter().position(|it| *it == id)
-    }
-
-    /// Puts in the id of a row at an index.
-    pub(crate) fn put_in(&mut self, index: usize, id: i16)
-        requires within { index ≤ length self.old.ids.items }
-        requires room { vec_len self.old.ids < vec_capacity self.old.ids }
-        ensures { self.new.ids.items ≡ insert self.old.ids.items index id }
-    {
-        let _ = self.ids.insert(index, id);
-    }
-
-    /// Takes out the id of the row at an index.
-    pub(crate) fn take_out(&mut self, index: usize)
-        requires { index < length self.old.ids.items }
-        ensures { self.new.ids.items ≡ remove self.old.ids.items index }
-    {
-        let _id = self.ids.remove(index);
-    }
-}
 
 /// The first id that is looked at.
 const FIRST_ID: i16 = 128;

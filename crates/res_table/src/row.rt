@@ -46,13 +46,6 @@ impl<D> Row<D> {
         self.resource.kind
     }
 
-    /// The row's id.
-    pub(crate) fn id(&self) -> i16
-        ensures { result ≡ self.now.resource.id }
-    {
-        self.resource.id
-    }
-
     /// Whether the row is of a type.
     pub fn is_of_type(&self, kind: ResType) -> bool
         ensures { result ≡ is_of_type kind self.now }

@@ -1,7 +1,7 @@
 //! The rows of an open file, in order.
 
 use crate::handles::Handles;
-use crate::ids::{Ids, first_free, mark_taken};
+use crate::ids::{first_free, mark_taken};
 use crate::kinds::Kinds;
 use crate::row::Row;
 use crate::runs::{MAX_OFFSET, names_fit, run_end};
@@ -13,28 +13,26 @@ use std::alloc::Global;
 use std::marker::Model;
 
 /// The rows of an open file, in order. A contract sees the list. A row is found by its handle without going through the rows, and
-/// what is asked of a type goes through the runs of rows of one type alone. Ids
-/// stand side by side beside the rows.
+/// what is asked of a type goes through the runs of rows of one type alone.
 #[derive(Debug, Drop)]
 pub struct Rows<D> {
     rows: Vec<Row<D>>,
     handles: Handles,
     kinds: Kinds,
-    ids: Ids,
 }
 
 impl<D> Model for Rows<D> {
     ghost use Rattle.std.specs.Prelude.{◌≡◌, ◌≤◌, List, length, vec_capacity};
     ghost use Rattle.res_table.specs.declared.row.Row.{Row};
     ghost use Rattle.res_table.specs.Held.{pairs_of};
-    ghost use Rattle.res_table.specs.Kinds.{expanded, kinds_of, ids_of};
+    ghost use Rattle.res_table.specs.Kinds.{expanded, kinds_of};
 
     ghost Value = { List (Row D) };
 
     ghost view = { λ r. r.rows.items };
 
     ghost invariant = { λ r. (r.handles.pairs.items ≡ pairs_of r.rows.items) × (length r.rows.items ≤ vec_capacity r.handles.pairs)
-        × (expanded r.kinds.runs.items ≡ kinds_of r.rows.items) × (r.ids.ids.items ≡ ids_of r.rows.items) };
+        × (expanded r.kinds.runs.items ≡ kinds_of r.rows.items) };
 }
 
 impl<D> Rows<D> {
@@ -52,7 +50,6 @@ impl<D> Rows<D> {
             rows: Vec::new(alloc),
             handles: Handles::new(alloc),
             kinds: Kinds::new(alloc),
-            ids: Ids::new(alloc),
         }
     }
 
@@ -65,11 +62,9 @@ impl<D> Rows<D> {
     {
         let mut rows = Vec::with_capacity(alloc, resources.len())?;
         let mut kinds = Kinds::new(alloc);
-        let mut ids = Ids::new(alloc);
         for resource in resources {
             let row = Row::opened(resource);
             kinds.push(row.kind())?;
-            ids.push(row.id())?;
             rows.push(row)?;
         }
         let mut handles = Handles::new(alloc);
@@ -78,7 +73,6 @@ impl<D> Rows<D> {
             rows,
             handles,
             kinds,
-            ids,
         })
     }
 
@@ -101,12 +95,6 @@ impl<D> Rows<D> {
     pub fn find(&self, kind: ResType, id: i16) -> Option<usize>
         ensures { result ≡ position (is_resource kind id) self.now }
     {
-        let Some(index) = self.ids.first(id) else {
-            return None;
-        };
-        if self.rows[index].is_of_type(kind) {
-            return Some(index);
-        }
         self.rows.iter().position(|row| row.is_resource(kind, id))
     }
 
@@ -170,15 +158,12 @@ impl<D> Rows<D> {
         let kind = row.kind();
         let at = self.end_of_type(kind);
         let handle = row.handle;
-        let id = row.id();
         self.handles.reserve(self.rows.len() + 1)?;
         self.kinds.reserve()?;
-        self.ids.reserve()?;
         self.rows.insert(at, row)?;
         self.handles.push_back(at);
         self.handles.add(handle, at);
         self.kinds.add(kind);
-        self.ids.put_in(at, id);
         Ok(())
     }
 
@@ -192,7 +177,6 @@ impl<D> Rows<D> {
         self.handles.remove(row.handle, index);
         self.handles.pull_up(index);
         self.kinds.remove(index);
-        self.ids.take_out(index);
         row
     }
 

@@ -1,5 +1,4 @@
-use Rattle.std.proofs.Common.{ℤ, w16, ◌≡◌, sym, ap, ◌∙◌, ◌≤◌, ◌<◌, ◌+◌, ℕ, List, length, map, subst, arith, rules}
-use Rattle.std.proofs.lemmas.Int.{to_z-of_z}
+use Rattle.std.proofs.Common.{◌≡◌, sym, ap, ◌∙◌, ◌≤◌, ◌<◌, ◌+◌, ℕ, List, length, map, subst, arith, rules}
 use Rattle.std.specs.Prelude.{insert, vec_len, All}
 use Rattle.std.proofs.lemmas.List.Edits.{length-insert}
 use Rattle.res_table.specs.declared.row.Row.{Row}
@@ -9,8 +8,8 @@ use Rattle.res_table.proofs.Pairs.{places_below, order_pushed, pushed_is, few_pa
 use Rattle.res_table.specs.Behind.{end_of_type}
 use Rattle.res_table.proofs.Adding.{insert-at-end, end-within}
 use Rattle.fork_bytes.specs.declared.layout.TypeCount.{TypeCount}
-use Rattle.res_table.specs.Kinds.{expanded, kinds_of, ids_of, with_kind}
-use Rattle.res_table.proofs.Expanded.{added_are, ids_inserted, many_ids}
+use Rattle.res_table.specs.Kinds.{expanded, kinds_of, with_kind}
+use Rattle.res_table.proofs.Expanded.{added_are}
 use Rattle.res_table.proofs.rows.Rows.add.Goals as goal
 
 -- src/rows.rt:73:9
@@ -65,12 +64,4 @@ invariant_of-self-2 g c =
       c.add-2.ensures ∙ ap (with_kind c.kind-kind.result) (ap (λ (runs : List TypeCount). expanded runs) c.reserve-2.ensures.same ∙ c.self.invariant.2)
           ∙ ap (λ (k : List ℕ). with_kind k (kinds_of rows)) c.kind-kind.ensures ∙ added_are r rows
           ∙ ap kinds_of (sym (new ∙ ap (λ (i : ℕ). insert rows i r) (c.end_of_type-at.ensures ∙ ap (λ (k : List ℕ). end_of_type k c.args.self.now) c.kind-kind.ensures ∙ ap (end_of_type r.resource.kind) (sym c.self.view_is)) ∙ insert-at-end r rows)),
-      c.put_in.ensures ∙ ap (λ (k : ℤ). insert c.reserve-3.new.self.ids.items at k) (to_z-of_z w16 c.id-id.result c.id-id.type_inv) ∙ ap (λ (ks : List ℤ). insert ks at c.id-id.result) (c.reserve-3.ensures.same ∙ c.self.invariant.3) ∙ ap (λ (k : ℤ). insert (ids_of rows) at k) c.id-id.ensures
-          ∙ ids_inserted at r rows ∙ ap ids_of (sym new),
     )
-
-pub put_in-requires-clause-within : goal.put_in-requires-clause-within
-put_in-requires-clause-within g c =
-    let rows = c.self.inside.rows.items in let many = many_ids rows in
-    let count = ap (λ (ks : List ℤ). length ks) (c.reserve-3.ensures.same ∙ c.self.invariant.3) in
-    let inside = within c.kind-kind.result c.end_of_type-at.result rows c.args.self.now c.self.view_is c.end_of_type-at.ensures in omega arith

@@ -1,9 +1,9 @@
-use Rattle.std.proofs.Common.{ℕ, ℤ, remove, ◌<◌, List, length, sym, ap, ◌∙◌, arith, map, slice_get}
+use Rattle.std.proofs.Common.{ℕ, remove, ◌<◌, List, length, sym, ap, ◌∙◌, arith, map, slice_get}
 use Rattle.res_table.specs.declared.row.Row.{Row}
 use Rattle.res_table.specs.Held.{pulled_up, without_held, pairs_of}
 use Rattle.res_table.proofs.Pairs.{order_kept, pairs_removed, row_is}
-use Rattle.res_table.specs.Kinds.{kinds_of, ids_of}
-use Rattle.res_table.proofs.Expanded.{removed_are, as_many, ids_removed, many_ids}
+use Rattle.res_table.specs.Kinds.{kinds_of}
+use Rattle.res_table.proofs.Expanded.{removed_are, as_many}
 use Rattle.res_table.proofs.rows.Rows.remove.Goals as goal
 
 pub remove-requires : goal.remove-requires
@@ -20,7 +20,6 @@ invariant_of-self g c =
           ∙ pairs_removed i r rows within c.remove-row.ensures.value ∙ ap pairs_of (sym c.remove-row.ensures.items),
       omega arith,
       c.remove-2.ensures ∙ ap (λ (ks : List (List ℕ)). remove ks i) c.self.invariant.2 ∙ removed_are i rows ∙ ap kinds_of (sym c.remove-row.ensures.items),
-      c.take_out.ensures ∙ ap (λ (ks : List ℤ). remove ks i) c.self.invariant.3 ∙ ids_removed i rows ∙ ap ids_of (sym c.remove-row.ensures.items),
     )
 
 pub remove-requires-2 : goal.remove-requires-2
@@ -35,9 +34,3 @@ returns-clause-row g c =
     let long = ap (λ (rs : List (Row _)). length rs) c.self.view_is in
     let within : c.args.index < length rows = omega arith in
     sym (ap (λ (rs : List (Row _)). slice_get rs c.args.index) c.self.view_is) ∙ row_is c.args.index c.remove-row.result rows within c.remove-row.ensures.value
-
-pub take_out-requires : goal.take_out-requires
-take_out-requires g c =
-    let rows = c.self.inside.rows.items in
-    let long = ap (λ (rs : List (Row _)). length rs) c.self.view_is in
-    let count = ap (λ (ks : List ℤ). length ks) c.self.invariant.3 in let many = many_ids rows in let inside = c.requires in omega arith

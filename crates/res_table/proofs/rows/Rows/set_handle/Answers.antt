@@ -5,7 +5,7 @@ use Rattle.res_table.specs.declared.row.Row.{Row}
 use Rattle.res_table.specs.Rows.{changed_at, with_handle}
 use Rattle.res_table.specs.Held.{AreInOrder}
 use Rattle.res_table.proofs.Pairs.{order_kept, order_without, replaced_is, replaced_few, changed_is}
-use Rattle.res_table.proofs.Expanded.{kinds_kept, ids_kept}
+use Rattle.res_table.proofs.Expanded.{kinds_kept}
 use Rattle.res_table.proofs.rows.Rows.set_handle.Goals as goal
 
 pub remove-requires : goal.remove-requires
@@ -37,7 +37,6 @@ invariant_of-self g c =
       c.add.ensures.pairs ∙ is,
       omega arith,
       c.self.invariant.2 ∙ sym (kinds_kept i c.index_mut.result.now new rows c.index_mut.ensures.value refl),
-      c.self.invariant.3 ∙ sym (ids_kept i c.index_mut.result.now new rows c.index_mut.ensures.value refl),
     )
 
 pub returns : goal.returns
