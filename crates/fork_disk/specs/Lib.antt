@@ -1,3 +1,5 @@
 pub mod Disk
 pub mod Fork
 pub mod Calls
+pub mod Crash
+pub mod Faults

@@ -4,6 +4,7 @@
 pub mod disk;
 mod fail_at;
 mod failures;
+pub mod faults;
 mod file_disk;
 mod mem_disk;
 pub mod store;

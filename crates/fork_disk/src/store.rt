@@ -1,10 +1,13 @@
 //! Where the fork of a resource file is kept.
 
-ghost use Rattle.std.specs.Prelude.{◌≡◌, ◌+◌, ◌≤◌, ◌↔◌, ⊤, List, ℕ, length, IfOk, OnOk, IsErrOf};
+ghost use Rattle.std.specs.Prelude.{◌≡◌, ◌+◌, ◌≤◌, ◌↔◌, ⊤, List, [], ℕ, length, IfOk, OnOk, IsErrOf};
+ghost use Rattle.fork_disk.specs.Crash.{AlwaysFinds, Finds, FoundBeforeOr};
 ghost use Rattle.fork_disk.specs.Disk.{bytes_at, Counts};
+ghost use Rattle.fork_disk.specs.Faults.{CountsDevice};
 ghost use Rattle.fork_disk.specs.Fork.{IsPartly};
 
 use crate::disk::{DiskFault, ForkDisk};
+use crate::faults::RecoverFault;
 use crate::update::replace;
 use thiserror::Error;
 
@@ -39,15 +42,31 @@ pub trait ForkStore {
     /// What a replacement may leave that failed behind its first write: by the new fork and the old one.
     ghost may_leave: { List ℕ → List ℕ → List ℕ → Type 0 };
 
+    /// The store has a journal: what is said of crashes binds it.
+    ghost has_journal: { Type 0 };
+
+    /// What may happen to the device, of which a crash may undo some.
+    ghost Event: { Type 0 };
+
+    /// What happened to the device since a start, the last event first.
+    ghost history: { Self → List Event };
+
+    /// The forks that a start may find where a crash came behind such a history, once the store was made ready.
+    ghost may_find: { List Event → List ℕ → Type 0 };
+
+    /// Where a store is ready, a start finds the fork that is read.
+    ghost ready_finds: { (store : Self) → has_journal → is_honest store → is_ready store → Finds may_find (λ found. found ≡ fork store) (history store) };
+
     /// Makes the fork ready: a store with a journal finishes, or drops, what a crash or a failed replacement left. The fork is the
-    /// same.
-    fn recover(&mut self) -> Result<(), DiskFault>
+    /// same. Whenever a crash comes, a start finds a fork that it might have found before.
+    fn recover(&mut self) -> Result<(), RecoverFault>
         ensures same { is_honest self.old → fork self.new ≡ fork self.old }
         ensures ready { is_honest self.old → OnOk result (is_ready self.new) }
         ensures still { is_honest self.old → is_ready self.old → is_ready self.new }
         ensures stable { is_honest self.old → is_stable self.old → is_stable self.new }
         ensures honest { is_honest self.old ↔ is_honest self.new }
-        ensures cause { Counts (failures self.old) (failures self.new) result };
+        ensures cause { CountsDevice (failures self.old) (failures self.new) result }
+        ensures any_moment { is_honest self.old → AlwaysFinds may_find (may_find (history self.old)) (history self.old) (history self.new) };
 
     /// How many bytes the fork has.
     fn len(&mut self) -> Result<u64, DiskFault>
@@ -57,7 +76,8 @@ pub trait ForkStore {
         ensures ready { is_honest self.old → is_ready self.new }
         ensures stable { is_honest self.old → is_stable self.old → is_stable self.new }
         ensures honest { is_honest self.old ↔ is_honest self.new }
-        ensures cause { Counts (failures self.old) (failures self.new) result };
+        ensures cause { Counts (failures self.old) (failures self.new) result }
+        ensures calm { is_honest self.old → history self.new ≡ history self.old };
 
     /// Fills the buffer with the fork's bytes at an offset. After a fault the buffer holds any bytes.
     fn read_at(&mut self, at: u64, buffer: &mut [u8]) -> Result<(), DiskFault>
@@ -68,9 +88,11 @@ pub trait ForkStore {
         ensures ready { is_honest self.old → is_ready self.new }
         ensures stable { is_honest self.old → is_stable self.old → is_stable self.new }
         ensures honest { is_honest self.old ↔ is_honest self.new }
-        ensures cause { Counts (failures self.old) (failures self.new) result };
+        ensures cause { Counts (failures self.old) (failures self.new) result }
+        ensures calm { is_honest self.old → history self.new ≡ history self.old };
 
-    /// Puts another fork in the place of the one that is there. Where it succeeds, a crash leaves the new one.
+    /// Puts another fork in the place of the one that is there. Where it succeeds, a crash leaves the new one. Whenever a crash
+    /// comes, a start finds a fork that it might have found before, or the new one.
     fn replace(&mut self, new: &[u8]) -> Result<(), ReplaceFault>
         requires { is_honest self.old → is_ready self.old }
         ensures replaced { is_honest self.old → OnOk result (fork self.new ≡ new.now) }
@@ -80,7 +102,10 @@ pub trait ForkStore {
         ensures still { is_honest self.old → IsErrOf result ReplaceFault.BeforeFirstWrite → is_ready self.new }
         ensures stable { is_honest self.old → OnOk result (is_stable self.new) }
         ensures honest { is_honest self.old ↔ is_honest self.new }
-        ensures cause { Counts (failures self.old) (failures self.new) result };
+        ensures cause { Counts (failures self.old) (failures self.new) result }
+        ensures any_moment { is_honest self.old
+            → AlwaysFinds may_find (FoundBeforeOr may_find (history self.old) new.now) (history self.old) (history self.new) }
+        ensures calm { is_honest self.old → IsErrOf result ReplaceFault.BeforeFirstWrite → history self.new ≡ history self.old };
 }
 
 /// A fork on a disk of its own.
@@ -102,7 +127,17 @@ impl<D: ForkDisk> ForkStore for PlainStore<D> {
 
     ghost may_leave = { IsPartly };
 
-    fn recover(&mut self) -> Result<(), DiskFault> {
+    ghost has_journal = { ⊥ };
+
+    ghost Event = { ⊤ };
+
+    ghost history = { λ _. [] };
+
+    ghost may_find = { λ _ _. ⊤ };
+
+    ghost ready_finds = { λ _ journalled. absurd journalled };
+
+    fn recover(&mut self) -> Result<(), RecoverFault> {
         Ok(())
     }
 

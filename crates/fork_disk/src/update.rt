@@ -1,6 +1,7 @@
 //! A fork that is put in the place of another.
 
 ghost use Rattle.std.specs.Prelude.{◌≡◌, ◌+◌, ◌≤◌, ◌↔◌, length, All, OnOk, OnErr, IsErrOf};
+ghost use Rattle.fork_disk.specs.Crash.{AlwaysFinds, FoundBeforeOr};
 ghost use Rattle.fork_disk.specs.Disk.{bytes_at, put_at, Counts};
 ghost use Rattle.fork_disk.specs.Fork.{gathered, IsPartly};
 
@@ -29,6 +30,7 @@ fn read_kept<S: ForkStore>(store: &mut S, fork: &mut [u8], range: Kept) -> Resul
     ensures stable { S.is_honest store.old → S.is_stable store.old → S.is_stable store.new }
     ensures honest { S.is_honest store.old ↔ S.is_honest store.new }
     ensures cause { Counts (S.failures store.old) (S.failures store.new) result }
+    ensures calm { S.is_honest store.old → S.history store.new ≡ S.history store.old }
 {
     if range.length == 0 {
         return Ok(());
@@ -48,6 +50,7 @@ pub fn gather<S: ForkStore>(store: &mut S, fork: &mut [u8], kept: &[Kept]) -> Re
     ensures stable { S.is_honest store.old → S.is_stable store.old → S.is_stable store.new }
     ensures honest { S.is_honest store.old ↔ S.is_honest store.new }
     ensures cause { Counts (S.failures store.old) (S.failures store.new) result }
+    ensures calm { S.is_honest store.old → S.history store.new ≡ S.history store.old }
 {
     for range in kept {
         read_kept(store, fork, *range)?;
@@ -75,6 +78,9 @@ pub fn update<S: ForkStore>(
     ensures stable { S.is_honest store.old → OnOk result (S.is_stable store.new) }
     ensures honest { S.is_honest store.old ↔ S.is_honest store.new }
     ensures cause { Counts (S.failures store.old) (S.failures store.new) result }
+    ensures any_moment { S.is_honest store.old → AlwaysFinds S.may_find (FoundBeforeOr S.may_find (S.history store.old) (gathered (S.fork store.old) kept.now fork.old))
+        (S.history store.old) (S.history store.new) }
+    ensures calm { S.is_honest store.old → IsErrOf result ReplaceFault.BeforeFirstWrite → S.history store.new ≡ S.history store.old }
 {
     match gather(store, fork, kept) {
         Ok(()) => store.replace(fork),

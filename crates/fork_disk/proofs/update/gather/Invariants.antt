@@ -10,5 +10,6 @@ invariant-loop-range g l =
     × (g.S.ForkStore.is_honest l.initial.store → (g.S.ForkStore.fork l.store ≡ g.S.ForkStore.fork l.initial.store))
     × (g.S.ForkStore.is_honest l.initial.store → g.S.ForkStore.is_ready l.store)
     × (g.S.ForkStore.is_honest l.initial.store → g.S.ForkStore.is_stable l.initial.store → g.S.ForkStore.is_stable l.store)
+    × (g.S.ForkStore.is_honest l.initial.store → (g.S.ForkStore.history l.store ≡ g.S.ForkStore.history l.initial.store))
     × (g.S.ForkStore.is_honest l.initial.store →
     gathered (g.S.ForkStore.fork l.initial.store) (drop l.range-index l.kept) l.fork ≡ gathered (g.S.ForkStore.fork l.initial.store) l.kept l.initial.fork)

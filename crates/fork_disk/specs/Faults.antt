@@ -1,8 +1,8 @@
 -- How a recovery counts its faults.
 use Rattle.std.specs.Prelude.{◌≡◌, ℕ, Result, MatchResult}
 use Rattle.fork_disk.specs.Disk.{Rose}
-use Rattle.fork_journal.specs.declared.faults.RecoverFault.{RecoverFault}
-use Rattle.fork_journal.specs.declared.faults.RecoverFault.TheVariants.{Device, Host}
+use Rattle.fork_disk.specs.declared.faults.RecoverFault.{RecoverFault}
+use Rattle.fork_disk.specs.declared.faults.RecoverFault.TheVariants.{Device, Host}
 
 abbrev pub cause_of : ℕ → ℕ → RecoverFault → Type 0
 cause_of before now Device = Rose before now

@@ -1,9 +1,9 @@
 //! What stops a recovery.
 
 ghost use Rattle.std.specs.Prelude.{◌≡◌};
-ghost use Rattle.fork_journal.specs.declared.faults.RecoverFault.TheVariants.{Device, Host};
+ghost use Rattle.fork_disk.specs.declared.faults.RecoverFault.TheVariants.{Device, Host};
 
-use fork_disk::disk::DiskFault;
+use crate::disk::DiskFault;
 use std::alloc::{AllocError, AllocFailed};
 use thiserror::Error;
 
