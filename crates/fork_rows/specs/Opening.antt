@@ -4,6 +4,9 @@ use Rattle.fork_bytes.specs.declared.fault.Condition.{Condition}
 use Rattle.fork_bytes.specs.declared.table.Table.{Table}
 use Rattle.fork_bytes.specs.Fork.{map_of, extra_of, attributes_of, max_fork, IsFork, Refuses}
 use Rattle.fork_bytes.specs.Laws.{IsGrouped}
+use Rattle.fork_bytes.specs.declared.fault.ForkFault.TheVariants.{HostFull}
+use Rattle.fork_disk.specs.declared.faults.RecoverFault.{RecoverFault}
+use Rattle.fork_disk.specs.declared.faults.RecoverFault.TheVariants as recover
 use Rattle.fork_disk.specs.Disk.{Rose}
 use Rattle.fork_reader.specs.Reading.{PlacedRow, placed_rows, row_at, FaultsAt}
 use Rattle.res_base.specs.declared.resource.Resource.{Resource}
@@ -52,6 +55,11 @@ RefusesToOpen fork Device = ⊤
 abbrev pub FaultsIn : Condition → Type 0 → OpenFault → Type 0
 FaultsIn condition P (Fork fault) = FaultsAt condition P fault
 FaultsIn condition P Device = ⊤
+
+-- the fault of opening a file whose fork couldn't be made ready
+abbrev pub unrecovered : RecoverFault → OpenFault
+unrecovered recover.Device = Device
+unrecovered recover.Host = Fork HostFull
 
 -- the count of failures rose where the fault is the device's, and stayed otherwise
 abbrev pub CountsFault : ℕ → ℕ → OpenFault → Type 0

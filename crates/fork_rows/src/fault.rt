@@ -2,9 +2,11 @@
 
 ghost use Rattle.std.specs.Prelude.{◌≡◌};
 ghost use Rattle.fork_rows.specs.declared.fault.OpenFault.TheVariants.{Fork, Device};
+ghost use Rattle.fork_rows.specs.Opening.{unrecovered};
 
 use fork_bytes::fault::ForkFault;
 use fork_disk::disk::DiskFault;
+use fork_disk::faults::RecoverFault;
 use thiserror::Error;
 
 /// Why the resources of a fork aren't read from its disk.
@@ -31,5 +33,16 @@ impl From<ForkFault> for OpenFault {
 
     fn from(why: ForkFault) -> OpenFault {
         OpenFault::Fork(why)
+    }
+}
+
+impl From<RecoverFault> for OpenFault {
+    ghost from_gives = { λ why fault. fault ≡ unrecovered why };
+
+    fn from(why: RecoverFault) -> OpenFault {
+        match why {
+            RecoverFault::Device => OpenFault::Device,
+            RecoverFault::Host => OpenFault::Fork(ForkFault::HostFull),
+        }
     }
 }

@@ -34,6 +34,7 @@ pub fn read_rows<S: ForkStore>(alloc: Global, store: &mut S) -> Result<PlacedTab
     ensures same { S.is_honest store.old → S.fork store.new ≡ S.fork store.old }
     ensures ready { S.is_honest store.old → S.is_ready store.new }
     ensures stable { S.is_honest store.old → S.is_stable store.old → S.is_stable store.new }
+    ensures calm { S.is_honest store.old → S.history store.new ≡ S.history store.old }
     ensures honest { S.is_honest store.old ↔ S.is_honest store.new }
     ensures cause { CountsDevice (S.failures store.old) (S.failures store.new) result }
 {

@@ -40,6 +40,7 @@ pub(crate) fn read_part<S: ForkStore>(
     ensures same { S.is_honest store.old → S.fork store.new ≡ S.fork store.old }
     ensures ready { S.is_honest store.old → S.is_ready store.new }
     ensures stable { S.is_honest store.old → S.is_stable store.old → S.is_stable store.new }
+    ensures calm { S.is_honest store.old → S.history store.new ≡ S.history store.old }
     ensures honest { S.is_honest store.old ↔ S.is_honest store.new }
     ensures cause { CountsDevice (S.failures store.old) (S.failures store.new) result }
 {
@@ -65,6 +66,7 @@ pub(crate) fn read_front<S: ForkStore>(
     ensures same { S.is_honest store.old → S.fork store.new ≡ S.fork store.old }
     ensures ready { S.is_honest store.old → S.is_ready store.new }
     ensures stable { S.is_honest store.old → S.is_stable store.old → S.is_stable store.new }
+    ensures calm { S.is_honest store.old → S.history store.new ≡ S.history store.old }
     ensures honest { S.is_honest store.old ↔ S.is_honest store.new }
     ensures cause { CountsDevice (S.failures store.old) (S.failures store.new) result }
 {
@@ -94,6 +96,7 @@ fn read_row<S: ForkStore>(
     ensures same { S.is_honest store.old → S.fork store.new ≡ S.fork store.old }
     ensures ready { S.is_honest store.old → S.is_ready store.new }
     ensures stable { S.is_honest store.old → S.is_stable store.old → S.is_stable store.new }
+    ensures calm { S.is_honest store.old → S.history store.new ≡ S.history store.old }
     ensures honest { S.is_honest store.old ↔ S.is_honest store.new }
     ensures cause { CountsDevice (S.failures store.old) (S.failures store.new) result }
 {
@@ -123,6 +126,7 @@ pub(crate) fn find_rows<S: ForkStore>(
     ensures same { S.is_honest store.old → S.fork store.new ≡ S.fork store.old }
     ensures ready { S.is_honest store.old → S.is_ready store.new }
     ensures stable { S.is_honest store.old → S.is_stable store.old → S.is_stable store.new }
+    ensures calm { S.is_honest store.old → S.history store.new ≡ S.history store.old }
     ensures honest { S.is_honest store.old ↔ S.is_honest store.new }
     ensures cause { CountsDevice (S.failures store.old) (S.failures store.new) result }
 {

@@ -1,4 +1,5 @@
 pub mod FilesOn
+pub mod Crash
 pub mod Opening
 pub mod Standing
 pub mod Updating

@@ -4,6 +4,8 @@ ghost use Rattle.std.specs.Prelude.{◌≡◌, ◌≤◌, ◌⊎◌, ◌↔◌, 
 ghost use Rattle.res_table.specs.OpenFiles.{is_open, file_opened};
 ghost use Rattle.res_calls.specs.Changes.{FileTable};
 ghost use Rattle.res_calls.specs.Device.{Reads};
+ghost use Rattle.fork_disk.specs.Crash.{AlwaysFinds, Finds};
+ghost use Rattle.res_files.specs.Crash.{history_of, OthersAreCalm};
 ghost use Rattle.res_files.specs.FilesOn.{fork_of, SomeFailed};
 
 use crate::files::ResourceFiles;
@@ -28,6 +30,12 @@ impl<S: ForkStore> ResourceFiles<S> {
         ensures loads { self.new.loads ≡ self.old.loads }
         ensures honest { All S.is_honest self.old.stores ↔ All S.is_honest self.new.stores }
         ensures count { length self.new.stores ≡ length self.old.stores }
+        // Whenever a crash comes, a start finds a fork that it might have found before; once the file is open, it finds what is read.
+        ensures any_moment { All S.is_honest self.old.stores → AlwaysFinds S.may_find (S.may_find (history_of S.history number self.old.stores))
+            (history_of S.history number self.old.stores) (history_of S.history number self.new.stores) }
+        ensures others { All S.is_honest self.old.stores → OthersAreCalm S.history number self.old.stores self.new.stores }
+        ensures settled { All S.is_honest self.old.stores → S.has_journal → IfOk result (λ done. OnOk done
+            (Finds S.may_find (λ found. found ≡ fork_of S.fork number self.new.stores) (history_of S.history number self.new.stores))) }
     {
         let store = &mut self.stores[number as usize - 1];
         let table = match read_table(self.alloc, store) {

@@ -21,6 +21,7 @@ impl<S: ForkStore> ResourceFiles<S> {
         ensures loads { self.new.loads ≡ self.old.loads }
         ensures honest { All S.is_honest self.old.stores ↔ All S.is_honest self.new.stores }
         ensures count { length self.new.stores ≡ length self.old.stores }
+        ensures calm { All S.is_honest self.old.stores → map S.history self.new.stores ≡ map S.history self.old.stores }
         ensures cause { MatchResult result (λ _. NoneFailed S.failures self.old.stores self.new.stores) (λ _. SomeFailed S.failures self.old.stores self.new.stores) }
     {
         let Some(row) = self.chain.row(place) else {

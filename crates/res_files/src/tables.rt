@@ -1,6 +1,7 @@
 //! The table of a file, read from its disk.
 
 ghost use Rattle.std.specs.Prelude.{◌≡◌, ◌↔◌, IfOk, IfErr, OnOk, Ok};
+ghost use Rattle.fork_disk.specs.Crash.{AlwaysFinds};
 ghost use Rattle.fork_rows.specs.Opening.{CountsDevice};
 ghost use Rattle.res_calls.specs.Device.{Reads};
 ghost use Rattle.res_update.specs.Placed.{table_on, AreInside};
@@ -43,6 +44,7 @@ pub(crate) fn read_table<S: ForkStore>(
     ensures still { S.is_honest store.old → S.is_ready store.old → S.is_ready store.new }
     ensures honest { S.is_honest store.old ↔ S.is_honest store.new }
     ensures cause { CountsDevice (S.failures store.old) (S.failures store.new) result }
+    ensures any_moment { S.is_honest store.old → AlwaysFinds S.may_find (S.may_find (S.history store.old)) (S.history store.old) (S.history store.new) }
 {
     store.recover()?;
     if store.len()? == 0 {

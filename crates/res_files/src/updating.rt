@@ -7,6 +7,8 @@ ghost use Rattle.res_table.specs.OpenFiles.{is_open, rows_changed, file_closed, 
 ghost use Rattle.res_calls.specs.Changes.{rows_of, saved_table};
 ghost use Rattle.res_calls.specs.Updates.{fits_fork};
 ghost use Rattle.res_update.specs.Selected.{updated, reads_lent};
+ghost use Rattle.fork_disk.specs.Crash.{AlwaysFinds, Finds, FoundBeforeOr};
+ghost use Rattle.res_files.specs.Crash.{history_of, OthersAreCalm};
 ghost use Rattle.res_files.specs.FilesOn.{fork_of, forks_with, NoneFailed, SomeFailed};
 
 use crate::files::ResourceFiles;
@@ -67,6 +69,15 @@ impl<S: ForkStore> ResourceFiles<S> {
         ensures none { OnOk result (NoneFailed S.failures self.old.stores self.new.stores) }
         ensures cause { IsErrOf result (UpdateFault.Device ReplaceFault.BeforeFirstWrite) → SomeFailed S.failures self.old.stores self.new.stores }
         ensures cause_later { IsErrOf result (UpdateFault.Device ReplaceFault.Later) → SomeFailed S.failures self.old.stores self.new.stores }
+        // Whenever a crash comes, a start finds a fork that it might have found before or the new one; once this succeeded, the new one.
+        ensures any_moment { All S.is_honest self.old.stores → IfSome (table_of number self.old.files) (λ table. AlwaysFinds S.may_find
+            (FoundBeforeOr S.may_find (history_of S.history number self.old.stores) (written (saved_table (updated (C.table contents.now) selection table))))
+            (history_of S.history number self.old.stores) (history_of S.history number self.new.stores)) }
+        ensures others { All S.is_honest self.old.stores → OthersAreCalm S.history number self.old.stores self.new.stores }
+        ensures calm { All S.is_honest self.old.stores → IsErrOf result (UpdateFault.Device ReplaceFault.BeforeFirstWrite)
+            → history_of S.history number self.new.stores ≡ history_of S.history number self.old.stores }
+        ensures settled { All S.is_honest self.old.stores → S.has_journal → OnOk result
+            (Finds S.may_find (λ found. found ≡ fork_of S.fork number self.new.stores) (history_of S.history number self.new.stores)) }
     {
         let Some(table) = self.chain.table(number) else {
             return Ok(());

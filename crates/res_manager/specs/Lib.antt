@@ -3,3 +3,4 @@ pub mod Tests
 pub mod Ends
 pub mod Watching
 pub mod Loading
+pub mod Crash

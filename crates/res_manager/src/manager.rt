@@ -1,11 +1,13 @@
 //! One call of the Resource Manager.
 
-ghost use Rattle.std.specs.Prelude.{◌≡◌, ◌↔◌, [], None, length, All, IsTrue, IfOk, OnErr};
+ghost use Rattle.std.specs.Prelude.{◌≡◌, ◌↔◌, [], None, length, All, IsTrue, IfOk, OnOk, OnErr};
 ghost use Rattle.linked_zone.specs.Loans.{KeepsLoans};
 ghost use Rattle.res_calls.specs.Tests.{resource_refusal};
 ghost use Rattle.mac_calls.specs.declared.resource_call.ResourceCall.TheVariants as call;
+ghost use Rattle.res_calls.specs.Steps.{work_of};
+ghost use Rattle.res_manager.specs.Crash.{CrashLeaves, IsSettled, file_settled};
 ghost use Rattle.res_manager.specs.Ends.{EndsQuietly, copies, is_quiet};
-ghost use Rattle.res_manager.specs.Steps.{ReadsBack, ResourceSteps, state_of, takes_memory};
+ghost use Rattle.res_manager.specs.Steps.{ReadsBack, ResourceSteps, state_of, takes_memory, update_in};
 ghost use Rattle.res_manager.specs.Tests.{Passes, early_tests};
 
 use crate::getting::get;
@@ -38,6 +40,12 @@ pub fn make<S: ForkStore, G: GrowZone>(
     ensures step { All S.is_honest files.old.stores → IfOk result (λ outcome.
         ResourceSteps S.fork S.failures S.may_leave memory.old files.old call.now (G.asks procedure.new) outcome memory.new files.new) }
     ensures reads_back { All S.is_honest files.old.stores → IfOk result (λ outcome. ReadsBack (state_of S.fork memory.old files.old) call.now outcome (state_of S.fork memory.new files.new)) }
+    // Whenever a crash comes, each file is found as before the call, or as the call saves it; once an update or an opening succeeded, as it is read.
+    ensures any_moment { All S.is_honest files.old.stores → IfOk result (λ outcome.
+        CrashLeaves S.ForkStore (update_in (work_of (state_of S.fork memory.old files.old) call.now)) files.old.stores files.new.stores) }
+    ensures settled { All S.is_honest files.old.stores → IfOk result (λ outcome. OnOk outcome
+        (IsSettled S.ForkStore (file_settled (work_of (state_of S.fork memory.old files.old) call.now)) files.new.stores)) }
+    ensures crash_full { All S.is_honest files.old.stores → OnErr result (CrashLeaves S.ForkStore None files.old.stores files.new.stores) }
     ensures source { G.source procedure.new ≡ G.source procedure.old }
     ensures loans { KeepsLoans memory.old memory.new }
     ensures lent { memory.new.heap.table.lent ≡ memory.old.heap.table.lent }

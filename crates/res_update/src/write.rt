@@ -4,6 +4,7 @@ ghost use Rattle.std.specs.Prelude.{◌≡◌, ◌≤◌, ◌↔◌, length, map
 ghost use Rattle.fork_bytes.specs.Fork.{max_fork, max_rows, StandsFor};
 ghost use Rattle.fork_bytes.specs.Laws.{AreBytes, IsGrouped, IsTable};
 ghost use Rattle.fork_bytes.specs.Written.{written, Fits};
+ghost use Rattle.fork_disk.specs.Crash.{AlwaysFinds, FoundBeforeOr};
 ghost use Rattle.res_calls.specs.Changes.{saved_table};
 ghost use Rattle.res_calls.specs.Updates.{fits_fork};
 ghost use Rattle.res_update.specs.Drafts.{draft_table, new_places, kept_ranges};
@@ -106,6 +107,10 @@ pub fn write_table<S: ForkStore, C: Contents>(
     ensures stable { S.is_honest store.old → OnOk result (S.is_stable store.new) }
     ensures honest { S.is_honest store.old ↔ S.is_honest store.new }
     ensures cause { CountsUpdate (S.failures store.old) (S.failures store.new) result }
+    ensures any_moment { S.is_honest store.old → AlwaysFinds S.may_find
+        (FoundBeforeOr S.may_find (S.history store.old) (written (saved_table (updated (C.table contents.now) selection (table_on (S.fork store.old) table.now)))))
+        (S.history store.old) (S.history store.new) }
+    ensures calm { S.is_honest store.old → IsErrOf result (UpdateFault.Device ReplaceFault.BeforeFirstWrite) → S.history store.new ≡ S.history store.old }
 {
     if !fits(table, selection, contents) {
         return Err(UpdateFault::TooBig);

@@ -9,6 +9,7 @@ use Rattle.mac_calls.specs.declared.table.CallName.TheVariants as call_name
 use Rattle.mac_calls.specs.GrowZone.{Ask, answered}
 use Rattle.mac_calls.specs.Outcomes.{Outcome}
 use Rattle.fork_disk.specs.declared.store.ForkStore.{Ghosts}
+use Rattle.res_manager.specs.Crash.{CrashLeaves}
 use Rattle.res_table.specs.OpenFiles.{no_files}
 use Rattle.toolbox.specs.Queue.{no_answers}
 use Rattle.toolbox.specs.Steps.{Gives, LeavesAnswers, Steps}
@@ -85,9 +86,9 @@ StatementDoes store old number (Answer line) text new = AnswerDoes old line text
 abbrev pub LineDoes : {S : Type 0} → Ghosts S → Machine S → Line → List ℕ → Machine S → Type 0
 LineDoes store old line text new = StatementDoes store old line.number line.statement text new
 
--- the forks are those of these stores, where their devices are honest, and their devices are honest still
+-- the forks are those of these stores, where their devices are honest, also as a start finds them behind a crash, and their devices are honest still
 abbrev pub SameForks : {S : Type 0} → Ghosts S → List S → List S → Type 0
-SameForks store old new = All store.is_honest old → All store.is_honest new × (map store.fork new ≡ map store.fork old)
+SameForks store old new = All store.is_honest old → All store.is_honest new × (map store.fork new ≡ map store.fork old) × CrashLeaves store None old new
 
 -- From old, the call of a statement is made, and leaves new.
 abbrev pub IsMade : {S : Type 0} → Ghosts S → Machine S → Statement → Machine S → Type 0

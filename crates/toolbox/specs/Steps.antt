@@ -1,5 +1,5 @@
 -- What a call of the toolbox does.
-use Rattle.std.specs.Prelude.{◌≡◌, ◌↔◌, Bool, true, false, not, IsFalse, ℕ, List, [], ◌++◌, length, Option, Some, None, Ok}
+use Rattle.std.specs.Prelude.{◌≡◌, ◌↔◌, Bool, true, false, not, IsFalse, ℕ, List, [], ◌++◌, length, Option, Some, None, Ok, OnOk}
 use Rattle.std.specs.Option.{option_to_list}
 use Rattle.std.specs.Result.{result_err}
 use Rattle.mac_base.specs.declared.error.OsErr.{OsErr}
@@ -20,10 +20,11 @@ use Rattle.mac_calls.specs.Outcomes.{Outcome}
 use Rattle.mac_calls.specs.Tests.{refusal}
 use Rattle.fork_disk.specs.declared.store.ForkStore.{Ghosts}
 use Rattle.res_calls.specs.Device.{Device, device_works}
-use Rattle.res_calls.specs.Steps.{MemoryRelation, ResourceStepBy, disposed_in}
+use Rattle.res_calls.specs.Steps.{MemoryRelation, ResourceStepBy, disposed_in, work_of}
 use Rattle.res_calls.specs.Tests.{resource_refusal}
 use Rattle.res_files.specs.FilesOn.{SomeFailed}
-use Rattle.res_manager.specs.Steps.{takes_memory as resource_takes_memory, Memory as MayStep, ReadsBack}
+use Rattle.res_manager.specs.Crash.{CrashLeaves, IsSettled, file_settled}
+use Rattle.res_manager.specs.Steps.{takes_memory as resource_takes_memory, Memory as MayStep, ReadsBack, update_in}
 use Rattle.toolbox.specs.ToolState.{ToolState, IsHonest, resource_state, without_handles}
 
 -- From the old zone, the call with these asks may have this outcome and leave the new zone: it is a memory step, and just that
@@ -49,7 +50,8 @@ ResourceGives store Inner old call asks outcome new = (device : Device)
 
 -- What a call gives and does to the heap, the loans and the resource files. MemError gives the code of the last call of the Memory
 -- Manager, ResError that of the last one of the Resource Manager, and both do nothing. A file that was updated with success reads back
--- as the table that was saved.
+-- as the table that was saved. Whenever a crash comes, each file is found as before the call, or as the call saves it; once an update or
+-- an opening succeeded, as it is read.
 abbrev pub Gives : {S : Type 0} → Ghosts S → ToolState S → Call → List Ask → Outcome → ToolState S → Type 0
 Gives store old (Memory call) asks outcome new = MemoryStep old.shape old.heap call asks outcome new.heap × IsExactStep old.shape old.heap call asks outcome new.heap × (new.loans ≡ old.loans)
     × (new.resources ≡ without_handles (disposed_of call asks outcome) old.resources)
@@ -57,6 +59,8 @@ Gives store old (Loan call) asks outcome new = (asks ≡ []) × LoanStep old.sha
 Gives store old (Resource call) asks outcome new = (IsHonest store old → ResourceGives store MayStep old call asks outcome new) × (new.loans ≡ old.loans)
     × (IsHonest store old ↔ IsHonest store new) × (length new.resources.stores ≡ length old.resources.stores)
     × (IsHonest store old → ReadsBack (resource_state store old) call outcome (resource_state store new))
+    × (IsHonest store old → CrashLeaves store (update_in (work_of (resource_state store old) call)) old.resources.stores new.resources.stores)
+    × (IsHonest store old → OnOk outcome (IsSettled store (file_settled (work_of (resource_state store old) call)) new.resources.stores))
 Gives store old MemError asks outcome new = (asks ≡ []) × (outcome ≡ Ok (Code old.refused)) × (new.heap ≡ old.heap) × (new.loans ≡ old.loans) × (new.resources ≡ old.resources)
 Gives store old ResError asks outcome new = (asks ≡ []) × (outcome ≡ Ok (Code old.resource_refused)) × (new.heap ≡ old.heap) × (new.loans ≡ old.loans) × (new.resources ≡ old.resources)
 
@@ -94,11 +98,12 @@ LeavesAnswers store old answers (Memory call) asks outcome new left = StepsFrom 
 LeavesAnswers store old answers (Resource call) asks outcome new left = (answers ≡ answers_in asks ++ left) × (IsHonest store old → ResourceGives store (StepsFrom answers left) old call asks outcome new)
 LeavesAnswers store old answers call asks outcome new left = left ≡ answers
 
--- A call that has no host memory has changed nothing. For a call of the Resource Manager, that is said of the forks and not of the
--- stores, and rests on honest devices.
+-- A call that has no host memory has changed nothing. For a call of the Resource Manager, that is said of the forks, as they are read
+-- and as they are found behind a crash, and not of the stores, and rests on honest devices.
 abbrev pub Unchanged : {S : Type 0} → Ghosts S → ToolState S → Call → ToolState S → Type 0
 Unchanged store old (Resource call) new = (new ≡ record old { resources = new.resources }) × (IsHonest store old → resource_state store new ≡ resource_state store old)
     × (IsHonest store old ↔ IsHonest store new) × (length new.resources.stores ≡ length old.resources.stores)
+    × (IsHonest store old → CrashLeaves store None old.resources.stores new.resources.stores)
 Unchanged store old call new = new ≡ old
 
 -- what is said of a call, where it rests on honest devices for a call of the Resource Manager

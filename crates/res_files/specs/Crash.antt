@@ -1,0 +1,11 @@
+-- What happened to the stores of the resource files, of which a crash may undo some.
+use Rattle.std.specs.Prelude.{◌≡◌, ◌≢◌, ℕ, ◌-◌, ◌≤◌, List, [], slice_get}
+use Rattle.std.specs.Option.{option_map_or}
+
+-- what happened to the store of the file of a number, where this gives what happened to a store
+abbrev pub history_of : {S Event : Type 0} → (S → List Event) → ℕ → List S → List Event
+history_of history number stores = option_map_or history (slice_get stores (number - 1)) []
+
+-- nothing happened to the stores of other files
+abbrev pub OthersAreCalm : {S Event : Type 0} → (S → List Event) → ℕ → List S → List S → Type 0
+OthersAreCalm history number old new = (other : ℕ) → 1 ≤ other → other ≢ number → history_of history other new ≡ history_of history other old
