@@ -2,8 +2,8 @@
 import re
 import subprocess
 
-from check_files import numbered
 from check_random import shown
+from check_runs import numbered
 
 CHANGED = 2
 # of a longer fork the first and the last resource of each type are asked for, and of larger resources no bytes
