@@ -6,13 +6,13 @@
 A row has the bytes of its files, a script whose lines are parted by ` / `, the lines that are printed, where `..` stands for
 lines that aren't compared, and the bytes that the files have then.
 """
-import itertools
 import os
 import subprocess
 import sys
 import tempfile
 
-from check_runs import are_wanted, calls_of, lines_of
+from check_resources import File, Row
+from check_runs import are_wanted, calls_of, lines_of, numbered
 
 REFUSALS = os.path.join(os.path.dirname(os.path.abspath(__file__)), "refusals.txt")
 PROBES = "ZoneMap / CountResources 'TEXT' / CountTypes / GetResAttrs h / CurResFile"
@@ -189,10 +189,248 @@ ROWS = [
 ]
 
 
-def numbered(lines):
-    """Printed lines with the numbers of the script's lines. Those of a map, which begin with blanks, have none."""
-    numbers = itertools.count(1)
-    return [line if line.startswith("  ") else f"{next(numbers)} {line}" for line in lines.split(" / ")]
+class Words:
+    """The rows of a text, `A1` for the id 1 of the type 'AAAA'. The bytes of each are a tag that tells it from all others."""
+
+    def __init__(self, text, file=1):
+        self.words, self.file = text.split(), file
+
+    def tag(self, index):
+        return f"{self.file}.{index}"
+
+    def fork(self):
+        """The fork that has these rows, in the order of the text."""
+        rows = [Row(word[0].encode() * 4, int(word[1:]), None, 0, self.tag(index).encode()) for index, word in enumerate(self.words)]
+        return File(1, rows).fork(lambda row: row.disk)
+
+    def added(self):
+        """The lines that add these rows in turn."""
+        for index, word in enumerate(self.words):
+            yield f"h{index} = NewHandle 3"
+            yield f'Poke h{index} 0 "{self.tag(index)}"'
+            yield f"AddResource h{index} {of_word(word)}"
+
+
+def of_word(word):
+    """The operands for a row."""
+    return f"'{word[0] * 4}' {word[1:]}"
+
+
+def looked_up(lines, call, tag, number, code=-192):
+    """Adds a look-up, and the lines that it has to print: the tag of the resource that is found, and its file, or the code."""
+    handle = f"f{len(lines)}"
+    said = [f"{handle} = {call}", f"Peek {handle} 0 3", f"HomeResFile {handle}"] if tag else [call]
+    name, at = call.split(" ")[0], len(lines) + 1
+    lines += said
+    if not tag:
+        return [f"{at} {name} {code}"]
+    return ["..", f'{at + 1} Peek "{tag}" 0', f"{at + 2} HomeResFile {number} 0"]
+
+
+# three open files, of which the third is the current one
+THREE = [Words("A1 A2", 1), Words("A1 B1", 2), Words("B1 C1", 3)]
+# the current file, a resource, its tag from there on, and its tag in that file alone
+SEARCHES = [
+    (3, "A1", "2.0", None),
+    (3, "A2", "1.1", None),
+    (3, "B1", "3.0", "3.0"),
+    (3, "C1", "3.1", "3.1"),
+    (3, "C2", None, None),
+    (2, "A1", "2.0", "2.0"),
+    (2, "B1", "2.1", "2.1"),
+    (2, "C1", None, None),
+    (1, "A1", "1.0", "1.0"),
+    (1, "B1", None, None),
+]
+# the current file, one that is closed, and the one that is current then: the last of the others where it was closed itself
+CLOSED = [(3, 3, 2), (1, 1, 3), (2, 2, 3), (2, 3, 2), (2, 1, 2), (3, 4, 3)]
+
+
+def searched():
+    """A search goes from the current file to the earliest."""
+    lines, printed = ["OpenResFile 2", "OpenResFile 3", "CurResFile"], ["1 OpenResFile 2 0", "2 OpenResFile 3 0", "3 CurResFile 3 0"]
+    for current, word, tag, here in SEARCHES:
+        lines += [f"UseResFile {current}", "CurResFile"]
+        printed += [f"{len(lines) - 1} UseResFile 0", f"{len(lines)} CurResFile {current} 0"]
+        printed += looked_up(lines, f"GetResource {of_word(word)}", tag, tag and tag[0])
+        printed += looked_up(lines, f"Get1Resource {of_word(word)}", here, here and here[0])
+    return lines, printed
+
+
+def closed(current, number, then):
+    """The last file is current where the current one is closed."""
+    code = 0 if number < 4 else -193
+    lines = ["OpenResFile 2", "OpenResFile 3", f"UseResFile {current}", f"CloseResFile {number}", "CurResFile", f"UseResFile {number}", f"UseResFile {then}"]
+    return lines, ["..", f"4 CloseResFile {code}", f"5 CurResFile {then} 0", "6 UseResFile -193", "7 UseResFile 0"]
+
+
+def all_closed():
+    """Without a file none is current, and none is closed twice."""
+    lines, printed = ["OpenResFile 2", "OpenResFile 3"], [".."]
+    for number in (3, 1, 2):
+        at = len(lines)
+        lines += [f"UseResFile {number}", f"CloseResFile {number}", f"CloseResFile {number}"]
+        printed += [f"{at + 1} UseResFile 0", f"{at + 2} CloseResFile 0", f"{at + 3} CloseResFile -193"]
+    lines += ["CurResFile", "GetResource 'AAAA' 1", "Get1Resource 'AAAA' 1"]
+    return lines, [*printed, "12 CurResFile 0 0", "13 GetResource -193", "14 Get1Resource -193"]
+
+
+def found_by_handles():
+    """A row is found by its handle whichever file is current, until the handle is disposed of."""
+    lines, printed = ["OpenResFile 2", "OpenResFile 3", "n = NewHandle 1"], [".."]
+    found = [("a", 1, "A1", 1), ("b", 1, "A2", 1), ("c", 2, "A1", 2), ("d", 3, "B1", 3)]
+    for handle, file, word, _ in found:
+        lines += [f"UseResFile {file}", f"{handle} = Get1Resource {of_word(word)}"]
+    lines += ["UseResFile 2", "HomeResFile n"]
+    printed.append(f"{len(lines)} HomeResFile -192")
+    for handle, _, _, home in found:
+        lines += [f"HomeResFile {handle}", f"DisposeHandle {handle}", f"HomeResFile {handle}"]
+        at = len(lines)
+        printed += [f"{at - 2} HomeResFile {home} 0", f"{at - 1} DisposeHandle 0", f"{at} HomeResFile -192"]
+    return lines, printed
+
+
+def chains():
+    """Rows of the chain of open files."""
+    forks = [it.fork() for it in THREE]
+    for lines, printed in [searched(), *(closed(*it) for it in CLOSED), all_closed(), found_by_handles()]:
+        yield forks, " / ".join(lines), " / ".join(printed), forks
+    # a row is changed, taken out and added in its file alone
+    script = "OpenResFile 2 / OpenResFile 3 / UseResFile 2 / b = GetResource 'BBBB' 1 / HomeResFile b / SetResAttrs b 16 / GetResAttrs b / ChangedResource b"
+    script += " / a = GetResource 'AAAA' 1 / RemoveResource a / n = NewHandle 3 / Poke n 0 \"new\" / AddResource n 'BBBB' 9 / CountTypes / CountResources 'BBBB'"
+    script += " / GetIndResource 'BBBB' 3 / UseResFile 4 / UpdateResFile 1 / UpdateResFile 2 / UpdateResFile 3"
+    printed = ".. / 5 HomeResFile 2 0 / 6 SetResAttrs 0 / 7 GetResAttrs 16 0 / 8 ChangedResource 0 / .. / 10 RemoveResource 0 / .. / 13 AddResource 0"
+    printed += " / 14 CountTypes 1 0 / 15 CountResources 2 0 / 16 GetIndResource -192 / 17 UseResFile -193 / .. / 20 UpdateResFile 0"
+    rows = [Row(b"BBBB", 1, None, 16, b"2.1"), Row(b"BBBB", 9, None, 0, b"new")]
+    yield forks, script, printed, [forks[0], File(2, rows).fork(lambda row: row.disk), forks[2]]
+
+
+# Steps in turn, and the rows behind each, of which those with `@` have a handle. `+` adds a row, whose tag tells which it is; `-` takes the one
+# of a tag out; `!` writes it and releases its handle; `=` loads the one that is found by its type and id; `~` disposes of its handle.
+STEPS = """+A1: A1.0@
++B1: A1.0@ B1.1@
++A1: A1.0@ A1.2@ B1.1@
++C1: A1.0@ A1.2@ B1.1@ C1.3@
++B-2: A1.0@ A1.2@ B1.1@ B-2.4@ C1.3@
+!0: A1.0 A1.2@ B1.1@ B-2.4@ C1.3@
+=0: A1.0@ A1.2@ B1.1@ B-2.4@ C1.3@
+!3: A1.0@ A1.2@ B1.1@ B-2.4@ C1.3
+-2: A1.0@ B1.1@ B-2.4@ C1.3
+~2: A1.0@ B1.1@ B-2.4@ C1.3
++A7: A1.0@ A7.5@ B1.1@ B-2.4@ C1.3
+-0: A7.5@ B1.1@ B-2.4@ C1.3
+!5: A7.5 B1.1@ B-2.4@ C1.3
+=5: A7.5@ B1.1@ B-2.4@ C1.3
+!4: A7.5@ B1.1@ B-2.4 C1.3
+=4: A7.5@ B1.1@ B-2.4@ C1.3
+~4: A7.5@ B1.1@ B-2.4 C1.3
+=3: A7.5@ B1.1@ B-2.4 C1.3@
+-3: A7.5@ B1.1@ B-2.4
+!1: A7.5@ B1.1 B-2.4
+=1: A7.5@ B1.1@ B-2.4
+-5: B1.1@ B-2.4"""
+
+
+def step_of(step, rows):
+    """The lines of a step, where these are all rows that were added before it."""
+    mark, rest = step[0], step[1:]
+    if mark == "+":
+        handle = f"h{len(rows)}"
+        rows.append(rest)
+        return [f"{handle} = NewHandle 3", f'Poke {handle} 0 "1.{len(rows) - 1}"', f"AddResource {handle} {of_word(rest)}"]
+    if mark == "=":
+        return [f"h{rest} = GetResource {of_word(rows[int(rest)])}"]
+    calls = {"-": ["RemoveResource"], "!": ["WriteResource", "ReleaseResource"], "~": ["DisposeHandle"]}[mark]
+    # the number of a handle that is gone is given to one that stays and is no resource's
+    return [f"{it} h{rest}" for it in calls] + ["NewHandle 0"] * (mark != "-")
+
+
+def told_of(lines, number, there):
+    """Adds the questions behind a step, of which this many rows were added, and gives what they print."""
+    kinds, printed = list(dict.fromkeys(it[0] for it in there)), []
+    with_handles = {it.rstrip("@").split(".")[1] for it in there if it.endswith("@")}
+    for index in range(number):
+        lines.append(f"HomeResFile h{index}")
+        printed.append(f"{len(lines)} HomeResFile " + ("1 0" if str(index) in with_handles else "-192"))
+    lines.append("CountTypes")
+    printed.append(f"{len(lines)} CountTypes {len(kinds)} 0")
+    for at, kind in enumerate(kinds, 1):
+        of_kind = [it for it in there if it[0] == kind]
+        lines += [f"GetIndType {at}", f"CountResources '{kind * 4}'"]
+        printed += [f"{len(lines) - 1} GetIndType '{kind * 4}' 0", f"{len(lines)} CountResources {len(of_kind)} 0"]
+        for index, row in enumerate(of_kind, 1):
+            tag = "1." + row.rstrip("@").split(".")[1]
+            printed += looked_up(lines, f"GetIndResource '{kind * 4}' {index}", tag, 1)
+    return printed
+
+
+def steps():
+    """A script for the steps up to each, and the questions behind it."""
+    lines, rows = [], []
+    for line in STEPS.split("\n"):
+        step, there = line.split(": ")
+        lines += step_of(step, rows)
+        asked = list(lines)
+        printed = told_of(asked, len(rows), there.split())
+        yield asked, ["..", *printed]
+
+
+# rows that are added in turn, and the id that is unique for 'AAAA'
+UNIQUE = [
+    ("", 128),
+    ("A128 A129", 130),
+    ("A129 A128", 130),
+    ("A129", 128),
+    ("A128 A130", 129),
+    ("B128", 128),
+    ("A128 A128 B129", 129),
+    ("A127 A-1 A32767", 128),
+]
+# rows that are added in turn, and for each resource the tag of the first one
+FIRST = [("", {"A1": None}), ("A1 B1 A2 A1 B1", {"A1": "1.0", "A2": "1.2", "B1": "1.1", "B2": None, "C1": None})]
+# for each type of `B1 A1 B2 A2 C1 B3` the tags of its rows from the 0th on: they are counted from 1
+COUNTED = {"A": [None, "1.1", "1.3", None, None], "B": [None, "1.0", "1.2", "1.5", None], "C": [None, "1.4", None], "D": [None, None]}
+
+
+def counted():
+    """Rows of a type, and types in the order of their first rows, are counted from 1."""
+    lines, printed = list(Words("B1 A1 B2 A2 C1 B3").added()), [".."]
+    for kind, tags in COUNTED.items():
+        lines.append(f"CountResources '{kind * 4}'")
+        printed.append(f"{len(lines)} CountResources {sum(it is not None for it in tags)} 0")
+        for index, tag in enumerate(tags):
+            printed += looked_up(lines, f"GetIndResource '{kind * 4}' {index}", tag, 1)
+    for index, kind in enumerate([None, "B", "A", "C", None]):
+        lines.append(f"GetIndType {index}")
+        printed.append(f"{len(lines)} GetIndType " + (f"'{kind * 4}' 0" if kind else "-192"))
+    lines.append("CountTypes")
+    return lines, [*printed, f"{len(lines)} CountTypes 3 0"]
+
+
+def kinds():
+    """Rows of the kinds of changes to one file, which stays as it was until it is written."""
+    scripts = [*steps(), counted()]
+    for text, wanted in UNIQUE:
+        lines = [*Words(text).added(), "UniqueID 'AAAA'", "CountTypes"]
+        types = len({word[0] for word in text.split()})
+        scripts.append((lines, ["..", f"{len(lines) - 1} UniqueID {wanted} 0", f"{len(lines)} CountTypes {types} 0"]))
+    for text, tags in FIRST:
+        lines = list(Words(text).added())
+        printed = [it for word, tag in tags.items() for it in looked_up(lines, f"GetResource {of_word(word)}", tag, 1)]
+        scripts.append((lines, ["..", *printed]))
+    for lines, printed in scripts:
+        yield [b""], " / ".join(lines), " / ".join(printed), None
+    # a row that is taken out is no resource any more, and its handle stays
+    there = [Row(b"AAAA", 1, None, 0, b"1.0"), Row(b"BBBB", 1, None, 0, b"1.2")]
+    script = "h = GetResource 'AAAA' 2 / RemoveResource h / HomeResFile h / Peek h 0 3 / GetResource 'AAAA' 2 / UpdateResFile"
+    printed = '.. / 2 RemoveResource 0 / 3 HomeResFile -192 / 4 Peek "1.1" 0 / 5 GetResource -192 / 6 UpdateResFile 0'
+    yield [Words("A1 A2 B1").fork()], script, printed, [File(1, there).fork(lambda row: row.disk)]
+    # the attributes of a file are read but for resChanged; a change is marked, and written
+    marked = File(1, [Row(b"TEXT", -3, None, 255, b"Hi")]).fork(lambda row: row.disk)
+    marked = marked.replace(bytes.fromhex("FFFD FFFF FD"), bytes.fromhex("FFFD FFFF FF"))
+    script = "h = GetResource 'TEXT' -3 / GetResAttrs h / SetResAttrs h 0 / GetResAttrs h / ChangedResource h / GetResAttrs h / UpdateResFile / GetResAttrs h"
+    printed = ".. / 2 GetResAttrs 253 0 / 3 SetResAttrs 0 / 4 GetResAttrs 0 0 / 5 ChangedResource 0 / 6 GetResAttrs 2 0 / 7 UpdateResFile 0 / 8 GetResAttrs 0 0"
+    yield [marked], script, printed, [File(1, [Row(b"TEXT", -3, None, 0, b"Hi")]).fork(lambda row: row.disk)]
 
 
 def refusals(table):
@@ -216,7 +454,7 @@ def main(program):
     failed = 0
     with open(REFUSALS, encoding="utf-8") as table:
         refused = list(refusals(table))
-    rows = ROWS + refused
+    rows = ROWS + [*chains(), *kinds()] + refused
     with tempfile.TemporaryDirectory() as folder:
         for disks, script, printed, wanted in rows:
             paths = [os.path.join(folder, f"file{index}") for index in range(len(disks))]
@@ -231,7 +469,7 @@ def main(program):
                 with open(path, "rb") as file:
                     left.append(file.read())
             right = are_wanted(ran.stdout, printed.split(" / "))
-            if ran.returncode != 0 or not right or left != wanted:
+            if ran.returncode != 0 or not right or wanted not in (None, left):
                 failed += 1
                 print(f"{script}: status {ran.returncode}, {ran.stdout!r}, files of {[len(it) for it in left]} bytes")
     print(f"scripts over resource files: {len(rows) - failed} as they should be, {failed} not; {len(refused)} are of calls that are refused")

@@ -1,14 +1,14 @@
 #!/usr/bin/env python3
-"""Checks a forklist program against a small model of resource forks, on random forks.
+"""Checks forklist and macheap programs against a small model of resource forks, on random forks.
 
-    tools/check_forks.py PROGRAM [FORKS [FIRST]]
+    tools/check_forks.py FORKLIST MACHEAP [FORKS [FIRST]]
 
 The model is written from the rules of docs/FORKS.md alone, and shares nothing with the program. The forks are such as the Resource
 Manager and other tools write: with the data or the map first, with data and names that are shared, with gaps, with
 reserved fields of any value; many of them are then cut or damaged. Of each fork the list is compared, and a few extracted
-resources, with their exit statuses and with what is told of a fork that is none. By default it tries 200 forks. Each is
-made from its number, so a difference can be made again: FIRST is the number of the first fork. Before them come command
-lines, and forks at the limits.
+resources, with their exit statuses and with what is told of a fork that is none; and macheap opens it, and tells of each resource its
+type, id, name, attributes and bytes. By default it tries 200 forks. Each is made from its number, so a difference can be made
+again: FIRST is the number of the first fork. Before them come command lines, and forks at the limits.
 """
 import os
 import random
@@ -16,6 +16,8 @@ import struct
 import subprocess
 import sys
 import tempfile
+
+from fork_questions import Difference, expect, opening_is_refused, questions
 
 MOST_BYTES = 4194304
 MOST_ROWS = 8192
@@ -36,6 +38,11 @@ TOLD = {
 
 class NoFork(Exception):
     """The bytes are no fork; the argument says which condition is the first that doesn't hold."""
+
+
+def open_code(condition):
+    """What macheap's OpenResFile answers where this condition doesn't hold: eofErr or mapReadErr."""
+    return -39 if condition == "end" else -199
 
 
 class Row:
@@ -316,10 +323,6 @@ LINES = [
 ]
 
 
-class Difference(Exception):
-    pass
-
-
 def run(program, words):
     done = subprocess.run([program, *words], stdin=subprocess.DEVNULL, stdout=subprocess.PIPE, stderr=subprocess.PIPE)
     return done.returncode, done.stdout, done.stderr.decode(errors="replace")
@@ -343,6 +346,16 @@ def operand(kind, choice):
     if choice == 2 and kind.rstrip(b" "):
         return quoted("'", kind.rstrip(b" "))[1:-1]
     return shown
+
+
+def try_open(program, path, fork):
+    """Compares what macheap tells of a fork. A file without bytes is a new one, which isn't refused."""
+    try:
+        rows = read_fork(fork) if fork else []
+    except NoFork as fault:
+        opening_is_refused(program, path, fork, open_code(fault.args[0]))
+        return
+    expect(program, path, fork, *questions(rows), fork)
 
 
 def try_fork(program, path, fork, choices):
@@ -378,24 +391,29 @@ def try_lines(program, path):
         compare(" ".join(words), run(program, words), status, None, told)
 
 
+def forks(first, count):
+    """The forks at the limits and random ones, each with a word for it and choices."""
+    for what, fork in limits():
+        yield what, fork, random.Random(0)
+    for number in range(first, first + count):
+        yield f"fork {number}", Choices(number).fork(), random.Random(number)
+
+
 def main():
-    if not 2 <= len(sys.argv) <= 4:
+    if not 3 <= len(sys.argv) <= 5:
         sys.exit(__doc__)
-    program = os.path.abspath(sys.argv[1])
-    count = int(sys.argv[2]) if len(sys.argv) > 2 else 200
-    first = int(sys.argv[3]) if len(sys.argv) > 3 else 1
+    forklist, macheap = map(os.path.abspath, sys.argv[1:3])
+    count = int(sys.argv[3]) if len(sys.argv) > 3 else 200
+    first = int(sys.argv[4]) if len(sys.argv) > 4 else 1
     seen = {}
     with tempfile.TemporaryDirectory() as folder:
         path = os.path.join(folder, "fork")
         what = "the command lines"
         try:
-            try_lines(program, path)
-            for what, fork in limits():
-                result = try_fork(program, path, fork, random.Random(0))
-                seen[result] = seen.get(result, 0) + 1
-            for number in range(first, first + count):
-                what = f"fork {number}"
-                result = try_fork(program, path, Choices(number).fork(), random.Random(number))
+            try_lines(forklist, path)
+            for what, fork, choices in forks(first, count):
+                result = try_fork(forklist, path, fork, choices)
+                try_open(macheap, path, fork)
                 seen[result] = seen.get(result, 0) + 1
         except Difference as difference:
             print(f"{what}: {difference}")

@@ -19,6 +19,7 @@ import tempfile
 import check_random
 from check_forks import MOST_BYTES, MOST_ROWS, Choices, NoFork, read_fork
 from check_random import CALLS, FLAG_CALLS, LOCK, PURGE, RESOURCE, Chooser, Refused, Zone, address, shown
+from fork_questions import shown_type
 
 PARAM, LENT = check_random.PARAM, check_random.LENT
 DISK_FULL, NOT_FOUND, NO_FILE, NO_SUCH_FILE = -34, -192, -193, -43
@@ -367,12 +368,6 @@ WEIGHTS = {
 }
 KINDS = [b"TEXT", b"STR ", b"CODE", b"it's", b"\x00\x01\x02\xff", b"    "]
 NAMES = [b"", b"Main", b"a b", b"caf\x8e", b'"q"', b"n" * 255, b"n" * 256]
-
-
-def shown_type(kind):
-    if all(0x20 <= it <= 0x7E and it != 0x27 for it in kind):
-        return "'" + kind.decode() + "'"
-    return '$"' + kind.hex().upper() + '"'
 
 
 class Kind(bytes):

@@ -54,6 +54,12 @@ def refusals(table):
                 yield [], "\n".join([*script, "ZoneMap", call, "MemError", "ZoneMap"]), ["..", *blocks[0], *said, *blocks[1]]
 
 
+def numbered(lines):
+    """Printed lines with the numbers of the script's lines. Those of a map, which begin with blanks, have none."""
+    numbers = itertools.count(1)
+    return [line if line.startswith("  ") else f"{next(numbers)} {line}" for line in lines.split(" / ")]
+
+
 def read(name, by):
     with open(os.path.join(FOLDER, name), encoding="utf-8") as table:
         return list(by(table))

@@ -1,0 +1,82 @@
+/* Stands between a program and the C library's calls on open files. It adds a letter for each to the file DEVICE_LOG: s for statx, r for
+   pread, w for pwrite, c for ftruncate, y for fsync. The call of the number in DEVICE_FAIL, from 1 on, isn't made and fails with EIO; before that
+   of the number in DEVICE_CUT the file is cut to DEVICE_LENGTH bytes. To be loaded ahead of the C library, with LD_PRELOAD. */
+#define _GNU_SOURCE
+#include <dlfcn.h>
+#include <errno.h>
+#include <fcntl.h>
+#include <stdlib.h>
+#include <sys/stat.h>
+#include <unistd.h>
+
+static int (*next_cut)(int, off_t);
+
+static long number_of(const char *name)
+{
+    const char *text = getenv(name);
+    return text == NULL ? 0 : atol(text);
+}
+
+/* Logs a call on a file, and tells whether it fails. */
+static int fails(int file, char letter)
+{
+    static long calls;
+    static int log = -1;
+    const char *path = getenv("DEVICE_LOG");
+    if (log < 0 && path != NULL)
+        log = open(path, O_WRONLY | O_CREAT | O_APPEND | O_CLOEXEC, 0600);
+    if (log < 0 || write(log, &letter, 1) != 1)
+        abort();
+    calls++;
+    if (calls == number_of("DEVICE_CUT")) {
+        if (next_cut == NULL)
+            next_cut = (int (*)(int, off_t))dlsym(RTLD_NEXT, "ftruncate");
+        next_cut(file, number_of("DEVICE_LENGTH"));
+    }
+    if (calls != number_of("DEVICE_FAIL"))
+        return 0;
+    errno = EIO;
+    return 1;
+}
+
+int statx(int file, const char *restrict path, int flags, unsigned int mask, struct statx *restrict buffer)
+{
+    static int (*next)(int, const char *restrict, int, unsigned int, struct statx *restrict);
+    if (next == NULL)
+        next = (int (*)(int, const char *restrict, int, unsigned int, struct statx *restrict))dlsym(RTLD_NEXT, "statx");
+    /* with a path it isn't asked of an open file */
+    if (path != NULL && path[0] != '\0')
+        return next(file, path, flags, mask, buffer);
+    return fails(file, 's') ? -1 : next(file, path, flags, mask, buffer);
+}
+
+ssize_t pread(int file, void *buffer, size_t count, off_t at)
+{
+    static ssize_t (*next)(int, void *, size_t, off_t);
+    if (next == NULL)
+        next = (ssize_t (*)(int, void *, size_t, off_t))dlsym(RTLD_NEXT, "pread");
+    return fails(file, 'r') ? -1 : next(file, buffer, count, at);
+}
+
+ssize_t pwrite(int file, const void *buffer, size_t count, off_t at)
+{
+    static ssize_t (*next)(int, const void *, size_t, off_t);
+    if (next == NULL)
+        next = (ssize_t (*)(int, const void *, size_t, off_t))dlsym(RTLD_NEXT, "pwrite");
+    return fails(file, 'w') ? -1 : next(file, buffer, count, at);
+}
+
+int ftruncate(int file, off_t length)
+{
+    if (next_cut == NULL)
+        next_cut = (int (*)(int, off_t))dlsym(RTLD_NEXT, "ftruncate");
+    return fails(file, 'c') ? -1 : next_cut(file, length);
+}
+
+int fsync(int file)
+{
+    static int (*next)(int);
+    if (next == NULL)
+        next = (int (*)(int))dlsym(RTLD_NEXT, "fsync");
+    return fails(file, 'y') ? -1 : next(file);
+}
