@@ -2,6 +2,7 @@
 #![tactic(auto)]
 
 mod crash_pair;
+mod file_pair;
 mod journal;
 mod leaving;
 mod mem_pair;
@@ -12,6 +13,7 @@ mod steps;
 pub mod update;
 
 pub use crash_pair::CrashPair;
+pub use file_pair::FilePair;
 pub use journal::Journal;
 pub use leaving::{Choice, Fate};
 pub use mem_pair::{Call, MemPair};
