@@ -1,7 +1,7 @@
 use Rattle.std.proofs.Common.{◌≤◌, ◌≡◌, ◌∙◌, List, [], ℕ, Err, true, length, map, refl, sym, ap, subst, arith}
 use Rattle.std.specs.Prelude.{All, IsErrOf}
 use Rattle.fork_disk.specs.declared.store.ReplaceFault.{ReplaceFault}
-use Rattle.fork_disk.specs.declared.store.ReplaceFault.TheVariants.{Later}
+use Rattle.fork_disk.specs.declared.store.ReplaceFault.TheVariants.{BeforeFirstWrite, Later}
 use Rattle.fork_disk.specs.Crash.{AlwaysFinds, FoundBeforeOr}
 use Rattle.fork_disk.proofs.Crash.{finds_before_or}
 use Rattle.res_calls.specs.Updates.{fits_fork}
@@ -210,3 +210,18 @@ returns-in-Err-clause-any_moment g c =
     let before = g.S.ForkStore.history c.args.store.now in
     let P : List ℕ → Type 0 = λ fork. AlwaysFinds g.S.ForkStore.may_find (FoundBeforeOr g.S.ForkStore.may_find before fork) before (g.S.ForkStore.history c.update.new.store) in
     subst P (gathered_is t s table c.deref_mut.result.now c.in-Ok.draft.places.items c.deref.result.now old (c.requires.inside honest) is) (c.in-Err.ensures.any_moment honest))
+
+pub returns-then-not-fits-clause-calm : goal.returns-then-not-fits-clause-calm
+returns-then-not-fits-clause-calm g c = λ _ _. refl
+
+pub returns-in_default-clause-calm : goal.returns-in_default-clause-calm
+returns-in_default-clause-calm g c = λ _ _. refl
+
+pub returns-in-Err-clause-calm : goal.returns-in-Err-clause-calm
+returns-in-Err-clause-calm g c = λ honest told. c.in-Err.ensures.calm honest (device_fault c.in-Err.fault BeforeFirstWrite told)
+
+pub returns-in-Err-clause-before : goal.returns-in-Err-clause-before
+returns-in-Err-clause-before g c = λ honest told. c.in-Err.ensures.before honest (device_fault c.in-Err.fault BeforeFirstWrite told)
+
+pub returns-in-Err-clause-still : goal.returns-in-Err-clause-still
+returns-in-Err-clause-still g c = λ honest told. c.in-Err.ensures.still honest (device_fault c.in-Err.fault BeforeFirstWrite told)
