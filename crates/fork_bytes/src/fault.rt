@@ -43,7 +43,7 @@ pub enum ForkFault {
 }
 
 /// Why a table isn't written.
-#[derive(Clone, Copy, Debug, PartialEq, Eq, Error)]
+#[derive(Clone, Copy, Debug, Error)]
 pub enum WriteFault {
     /// The table has no fork, or its fork has more than 4,194,304 bytes.
     #[error("the table is too big for a fork")]

@@ -22,7 +22,7 @@ use std::alloc::Global;
 pub type SizedRow = Resource<u32>;
 
 /// What a resource fork holds but for the bytes of its resources.
-#[derive(Debug, Drop)]
+#[derive(Drop)]
 pub struct Outline {
     /// The resources. Those of one type stand together.
     pub rows: Vec<SizedRow>,
@@ -33,7 +33,7 @@ pub struct Outline {
 }
 
 /// A fork with zeros where the bytes of its resources go.
-#[derive(Debug, Drop)]
+#[derive(Drop)]
 pub struct Frame {
     /// The fork's bytes.
     pub fork: Vec<u8>,

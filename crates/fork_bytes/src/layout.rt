@@ -9,7 +9,7 @@ pub const MAX_FORK: usize = 0x40_0000;
 pub const MAX_ROWS: usize = 8192;
 
 /// The header of a fork: where its data and its map stand, and how many bytes each has.
-#[derive(Clone, Copy, Debug, PartialEq, Eq)]
+#[derive(Clone, Copy)]
 pub struct Header {
     pub data_offset: u32,
     pub map_offset: u32,
@@ -22,7 +22,7 @@ pub struct Header {
 pub type MapRow = Resource<u32>;
 
 /// An entry of the type list: a type, and how many resources of it stand in a row.
-#[derive(Clone, Copy, Debug, PartialEq, Eq)]
+#[derive(Clone, Copy)]
 pub struct TypeCount {
     pub kind: ResType,
     pub count: usize,

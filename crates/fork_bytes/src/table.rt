@@ -10,7 +10,7 @@ use std::marker::Model;
 pub type Row = Resource<Bytes>;
 
 /// The resources of a fork, in the order of its map. A contract sees the list.
-#[derive(Debug, Drop)]
+#[derive(Drop)]
 pub struct Rows {
     rows: Vec<Row>,
 }
@@ -41,7 +41,7 @@ impl Rows {
 }
 
 /// What a resource fork holds (Inside Macintosh: More Macintosh Toolbox, chapter 1).
-#[derive(Debug, Drop)]
+#[derive(Drop)]
 pub struct Table {
     /// The resources. Those of one type stand together.
     pub rows: Rows,

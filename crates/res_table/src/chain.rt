@@ -9,7 +9,7 @@ use std::alloc::Global;
 use std::marker::Model;
 
 /// The table of an open file.
-#[derive(Debug, Drop)]
+#[derive(Drop)]
 pub struct ResourceTable<D> {
     /// The rows. Those of one type stand together.
     pub rows: Rows<D>,
@@ -20,14 +20,14 @@ pub struct ResourceTable<D> {
 }
 
 /// An open file: its number, and its table.
-#[derive(Debug, Drop)]
+#[derive(Drop)]
 pub struct OpenFile<D> {
     pub number: u8,
     pub table: ResourceTable<D>,
 }
 
 /// Where a row stands: the number of its file, and its index in the table.
-#[derive(Clone, Copy, Debug, PartialEq, Eq)]
+#[derive(Clone, Copy)]
 pub struct RowPlace {
     pub file: u8,
     pub index: usize,
@@ -35,7 +35,7 @@ pub struct RowPlace {
 
 /// The open files, in the order of opening, and the number of the current one, if one is open (Inside Macintosh: More Macintosh
 /// Toolbox, chapter 1, "The Resource File Search Order"). A contract sees the list and the number.
-#[derive(Debug, Drop)]
+#[derive(Drop)]
 pub struct Chain<D> {
     files: Vec<OpenFile<D>>,
     current: Option<u8>,

@@ -24,7 +24,7 @@ fn key_of(handle: Handle) -> u64
 }
 
 /// The key of the handle of a row that has one, and where the row stands.
-#[derive(Clone, Copy, Debug, PartialEq, Eq)]
+#[derive(Clone, Copy)]
 pub(crate) struct Held {
     key: u64,
     place: usize,
@@ -165,7 +165,7 @@ fn rank(pairs: &[Held], pair: Held) -> usize
 
 /// The rows that have a handle, in the order of the handles' keys, and among those with the same handle in the order of rows. So a
 /// row is found where its key says that it should stand, or else by halving.
-#[derive(Debug, Drop)]
+#[derive(Drop)]
 pub(crate) struct Handles {
     pairs: Vec<Held>,
 }

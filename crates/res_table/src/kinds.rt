@@ -57,7 +57,7 @@ fn run_with(runs: &[TypeCount], place: usize) -> usize
 }
 
 /// The types of rows, in order: each with how many rows of it stand together. So what is asked of a type doesn't go through the rows.
-#[derive(Debug, Drop)]
+#[derive(Drop)]
 pub(crate) struct Kinds {
     runs: Vec<TypeCount>,
 }

@@ -5,7 +5,7 @@ use mac_base::handle::Handle;
 use res_base::resource::{ResAttrs, ResType, Resource};
 
 /// A resource of an open file, and its handle, if it has one (Inside Macintosh: More Macintosh Toolbox, chapter 1).
-#[derive(Debug, Drop)]
+#[derive(Drop)]
 pub struct Row<D> {
     pub resource: Resource<D>,
     pub handle: Option<Handle>,

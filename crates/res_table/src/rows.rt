@@ -14,7 +14,7 @@ use std::marker::Model;
 
 /// The rows of an open file, in order. A contract sees the list. A row is found by its handle without going through the rows, and
 /// what is asked of a type goes through the runs of rows of one type alone.
-#[derive(Debug, Drop)]
+#[derive(Drop)]
 pub struct Rows<D> {
     rows: Vec<Row<D>>,
     handles: Handles,

@@ -133,7 +133,7 @@ pub struct CallLine<'a> {
 }
 
 /// The calls that an answer of the grow-zone procedure may make, by their names.
-#[derive(Clone, Copy, Debug, PartialEq, Eq)]
+#[derive(Clone, Copy)]
 pub enum ReleasingName {
     DisposeHandle,
     DisposePtr,

@@ -23,7 +23,7 @@ pub const MAX_SCRIPT: usize = 0x10_0000;
 pub const MAX_LINES: u32 = 65536;
 
 /// Why a text gives no lines.
-#[derive(Clone, Copy, Debug, PartialEq, Eq, Error)]
+#[derive(Clone, Copy, Debug, Error)]
 pub enum Fault {
     /// The first line that is none. It is 0 where the text has too many bytes, and one more than the largest
     /// number of lines where it has too many of those.
