@@ -4,6 +4,7 @@ use Rattle.std.specs.Prelude.{◌||◌, cond}
 use Rattle.std.specs.List.{find, list_any}
 use Rattle.std.specs.Option.{option_map, option_map_or}
 use Rattle.std.proofs.Math.Seq.{map-set_same}
+use Rattle.std.proofs.lemmas.Bool.{false≢true}
 use Rattle.std.proofs.lemmas.Option.{slice_get_read}
 use Rattle.fork_disk.specs.Crash.{AlwaysFinds, Finds}
 use Rattle.fork_reader.specs.declared.place.Place.{Place}
@@ -24,7 +25,7 @@ still_found is_honest history may_find old ready new finds kept calm honest =
 
 -- an open file has a table
 pub no_table : {D : Type 0} (k : ℕ) (files : List (OpenFile D)) → IfSome (option_map table_in (find (is_numbered k) files)) (λ _. ⊥) → IsTrue (list_any (is_numbered k) files) → ⊥
-no_table k [] none is = absurd (cc is)
+no_table k [] none is = false≢true is
 no_table k (f ∷ files) none is = by (is_numbered k f) none is (no_table k files)
   where
     by : (b : Bool) → IfSome (option_map table_in (cond b (Some f) (find (is_numbered k) files))) (λ _. ⊥) → IsTrue (b || list_any (is_numbered k) files)

@@ -1,5 +1,6 @@
 use Rattle.std.proofs.Common.{◌-◌, ◌∙◌, sym, ap, arith, List}
 use Rattle.std.specs.Prelude.{IsFalse}
+use Rattle.std.proofs.lemmas.Bool.{false≢true}
 use Rattle.fork_bytes.specs.Written.{written}
 use Rattle.fork_disk.specs.Crash.{FoundBeforeOr}
 use Rattle.fork_disk.specs.declared.store.ReplaceFault.TheVariants.{BeforeFirstWrite, Later}
@@ -77,7 +78,7 @@ invariant_of-self-then-later g c = stand_left g.S.ForkStore.fork g.S.ForkStore.i
 
 pub invariant_of-self-else-later : goal.invariant_of-self-else-later
 invariant_of-self-else-later g c =
-    stand_unwritten g.S.ForkStore.fork g.S.ForkStore.is_ready g.S.ForkStore.is_honest c.self.inside.chain c.self.inside.loads c.self.inside.stores.items c.args.self.now c.self.view_is c.self.invariant c.args.number c.in-Some.table.now c.in-Some.ensures.some c.index_mut-store.result.now c.index_mut-store.ensures.value c.write_table.new.store c.in-Err.ensures.honest c.in-Err.fault (λ is. absurd (cc (sym c.if-later.false ∙ c.is_later-later.ensures.1 is)))
+    stand_unwritten g.S.ForkStore.fork g.S.ForkStore.is_ready g.S.ForkStore.is_honest c.self.inside.chain c.self.inside.loads c.self.inside.stores.items c.args.self.now c.self.view_is c.self.invariant c.args.number c.in-Some.table.now c.in-Some.ensures.some c.index_mut-store.result.now c.index_mut-store.ensures.value c.write_table.new.store c.in-Err.ensures.honest c.in-Err.fault (λ is. false≢true (sym c.if-later.false ∙ c.is_later-later.ensures.1 is))
     c.in-Err.ensures.untouched c.in-Err.ensures.unasked c.in-Err.ensures.before c.in-Err.ensures.still
 
 pub returns-then-later-clause-too_big : goal.returns-then-later-clause-too_big
