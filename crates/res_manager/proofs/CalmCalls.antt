@@ -1,5 +1,5 @@
 -- Calls that write no file and open none.
-use Rattle.std.proofs.Common.{◌≡◌, ℕ, Bool, true, false, ◌||◌, List, [], map, Option, Some, None, Result, Ok, Err, refl, ap, sym, subst, ◌∙◌}
+use Rattle.std.proofs.Common.{◌≡◌, ℕ, true, List, [], Option, Some, None, Result, Ok, Err, refl, ap, sym, subst, ◌∙◌}
 use Rattle.std.specs.Prelude.{IfOk, OnOk, OnErr}
 use Rattle.std.specs.Option.{option_map_or}
 use Rattle.mac_base.specs.ZoneState.{ZoneState}

@@ -1,5 +1,5 @@
 -- What a start may find behind a crash in a call, by what the call did to the stores.
-use Rattle.std.proofs.Common.{◌≡◌, ◌≢◌, ℕ, ◌-◌, ◌==◌, Bool, true, false, cond, List, [], ◌∷◌, map, slice_get, Option, Some, None, option_map, Result, Ok, Err, refl, sym, ap, subst, ◌∙◌, inl, inr, ⊎_elim}
+use Rattle.std.proofs.Common.{◌≡◌, ℕ, ◌-◌, Bool, true, false, cond, List, [], map, slice_get, Option, Some, None, option_map, Result, Ok, Err, refl, sym, ap, subst, ◌∙◌, inl, inr, ⊎_elim}
 use Rattle.std.specs.Prelude.{IfOk, OnOk, OnErr, IfSome}
 use Rattle.std.specs.Option.{option_map_or}
 use Rattle.std.proofs.lemmas.Bool.Decides.{eqb_tells}
@@ -10,10 +10,10 @@ use Rattle.mac_calls.specs.declared.resource_call.ResourceCall.TheVariants as ca
 use Rattle.mac_calls.specs.Outcomes.{Outcome}
 use Rattle.fork_bytes.specs.Written.{written}
 use Rattle.fork_disk.specs.declared.store.ForkStore.{Ghosts}
-use Rattle.fork_disk.specs.Crash.{AlwaysFinds, Finds, FoundBeforeOr, at_first, and_then}
+use Rattle.fork_disk.specs.Crash.{AlwaysFinds, FoundBeforeOr, at_first, and_then}
 use Rattle.res_calls.specs.Changes.{FileTable, Files, saved_table}
 use Rattle.res_calls.specs.Files.{ResState}
-use Rattle.res_calls.specs.Steps.{Work, Quiet, Opens, Updates, work_of}
+use Rattle.res_calls.specs.Steps.{Work, Quiet, Opens, work_of}
 use Rattle.res_calls.specs.Updates.{Update, update_of}
 use Rattle.res_files.specs.Crash.{history_of, OthersAreCalm}
 use Rattle.res_files.specs.FilesOn.{FilesOn}

@@ -1,4 +1,4 @@
-use Rattle.std.proofs.Common.{◌≡◌, List, map, None, true, refl, rules, sym, ap, subst}
+use Rattle.std.proofs.Common.{◌≡◌, List, map, None, true, rules, sym, ap, subst}
 use Rattle.std.specs.Prelude.{◌↔◌, All, IfOk}
 use Rattle.mac_calls.specs.GrowZone.{Ask}
 use Rattle.res_calls.specs.Steps.{work_of}

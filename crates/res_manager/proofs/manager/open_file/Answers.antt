@@ -1,4 +1,4 @@
-use Rattle.std.proofs.Common.{◌≡◌, cond, Some, None, refl, sym, ap, ◌∙◌}
+use Rattle.std.proofs.Common.{cond, Some, None, refl, sym, ap, ◌∙◌}
 use Rattle.mac_calls.specs.declared.resource_call.ResourceCall.TheVariants.{OpenResFile}
 use Rattle.res_calls.specs.Steps.{Opens, Quiet, work_of}
 use Rattle.res_manager.specs.Crash.{CrashLeaves, file_settled}
