@@ -40,3 +40,8 @@ text_put old bytes fork n told written cut some four tells is writes cuts =
     let front : take 5 told ≡ take 1 old ++ bytes = ap (λ (l : Bytes). take 5 l) tells ∙ take_at (take 1 old ++ bytes) _ 5 (length_of old bytes some four) in
     cut_behind told fork 5 n written cut (long_enough old bytes told some four tells) is writes cuts
     ∙ ap (λ (l : Bytes). l ++ fork) front ∙ append_assoc (take 1 old) bytes fork
+
+-- bytes that were written within reach as far as they are long
+pub put_reaches : (at : ℕ) (bytes old new : Bytes) → at ≤ length old → new ≡ put_at at bytes old → at + length bytes ≤ length new
+put_reaches at bytes old new within is =
+    omega (arith, ap length is, length-append (take at old ++ bytes) (drop (at + length bytes) old), length-append (take at old) bytes, length-take at old)

@@ -1,7 +1,6 @@
 pub mod Crash
 pub mod Form
 pub mod Recovery
-pub mod Faults
 pub mod Record
 pub mod Outcome
 pub mod Leaving

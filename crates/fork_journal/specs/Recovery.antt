@@ -19,6 +19,10 @@ IsBeforeOrAfter before after c = (settled_fork c ≡ before) ⊎ (settled_fork c
 abbrev pub IsSameChoice : History → Contents → Type 0
 IsSameChoice history c = (d : Contents) × MayLeave history d × (settled_fork c ≡ settled_fork d)
 
+-- a fork that is there once an outcome of a crash is recovered
+abbrev pub MayFind : History → List ℕ → Type 0
+MayFind history found = (c : Contents) × MayLeave history c × (found ≡ settled_fork c)
+
 -- nothing waits for a sync, and a recovery has nothing to do
 pub record IsReady (contents : Contents) (history : History) : Type 0 where
   pub settled : Leaves (λ c. c ≡ contents) history

@@ -1,21 +1,24 @@
 //! The fork of a resource file that has a journal.
 
-ghost use Rattle.std.specs.Prelude.{◌≡◌, ◌+◌, ◌≤◌, ◌<◌, ◌^◌, ◌↔◌, ◌⊎◌, [], ◌∷◌, length, IfOk, OnOk, IsErrOf};
+ghost use Rattle.std.specs.Prelude.{◌≡◌, ◌+◌, ◌≤◌, ◌<◌, ◌^◌, ◌↔◌, ◌⊎◌, ⊤, [], ◌∷◌, length, IfOk, OnOk, IsErrOf};
+ghost use Rattle.std.proofs.Common.{◌∙◌, ap};
+ghost use Rattle.fork_disk.specs.Crash.{AlwaysFinds, FoundBeforeOr};
 ghost use Rattle.fork_disk.specs.Disk.{bytes_at, Counts, Rose};
-ghost use Rattle.fork_journal.specs.Crash.{AlwaysLeaves, Found};
+ghost use Rattle.fork_disk.specs.Faults.{CountsDevice};
+ghost use Rattle.fork_journal.specs.Crash.{AlwaysLeaves, Event, Found};
 ghost use Rattle.fork_journal.specs.Form.{text_of};
-ghost use Rattle.fork_journal.specs.Recovery.{recovered, settled_fork, IsReady, IsRecoverable, IsStable, IsBeforeOrAfter, IsSameChoice, IsEither};
+ghost use Rattle.fork_journal.specs.Recovery.{recovered, settled_fork, IsReady, IsRecoverable, IsStable, IsBeforeOrAfter, IsSameChoice, IsEither, MayFind};
 
-use crate::faults::RecoverFault;
 use crate::pair::{PairDisk, Side};
 use crate::{recovery, update};
 use fork_disk::disk::DiskFault;
+use fork_disk::faults::RecoverFault;
 use fork_disk::store::{ForkStore, ReplaceFault};
 use std::alloc::Global;
 
 /// A fork that is replaced by way of its journal, so that whenever a crash comes, the old fork or the new one is there once the pair is
-/// recovered. What has to be refused for want of memory, or since no journal holds so long a fork, is counted as a failure of the
-/// device, and nothing has changed then.
+/// recovered. A fork of 2 to the 32 bytes or more, whose length no journal holds, is refused. That is counted as a failure of the device,
+/// and nothing has changed then.
 #[derive(Drop)]
 pub struct Journal<P: PairDisk> {
     alloc: Global,
@@ -67,29 +70,33 @@ impl<P: PairDisk> ForkStore for Journal<P> {
 
     ghost may_leave = { IsEither };
 
-    /// Makes the fork ready. Where the host has no memory for the journal's fork, that is counted as a failure of the device.
-    fn recover(&mut self) -> Result<(), DiskFault>
+    ghost has_journal = { ⊤ };
+
+    ghost Event = { Event };
+
+    ghost history = { λ store. P.history store.pair };
+
+    ghost may_find = { MayFind };
+
+    ghost ready_finds = { λ store journal honest ready found may. may.2 ∙ ap settled_fork (ready.settled may.0 may.1) };
+
+    /// Makes the fork ready. Where the host has no memory for the journal's fork, only the journal was synced.
+    fn recover(&mut self) -> Result<(), RecoverFault>
         ensures same { P.is_honest self.old.pair → settled_fork (P.contents self.new.pair) ≡ settled_fork (P.contents self.old.pair) }
         ensures ready { P.is_honest self.old.pair → OnOk result (IsReady (P.contents self.new.pair) (P.history self.new.pair)) }
         ensures still { P.is_honest self.old.pair → IsReady (P.contents self.old.pair) (P.history self.old.pair) → IsReady (P.contents self.new.pair) (P.history self.new.pair) }
         ensures stable { P.is_honest self.old.pair → IsStable (P.contents self.old.pair) (P.history self.old.pair) → IsStable (P.contents self.new.pair) (P.history self.new.pair) }
         ensures honest { P.is_honest self.old.pair ↔ P.is_honest self.new.pair }
-        ensures cause { Counts (P.failures self.old.pair + self.old.refusals) (P.failures self.new.pair + self.new.refusals) result }
+        ensures cause { CountsDevice (P.failures self.old.pair + self.old.refusals) (P.failures self.new.pair + self.new.refusals) result }
+        ensures any_moment { P.is_honest self.old.pair → AlwaysFinds MayFind (MayFind (P.history self.old.pair)) (P.history self.old.pair) (P.history self.new.pair) }
         // A crash at any moment of the call leaves a choice that was there before it.
-        ensures any_moment { P.is_honest self.old.pair → AlwaysLeaves (IsSameChoice (P.history self.old.pair)) (P.history self.old.pair) (P.history self.new.pair) }
+        ensures leaves { P.is_honest self.old.pair → AlwaysLeaves (IsSameChoice (P.history self.old.pair)) (P.history self.old.pair) (P.history self.new.pair) }
         // Where each crash before the call left one fork, as behind a start, each within it leaves that one.
         ensures one_fork { P.is_honest self.old.pair → IsStable (P.contents self.old.pair) (P.history self.old.pair)
             → AlwaysLeaves (λ c. settled_fork c ≡ settled_fork (P.contents self.old.pair)) (P.history self.old.pair) (P.history self.new.pair) }
         ensures recovered { P.is_honest self.old.pair → OnOk result (P.contents self.new.pair ≡ recovered (P.contents self.old.pair)) }
     {
-        match recovery::recover(self.alloc, &mut self.pair) {
-            Ok(()) => Ok(()),
-            Err(RecoverFault::Device) => Err(DiskFault),
-            Err(RecoverFault::Host) => {
-                self.refuse();
-                Err(DiskFault)
-            }
-        }
+        recovery::recover(self.alloc, &mut self.pair)
     }
 
     fn len(&mut self) -> Result<u64, DiskFault>
@@ -132,8 +139,10 @@ impl<P: PairDisk> ForkStore for Journal<P> {
         ensures stable { P.is_honest self.old.pair → OnOk result (IsStable (P.contents self.new.pair) (P.history self.new.pair)) }
         ensures honest { P.is_honest self.old.pair ↔ P.is_honest self.new.pair }
         ensures cause { Counts (P.failures self.old.pair + self.old.refusals) (P.failures self.new.pair + self.new.refusals) result }
-        // A crash at any moment of the call leaves the fork from before it or the new one, and so does a fault.
         ensures any_moment { P.is_honest self.old.pair
+            → AlwaysFinds MayFind (FoundBeforeOr MayFind (P.history self.old.pair) new.now) (P.history self.old.pair) (P.history self.new.pair) }
+        // A crash at any moment of the call leaves the fork from before it or the new one, and so does a fault.
+        ensures leaves { P.is_honest self.old.pair
             → AlwaysLeaves (IsBeforeOrAfter (settled_fork (P.contents self.old.pair)) new.now) (P.history self.old.pair) (P.history self.new.pair) }
         ensures journal { P.is_honest self.old.pair → OnOk result ((P.contents self.new.pair).journal ≡ 0 ∷ text_of new.now) }
         ensures same { P.is_honest self.old.pair → IsErrOf result ReplaceFault.BeforeFirstWrite → P.contents self.new.pair ≡ P.contents self.old.pair }

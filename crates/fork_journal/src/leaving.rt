@@ -9,7 +9,7 @@ use crate::pair::Side;
 use std::alloc::{AllocError, Global};
 
 /// What stands, after a crash, in the range of a write or behind a cut.
-#[derive(Clone, Copy, Debug, PartialEq, Eq)]
+#[derive(Clone, Copy, PartialEq, Eq)]
 pub enum Fate {
     /// What was there before the call, and zeros where nothing was.
     Lost,
@@ -20,7 +20,7 @@ pub enum Fate {
 }
 
 /// What a crash leaves of one call that no sync followed.
-#[derive(Clone, Copy, Debug, PartialEq, Eq)]
+#[derive(Clone, Copy)]
 pub struct Choice {
     /// The bytes of its range.
     pub fate: Fate,

@@ -2,7 +2,7 @@
 #![tactic(auto)]
 
 mod crash_pair;
-pub mod faults;
+mod file_pair;
 mod journal;
 mod leaving;
 mod mem_pair;
@@ -13,7 +13,7 @@ mod steps;
 pub mod update;
 
 pub use crash_pair::CrashPair;
-pub use faults::RecoverFault;
+pub use file_pair::FilePair;
 pub use journal::Journal;
 pub use leaving::{Choice, Fate};
 pub use mem_pair::{Call, MemPair};

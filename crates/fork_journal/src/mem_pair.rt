@@ -11,7 +11,7 @@ use fork_disk::disk::DiskFault;
 use std::alloc::{AllocError, Global};
 
 /// A call that changed a pair, or made a side of it stable.
-#[derive(Debug, Drop)]
+#[derive(Drop)]
 pub enum Call {
     /// These bytes were written to a side, from this offset on.
     Write(Side, u64, Vec<u8>),

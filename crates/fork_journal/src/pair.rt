@@ -7,7 +7,7 @@ ghost use Rattle.fork_journal.specs.Crash.{Contents, History, Wrote, Cut, Synced
 use fork_disk::disk::DiskFault;
 
 /// One of the two.
-#[derive(Clone, Copy, Debug, PartialEq, Eq)]
+#[derive(Clone, Copy)]
 pub enum Side {
     /// The resource fork.
     Fork,

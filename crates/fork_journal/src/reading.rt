@@ -3,13 +3,13 @@
 ghost use Rattle.std.specs.Prelude.{◌≡◌, ◌+◌, ◌<◌, ◌≤◌, ◌^◌, ◌↔◌, true, false, length, drop, IfOk, MatchOption};
 ghost use Rattle.byteorder.specs.Endian.{big_number};
 ghost use Rattle.fork_disk.specs.Disk.{bytes_at, Counts};
-ghost use Rattle.fork_journal.specs.Faults.{CountsDevice};
+ghost use Rattle.fork_disk.specs.Faults.{CountsDevice};
 ghost use Rattle.fork_journal.specs.Form.{is_usable, must_shut, fork_in};
 
-use crate::faults::RecoverFault;
 use crate::pair::{PairDisk, Side};
 use byteorder::{BigEndian, ByteOrder};
 use fork_disk::disk::DiskFault;
+use fork_disk::faults::RecoverFault;
 use std::alloc::Global;
 
 /// Whether the gate has to be shut before a text is written.

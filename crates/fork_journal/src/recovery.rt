@@ -2,16 +2,16 @@
 
 ghost use Rattle.std.specs.Prelude.{◌≡◌, ◌↔◌, ◌∷◌, true, drop, OnOk};
 ghost use Rattle.fork_disk.specs.Disk.{Counts};
+ghost use Rattle.fork_disk.specs.Faults.{CountsDevice};
 ghost use Rattle.fork_journal.specs.Crash.{AlwaysLeaves, Leaves};
-ghost use Rattle.fork_journal.specs.Faults.{CountsDevice};
 ghost use Rattle.fork_journal.specs.Form.{fork_in, is_usable};
 ghost use Rattle.fork_journal.specs.Recovery.{recovered, settled_fork, IsReady, IsRecoverable, IsStable, IsSameChoice};
 
-use crate::faults::RecoverFault;
 use crate::pair::{PairDisk, Side};
 use crate::reading::usable_fork;
 use crate::steps::{put_fork, put_gate};
 use fork_disk::disk::DiskFault;
+use fork_disk::faults::RecoverFault;
 use std::alloc::Global;
 
 /// Writes the fork that stands behind the open gate, and shuts the gate. Whenever a crash comes, the pair recovers this fork.

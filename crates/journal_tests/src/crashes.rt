@@ -1,6 +1,6 @@
 //! Crashes at each moment: what a start then finds is the fork before the update or the one after it.
 
-use crate::forks::{front, one_row, started, two_rows};
+use crate::forks::{front, journal_of, one_row, started, two_rows};
 use fork_disk::store::ForkStore;
 use fork_journal::{Call, Choice, CrashPair, Fate, Journal, MemPair};
 use std::alloc::{AllocError, Global};
@@ -167,13 +167,6 @@ fn stop_update(
         }
     }
     Ok(seen)
-}
-
-/// A journal with this gate, that tells 312 bytes, and with these behind it.
-fn journal_of(alloc: Global, gate: u8, bytes: &[u8]) -> Result<Vec<u8>, AllocError> {
-    let mut journal = vec![in alloc; gate, 0, 0, 1, 0x38]?;
-    journal.extend_from_slice(bytes)?;
-    Ok(journal)
 }
 
 /// An update where there is no journal yet, one behind a gate that is open over too short a text, one back with the journal of the

@@ -4,6 +4,8 @@
 #[cfg(test)]
 mod crashes;
 #[cfg(test)]
+mod files;
+#[cfg(test)]
 mod forks;
 #[cfg(test)]
 mod whole;

@@ -1,4 +1,5 @@
-use Rattle.std.proofs.Common.{◌∙◌}
+use Rattle.std.proofs.Common.{sym, ◌∙◌}
+use Rattle.fork_journal.proofs.Along.{leaves_now}
 use Rattle.fork_journal.proofs.Updating.{chooses, syncs, recovers, settled_read, one_fork}
 use Rattle.fork_journal.proofs.recovery.recover.Goals as goal
 
@@ -43,3 +44,11 @@ returns-in_err-finish-clause-one_fork g c honest stable = one_fork (g.P.PairDisk
 
 pub returns-clause-one_fork : goal.returns-clause-one_fork
 returns-clause-one_fork g c honest stable = one_fork (g.P.PairDisk.contents c.args.pair.now) _ _ stable (returns-clause-any_moment g c honest)
+
+pub returns-in_err-finish-clause-same : goal.returns-in_err-finish-clause-same
+returns-in_err-finish-clause-same g c honest =
+    let then = c.sync.ensures.honest.0 honest in
+    let later = c.usable_fork.ensures.honest.0 then in
+    let found = rw c.in-Some.is at (c.in_ok-fork.ensures.value then) in
+    let gives = settled_read (g.P.PairDisk.contents c.args.pair.now) (g.P.PairDisk.contents c.sync.new.self) c.deref.result.now (c.sync.ensures.same honest) found.0 (c.deref.ensures.value ∙ found.1) in
+    leaves_now _ _ _ (c.finish.ensures.any_moment later) _ (g.met.P.PairDisk.reads_is_outcome c.finish.new.pair (c.finish.ensures.honest.0 later)) ∙ sym gives

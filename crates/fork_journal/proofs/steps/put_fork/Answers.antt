@@ -1,5 +1,6 @@
-use Rattle.std.proofs.Common.{◌≡◌, ℕ, List, arith}
+use Rattle.std.proofs.Common.{◌≡◌, ℕ, List, ◌∙◌, ap, arith}
 use Rattle.std.specs.Prelude.{⊤}
+use Rattle.fork_journal.specs.Crash.{Contents}
 use Rattle.fork_journal.specs.declared.pair.Side.TheVariants.{Fork}
 use Rattle.fork_journal.proofs.Joining.{cut_behind}
 use Rattle.fork_journal.proofs.Along.{begins, writes, cuts, along_same, along_sync, settles}
@@ -38,3 +39,9 @@ returns-clause-stable g c honest =
     let cut = cuts Fork Any _ _ _ _ (λ x y z r t. tt) written (c.cut.ensures.crash honest_then) in
     let reads : (g.P.PairDisk.contents c.cut.new.self).fork ≡ c.args.fork.now = cut_behind _ c.args.fork.now 0 _ _ _ (omega arith) (omega arith) (c.in_ok-write_at.ensures.written honest).0 (c.in_ok-cut.ensures.cut honest_then).0 in
     settles Fork Any _ _ _ _ _ cut (c.in_ok-sync.ensures.durable (c.cut.ensures.honest.0 honest_then)) reads
+
+pub returns-clause-put : goal.returns-clause-put
+returns-clause-put g c honest =
+    let then = c.write_at.ensures.honest.0 honest in
+    let reads = cut_behind _ c.args.fork.now 0 _ _ _ (omega arith) (omega arith) (c.in_ok-write_at.ensures.written honest).0 (c.in_ok-cut.ensures.cut then).0 in
+    ap (λ (d : Contents). d.fork) (c.sync.ensures.same (c.cut.ensures.honest.0 then)) ∙ reads

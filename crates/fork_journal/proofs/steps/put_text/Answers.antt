@@ -2,7 +2,7 @@ use Rattle.std.proofs.Common.{◌≡◌, ℕ, List, length, take, refl, ◌∙�
 use Rattle.byteorder.specs.Endian.{big_bytes}
 use Rattle.fork_journal.specs.Crash.{Contents}
 use Rattle.fork_journal.specs.declared.pair.Side.TheVariants.{Journal}
-use Rattle.fork_journal.proofs.Joining.{text_joins, text_cut_joins, text_put}
+use Rattle.fork_journal.proofs.Joining.{text_joins, text_cut_joins, text_put, long_enough, put_reaches}
 use Rattle.fork_journal.proofs.Along.{begins, writes, cuts, along_same, along_sync, settles}
 use Rattle.fork_journal.proofs.steps.put_text.Goals as goal
 
@@ -65,3 +65,9 @@ returns-clause-stable g c honest =
     let cut = cuts Journal R _ _ _ _ (text_cut_joins _ (omega arith)) written (c.cut.ensures.crash later) in
     let reads = text_put _ (big_bytes 4 (length c.args.fork.now)) c.args.fork.now _ _ _ _ (c.requires.gate honest) refl (c.in_ok-put_length.ensures.put honest) (omega arith) (c.in_ok-write_at.ensures.written then).0 (c.in_ok-cut.ensures.cut later).0 in
     settles Journal R _ _ _ _ _ cut (c.in_ok-sync.ensures.durable (c.cut.ensures.honest.0 later)) reads
+
+pub cut-requires : goal.cut-requires
+cut-requires g c later =
+    let then = c.write_at.ensures.honest.1 later in
+    let honest = c.put_length.ensures.honest.1 then in
+    put_reaches 5 c.args.fork.now _ _ (long_enough _ (big_bytes 4 (length c.args.fork.now)) _ (c.requires.gate honest) refl (c.in_ok-put_length.ensures.put honest)) (c.in_ok-write_at.ensures.written then).0

@@ -17,3 +17,7 @@ pub returns-in-Err-clause-left : goal.returns-in-Err-clause-left
 returns-in-Err-clause-left g c honest =
     let then = c.put_both.ensures.honest.0 (c.shut.ensures.honest.0 honest) in
     leaves_now _ _ _ (returns-in-Err-clause-any_moment g c honest) (g.P.PairDisk.contents c.put_both.new.pair) (g.met.P.PairDisk.reads_is_outcome c.put_both.new.pair then)
+
+pub returns-in_err-shut-clause-left : goal.returns-in_err-shut-clause-left
+returns-in_err-shut-clause-left g c honest =
+    leaves_now _ _ _ (returns-in_err-shut-clause-any_moment g c honest) (g.P.PairDisk.contents c.shut.new.pair) (g.met.P.PairDisk.reads_is_outcome c.shut.new.pair (c.shut.ensures.honest.0 honest))

@@ -1,7 +1,11 @@
-use Rattle.std.proofs.Common.{ap}
-use Rattle.fork_journal.proofs.Along.{along_same}
+use Rattle.std.proofs.Common.{sym, ◌∙◌}
+use Rattle.fork_journal.proofs.Along.{leaves_now}
+use Rattle.fork_journal.proofs.Finding.{finds_choice}
 use Rattle.fork_journal.proofs.journal.JournalForkStore.recover.Goals as goal
 
-pub returns-in-Err-Host-clause-one_fork : goal.returns-in-Err-Host-clause-one_fork
-returns-in-Err-Host-clause-one_fork g c honest stable =
-    along_same _ _ _ _ (c.recover.ensures.one_fork honest stable) (ap (λ pair. g.P.PairDisk.history pair) c.refuse.ensures.pair)
+pub returns-clause-any_moment : goal.returns-clause-any_moment
+returns-clause-any_moment g c honest = finds_choice _ _ (c.recover.ensures.any_moment honest)
+
+pub returns-clause-stable : goal.returns-clause-stable
+returns-clause-stable g c honest stable left is =
+    leaves_now _ _ _ (c.recover.ensures.one_fork honest stable) left is ∙ sym (c.recover.ensures.same honest)
