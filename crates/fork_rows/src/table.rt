@@ -6,7 +6,7 @@ use fork_reader::place::PlacedRow;
 use std::marker::Model;
 
 /// Resources with the places of their bytes, in the order of the map. A contract sees the list.
-#[derive(Debug, Drop)]
+#[derive(Drop)]
 pub struct PlacedRows {
     rows: Vec<PlacedRow>,
 }
@@ -44,7 +44,7 @@ impl PlacedRows {
 }
 
 /// What a resource fork holds, but for the bytes of its resources: of these it says where they stand in the fork.
-#[derive(Debug, Drop)]
+#[derive(Drop)]
 pub struct PlacedTable {
     /// The resources, in the order of the map.
     pub rows: PlacedRows,

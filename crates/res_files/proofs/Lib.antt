@@ -14,3 +14,4 @@ pub mod Written
 pub mod Updated
 pub mod PlacedRows
 pub mod Rewritten
+pub mod Crash

@@ -35,7 +35,7 @@ module _ {S : Type 0} (fork : S → List ℕ) (is_ready is_honest : S → Type 0
   there : k ≤ length stores
   there = subst (λ (xs : List S). k ≤ length xs) stores_are high
 
-  within : k - 1 < length stores
+  pub within : k - 1 < length stores
   within = omega (arith, low, there)
 
   here : slice_get stores (k - 1) ≡ Some old

@@ -50,7 +50,7 @@ lent-mapped {D} {E} f t (RowAt index) rows = ap (λ (found : Option (Row E)). op
     by (Some r) = refl
 
 -- what was set is there
-get_set : {X : Type 0} (xs : List X) (i : ℕ) (y : X) → i < length xs → slice_get (set xs i y) i ≡ Some y
+pub get_set : {X : Type 0} (xs : List X) (i : ℕ) (y : X) → i < length xs → slice_get (set xs i y) i ≡ Some y
 get_set [] i y within = absurd (omega (arith, within))
 get_set (x ∷ xs) zero y within = refl
 get_set (x ∷ xs) (suc i) y within = get_set xs i y (omega (arith, within))

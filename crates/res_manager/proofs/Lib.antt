@@ -1,5 +1,7 @@
+pub mod CalmCalls
 pub mod Changing
 pub mod ClosingFiles
+pub mod Crash
 pub mod Filling
 pub mod Forgetting
 pub mod GettingCalls

@@ -44,6 +44,10 @@ fits : (A B : Type 0) (b : Bool) → b ≡ true → A → MatchBool b A B
 fits A B true is h = h
 fits A B false is h = absurd (cc is)
 
+unfit : (A B : Type 0) (b : Bool) → b ≡ false → B → MatchBool b A B
+unfit A B false is h = h
+unfit A B true is h = absurd (cc is)
+
 module _ {S : Type 0} (fork : S → List ℕ) (failures : S → ℕ) (may_leave : LeaveRelation) (zone : ZoneState) (on after : FilesOn S) (u : Update) where
   -- the file is written
   pub writes_all : fits_fork u.table ≡ true → after.files ≡ rows_changed u.file (λ rows. u.table.rows) on.files → map fork after.stores ≡ forks_with fork u.file (written (saved_table u.table)) on.stores → after.loads ≡ on.loads
@@ -57,6 +61,12 @@ module _ {S : Type 0} (fork : S → List ℕ) (failures : S → ℕ) (may_leave 
       → WritesFile fork failures may_leave zone on (UpdateResFile None) u (Err IoErr) zone after
   writes_none room files forks loads failed =
       fits _ _ (fits_fork u.table) room (device.FailsBefore, tt, same_end (Err IoErr) (state_of fork zone on) (state_of fork zone after) (same_state fork (state_of fork zone on) zone after refl refl (sym files) (sym loads) (sym forks)), λ h. failed)
+
+  -- or no fork holds what is to be written
+  pub writes_nothing : fits_fork u.table ≡ false → after ≡ on → WritesFile fork failures may_leave zone on (UpdateResFile None) u (Err DskFulErr) zone after
+  writes_nothing none same =
+      let P : FilesOn S → Type 0 = λ f. WritesFile fork failures may_leave zone on (UpdateResFile None) u (Err DskFulErr) zone f in
+      subst P (sym same) (unfit _ _ (fits_fork u.table) none refl)
 
   -- or later
   pub writes_part : (left : Disk) → fits_fork u.table ≡ true → may_leave (written (saved_table u.table)) (fork_of fork u.file on.stores) left → map fork after.stores ≡ forks_with fork u.file left on.stores → after.files ≡ file_closed u.file on.files

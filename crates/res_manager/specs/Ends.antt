@@ -67,6 +67,10 @@ writes (call.UpdateResFile named) = true
 writes (call.CloseResFile named) = true
 writes _ = false
 
+-- whether a call writes no file and opens none
+abbrev pub is_calm : ResourceCall → Bool
+is_calm call = gets call || is_quiet call
+
 -- Such a call ends so where it makes this update: it is refused where no fork can hold what it writes, and else a device may fail.
 abbrev pub WritesFile : {S : Type 0} → (S → List ℕ) → (S → ℕ) → LeaveRelation → ZoneState → FilesOn S → ResourceCall → Update → Outcome → ZoneState → FilesOn S → Type 0
 WritesFile fork failures may_leave old old_files call u outcome new new_files = MatchBool (fits_fork u.table)

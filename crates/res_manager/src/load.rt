@@ -41,6 +41,7 @@ pub(crate) fn get_row<S: ForkStore, G: GrowZone>(
     requires unasked { G.asks procedure.old ≡ [] }
     requires there { IsSome (row_at place files.old.files) }
     ensures step { All S.is_honest files.old.stores → LoadSteps S.fork S.failures S.may_leave memory.old files.old place loads (G.asks procedure.new) result memory.new files.new }
+    ensures calm { All S.is_honest files.old.stores → map S.history files.new.stores ≡ map S.history files.old.stores }
     ensures source { G.source procedure.new ≡ G.source procedure.old }
     ensures loans { KeepsLoans memory.old memory.new }
     ensures lent { memory.new.heap.table.lent ≡ memory.old.heap.table.lent }
@@ -184,6 +185,7 @@ fn load_bytes<S: ForkStore>(
     ensures shape { memory.new.shape ≡ memory.old.shape }
     ensures files { All S.is_honest files.old.stores → files.new.files ≡ files.old.files }
     ensures forks { All S.is_honest files.old.stores → map S.fork files.new.stores ≡ map S.fork files.old.stores }
+    ensures calm { All S.is_honest files.old.stores → map S.history files.new.stores ≡ map S.history files.old.stores }
     ensures loads { files.new.loads ≡ files.old.loads }
     ensures honest { All S.is_honest files.old.stores ↔ All S.is_honest files.new.stores }
     ensures count { length files.new.stores ≡ length files.old.stores }
@@ -215,6 +217,7 @@ fn read_bytes<S: ForkStore>(
     ensures shape { memory.new.shape ≡ memory.old.shape }
     ensures files { All S.is_honest files.old.stores → files.new.files ≡ files.old.files }
     ensures forks { All S.is_honest files.old.stores → map S.fork files.new.stores ≡ map S.fork files.old.stores }
+    ensures calm { All S.is_honest files.old.stores → map S.history files.new.stores ≡ map S.history files.old.stores }
     ensures loads { files.new.loads ≡ files.old.loads }
     ensures honest { All S.is_honest files.old.stores ↔ All S.is_honest files.new.stores }
     ensures count { length files.new.stores ≡ length files.old.stores }

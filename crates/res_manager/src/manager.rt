@@ -6,7 +6,7 @@ ghost use Rattle.res_calls.specs.Tests.{resource_refusal};
 ghost use Rattle.mac_calls.specs.declared.resource_call.ResourceCall.TheVariants as call;
 ghost use Rattle.res_calls.specs.Steps.{work_of};
 ghost use Rattle.res_manager.specs.Crash.{CrashLeaves, IsSettled, file_settled};
-ghost use Rattle.res_manager.specs.Ends.{EndsQuietly, copies, is_quiet};
+ghost use Rattle.res_manager.specs.Ends.{EndsQuietly, copies, is_calm, is_quiet};
 ghost use Rattle.res_manager.specs.Steps.{ReadsBack, ResourceSteps, state_of, takes_memory, update_in};
 ghost use Rattle.res_manager.specs.Tests.{Passes, early_tests};
 
@@ -62,14 +62,50 @@ pub fn make<S: ForkStore, G: GrowZone>(
         return Ok(Err(code));
     }
     match *call {
-        ResourceCall::GetResource { .. }
-        | ResourceCall::Get1Resource { .. }
-        | ResourceCall::GetIndResource { .. }
-        | ResourceCall::LoadResource(_) => Ok(get(files, memory, call, procedure)),
         ResourceCall::WriteResource(_)
         | ResourceCall::UpdateResFile(_)
         | ResourceCall::CloseResFile(_) => update(files, memory, call),
         ResourceCall::OpenResFile(number) => open_file(files, memory, number),
+        _ => make_calm(files, memory, alloc, call, procedure),
+    }
+}
+
+/// Makes a call that writes no file and opens none.
+fn make_calm<S: ForkStore, G: GrowZone>(
+    files: &mut ResourceFiles<S>,
+    memory: &mut MemoryManager,
+    alloc: Global,
+    call: &ResourceCall<'_>,
+    procedure: &mut G,
+) -> Result<Outcome, HostFull>
+    requires calm { IsTrue (is_calm call.now) }
+    requires passed { Passes (state_of S.fork memory.old files.old) (early_tests call.now) }
+    requires unasked { G.asks procedure.old ≡ [] }
+    ensures step { All S.is_honest files.old.stores → IfOk result (λ outcome.
+        ResourceSteps S.fork S.failures S.may_leave memory.old files.old call.now (G.asks procedure.new) outcome memory.new files.new) }
+    ensures reads_back { All S.is_honest files.old.stores → IfOk result (λ outcome. ReadsBack (state_of S.fork memory.old files.old) call.now outcome (state_of S.fork memory.new files.new)) }
+    ensures any_moment { All S.is_honest files.old.stores → IfOk result (λ outcome.
+        CrashLeaves S.ForkStore (update_in (work_of (state_of S.fork memory.old files.old) call.now)) files.old.stores files.new.stores) }
+    ensures settled { All S.is_honest files.old.stores → IfOk result (λ outcome. OnOk outcome
+        (IsSettled S.ForkStore (file_settled (work_of (state_of S.fork memory.old files.old) call.now)) files.new.stores)) }
+    ensures crash_full { All S.is_honest files.old.stores → OnErr result (CrashLeaves S.ForkStore None files.old.stores files.new.stores) }
+    ensures source { G.source procedure.new ≡ G.source procedure.old }
+    ensures loans { KeepsLoans memory.old memory.new }
+    ensures lent { memory.new.heap.table.lent ≡ memory.old.heap.table.lent }
+    ensures shape { memory.new.shape ≡ memory.old.shape }
+    ensures honest { All S.is_honest files.old.stores ↔ All S.is_honest files.new.stores }
+    ensures count { length files.new.stores ≡ length files.old.stores }
+    ensures unchanged { OnErr result (memory.new ≡ memory.old) }
+    ensures unasked { OnErr result (G.asks procedure.new ≡ []) }
+    ensures same { All S.is_honest files.old.stores → OnErr result (state_of S.fork memory.new files.new ≡ state_of S.fork memory.old files.old) }
+    ensures full { All S.is_honest files.old.stores → OnErr result (IsTrue (takes_memory (state_of S.fork memory.old files.old) call.now)) }
+    ensures late { All S.is_honest files.old.stores → OnErr result (resource_refusal (state_of S.fork memory.old files.old) call.now ≡ None) }
+{
+    match *call {
+        ResourceCall::GetResource { .. }
+        | ResourceCall::Get1Resource { .. }
+        | ResourceCall::GetIndResource { .. }
+        | ResourceCall::LoadResource(_) => Ok(get(files, memory, call, procedure)),
         _ => make_quiet(files, memory, alloc, call),
     }
 }
@@ -124,6 +160,11 @@ fn open_file<S: ForkStore>(
     requires { Passes (state_of S.fork memory.now files.old) (early_tests (call.OpenResFile number)) }
     ensures step { All S.is_honest files.old.stores → IfOk result (λ outcome.
         ResourceSteps S.fork S.failures S.may_leave memory.now files.old (call.OpenResFile number) [] outcome memory.now files.new) }
+    ensures any_moment { All S.is_honest files.old.stores → IfOk result (λ outcome.
+        CrashLeaves S.ForkStore (update_in (work_of (state_of S.fork memory.now files.old) (call.OpenResFile number))) files.old.stores files.new.stores) }
+    ensures settled { All S.is_honest files.old.stores → IfOk result (λ outcome. OnOk outcome
+        (IsSettled S.ForkStore (file_settled (work_of (state_of S.fork memory.now files.old) (call.OpenResFile number))) files.new.stores)) }
+    ensures crash_full { All S.is_honest files.old.stores → OnErr result (CrashLeaves S.ForkStore None files.old.stores files.new.stores) }
     ensures same { All S.is_honest files.old.stores → OnErr result (state_of S.fork memory.now files.new ≡ state_of S.fork memory.now files.old) }
     ensures full { OnErr result (IsTrue (takes_memory (state_of S.fork memory.now files.old) (call.OpenResFile number))) }
     ensures honest { All S.is_honest files.old.stores ↔ All S.is_honest files.new.stores }

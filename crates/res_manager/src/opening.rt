@@ -1,7 +1,8 @@
 //! The call that opens a file.
 
-ghost use Rattle.std.specs.Prelude.{◌≡◌, ◌≤◌, ◌↔◌, [], All, IfOk, OnErr, IsFalse, length, map};
+ghost use Rattle.std.specs.Prelude.{◌≡◌, ◌≤◌, ◌↔◌, [], All, IfOk, OnOk, OnErr, IsFalse, Some, None, length, map};
 ghost use Rattle.mac_base.specs.ZoneState.{ZoneState};
+ghost use Rattle.res_manager.specs.Crash.{CrashLeaves, IsSettled};
 ghost use Rattle.res_manager.specs.Ends.{OpensFile};
 ghost use Rattle.res_table.specs.OpenFiles.{is_open};
 
@@ -21,6 +22,8 @@ pub(crate) fn open<S: ForkStore>(
         (zone : ZoneState) → OpensFile S.fork S.failures zone files.old number outcome files.new) }
     ensures full { All S.is_honest files.old.stores → OnErr result (files.new.files ≡ files.old.files) }
     ensures forks { All S.is_honest files.old.stores → map S.fork files.new.stores ≡ map S.fork files.old.stores }
+    ensures any_moment { All S.is_honest files.old.stores → CrashLeaves S.ForkStore None files.old.stores files.new.stores }
+    ensures settled { All S.is_honest files.old.stores → IfOk result (λ outcome. OnOk outcome (IsSettled S.ForkStore (Some number) files.new.stores)) }
     ensures loads { files.new.loads ≡ files.old.loads }
     ensures honest { All S.is_honest files.old.stores ↔ All S.is_honest files.new.stores }
     ensures count { length files.new.stores ≡ length files.old.stores }

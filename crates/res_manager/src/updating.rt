@@ -4,10 +4,12 @@ ghost use Rattle.std.specs.Prelude.{◌≡◌, ◌↔◌, [], All, IfOk, OnOk, O
 ghost use Rattle.linked_zone.specs.Loans.{KeepsLoans};
 ghost use Rattle.mac_calls.specs.declared.resource_call.ResourceCall.TheVariants as call;
 ghost use Rattle.res_calls.specs.Changes.{rows_of};
+ghost use Rattle.res_calls.specs.Steps.{work_of};
 ghost use Rattle.res_calls.specs.Tests.{resource_refusal};
 ghost use Rattle.res_calls.specs.Updates.{Update, disposed, fits_fork, handles_of, update_of};
+ghost use Rattle.res_manager.specs.Crash.{CrashLeaves, IsSettled, file_settled};
 ghost use Rattle.res_manager.specs.Ends.{WritesFile, writes};
-ghost use Rattle.res_manager.specs.Steps.{IsSaved, ReadsBack, ResourceSteps, state_of, takes_memory};
+ghost use Rattle.res_manager.specs.Steps.{IsSaved, ReadsBack, ResourceSteps, state_of, takes_memory, update_in};
 ghost use Rattle.res_manager.specs.Tests.{Passes, early_tests};
 ghost use Rattle.res_table.specs.OpenFiles.{is_open};
 ghost use Rattle.res_update.specs.Selected.{updated, reads_lent};
@@ -34,6 +36,10 @@ pub(crate) fn update<S: ForkStore>(
     ensures step { All S.is_honest files.old.stores → IfOk result (λ outcome.
         ResourceSteps S.fork S.failures S.may_leave memory.old files.old call.now [] outcome memory.new files.new) }
     ensures reads_back { All S.is_honest files.old.stores → IfOk result (λ outcome. ReadsBack (state_of S.fork memory.old files.old) call.now outcome (state_of S.fork memory.new files.new)) }
+    ensures any_moment { All S.is_honest files.old.stores → IfOk result (λ outcome.
+        CrashLeaves S.ForkStore (update_in (work_of (state_of S.fork memory.old files.old) call.now)) files.old.stores files.new.stores) }
+    ensures settled { All S.is_honest files.old.stores → IfOk result (λ outcome. OnOk outcome
+        (IsSettled S.ForkStore (file_settled (work_of (state_of S.fork memory.old files.old) call.now)) files.new.stores)) }
     ensures loans { KeepsLoans memory.old memory.new }
     ensures lent { memory.new.heap.table.lent ≡ memory.old.heap.table.lent }
     ensures shape { memory.new.shape ≡ memory.old.shape }
@@ -72,6 +78,10 @@ fn write_resource<S: ForkStore>(
     ensures step { All S.is_honest files.old.stores → IfOk result (λ outcome.
         ResourceSteps S.fork S.failures S.may_leave memory.now files.old (call.WriteResource handle) [] outcome memory.now files.new) }
     ensures reads_back { All S.is_honest files.old.stores → IfOk result (λ outcome. ReadsBack (state_of S.fork memory.now files.old) (call.WriteResource handle) outcome (state_of S.fork memory.now files.new)) }
+    ensures any_moment { All S.is_honest files.old.stores → IfOk result (λ outcome.
+        CrashLeaves S.ForkStore (update_in (work_of (state_of S.fork memory.now files.old) (call.WriteResource handle))) files.old.stores files.new.stores) }
+    ensures settled { All S.is_honest files.old.stores → IfOk result (λ outcome. OnOk outcome
+        (IsSettled S.ForkStore (file_settled (work_of (state_of S.fork memory.now files.old) (call.WriteResource handle))) files.new.stores)) }
     ensures honest { All S.is_honest files.old.stores ↔ All S.is_honest files.new.stores }
     ensures count { length files.new.stores ≡ length files.old.stores }
     ensures same { OnErr result (files.new ≡ files.old) }
@@ -100,6 +110,9 @@ fn close<S: ForkStore>(
         → WritesFile S.fork S.failures S.may_leave memory.old files.old (call.CloseResFile None) u outcome memory.new files.new) }
     ensures saved { All S.is_honest files.old.stores → IfOk result (λ outcome.
         OnOk outcome (IsSaved (update_of number (updated memory.old.heap.table Selection.AllChanged) files.old.files) (state_of S.fork memory.new files.new))) }
+    ensures any_moment { All S.is_honest files.old.stores → (u : Update)
+        → update_of number (updated memory.old.heap.table Selection.AllChanged) files.old.files ≡ Some u → CrashLeaves S.ForkStore (Some u) files.old.stores files.new.stores }
+    ensures settled { All S.is_honest files.old.stores → IfOk result (λ outcome. OnOk outcome (IsSettled S.ForkStore (Some number) files.new.stores)) }
     ensures loans { KeepsLoans memory.old memory.new }
     ensures lent { memory.new.heap.table.lent ≡ memory.old.heap.table.lent }
     ensures shape { memory.new.shape ≡ memory.old.shape }
@@ -134,6 +147,9 @@ fn write_file<S: ForkStore>(
         → WritesFile S.fork S.failures S.may_leave memory.now files.old (call.UpdateResFile None) u outcome memory.now files.new) }
     ensures saved { All S.is_honest files.old.stores → IfOk result (λ outcome.
         OnOk outcome (IsSaved (update_of number (updated memory.now.heap.table selection) files.old.files) (state_of S.fork memory.now files.new))) }
+    ensures any_moment { All S.is_honest files.old.stores → (u : Update)
+        → update_of number (updated memory.now.heap.table selection) files.old.files ≡ Some u → CrashLeaves S.ForkStore (Some u) files.old.stores files.new.stores }
+    ensures settled { All S.is_honest files.old.stores → IfOk result (λ outcome. OnOk outcome (IsSettled S.ForkStore (Some number) files.new.stores)) }
     ensures honest { All S.is_honest files.old.stores ↔ All S.is_honest files.new.stores }
     ensures count { length files.new.stores ≡ length files.old.stores }
     ensures same { OnErr result (files.new ≡ files.old) }

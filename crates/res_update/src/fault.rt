@@ -4,7 +4,7 @@ use fork_disk::store::ReplaceFault;
 use thiserror::Error;
 
 /// Why a file isn't updated.
-#[derive(Clone, Copy, Debug, PartialEq, Eq, Error)]
+#[derive(Clone, Copy, Debug, Error)]
 pub enum UpdateFault {
     /// No fork holds the table. Nothing was asked of the device.
     #[error("the table is too big for a fork")]

@@ -7,7 +7,7 @@ use fork_reader::place::Place;
 use res_table::row::Row;
 
 /// The rows whose bytes an update takes from their handles. All others keep theirs.
-#[derive(Clone, Copy, Debug, PartialEq, Eq)]
+#[derive(Clone, Copy)]
 pub enum Selection {
     /// All that are changed (UpdateResFile, CloseResFile).
     AllChanged,

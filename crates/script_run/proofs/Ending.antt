@@ -12,6 +12,7 @@ use Rattle.script_run.specs.declared.end.RunEnd.TheVariants.{Finished, ScriptFau
 use Rattle.script_run.specs.declared.machine.Machine.{Machine}
 use Rattle.fork_disk.specs.declared.store.ForkStore.{Ghosts}
 use Rattle.script_run.specs.Line.{LineDoes, SameForks}
+use Rattle.script_run.proofs.Opening.{same_forks}
 use Rattle.script_run.specs.Run.{AreRun, IsRun, EndsBehind, IsFront, replies, fault, no_memory, Ends, FaultEnds, LinesEnd, LinesMayWrite, LinesStop, MayWrite, NoMemoryEnds}
 
 -- what holds of the text that was read holds of the input
@@ -26,10 +27,6 @@ for_all (Some input) P holds = holds input
 pub too_long : (known : Option (List ℕ)) (P : List ℕ → Type 0) → IfSome known (λ input. max_script < length input) → ((input : List ℕ) → max_script < length input → P input) → IfSome known P
 too_long None P long holds = tt
 too_long (Some input) P long holds = holds input long
-
--- stores that weren't touched have the same forks
-same_forks : {S : Type 0} (store : Ghosts S) (old left : List S) → left ≡ old → SameForks store old left
-same_forks {S = S} store old left same = subst (λ (l : List S). SameForks store old l) (sym same) (λ honest. (honest, refl))
 
 pub fault_ends : {S : Type 0} (store : Ghosts S) (start : Machine S) (input : List ℕ) (line : ℕ) (end : RunEnd) (written : List ℕ) (left : List S) → IsFaultAt input line → FaultEnds line end written → left ≡ start.toolbox.resources.stores → Ends store start input end written left
 fault_ends store start input line (ScriptFault named) written left is ends same = (subst (λ n. IsFaultAt input n) (sym ends.0) is, ends.1 ∙ ap fault_text (sym ends.0), same)

@@ -1,6 +1,6 @@
 -- Opening a file, and a call that has no host memory, keep every fork.
-use Rattle.std.proofs.Common.{◌≡◌, ℕ, List, Option, Some, None, Result, Ok, Err, Bool, true, false, refl, sym, ap, subst}
-use Rattle.std.specs.Prelude.{[], All, map, OnOk, OnErr, if◌then◌else◌}
+use Rattle.std.proofs.Common.{◌≡◌, ℕ, List, Option, Some, None, Result, Ok, Err, Bool, true, false, refl, sym, ap, subst, inl}
+use Rattle.std.specs.Prelude.{[], OnOk, OnErr, if◌then◌else◌}
 use Rattle.mac_base.specs.declared.error.OsErr.{OsErr}
 use Rattle.mac_calls.specs.declared.call.Call.{Call}
 use Rattle.mac_calls.specs.declared.call.Call.TheVariants.{Memory, Loan, Resource, MemError, ResError}
@@ -8,13 +8,16 @@ use Rattle.mac_calls.specs.declared.resource_call.ResourceCall.TheVariants as ca
 use Rattle.mac_calls.specs.GrowZone.{Ask}
 use Rattle.mac_calls.specs.Outcomes.{Outcome}
 use Rattle.fork_disk.specs.declared.store.ForkStore.{Ghosts}
+use Rattle.fork_disk.specs.Crash.{at_first}
 use Rattle.res_table.specs.OpenFiles.{is_open}
 use Rattle.res_calls.specs.Changes.{FileTable}
 use Rattle.res_calls.specs.Device.{Device}
 use Rattle.res_calls.specs.Files.{ResState, ResourceEnd}
-use Rattle.res_calls.specs.Steps.{LeaveRelation, MemoryRelation, Opens, Quiet, ResourceStepBy, StepsUnless, Works, opened_end}
+use Rattle.res_calls.specs.Steps.{LeaveRelation, MemoryRelation, Opens, Quiet, ResourceStepBy, StepsUnless, Works, opened_end, work_of}
 use Rattle.res_calls.specs.Tests.{resource_refusal}
-use Rattle.res_manager.specs.Steps.{Memory as MayStep}
+use Rattle.res_calls.specs.Updates.{Update}
+use Rattle.res_manager.specs.Crash.{CrashLeaves}
+use Rattle.res_manager.specs.Steps.{Memory as MayStep, update_in}
 use Rattle.toolbox.specs.Steps.{Gives, Unchanged}
 use Rattle.toolbox.specs.ToolState.{ToolState, resource_state}
 use Rattle.script_run.specs.declared.machine.Machine.{Machine}
@@ -36,19 +39,28 @@ module _ (One : MemoryRelation) (MayLeave : LeaveRelation) (device : Device) (ol
   opening_keeps_disks : ResourceStepBy One MayLeave device old (call.OpenResFile k) asks end → end.state.disks ≡ old.disks
   opening_keeps_disks step = by_refusal (resource_refusal old (call.OpenResFile k)) step
 
+-- nor does it update a file
+opening_updates_none : (old : ResState) (k : ℕ) → update_in (work_of old (call.OpenResFile k)) ≡ None
+opening_updates_none old k = elim (is_open k old.files) as (λ (b : Bool). update_in (if b then Quiet else Opens k) ≡ None) [ | true ↦ refl | false ↦ refl ]
+
 -- whatever it gives
 pub opening_keeps_forks : {S : Type 0} (store : Ghosts S) (old new : ToolState S) (k : ℕ) (asks : List Ask) (outcome : Outcome) → Gives store old (Resource (call.OpenResFile k)) asks outcome new → SameForks store old.resources.stores new.resources.stores
 opening_keeps_forks store old new k asks outcome gives = λ honest. (
   gives.2.0 honest,
   (let given = gives.0 honest in opening_keeps_disks MayStep store.may_leave given.0 (resource_state store old) k asks (record { outcome = outcome; state = resource_state store new }) given.1),
+  subst (λ (update : Option Update). CrashLeaves store update old.resources.stores new.resources.stores) (opening_updates_none (resource_state store old) k) (gives.5 honest),
 )
 
+-- stores that weren't touched have the same forks
+pub same_forks : {S : Type 0} (store : Ghosts S) (old left : List S) → left ≡ old → SameForks store old left
+same_forks {S = S} store old left same = subst (λ (l : List S). SameForks store old l) (sym same) (λ honest. (honest, refl, λ number _. at_first (λ found may. inl may)))
+
 untouched : {S : Type 0} (store : Ghosts S) (old new : ToolState S) → new ≡ old → SameForks store old.resources.stores new.resources.stores
-untouched {S = S} store old new same = λ honest. (subst (λ (t : ToolState S). All store.is_honest t.resources.stores) (sym same) honest, ap (λ (t : ToolState S). map store.fork t.resources.stores) same)
+untouched {S = S} store old new same = same_forks store old.resources.stores new.resources.stores (ap (λ (t : ToolState S). t.resources.stores) same)
 
 -- a call that has no host memory
 pub unchanged_keeps_forks : {S : Type 0} (store : Ghosts S) (old new : ToolState S) (one : Call) → Unchanged store old one new → SameForks store old.resources.stores new.resources.stores
-unchanged_keeps_forks store old new (Resource made) same = λ honest. (same.2.0 honest, ap (λ (s : ResState). s.disks) (same.1 honest))
+unchanged_keeps_forks store old new (Resource made) same = λ honest. (same.2.0 honest, ap (λ (s : ResState). s.disks) (same.1 honest), same.4 honest)
 unchanged_keeps_forks store old new (Memory made) same = untouched store old new same
 unchanged_keeps_forks store old new (Loan made) same = untouched store old new same
 unchanged_keeps_forks store old new MemError same = untouched store old new same

@@ -14,6 +14,7 @@ invariant-loop-row g l = (goal.iterator-loop-row g).can_next l.row-iterator × (
     × (g.S.ForkStore.is_honest l.initial.store → (g.S.ForkStore.fork l.store ≡ g.S.ForkStore.fork l.initial.store))
     × (g.S.ForkStore.is_honest l.initial.store → g.S.ForkStore.is_ready l.store)
     × (g.S.ForkStore.is_honest l.initial.store → g.S.ForkStore.is_stable l.initial.store → g.S.ForkStore.is_stable l.store)
+    × (g.S.ForkStore.is_honest l.initial.store → (g.S.ForkStore.history l.store ≡ g.S.ForkStore.history l.initial.store))
     × (g.S.ForkStore.is_honest l.initial.store → l.placed.items ≡ map (placed_row (g.S.ForkStore.fork l.initial.store)) l.yielded)
     × (g.S.ForkStore.is_honest l.initial.store → HasData (data_of (g.S.ForkStore.fork l.initial.store)) l.yielded)
     × (kinds_in l.placed.items ≡ kinds_in l.yielded)

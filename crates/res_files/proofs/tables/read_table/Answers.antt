@@ -9,6 +9,7 @@ use Rattle.res_table.specs.declared.row.Row.{Row}
 use Rattle.res_table.specs.Rows.{opened_row}
 use Rattle.res_calls.specs.Device.{Reads}
 use Rattle.res_update.specs.Placed.{table_on}
+use Rattle.res_files.proofs.Crash.{still_found}
 use Rattle.res_files.proofs.TablesRead.{reads_empty, reads_fork, inside_opened, small_opened, refused}
 use Rattle.res_files.proofs.tables.read_table.Goals as goal
 
@@ -55,3 +56,24 @@ returns-clause-inside g c = λ honest.
 pub returns-clause-small : goal.returns-clause-small
 returns-clause-small g c =
     small_opened c.in_ok-table.table.rows c.in-Ok.rows (c.in-Ok.ensures ∙ ap (map opened_row) c.into_vec.ensures) c.in_ok-table.ensures.inside c.in_ok-table.ensures.most c.in_ok-table.ensures.grouped
+
+pub returns-in_err-recover-clause-any_moment : goal.returns-in_err-recover-clause-any_moment
+returns-in_err-recover-clause-any_moment g c = c.recover.ensures.any_moment
+
+pub returns-in_err-len-clause-any_moment : goal.returns-in_err-len-clause-any_moment
+returns-in_err-len-clause-any_moment g c = still_found g.S.ForkStore.is_honest g.S.ForkStore.history g.S.ForkStore.may_find _ _ _ c.recover.ensures.any_moment c.recover.ensures.honest.0 c.len.ensures.calm
+
+pub returns-then-branch-eq0-clause-any_moment : goal.returns-then-branch-eq0-clause-any_moment
+returns-then-branch-eq0-clause-any_moment g c = still_found g.S.ForkStore.is_honest g.S.ForkStore.history g.S.ForkStore.may_find _ _ _ c.recover.ensures.any_moment c.recover.ensures.honest.0 c.len.ensures.calm
+
+pub returns-in_err-table-clause-any_moment : goal.returns-in_err-table-clause-any_moment
+returns-in_err-table-clause-any_moment g c = still_found g.S.ForkStore.is_honest g.S.ForkStore.history g.S.ForkStore.may_find _ _ _ c.recover.ensures.any_moment c.recover.ensures.honest.0
+    (λ here. c.read_rows.ensures.calm (c.len.ensures.honest.0 here) ∙ c.len.ensures.calm here)
+
+pub returns-in_default-clause-any_moment : goal.returns-in_default-clause-any_moment
+returns-in_default-clause-any_moment g c = still_found g.S.ForkStore.is_honest g.S.ForkStore.history g.S.ForkStore.may_find _ _ _ c.recover.ensures.any_moment c.recover.ensures.honest.0
+    (λ here. c.read_rows.ensures.calm (c.len.ensures.honest.0 here) ∙ c.len.ensures.calm here)
+
+pub returns-clause-any_moment : goal.returns-clause-any_moment
+returns-clause-any_moment g c = still_found g.S.ForkStore.is_honest g.S.ForkStore.history g.S.ForkStore.may_find _ _ _ c.recover.ensures.any_moment c.recover.ensures.honest.0
+    (λ here. c.read_rows.ensures.calm (c.len.ensures.honest.0 here) ∙ c.len.ensures.calm here)

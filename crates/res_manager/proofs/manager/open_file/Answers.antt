@@ -1,6 +1,9 @@
-use Rattle.std.proofs.Common.{sym, ◌∙◌}
+use Rattle.std.proofs.Common.{◌≡◌, cond, Some, None, refl, sym, ap, ◌∙◌}
 use Rattle.mac_calls.specs.declared.resource_call.ResourceCall.TheVariants.{OpenResFile}
-use Rattle.res_manager.specs.Steps.{state_of}
+use Rattle.res_calls.specs.Steps.{Opens, Quiet, work_of}
+use Rattle.res_manager.specs.Crash.{CrashLeaves, file_settled}
+use Rattle.res_manager.specs.Steps.{state_of, update_in}
+use Rattle.res_manager.proofs.Crash.{calm_leaves, err_anyhow, opening_saves, work_leaves, work_settles}
 use Rattle.res_manager.proofs.Refusals.{passed-early}
 use Rattle.res_manager.proofs.Stepping.{if_ok, opened_steps}
 use Rattle.res_manager.proofs.manager.open_file.Goals as goal
@@ -10,3 +13,22 @@ returns-clause-step g c = λ honest.
     if_ok _ _ c.open.result (λ outcome opens. opened_steps g.S.ForkStore.fork g.S.ForkStore.failures g.S.ForkStore.may_leave c.args.memory.now c.args.files.now c.open.new.files c.args.number outcome
     (passed-early (state_of g.S.ForkStore.fork c.args.memory.now c.args.files.now) (OpenResFile c.args.number) c.requires) (sym c.is_open.ensures ∙ c.if-is_open.false) (opens c.args.memory.now))
     (c.open.ensures.opened honest)
+
+pub returns-clause-any_moment : goal.returns-clause-any_moment
+returns-clause-any_moment g c = λ honest.
+    let state = state_of g.S.ForkStore.fork c.args.memory.now c.args.files.now in
+    work_leaves g.S.ForkStore c.args.files.now.stores c.open.new.files.stores (work_of state (OpenResFile c.args.number)) None c.open.result (opening_saves state c.args.number) (c.open.ensures.any_moment honest)
+
+pub returns-clause-settled : goal.returns-clause-settled
+returns-clause-settled g c = λ honest.
+    let state = state_of g.S.ForkStore.fork c.args.memory.now c.args.files.now in
+    work_settles g.S.ForkStore c.open.new.files.stores (work_of state (OpenResFile c.args.number)) (Some c.args.number) c.open.result
+    (ap (λ b. file_settled (cond b Quiet (Opens c.args.number))) (sym c.is_open.ensures ∙ c.if-is_open.false)) (c.open.ensures.settled honest)
+
+pub returns-clause-crash_full : goal.returns-clause-crash_full
+returns-clause-crash_full g c = λ honest. err_anyhow (CrashLeaves g.S.ForkStore None c.args.files.now.stores c.open.new.files.stores) c.open.result (c.open.ensures.any_moment honest)
+
+pub returns-then-is_open-clause-any_moment : goal.returns-then-is_open-clause-any_moment
+returns-then-is_open-clause-any_moment g c = λ honest.
+    let work = work_of (state_of g.S.ForkStore.fork c.args.memory.now c.args.files.now) (OpenResFile c.args.number) in
+    calm_leaves g.S.ForkStore c.args.files.now.stores c.args.files.now.stores (update_in work) refl

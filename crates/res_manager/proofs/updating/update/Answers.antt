@@ -1,10 +1,12 @@
-use Rattle.std.proofs.Common.{None, ap}
+use Rattle.std.proofs.Common.{Some, None, ap}
 use Rattle.mac_calls.specs.declared.resource_call.ResourceCall.{ResourceCall}
 use Rattle.mac_calls.specs.declared.resource_call.ResourceCall.TheVariants.{CloseResFile, UpdateResFile}
+use Rattle.res_calls.specs.Steps.{work_of}
 use Rattle.res_calls.specs.Updates.{behind_update, update_of}
 use Rattle.res_update.specs.Selected.{updated}
 use Rattle.res_update.specs.declared.selection.Selection.TheVariants.{AllChanged}
-use Rattle.res_manager.specs.Steps.{state_of}
+use Rattle.res_manager.specs.Steps.{state_of, update_in}
+use Rattle.res_manager.proofs.Crash.{made_file, work_leaves, work_settles}
 use Rattle.res_manager.proofs.ReadingBack.{made_reads}
 use Rattle.res_manager.proofs.Stepping.{if_ok}
 use Rattle.res_manager.proofs.UpdatingCalls.{closing_unlent, made_late, made_steps, makes_closed, makes_file, on_err, open_update}
@@ -100,3 +102,39 @@ returns-in-Ok-test_open-clause-full g c = λ honest.
     let o = open_update c.in-Ok-test_open.number (updated zone.heap.table AllChanged) on.files c.in-Ok-test_open.ensures.value.1 in
     let made = makes_closed fork zone on c.args.call.now c.in-CloseResFile.named c.in-Ok-test_open.number o.0 c.in-CloseResFile.is c.requires.passed c.in-Ok-test_open.ensures.value.0 o.1 in
     on_err _ _ c.close.result (λ fits. made.full) (c.close.ensures.fits honest)
+
+pub returns-in-Ok-clause-any_moment : goal.returns-in-Ok-clause-any_moment
+returns-in-Ok-clause-any_moment g c = λ honest.
+    let fork = g.S.ForkStore.fork in
+    let zone = c.args.memory.now in
+    let on = c.args.files.now in
+    let o = open_update c.in-Ok.number (updated zone.heap.table AllChanged) on.files c.in-Ok.ensures.value.1 in
+    let made = makes_file fork zone on c.args.call.now c.in-UpdateResFile.named c.in-Ok.number o.0 c.in-UpdateResFile.is c.requires.passed c.in-Ok.ensures.value.0 o.1 in
+    work_leaves g.S.ForkStore on.stores c.write_file.new.files.stores (work_of (state_of fork zone on) c.args.call.now) (Some o.0) c.write_file.result (ap update_in made.work) (c.write_file.ensures.any_moment honest o.0 o.1)
+
+pub returns-in-Ok-clause-settled : goal.returns-in-Ok-clause-settled
+returns-in-Ok-clause-settled g c = λ honest.
+    let fork = g.S.ForkStore.fork in
+    let zone = c.args.memory.now in
+    let on = c.args.files.now in
+    let o = open_update c.in-Ok.number (updated zone.heap.table AllChanged) on.files c.in-Ok.ensures.value.1 in
+    let made = makes_file fork zone on c.args.call.now c.in-UpdateResFile.named c.in-Ok.number o.0 c.in-UpdateResFile.is c.requires.passed c.in-Ok.ensures.value.0 o.1 in
+    work_settles g.S.ForkStore c.write_file.new.files.stores (work_of (state_of fork zone on) c.args.call.now) (Some c.in-Ok.number) c.write_file.result (made_file fork zone on c.args.call.now c.in-Ok.number (updated zone.heap.table AllChanged) o.0 o.1 made) (c.write_file.ensures.settled honest)
+
+pub returns-in-Ok-test_open-clause-any_moment : goal.returns-in-Ok-test_open-clause-any_moment
+returns-in-Ok-test_open-clause-any_moment g c = λ honest.
+    let fork = g.S.ForkStore.fork in
+    let zone = c.args.memory.now in
+    let on = c.args.files.now in
+    let o = open_update c.in-Ok-test_open.number (updated zone.heap.table AllChanged) on.files c.in-Ok-test_open.ensures.value.1 in
+    let made = makes_closed fork zone on c.args.call.now c.in-CloseResFile.named c.in-Ok-test_open.number o.0 c.in-CloseResFile.is c.requires.passed c.in-Ok-test_open.ensures.value.0 o.1 in
+    work_leaves g.S.ForkStore on.stores c.close.new.files.stores (work_of (state_of fork zone on) c.args.call.now) (Some o.0) c.close.result (ap update_in made.work) (c.close.ensures.any_moment honest o.0 o.1)
+
+pub returns-in-Ok-test_open-clause-settled : goal.returns-in-Ok-test_open-clause-settled
+returns-in-Ok-test_open-clause-settled g c = λ honest.
+    let fork = g.S.ForkStore.fork in
+    let zone = c.args.memory.now in
+    let on = c.args.files.now in
+    let o = open_update c.in-Ok-test_open.number (updated zone.heap.table AllChanged) on.files c.in-Ok-test_open.ensures.value.1 in
+    let made = makes_closed fork zone on c.args.call.now c.in-CloseResFile.named c.in-Ok-test_open.number o.0 c.in-CloseResFile.is c.requires.passed c.in-Ok-test_open.ensures.value.0 o.1 in
+    work_settles g.S.ForkStore c.close.new.files.stores (work_of (state_of fork zone on) c.args.call.now) (Some c.in-Ok-test_open.number) c.close.result (made_file fork zone on c.args.call.now c.in-Ok-test_open.number (updated zone.heap.table AllChanged) o.0 o.1 made) (c.close.ensures.settled honest)

@@ -1,7 +1,8 @@
-use Rattle.std.proofs.Common.{◌≡◌, subst, sym, ap, Ok, Err, Some, None}
+use Rattle.res_manager.proofs.Crash.{zone_leaves}
+use Rattle.std.proofs.Common.{◌≡◌, true, subst, sym, ap, refl, Ok, Err, Some, None}
 use Rattle.mac_base.specs.ZoneState.{ZoneState}
 use Rattle.fork_disk.specs.declared.store.ReplaceFault.{ReplaceFault}
-use Rattle.mac_base.specs.declared.error.OsErr.TheVariants.{IoErr}
+use Rattle.mac_base.specs.declared.error.OsErr.TheVariants.{DskFulErr, IoErr}
 use Rattle.res_manager.specs.Ends.{WritesFile}
 use Rattle.res_manager.specs.Steps.{IsSaved, state_of}
 use Rattle.res_update.specs.Selected.{updated}
@@ -10,7 +11,7 @@ use Rattle.mac_calls.specs.declared.reply.Results.TheVariants.{Nothing}
 use Rattle.mac_calls.specs.declared.resource_call.ResourceCall.TheVariants.{UpdateResFile}
 use Rattle.res_calls.specs.Updates.{Update, fits_fork, update_of}
 use Rattle.res_manager.proofs.ReadingBack.{saved_update}
-use Rattle.res_manager.proofs.WritingFiles.{true_unless, update_found, writes_all, writes_faulted}
+use Rattle.res_manager.proofs.WritingFiles.{true_unless, update_found, writes_all, writes_faulted, writes_nothing}
 use Rattle.res_manager.proofs.updating.write_file.Goals as goal
 
 pub returns-in-Ok-clause-written : goal.returns-in-Ok-clause-written
@@ -46,3 +47,35 @@ returns-in-Err-Device-clause-written g c = λ honest u is.
     (λ is. all.before honest (ap (λ (f : ReplaceFault). Err (Device f)) is))
     (λ is. rw f.there at (all.later honest (ap (λ (f : ReplaceFault). Err (Device f)) is)))
     c.update.ensures.loads (λ is. all.cause (ap (λ (f : ReplaceFault). Err (Device f)) is)) (λ is. all.cause_later (ap (λ (f : ReplaceFault). Err (Device f)) is)))
+
+pub returns-in-Ok-clause-any_moment : goal.returns-in-Ok-clause-any_moment
+returns-in-Ok-clause-any_moment g c = λ honest u is. zone_leaves g.S.ForkStore c.args.files.now.stores c.update.new.self.stores c.new-contents.result c.args.memory.now c.args.selection c.args.number c.args.files.now.files u c.new-contents.ensures is (c.update.ensures.any_moment honest) (c.update.ensures.others honest)
+
+pub returns-in-Err-TooBig-clause-any_moment : goal.returns-in-Err-TooBig-clause-any_moment
+returns-in-Err-TooBig-clause-any_moment g c = λ honest u is. zone_leaves g.S.ForkStore c.args.files.now.stores c.update.new.self.stores c.new-contents.result c.args.memory.now c.args.selection c.args.number c.args.files.now.files u c.new-contents.ensures is (c.update.ensures.any_moment honest) (c.update.ensures.others honest)
+
+pub returns-in-Err-HostFull-clause-any_moment : goal.returns-in-Err-HostFull-clause-any_moment
+returns-in-Err-HostFull-clause-any_moment g c = λ honest u is. zone_leaves g.S.ForkStore c.args.files.now.stores c.update.new.self.stores c.new-contents.result c.args.memory.now c.args.selection c.args.number c.args.files.now.files u c.new-contents.ensures is (c.update.ensures.any_moment honest) (c.update.ensures.others honest)
+
+pub returns-in-Err-Device-clause-any_moment : goal.returns-in-Err-Device-clause-any_moment
+returns-in-Err-Device-clause-any_moment g c = λ honest u is. zone_leaves g.S.ForkStore c.args.files.now.stores c.update.new.self.stores c.new-contents.result c.args.memory.now c.args.selection c.args.number c.args.files.now.files u c.new-contents.ensures is (c.update.ensures.any_moment honest) (c.update.ensures.others honest)
+
+pub returns-in-Err-TooBig-clause-written : goal.returns-in-Err-TooBig-clause-written
+returns-in-Err-TooBig-clause-written g c = λ honest u is.
+    let t = c.new-contents.result.heap.table in
+    let Q : ZoneState → Type 0 = λ z. update_of c.args.number (updated z.heap.table c.args.selection) c.args.files.now.files ≡ Some u in
+    let f = update_found c.args.number (updated t c.args.selection) c.args.files.now.files u (subst Q (sym c.new-contents.ensures) is) in
+    let all = rw c.in-Err-TooBig.field-0-is at c.in-Err-TooBig.ensures in
+    let big = rw f.there at (all.too_big honest) in
+    let v : Update = record { file = c.args.number; table = updated t c.args.selection f.table } in
+    let P : Update → Type 0 = λ w. WritesFile g.S.ForkStore.fork g.S.ForkStore.failures g.S.ForkStore.may_leave c.args.memory.now c.args.files.now (UpdateResFile None) w (Err DskFulErr) c.args.memory.now c.update.new.self in
+    subst P f.is (writes_nothing g.S.ForkStore.fork g.S.ForkStore.failures g.S.ForkStore.may_leave c.args.memory.now c.args.files.now c.update.new.self v (big.0 refl) (all.untouched refl))
+
+pub returns-in-Err-HostFull-clause-fits : goal.returns-in-Err-HostFull-clause-fits
+returns-in-Err-HostFull-clause-fits g c = λ honest u is.
+    let t = c.new-contents.result.heap.table in
+    let Q : ZoneState → Type 0 = λ z. update_of c.args.number (updated z.heap.table c.args.selection) c.args.files.now.files ≡ Some u in
+    let f = update_found c.args.number (updated t c.args.selection) c.args.files.now.files u (subst Q (sym c.new-contents.ensures) is) in
+    let all = rw c.in-Err-HostFull.field-0-is at c.in-Err-HostFull.ensures in
+    let big = rw f.there at (all.too_big honest) in
+    subst (λ (w : Update). fits_fork w.table ≡ true) f.is (true_unless (fits_fork (updated t c.args.selection f.table)) (λ h. absurd (cc (big.1 h))))

@@ -1,11 +1,13 @@
-use Rattle.std.proofs.Common.{◌≡◌, true, Some, None, rules, refl, sym, ◌∙◌}
+use Rattle.std.proofs.Common.{◌≡◌, true, Some, None, rules, refl, sym, ap, ◌∙◌}
 use Rattle.mac_calls.specs.declared.resource_call.ResourceCall.TheVariants.{UpdateResFile, WriteResource}
 use Rattle.res_calls.specs.Changes.{FileRow}
+use Rattle.res_calls.specs.Steps.{work_of}
 use Rattle.res_calls.specs.Updates.{row_passes, update_of}
 use Rattle.res_table.specs.Rows.{is_changed}
 use Rattle.res_update.specs.Selected.{updated}
 use Rattle.res_update.specs.declared.selection.Selection.TheVariants.{RowAt}
-use Rattle.res_manager.specs.Steps.{state_of}
+use Rattle.res_manager.specs.Steps.{state_of, update_in}
+use Rattle.res_manager.proofs.Crash.{calm_leaves, made_file, work_leaves, work_settles}
 use Rattle.res_manager.proofs.ReadingBack.{made_reads}
 use Rattle.res_manager.proofs.RowUpdates.{row_open}
 use Rattle.res_manager.proofs.Stepping.{if_ok}
@@ -51,3 +53,26 @@ returns-clause-late g c = λ honest.
     let o = open_update c.in-Some.place.file (updated zone.heap.table (RowAt c.in-Some.place.index)) on.files (row_open c.in-Some.place on.files (λ (r : FileRow). r.handle ≡ Some c.args.handle) c.in-Some.ensures.there) in
     let made = makes_row fork zone on c.args.handle c.in-Some.place o.0 c.requires (sym c.row_of_handle.ensures.value ∙ c.in-Some.is) changed o.1 in
     on_err _ _ c.write_file.result (λ fits. made_late fork zone on (WriteResource c.args.handle) o.0 made (fits o.0 o.1)) (c.write_file.ensures.fits honest)
+
+pub returns-clause-any_moment : goal.returns-clause-any_moment
+returns-clause-any_moment g c = λ honest.
+    let fork = g.S.ForkStore.fork in
+    let zone = c.args.memory.now in
+    let on = c.args.files.now in
+    let changed : row_passes is_changed c.args.handle c.args.files.now.files ≡ true = search rules in
+    let o = open_update c.in-Some.place.file (updated zone.heap.table (RowAt c.in-Some.place.index)) on.files (row_open c.in-Some.place on.files (λ (r : FileRow). r.handle ≡ Some c.args.handle) c.in-Some.ensures.there) in
+    let made = makes_row fork zone on c.args.handle c.in-Some.place o.0 c.requires (sym c.row_of_handle.ensures.value ∙ c.in-Some.is) changed o.1 in
+    work_leaves g.S.ForkStore on.stores c.write_file.new.files.stores (work_of (state_of fork zone on) (WriteResource c.args.handle)) (Some o.0) c.write_file.result (ap update_in made.work) (c.write_file.ensures.any_moment honest o.0 o.1)
+
+pub returns-clause-settled : goal.returns-clause-settled
+returns-clause-settled g c = λ honest.
+    let fork = g.S.ForkStore.fork in
+    let zone = c.args.memory.now in
+    let on = c.args.files.now in
+    let changed : row_passes is_changed c.args.handle c.args.files.now.files ≡ true = search rules in
+    let o = open_update c.in-Some.place.file (updated zone.heap.table (RowAt c.in-Some.place.index)) on.files (row_open c.in-Some.place on.files (λ (r : FileRow). r.handle ≡ Some c.args.handle) c.in-Some.ensures.there) in
+    let made = makes_row fork zone on c.args.handle c.in-Some.place o.0 c.requires (sym c.row_of_handle.ensures.value ∙ c.in-Some.is) changed o.1 in
+    work_settles g.S.ForkStore c.write_file.new.files.stores (work_of (state_of fork zone on) (WriteResource c.args.handle)) (Some c.in-Some.place.file) c.write_file.result (made_file fork zone on (WriteResource c.args.handle) c.in-Some.place.file (updated zone.heap.table (RowAt c.in-Some.place.index)) o.0 o.1 made) (c.write_file.ensures.settled honest)
+
+pub returns-then-not-is_changed-clause-any_moment : goal.returns-then-not-is_changed-clause-any_moment
+returns-then-not-is_changed-clause-any_moment g c = λ honest. calm_leaves g.S.ForkStore c.args.files.now.stores c.args.files.now.stores (update_in (work_of (state_of g.S.ForkStore.fork c.args.memory.now c.args.files.now) (WriteResource c.args.handle))) refl

@@ -2,6 +2,8 @@ use Rattle.std.proofs.Common.{◌≤◌, ◌≡◌, ◌∙◌, List, [], ℕ, Er
 use Rattle.std.specs.Prelude.{All, IsErrOf}
 use Rattle.fork_disk.specs.declared.store.ReplaceFault.{ReplaceFault}
 use Rattle.fork_disk.specs.declared.store.ReplaceFault.TheVariants.{Later}
+use Rattle.fork_disk.specs.Crash.{AlwaysFinds, FoundBeforeOr}
+use Rattle.fork_disk.proofs.Crash.{finds_before_or}
 use Rattle.res_calls.specs.Updates.{fits_fork}
 use Rattle.res_update.specs.declared.fault.UpdateFault.{UpdateFault}
 use Rattle.res_update.specs.declared.fault.UpdateFault.TheVariants.{Device}
@@ -170,3 +172,41 @@ returns-in-Err-clause-left g c =
     λ honest told. (
     let P : List ℕ → Type 0 = λ fork. g.S.ForkStore.may_leave fork old (g.S.ForkStore.fork c.update.new.store) in
     subst P (gathered_is t s table c.deref_mut.result.now c.in-Ok.draft.places.items c.deref.result.now old (c.requires.inside honest) is) (c.in-Err.ensures.left honest (device_fault c.in-Err.fault Later told)))
+
+pub returns-then-not-fits-clause-any_moment : goal.returns-then-not-fits-clause-any_moment
+returns-then-not-fits-clause-any_moment g c = λ honest. finds_before_or _ _ _ _ refl
+
+pub returns-in_default-clause-any_moment : goal.returns-in_default-clause-any_moment
+returns-in_default-clause-any_moment g c = λ honest. finds_before_or _ _ _ _ refl
+
+pub returns-in-Ok-update-clause-any_moment : goal.returns-in-Ok-update-clause-any_moment
+returns-in-Ok-update-clause-any_moment g c =
+    let t = g.C.Contents.table c.args.contents.now in let s = c.args.selection in let table = c.args.table.now in let old = g.S.ForkStore.fork c.args.store.now in
+    let long = ap (λ (xs : List ℕ). length xs) c.deref_mut.ensures.value in let low = c.in-Ok.ensures.small in
+    let is : IsDraft (g.C.Contents.table c.args.contents.now) c.args.selection c.args.table.now c.deref_mut.result.now c.in-Ok.draft.places.items c.deref.result.now = record {
+      extra = c.in-Ok.ensures.extra;
+      bytes_are = c.deref_mut.ensures.value ∙ c.in-Ok.ensures.fork;
+      small = omega arith;
+      places_are = c.in-Ok.ensures.places;
+      kept_are = c.deref.ensures.value ∙ c.in-Ok.ensures.kept;
+    } in
+    λ honest. (
+    let before = g.S.ForkStore.history c.args.store.now in
+    let P : List ℕ → Type 0 = λ fork. AlwaysFinds g.S.ForkStore.may_find (FoundBeforeOr g.S.ForkStore.may_find before fork) before (g.S.ForkStore.history c.update.new.store) in
+    subst P (gathered_is t s table c.deref_mut.result.now c.in-Ok.draft.places.items c.deref.result.now old (c.requires.inside honest) is) (c.in-Ok-update.ensures.any_moment honest))
+
+pub returns-in-Err-clause-any_moment : goal.returns-in-Err-clause-any_moment
+returns-in-Err-clause-any_moment g c =
+    let t = g.C.Contents.table c.args.contents.now in let s = c.args.selection in let table = c.args.table.now in let old = g.S.ForkStore.fork c.args.store.now in
+    let long = ap (λ (xs : List ℕ). length xs) c.deref_mut.ensures.value in let low = c.in-Ok.ensures.small in
+    let is : IsDraft (g.C.Contents.table c.args.contents.now) c.args.selection c.args.table.now c.deref_mut.result.now c.in-Ok.draft.places.items c.deref.result.now = record {
+      extra = c.in-Ok.ensures.extra;
+      bytes_are = c.deref_mut.ensures.value ∙ c.in-Ok.ensures.fork;
+      small = omega arith;
+      places_are = c.in-Ok.ensures.places;
+      kept_are = c.deref.ensures.value ∙ c.in-Ok.ensures.kept;
+    } in
+    λ honest. (
+    let before = g.S.ForkStore.history c.args.store.now in
+    let P : List ℕ → Type 0 = λ fork. AlwaysFinds g.S.ForkStore.may_find (FoundBeforeOr g.S.ForkStore.may_find before fork) before (g.S.ForkStore.history c.update.new.store) in
+    subst P (gathered_is t s table c.deref_mut.result.now c.in-Ok.draft.places.items c.deref.result.now old (c.requires.inside honest) is) (c.in-Err.ensures.any_moment honest))

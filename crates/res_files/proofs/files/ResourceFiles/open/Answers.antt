@@ -2,7 +2,8 @@ use Rattle.std.proofs.Common.{◌-◌, ◌∙◌, sym, ap, subst, map, set}
 use Rattle.fork_reader.specs.declared.place.Place.{Place}
 use Rattle.res_table.specs.OpenFiles.{OpenFiles}
 use Rattle.res_files.specs.Standing.{StandOn, files_on}
-use Rattle.res_files.proofs.Opened.{stand_kept, stand_more, closed_there, files_kept, forks_kept, honest_kept, seen_more, seen_refused, on_err}
+use Rattle.res_files.proofs.Crash.{found_always, others_calm, found_there}
+use Rattle.res_files.proofs.Opened.{within, stand_kept, stand_more, closed_there, files_kept, forks_kept, honest_kept, seen_more, seen_refused, on_err}
 use Rattle.res_files.proofs.files.ResourceFiles.open.Goals as goal
 
 pub invariant_of-self : goal.invariant_of-self
@@ -73,3 +74,32 @@ returns-clause-forks g c =
 pub returns-clause-honest : goal.returns-clause-honest
 returns-clause-honest g c =
     honest_kept g.S.ForkStore.fork g.S.ForkStore.is_ready g.S.ForkStore.is_honest c.self.inside.chain c.self.inside.loads c.self.inside.stores.items c.args.self.now c.self.view_is c.args.number c.requires.there.0 c.requires.there.1 c.index_mut-store.result.now c.read_table.new.store c.index_mut-store.ensures.value c.read_table.ensures.honest c.read_table.ensures.same
+
+pub returns-in_err-code_of-in-Err-clause-any_moment : goal.returns-in_err-code_of-in-Err-clause-any_moment
+returns-in_err-code_of-in-Err-clause-any_moment g c = found_always g.S.ForkStore.fork g.S.ForkStore.is_honest g.S.ForkStore.history c.self.inside.chain c.self.inside.loads c.self.inside.stores.items c.args.self.now c.self.view_is c.args.number (within g.S.ForkStore.fork g.S.ForkStore.is_ready g.S.ForkStore.is_honest c.self.inside.chain c.self.inside.loads c.self.inside.stores.items c.args.self.now c.self.view_is c.args.number c.requires.there.0 c.requires.there.1 c.index_mut-store.result.now c.read_table.new.store c.index_mut-store.ensures.value c.read_table.ensures.honest c.read_table.ensures.same) c.index_mut-store.result.now c.read_table.new.store c.index_mut-store.ensures.value g.S.ForkStore.may_find g.S.ForkStore.may_find c.read_table.ensures.any_moment
+
+pub returns-in_err-code_of-in-Err-clause-others : goal.returns-in_err-code_of-in-Err-clause-others
+returns-in_err-code_of-in-Err-clause-others g c = λ honest. others_calm g.S.ForkStore.fork g.S.ForkStore.is_honest g.S.ForkStore.history c.self.inside.chain c.self.inside.loads c.self.inside.stores.items c.args.self.now c.self.view_is c.args.number (within g.S.ForkStore.fork g.S.ForkStore.is_ready g.S.ForkStore.is_honest c.self.inside.chain c.self.inside.loads c.self.inside.stores.items c.args.self.now c.self.view_is c.args.number c.requires.there.0 c.requires.there.1 c.index_mut-store.result.now c.read_table.new.store c.index_mut-store.ensures.value c.read_table.ensures.honest c.read_table.ensures.same) c.index_mut-store.result.now c.read_table.new.store c.index_mut-store.ensures.value c.requires.there.0
+
+pub returns-in-Err-clause-any_moment : goal.returns-in-Err-clause-any_moment
+returns-in-Err-clause-any_moment g c = found_always g.S.ForkStore.fork g.S.ForkStore.is_honest g.S.ForkStore.history c.self.inside.chain c.self.inside.loads c.self.inside.stores.items c.args.self.now c.self.view_is c.args.number (within g.S.ForkStore.fork g.S.ForkStore.is_ready g.S.ForkStore.is_honest c.self.inside.chain c.self.inside.loads c.self.inside.stores.items c.args.self.now c.self.view_is c.args.number c.requires.there.0 c.requires.there.1 c.index_mut-store.result.now c.read_table.new.store c.index_mut-store.ensures.value c.read_table.ensures.honest c.read_table.ensures.same) c.index_mut-store.result.now c.read_table.new.store c.index_mut-store.ensures.value g.S.ForkStore.may_find g.S.ForkStore.may_find c.read_table.ensures.any_moment
+
+pub returns-in-Err-clause-others : goal.returns-in-Err-clause-others
+returns-in-Err-clause-others g c = λ honest. others_calm g.S.ForkStore.fork g.S.ForkStore.is_honest g.S.ForkStore.history c.self.inside.chain c.self.inside.loads c.self.inside.stores.items c.args.self.now c.self.view_is c.args.number (within g.S.ForkStore.fork g.S.ForkStore.is_ready g.S.ForkStore.is_honest c.self.inside.chain c.self.inside.loads c.self.inside.stores.items c.args.self.now c.self.view_is c.args.number c.requires.there.0 c.requires.there.1 c.index_mut-store.result.now c.read_table.new.store c.index_mut-store.ensures.value c.read_table.ensures.honest c.read_table.ensures.same) c.index_mut-store.result.now c.read_table.new.store c.index_mut-store.ensures.value c.requires.there.0
+
+pub returns-in_err-open-clause-any_moment : goal.returns-in_err-open-clause-any_moment
+returns-in_err-open-clause-any_moment g c = found_always g.S.ForkStore.fork g.S.ForkStore.is_honest g.S.ForkStore.history c.self.inside.chain c.self.inside.loads c.self.inside.stores.items c.args.self.now c.self.view_is c.args.number (within g.S.ForkStore.fork g.S.ForkStore.is_ready g.S.ForkStore.is_honest c.self.inside.chain c.self.inside.loads c.self.inside.stores.items c.args.self.now c.self.view_is c.args.number c.requires.there.0 c.requires.there.1 c.index_mut-store.result.now c.read_table.new.store c.index_mut-store.ensures.value c.read_table.ensures.honest c.read_table.ensures.same) c.index_mut-store.result.now c.read_table.new.store c.index_mut-store.ensures.value g.S.ForkStore.may_find g.S.ForkStore.may_find c.read_table.ensures.any_moment
+
+pub returns-in_err-open-clause-others : goal.returns-in_err-open-clause-others
+returns-in_err-open-clause-others g c = λ honest. others_calm g.S.ForkStore.fork g.S.ForkStore.is_honest g.S.ForkStore.history c.self.inside.chain c.self.inside.loads c.self.inside.stores.items c.args.self.now c.self.view_is c.args.number (within g.S.ForkStore.fork g.S.ForkStore.is_ready g.S.ForkStore.is_honest c.self.inside.chain c.self.inside.loads c.self.inside.stores.items c.args.self.now c.self.view_is c.args.number c.requires.there.0 c.requires.there.1 c.index_mut-store.result.now c.read_table.new.store c.index_mut-store.ensures.value c.read_table.ensures.honest c.read_table.ensures.same) c.index_mut-store.result.now c.read_table.new.store c.index_mut-store.ensures.value c.requires.there.0
+
+pub returns-clause-any_moment : goal.returns-clause-any_moment
+returns-clause-any_moment g c = found_always g.S.ForkStore.fork g.S.ForkStore.is_honest g.S.ForkStore.history c.self.inside.chain c.self.inside.loads c.self.inside.stores.items c.args.self.now c.self.view_is c.args.number (within g.S.ForkStore.fork g.S.ForkStore.is_ready g.S.ForkStore.is_honest c.self.inside.chain c.self.inside.loads c.self.inside.stores.items c.args.self.now c.self.view_is c.args.number c.requires.there.0 c.requires.there.1 c.index_mut-store.result.now c.read_table.new.store c.index_mut-store.ensures.value c.read_table.ensures.honest c.read_table.ensures.same) c.index_mut-store.result.now c.read_table.new.store c.index_mut-store.ensures.value g.S.ForkStore.may_find g.S.ForkStore.may_find c.read_table.ensures.any_moment
+
+pub returns-clause-others : goal.returns-clause-others
+returns-clause-others g c = λ honest. others_calm g.S.ForkStore.fork g.S.ForkStore.is_honest g.S.ForkStore.history c.self.inside.chain c.self.inside.loads c.self.inside.stores.items c.args.self.now c.self.view_is c.args.number (within g.S.ForkStore.fork g.S.ForkStore.is_ready g.S.ForkStore.is_honest c.self.inside.chain c.self.inside.loads c.self.inside.stores.items c.args.self.now c.self.view_is c.args.number c.requires.there.0 c.requires.there.1 c.index_mut-store.result.now c.read_table.new.store c.index_mut-store.ensures.value c.read_table.ensures.honest c.read_table.ensures.same) c.index_mut-store.result.now c.read_table.new.store c.index_mut-store.ensures.value c.requires.there.0
+
+pub returns-clause-settled : goal.returns-clause-settled
+returns-clause-settled g c = λ honest journalled.
+    found_there g.S.ForkStore.fork g.S.ForkStore.is_honest g.S.ForkStore.history c.self.inside.chain c.self.inside.loads c.self.inside.stores.items c.args.self.now c.self.view_is c.args.number (within g.S.ForkStore.fork g.S.ForkStore.is_ready g.S.ForkStore.is_honest c.self.inside.chain c.self.inside.loads c.self.inside.stores.items c.args.self.now c.self.view_is c.args.number c.requires.there.0 c.requires.there.1 c.index_mut-store.result.now c.read_table.new.store c.index_mut-store.ensures.value c.read_table.ensures.honest c.read_table.ensures.same) c.index_mut-store.result.now c.read_table.new.store c.index_mut-store.ensures.value g.S.ForkStore.may_find
+    (λ here. g.S.ForkStore.ready_finds c.read_table.new.store journalled (c.read_table.ensures.honest.0 here) (c.in-Ok.ensures.ready here)) honest

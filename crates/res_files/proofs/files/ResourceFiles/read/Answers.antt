@@ -1,6 +1,7 @@
 use Rattle.std.proofs.Common.{◌≡◌, ℕ, ◌<◌, ◌-◌, ◌∙◌, ap, length, arith}
 use Rattle.fork_bytes.specs.Fork.{bytes_at}
 use Rattle.fork_disk.specs.Disk.{Rose}
+use Rattle.res_files.proofs.Crash.{all_calm}
 use Rattle.res_files.proofs.Stands.{row_stands, store_stands}
 use Rattle.res_files.proofs.RowBytes.{none_read, empty_read, all_read}
 use Rattle.res_files.proofs.On.{ok_then}
@@ -75,3 +76,9 @@ returns-clause-read g c = λ honest.
     ok_then c.read_at.result (c.read_at.new.buffer ≡ bytes) _ (c.read_at.ensures.read (mine g.S.ForkStore.fork g.S.ForkStore.is_honest c.self.inside.chain c.self.inside.loads c.self.inside.stores.items c.args.self.now c.self.view_is (c.args.place.file - 1) within c.index_mut-store.result.now c.read_at.new.self c.index_mut-store.ensures.value honest))
     (λ is. all_read g.S.ForkStore.fork g.S.ForkStore.is_ready g.S.ForkStore.is_honest c.self.inside.chain c.self.inside.loads c.self.inside.stores.items c.args.self.now c.self.view_is c.self.invariant c.args.place row c.read_at.new.buffer c.in-Some.ensures.some store c.index_mut-store.ensures.value
     (is ∙ ap (λ (n : ℕ). bytes_at n place.offset (g.S.ForkStore.fork store)) c.if-buffer-bytes.false))
+
+pub returns-clause-calm : goal.returns-clause-calm
+returns-clause-calm g c =
+    let stands = row_stands g.S.ForkStore.fork g.S.ForkStore.is_ready g.S.ForkStore.is_honest c.self.inside.stores.items c.args.place c.self.inside.chain c.in-Some.row.now c.self.invariant c.in-Some.ensures.some in
+    let within : c.args.place.file - 1 < length c.self.inside.stores.items = omega (arith, stands.0, stands.1) in
+    all_calm g.S.ForkStore.fork g.S.ForkStore.is_honest g.S.ForkStore.history c.self.inside.chain c.self.inside.loads c.self.inside.stores.items c.args.self.now c.self.view_is (c.args.place.file - 1) within c.index_mut-store.result.now c.read_at.new.self c.index_mut-store.ensures.value c.read_at.ensures.calm

@@ -1,13 +1,18 @@
 use Rattle.std.proofs.Common.{◌-◌, ◌∙◌, sym, ap, arith, List}
 use Rattle.std.specs.Prelude.{IsFalse}
+use Rattle.fork_bytes.specs.Written.{written}
+use Rattle.fork_disk.specs.Crash.{FoundBeforeOr}
 use Rattle.fork_disk.specs.declared.store.ReplaceFault.TheVariants.{BeforeFirstWrite, Later}
 use Rattle.fork_reader.specs.declared.place.Place.{Place}
 use Rattle.res_table.specs.OpenFiles.{rows_changed}
+use Rattle.res_calls.specs.Changes.{saved_table}
 use Rattle.res_calls.specs.Updates.{fits_fork}
+use Rattle.res_update.specs.Placed.{table_on}
 use Rattle.res_update.specs.Selected.{updated}
 use Rattle.res_update.specs.declared.fault.UpdateFault.TheVariants.{Device}
 use Rattle.res_files.specs.Updating.{rows_placed}
-use Rattle.res_files.proofs.Rewritten.{low, within, small, unlent, held, fits_ok, fits_err, written_seen, stands_seen, rows_seen, left_seen, stand_written, stand_left, stand_unwritten, of_none, fault_as, rose}
+use Rattle.res_files.proofs.Crash.{no_table, found_always, others_calm, this_calm, found_there}
+use Rattle.res_files.proofs.Rewritten.{low, within, of_table, small, unlent, held, fits_ok, fits_err, written_seen, stands_seen, rows_seen, left_seen, stand_written, stand_left, stand_unwritten, of_none, fault_as, rose}
 use Rattle.res_files.proofs.Using.{same_files, same_forks, same_honest, none_failed, some_failed}
 use Rattle.res_files.proofs.files.ResourceFiles.update.Goals as goal
 
@@ -102,3 +107,48 @@ returns-else-later-clause-before g c = λ honest is. (
   same_files g.S.ForkStore.fork g.S.ForkStore.is_honest c.self.inside.chain c.self.inside.loads c.self.inside.stores.items c.args.self.now c.self.view_is (c.args.number - 1) (within g.S.ForkStore.fork g.S.ForkStore.is_ready g.S.ForkStore.is_honest c.self.inside.chain c.self.inside.loads c.self.inside.stores.items c.args.self.now c.self.view_is c.self.invariant c.args.number c.in-Some.table.now c.in-Some.ensures.some) c.index_mut-store.result.now c.write_table.new.store c.index_mut-store.ensures.value (λ here. c.in-Err.ensures.before here (fault_as c.in-Err.fault (Device BeforeFirstWrite) is)) honest,
   same_forks g.S.ForkStore.fork g.S.ForkStore.is_honest c.self.inside.chain c.self.inside.loads c.self.inside.stores.items c.args.self.now c.self.view_is (c.args.number - 1) (within g.S.ForkStore.fork g.S.ForkStore.is_ready g.S.ForkStore.is_honest c.self.inside.chain c.self.inside.loads c.self.inside.stores.items c.args.self.now c.self.view_is c.self.invariant c.args.number c.in-Some.table.now c.in-Some.ensures.some) c.index_mut-store.result.now c.write_table.new.store c.index_mut-store.ensures.value (λ here. c.in-Err.ensures.before here (fault_as c.in-Err.fault (Device BeforeFirstWrite) is)) honest,
 )
+
+pub returns-in_default-clause-any_moment : goal.returns-in_default-clause-any_moment
+returns-in_default-clause-any_moment g c = λ honest. of_none g.S.ForkStore.fork c.self.inside.chain c.self.inside.loads c.self.inside.stores.items c.args.self.now c.self.view_is c.args.number c.in_default.ensures.none _
+
+pub returns-in_default-clause-settled : goal.returns-in_default-clause-settled
+returns-in_default-clause-settled g c = λ honest journalled found may.
+    absurd (no_table c.args.number c.args.self.now.files.files (of_none g.S.ForkStore.fork c.self.inside.chain c.self.inside.loads c.self.inside.stores.items c.args.self.now c.self.view_is c.args.number c.in_default.ensures.none (λ _. ⊥)) c.requires.open)
+
+pub returns-in-Ok-clause-any_moment : goal.returns-in-Ok-clause-any_moment
+returns-in-Ok-clause-any_moment g c = λ honest.
+    of_table g.S.ForkStore.fork g.S.ForkStore.is_ready g.S.ForkStore.is_honest c.self.inside.chain c.self.inside.loads c.self.inside.stores.items c.args.self.now c.self.view_is c.self.invariant c.args.number c.in-Some.table.now c.in-Some.ensures.some c.index_mut-store.result.now c.index_mut-store.ensures.value _
+    (found_always g.S.ForkStore.fork g.S.ForkStore.is_honest g.S.ForkStore.history c.self.inside.chain c.self.inside.loads c.self.inside.stores.items c.args.self.now c.self.view_is c.args.number (within g.S.ForkStore.fork g.S.ForkStore.is_ready g.S.ForkStore.is_honest c.self.inside.chain c.self.inside.loads c.self.inside.stores.items c.args.self.now c.self.view_is c.self.invariant c.args.number c.in-Some.table.now c.in-Some.ensures.some) c.index_mut-store.result.now c.write_table.new.store c.index_mut-store.ensures.value g.S.ForkStore.may_find
+    (λ past. FoundBeforeOr g.S.ForkStore.may_find past (written (saved_table (updated (g.C.Contents.table c.args.contents.now) c.args.selection (table_on (g.S.ForkStore.fork c.index_mut-store.result.now) c.in-Some.table.now)))))
+    c.in-Ok.ensures.any_moment honest)
+
+pub returns-in-Ok-clause-others : goal.returns-in-Ok-clause-others
+returns-in-Ok-clause-others g c = λ honest. others_calm g.S.ForkStore.fork g.S.ForkStore.is_honest g.S.ForkStore.history c.self.inside.chain c.self.inside.loads c.self.inside.stores.items c.args.self.now c.self.view_is c.args.number (within g.S.ForkStore.fork g.S.ForkStore.is_ready g.S.ForkStore.is_honest c.self.inside.chain c.self.inside.loads c.self.inside.stores.items c.args.self.now c.self.view_is c.self.invariant c.args.number c.in-Some.table.now c.in-Some.ensures.some) c.index_mut-store.result.now c.write_table.new.store c.index_mut-store.ensures.value (low g.S.ForkStore.fork g.S.ForkStore.is_ready g.S.ForkStore.is_honest c.self.inside.chain c.self.inside.loads c.self.inside.stores.items c.args.self.now c.self.view_is c.self.invariant c.args.number c.in-Some.table.now c.in-Some.ensures.some)
+
+pub returns-in-Ok-clause-settled : goal.returns-in-Ok-clause-settled
+returns-in-Ok-clause-settled g c = λ honest journalled.
+    found_there g.S.ForkStore.fork g.S.ForkStore.is_honest g.S.ForkStore.history c.self.inside.chain c.self.inside.loads c.self.inside.stores.items c.args.self.now c.self.view_is c.args.number (within g.S.ForkStore.fork g.S.ForkStore.is_ready g.S.ForkStore.is_honest c.self.inside.chain c.self.inside.loads c.self.inside.stores.items c.args.self.now c.self.view_is c.self.invariant c.args.number c.in-Some.table.now c.in-Some.ensures.some) c.index_mut-store.result.now c.write_table.new.store c.index_mut-store.ensures.value g.S.ForkStore.may_find
+    (λ here. g.S.ForkStore.ready_finds c.write_table.new.store journalled (c.in-Ok.ensures.honest.0 here) (c.in-Ok.ensures.ready here)) honest
+
+pub returns-then-later-clause-any_moment : goal.returns-then-later-clause-any_moment
+returns-then-later-clause-any_moment g c = λ honest.
+    of_table g.S.ForkStore.fork g.S.ForkStore.is_ready g.S.ForkStore.is_honest c.self.inside.chain c.self.inside.loads c.self.inside.stores.items c.args.self.now c.self.view_is c.self.invariant c.args.number c.in-Some.table.now c.in-Some.ensures.some c.index_mut-store.result.now c.index_mut-store.ensures.value _
+    (found_always g.S.ForkStore.fork g.S.ForkStore.is_honest g.S.ForkStore.history c.self.inside.chain c.self.inside.loads c.self.inside.stores.items c.args.self.now c.self.view_is c.args.number (within g.S.ForkStore.fork g.S.ForkStore.is_ready g.S.ForkStore.is_honest c.self.inside.chain c.self.inside.loads c.self.inside.stores.items c.args.self.now c.self.view_is c.self.invariant c.args.number c.in-Some.table.now c.in-Some.ensures.some) c.index_mut-store.result.now c.write_table.new.store c.index_mut-store.ensures.value g.S.ForkStore.may_find
+    (λ past. FoundBeforeOr g.S.ForkStore.may_find past (written (saved_table (updated (g.C.Contents.table c.args.contents.now) c.args.selection (table_on (g.S.ForkStore.fork c.index_mut-store.result.now) c.in-Some.table.now)))))
+    c.in-Err.ensures.any_moment honest)
+
+pub returns-then-later-clause-others : goal.returns-then-later-clause-others
+returns-then-later-clause-others g c = λ honest. others_calm g.S.ForkStore.fork g.S.ForkStore.is_honest g.S.ForkStore.history c.self.inside.chain c.self.inside.loads c.self.inside.stores.items c.args.self.now c.self.view_is c.args.number (within g.S.ForkStore.fork g.S.ForkStore.is_ready g.S.ForkStore.is_honest c.self.inside.chain c.self.inside.loads c.self.inside.stores.items c.args.self.now c.self.view_is c.self.invariant c.args.number c.in-Some.table.now c.in-Some.ensures.some) c.index_mut-store.result.now c.write_table.new.store c.index_mut-store.ensures.value (low g.S.ForkStore.fork g.S.ForkStore.is_ready g.S.ForkStore.is_honest c.self.inside.chain c.self.inside.loads c.self.inside.stores.items c.args.self.now c.self.view_is c.self.invariant c.args.number c.in-Some.table.now c.in-Some.ensures.some)
+
+pub returns-else-later-clause-any_moment : goal.returns-else-later-clause-any_moment
+returns-else-later-clause-any_moment g c = λ honest.
+    of_table g.S.ForkStore.fork g.S.ForkStore.is_ready g.S.ForkStore.is_honest c.self.inside.chain c.self.inside.loads c.self.inside.stores.items c.args.self.now c.self.view_is c.self.invariant c.args.number c.in-Some.table.now c.in-Some.ensures.some c.index_mut-store.result.now c.index_mut-store.ensures.value _
+    (found_always g.S.ForkStore.fork g.S.ForkStore.is_honest g.S.ForkStore.history c.self.inside.chain c.self.inside.loads c.self.inside.stores.items c.args.self.now c.self.view_is c.args.number (within g.S.ForkStore.fork g.S.ForkStore.is_ready g.S.ForkStore.is_honest c.self.inside.chain c.self.inside.loads c.self.inside.stores.items c.args.self.now c.self.view_is c.self.invariant c.args.number c.in-Some.table.now c.in-Some.ensures.some) c.index_mut-store.result.now c.write_table.new.store c.index_mut-store.ensures.value g.S.ForkStore.may_find
+    (λ past. FoundBeforeOr g.S.ForkStore.may_find past (written (saved_table (updated (g.C.Contents.table c.args.contents.now) c.args.selection (table_on (g.S.ForkStore.fork c.index_mut-store.result.now) c.in-Some.table.now)))))
+    c.in-Err.ensures.any_moment honest)
+
+pub returns-else-later-clause-others : goal.returns-else-later-clause-others
+returns-else-later-clause-others g c = λ honest. others_calm g.S.ForkStore.fork g.S.ForkStore.is_honest g.S.ForkStore.history c.self.inside.chain c.self.inside.loads c.self.inside.stores.items c.args.self.now c.self.view_is c.args.number (within g.S.ForkStore.fork g.S.ForkStore.is_ready g.S.ForkStore.is_honest c.self.inside.chain c.self.inside.loads c.self.inside.stores.items c.args.self.now c.self.view_is c.self.invariant c.args.number c.in-Some.table.now c.in-Some.ensures.some) c.index_mut-store.result.now c.write_table.new.store c.index_mut-store.ensures.value (low g.S.ForkStore.fork g.S.ForkStore.is_ready g.S.ForkStore.is_honest c.self.inside.chain c.self.inside.loads c.self.inside.stores.items c.args.self.now c.self.view_is c.self.invariant c.args.number c.in-Some.table.now c.in-Some.ensures.some)
+
+pub returns-else-later-clause-calm : goal.returns-else-later-clause-calm
+returns-else-later-clause-calm g c = λ honest is. this_calm g.S.ForkStore.fork g.S.ForkStore.is_honest g.S.ForkStore.history c.self.inside.chain c.self.inside.loads c.self.inside.stores.items c.args.self.now c.self.view_is c.args.number (within g.S.ForkStore.fork g.S.ForkStore.is_ready g.S.ForkStore.is_honest c.self.inside.chain c.self.inside.loads c.self.inside.stores.items c.args.self.now c.self.view_is c.self.invariant c.args.number c.in-Some.table.now c.in-Some.ensures.some) c.index_mut-store.result.now c.write_table.new.store c.index_mut-store.ensures.value (λ here. c.in-Err.ensures.calm here (fault_as c.in-Err.fault (Device BeforeFirstWrite) is)) honest

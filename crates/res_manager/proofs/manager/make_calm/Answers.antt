@@ -1,0 +1,77 @@
+use Rattle.std.proofs.Common.{◌≡◌, List, map, None, true, refl, rules, sym, ap, subst}
+use Rattle.std.specs.Prelude.{◌↔◌, All, IfOk}
+use Rattle.mac_calls.specs.GrowZone.{Ask}
+use Rattle.res_calls.specs.Steps.{work_of}
+use Rattle.res_manager.specs.Crash.{CrashLeaves}
+use Rattle.res_manager.specs.Ends.{is_quiet}
+use Rattle.res_manager.specs.Steps.{ResourceSteps, state_of, update_in}
+use Rattle.res_manager.proofs.CalmCalls.{calm_passes, calm_reads, calm_settles, calm_work, copies_take, err_same, if_any, quiet_work}
+use Rattle.res_manager.proofs.Crash.{calm_leaves, err_anyhow}
+use Rattle.res_manager.proofs.Stepping.{if_ok, quiet_steps}
+use Rattle.res_manager.proofs.UpdatingCalls.{on_err}
+use Rattle.res_manager.proofs.manager.make_calm.Goals as goal
+
+pub returns-in-GetResource-clause-reads_back : goal.returns-in-GetResource-clause-reads_back
+returns-in-GetResource-clause-reads_back g c = λ honest.
+    let old = state_of g.S.ForkStore.fork c.args.memory.now c.args.files.now in
+    let new = state_of g.S.ForkStore.fork c.get.new.memory c.get.new.files in
+    calm_reads old new c.args.call.now (calm_work old c.args.call.now c.requires.calm) c.get.result
+
+pub returns-in-GetResource-clause-any_moment : goal.returns-in-GetResource-clause-any_moment
+returns-in-GetResource-clause-any_moment g c = λ honest.
+    let work = work_of (state_of g.S.ForkStore.fork c.args.memory.now c.args.files.now) c.args.call.now in
+    calm_leaves g.S.ForkStore c.args.files.now.stores c.get.new.files.stores (update_in work) (c.get.ensures.calm honest)
+
+pub returns-in-GetResource-clause-settled : goal.returns-in-GetResource-clause-settled
+returns-in-GetResource-clause-settled g c = λ honest.
+    let old = state_of g.S.ForkStore.fork c.args.memory.now c.args.files.now in
+    calm_settles g.S.ForkStore c.get.new.files.stores (work_of old c.args.call.now) (calm_work old c.args.call.now c.requires.calm) c.get.result
+
+pub returns-in_default-clause-step : goal.returns-in_default-clause-step
+returns-in_default-clause-step g c = λ honest.
+    let old = state_of g.S.ForkStore.fork c.args.memory.now c.args.files.now in
+    let call = c.args.call.now in
+    let quiet : is_quiet c.args.call.now ≡ true = search rules in
+    let P : List Ask → Type 0 = λ asks. IfOk c.make_quiet.result (λ outcome. ResourceSteps g.S.ForkStore.fork g.S.ForkStore.failures g.S.ForkStore.may_leave c.args.memory.now c.args.files.now c.args.call.now asks outcome c.make_quiet.new.memory c.make_quiet.new.files) in
+    subst P (sym c.requires.unasked) (if_ok _ _ c.make_quiet.result (λ outcome ends. quiet_steps g.S.ForkStore.fork g.S.ForkStore.failures g.S.ForkStore.may_leave c.args.memory.now c.make_quiet.new.memory c.args.files.now c.make_quiet.new.files call outcome
+    (calm_passes old call c.requires.calm c.requires.passed) (quiet_work old call quiet) ends) (c.make_quiet.ensures.quiet honest))
+
+pub returns-in_default-clause-reads_back : goal.returns-in_default-clause-reads_back
+returns-in_default-clause-reads_back g c = λ honest.
+    let old = state_of g.S.ForkStore.fork c.args.memory.now c.args.files.now in
+    let new = state_of g.S.ForkStore.fork c.make_quiet.new.memory c.make_quiet.new.files in
+    if_any _ c.make_quiet.result (calm_reads old new c.args.call.now (calm_work old c.args.call.now c.requires.calm))
+
+pub returns-in_default-clause-any_moment : goal.returns-in_default-clause-any_moment
+returns-in_default-clause-any_moment g c = λ honest.
+    let work = work_of (state_of g.S.ForkStore.fork c.args.memory.now c.args.files.now) c.args.call.now in
+    if_any _ c.make_quiet.result (λ outcome. calm_leaves g.S.ForkStore c.args.files.now.stores c.make_quiet.new.files.stores (update_in work) (ap (map g.S.ForkStore.history) c.make_quiet.ensures.stores))
+
+pub returns-in_default-clause-settled : goal.returns-in_default-clause-settled
+returns-in_default-clause-settled g c = λ honest.
+    let old = state_of g.S.ForkStore.fork c.args.memory.now c.args.files.now in
+    if_any _ c.make_quiet.result (calm_settles g.S.ForkStore c.make_quiet.new.files.stores (work_of old c.args.call.now) (calm_work old c.args.call.now c.requires.calm))
+
+pub returns-in_default-clause-crash_full : goal.returns-in_default-clause-crash_full
+returns-in_default-clause-crash_full g c = λ honest.
+    err_anyhow (CrashLeaves g.S.ForkStore None c.args.files.now.stores c.make_quiet.new.files.stores) c.make_quiet.result
+    (calm_leaves g.S.ForkStore c.args.files.now.stores c.make_quiet.new.files.stores None (ap (map g.S.ForkStore.history) c.make_quiet.ensures.stores))
+
+pub returns-in_default-clause-honest : goal.returns-in_default-clause-honest
+returns-in_default-clause-honest g c =
+    let P : List _ → Type 0 = λ stores. All g.S.ForkStore.is_honest c.args.files.now.stores ↔ All g.S.ForkStore.is_honest stores in
+    subst P (sym c.make_quiet.ensures.stores) (λ h. h, λ h. h)
+
+pub returns-in_default-clause-unasked : goal.returns-in_default-clause-unasked
+returns-in_default-clause-unasked g c = err_anyhow _ c.make_quiet.result c.requires.unasked
+
+pub returns-in_default-clause-same : goal.returns-in_default-clause-same
+returns-in_default-clause-same g c = λ honest. err_same g.S.ForkStore.fork c.args.memory.now c.make_quiet.new.memory c.args.files.now c.make_quiet.new.files c.make_quiet.result c.make_quiet.ensures.unchanged c.make_quiet.ensures.same
+
+pub returns-in_default-clause-full : goal.returns-in_default-clause-full
+returns-in_default-clause-full g c = λ honest.
+    on_err _ _ c.make_quiet.result (copies_take (state_of g.S.ForkStore.fork c.args.memory.now c.args.files.now) c.args.call.now) c.make_quiet.ensures.full
+
+pub returns-in_default-clause-late : goal.returns-in_default-clause-late
+returns-in_default-clause-late g c = λ honest.
+    err_anyhow _ c.make_quiet.result (calm_passes (state_of g.S.ForkStore.fork c.args.memory.now c.args.files.now) c.args.call.now c.requires.calm c.requires.passed)
