@@ -17,9 +17,10 @@ use Rattle.clap.proofs.WalkLemmas.{first_value-rows, raw_values-rows}
 use Rattle.macheap.specs.declared.asked.Asked.{Asked}
 use Rattle.macheap.specs.declared.asked.Asked.TheVariants.{Run, Help}
 use Rattle.macheap.specs.declared.asked.NotAsked.{NotAsked}
-use Rattle.macheap.specs.declared.asked.NotAsked.TheVariants.{Words, TooManyForks, NoNumber, Mode, Spec, HostFull}
-use Rattle.macheap.specs.Options.{options, faults, forks_of, value_of, IsDecimal, IsNumberOf, IsNoNumber}
-use Rattle.macheap.specs.Asking.{Asks, Match, NamesTooMany, most_forks, GivesNoNumber, MeansNoRun, IsNoNumberFault}
+use Rattle.macheap.specs.declared.asked.NotAsked.TheVariants.{Words, TooManyForks, OtherJournals, NoNumber, Mode, Spec, HostFull}
+use Rattle.macheap.specs.Files.{most_forks, FitForks, NotNamed}
+use Rattle.macheap.specs.Options.{options, faults, forks_of, journals_of, value_of, values_of, IsDecimal, IsNumberOf, IsNoNumber}
+use Rattle.macheap.specs.Asking.{Asks, Match, GivesNoNumber, MeansNoRun, IsNoNumberFault}
 
 pub options_free : is_simple_and_free options ≡ true
 unfolding clap_on_literals
@@ -34,30 +35,43 @@ pub value_found : (command : Command) (words : List Text) (m : ArgMatches) (name
 value_found command words m name got is has found =
     found ∙ first_value-rows (found_of m) name ∙ ap (first_of name) ((has (ap is_simple is ∙ options_simple)).0 ∙ ap (λ (a : App). matches_of a words) is)
 
--- what `get_strs` gives is the names that the words give
-pub forks_found : (command : Command) (words : List Text) (m : ArgMatches) (got : Option (List Text)) → app_of command ≡ options → HasMatchesOf (app_of command) words m → got ≡ option_map raw_values (matched_of (found_of m) (codes "fork")) → unwrap_or got [] ≡ forks_of words
-forks_found command words m got is has found =
-    ap (λ (o : Option (List Text)). unwrap_or o []) (found ∙ raw_values-rows (found_of m) (codes "fork") ∙ ap (all_of (codes "fork")) ((has (ap is_simple is ∙ options_simple)).0 ∙ ap (λ (a : App). matches_of a words) is))
+names_given : {A B : Type 0} (got : Option A) (default : A) (all : A → List B) (now : B → Text) → all default ≡ [] → map now (all (unwrap_or got default)) ≡ unwrap_or (option_map (λ (a : A). map now (all a)) got) []
+names_given None default all now nothing = ap (map now) nothing
+names_given (Some a) default all now nothing = refl
 
-names_given : {A B : Type 0} (o : Option A) (all : A → List B) (now : B → Text) → map now (unwrap_or (option_map all o) []) ≡ unwrap_or (option_map (λ (a : A). map now (all a)) o) []
-names_given None all now = refl
-names_given (Some a) all now = refl
+-- what `get_strs` gives, or nothing where the option doesn't stand, is the list of names that the words give
+pub names_found : {A B : Type 0} (command : Command) (words : List Text) (m : ArgMatches) (name : Text) (got : Option A) (default names : A) (all : A → List B) (now : B → Text) → app_of command ≡ options → HasMatchesOf (app_of command) words m
+    → option_map (λ (a : A). map now (all a)) got ≡ option_map raw_values (matched_of (found_of m) name) → all default ≡ [] → names ≡ unwrap_or got default → map now (all names) ≡ values_of name words
+names_found {A = A} command words m name got default names all now is has found nothing are =
+    ap (λ (a : A). map now (all a)) are ∙ names_given got default all now nothing
+    ∙ ap (λ (o : Option (List Text)). unwrap_or o []) (found ∙ raw_values-rows (found_of m) name ∙ ap (all_of name) ((has (ap is_simple is ∙ options_simple)).0 ∙ ap (λ (a : App). matches_of a words) is))
 
--- so they are the names that a run has
-pub forks_given : {A B : Type 0} (command : Command) (words : List Text) (m : ArgMatches) (names : Option A) (forks : List B) (all : A → List B) (now : B → Text) → app_of command ≡ options → HasMatchesOf (app_of command) words m
-    → option_map (λ (a : A). map now (all a)) names ≡ option_map raw_values (matched_of (found_of m) (codes "fork")) → forks ≡ unwrap_or (option_map all names) [] → map now forks ≡ forks_of words
-forks_given {A = A} command words m names forks all now is has found are =
-    ap (map now) are ∙ names_given names all now ∙ forks_found command words m (option_map (λ (a : A). map now (all a)) names) is has found
+fit_given : {A B C D : Type 0} (journals : List A) (forks : List B) (js : List C) (fs : List D) → length js ≡ length journals → length fs ≡ length forks → FitForks journals forks → FitForks js fs
+fit_given journals forks js fs j f fit some = j ∙ fit (λ none. some (j ∙ none)) ∙ sym f
 
--- and the words match the options, where these are few
-pub match_of : {B : Type 0} (words : List Text) (forks : List B) (now : B → Text) → faults words ≡ [] → map now forks ≡ forks_of words → length forks ≤ most_forks → Match words
-match_of words forks now none are few = (none, subst (λ (n : ℕ). n ≤ most_forks) (sym (length-map forks now) ∙ ap length are) few)
+as_long : {B : Type 0} (names : List B) (now : B → Text) (texts : List Text) → map now names ≡ texts → length texts ≡ length names
+as_long names now texts are = ap length (sym are) ∙ length-map names now
 
--- too many names, or no host memory for them
-pub forks_asks : (words : List Text) (r : Result Asked NotAsked) (e : NotAsked) → IsErrAnd r (λ x. x ≡ e) → (e ≡ TooManyForks) ⊎ (e ≡ HostFull) → (e ≡ TooManyForks → NamesTooMany words) → Asks words r
-forks_asks words (Ok asked) e fails which many = absurd fails
-forks_asks words (Err x) e fails (inl same) many = subst (λ (y : NotAsked). Asks words (Err y)) (sym (fails ∙ same)) (many same)
-forks_asks words (Err x) e fails (inr same) many = subst (λ (y : NotAsked). Asks words (Err y)) (sym (fails ∙ same)) tt
+-- and so the words match the options, where files have these names
+pub match_of : {B : Type 0} (words : List Text) (forks journals : List B) (now : B → Text) → faults words ≡ [] → map now forks ≡ forks_of words → map now journals ≡ journals_of words → length forks ≤ most_forks → FitForks journals forks → Match words
+match_of words forks journals now none are theirs few fit =
+    let f = as_long forks now (forks_of words) are in
+    (none, subst (λ (n : ℕ). n ≤ most_forks) (sym f) few, fit_given journals forks (journals_of words) (forks_of words) (as_long journals now (journals_of words) theirs) f fit)
+
+not_named : {B : Type 0} (words : List Text) (forks journals : List B) (e : NotAsked) → faults words ≡ [] → length (forks_of words) ≡ length forks → length (journals_of words) ≡ length journals → NotNamed forks journals e → Asks words (Err e)
+not_named words forks journals TooManyForks none f j many = (none, subst (λ (n : ℕ). most_forks < n) (sym f) many)
+not_named words forks journals OtherJournals none f j others = (none, λ fit. others (fit_given (journals_of words) (forks_of words) journals forks (sym j) (sym f) fit))
+not_named words forks journals HostFull none f j fault = tt
+not_named words forks journals (Words fault) none f j other = absurd other
+not_named words forks journals (NoNumber option) none f j other = absurd other
+not_named words forks journals (Mode mode) none f j other = absurd other
+not_named words forks journals (Spec fault) none f j other = absurd other
+
+-- there are no files of the names that the words give
+pub files_asks : {B : Type 0} (words : List Text) (r : Result Asked NotAsked) (e : NotAsked) (forks journals : List B) (now : B → Text) → IsErrAnd r (λ x. x ≡ e) → faults words ≡ [] → map now forks ≡ forks_of words → map now journals ≡ journals_of words → NotNamed forks journals e → Asks words r
+files_asks words (Ok asked) e forks journals now fails none are theirs fault = absurd fails
+files_asks words (Err x) e forks journals now fails none are theirs fault =
+    subst (λ (y : NotAsked). Asks words (Err y)) (sym fails) (not_named words forks journals e none (as_long forks now (forks_of words) are) (as_long journals now (journals_of words) theirs) fault)
 
 -- where the words match, they have no fault
 pub matched : (command : Command) (words : List Text) → app_of command ≡ options → (is_simple_and_free (app_of command) ≡ true → fault_of (app_of command) words ≡ []) → faults words ≡ []
@@ -73,12 +87,13 @@ no_number_found command words m name got is has found none = subst IsNoNumber (v
 
 -- an error of the parse asks for help, or says that the words don't match
 pub unmatched : (words : List Text) (e : Error) (r : Result Asked NotAsked) → HasKind (faults words) e → MeansNoRun (kind_of e) r → Asks words r
-unmatched words e (Ok (Run sizes forks)) has means = absurd means
+unmatched words e (Ok (Run sizes files)) has means = absurd means
 unmatched words e (Ok (Help text)) (inl full) means = let is = means.0 in absurd (cc)
 unmatched words e (Ok (Help text)) (inr among) means = (subst (λ (k : ErrorKind). IsAmong k (faults words)) means.0 among, means.1 ∙ means.0)
 unmatched words e (Err (Words fault)) (inl full) means = absurd (means.1 full)
 unmatched words e (Err (Words fault)) (inr among) means = (subst (λ (k : ErrorKind). IsAmong k (faults words)) (sym means.2) among, λ same. means.0 (sym means.2 ∙ same))
 unmatched words e (Err TooManyForks) has means = absurd means
+unmatched words e (Err OtherJournals) has means = absurd means
 unmatched words e (Err (NoNumber option)) has means = absurd means
 unmatched words e (Err (Mode mode)) has means = absurd means
 unmatched words e (Err (Spec fault)) has means = absurd means
@@ -96,6 +111,7 @@ pub no_number_asks : (words : List Text) (e : NotAsked) (name : Text) → IsNoNu
 no_number_asks words (NoNumber option) name is none = subst (λ (t : Text). GivesNoNumber words t) (sym is) none
 no_number_asks words (Words fault) name is none = absurd is
 no_number_asks words TooManyForks name is none = absurd is
+no_number_asks words OtherJournals name is none = absurd is
 no_number_asks words (Mode mode) name is none = absurd is
 no_number_asks words (Spec fault) name is none = absurd is
 no_number_asks words HostFull name is none = absurd is

@@ -1,9 +1,9 @@
 -- The stores of files, opened one after the other.
-use Rattle.std.proofs.Common.{◌≡◌, ◌+◌, ◌<◌, ◌≤◌, arith, zero, suc, ℕ, List, [], ◌∷◌, ◌++◌, Some, None, take, length, get_or, map, refl, ap, sym, subst, ◌∙◌, inl, inr}
+use Rattle.std.proofs.Common.{◌≡◌, ◌+◌, ◌<◌, ◌≤◌, arith, zero, suc, ℕ, List, [], ◌∷◌, ◌++◌, Some, None, take, length, get_or, map, refl, ap, sym, subst, ◌∙◌, inl, inr, length-append}
 use Rattle.std.proofs.lemmas.List.{length-map, take_all, take_more, map-append}
 use Rattle.std.proofs.Math.Seq.{split_at}
 use Rattle.clap.specs.Words.{Text}
-use Rattle.macheap.specs.Stores.{AreOf, CantBeOpened, Opening}
+use Rattle.macheap.specs.Stores.{AreOf, ArePaired, no_fork, one_fork, CantBeOpened, Opening}
 
 AreOf-push : {S : Type 0} (gives : Opening S) (names : List Text) (stores : List S) (name : Text) (store : S) → AreOf gives names stores → gives name (Some store) → AreOf gives (names ++ name ∷ []) (stores ++ store ∷ [])
 AreOf-push gives [] [] name store are one = (one, tt)
@@ -45,3 +45,25 @@ same_default (x ∷ xs) (suc at) d e lt = same_default xs at d e (omega (arith, 
 -- as many stores as files, once all are opened
 pub all_opened : {S B : Type 0} (gives : Opening S) (names : List B) (now : B → Text) (at : ℕ) (stores : List S) → length names ≤ at → AreOf gives (map now (take at names)) stores → length stores ≡ length names
 all_opened gives names now at stores le are = AreOf-length gives (map now (take at names)) stores are ∙ length-map (take at names) now ∙ ap length (take_all at names le)
+
+-- before a fork there are fewer than all
+pub fewer : {F : Type 0} (yielded items all rest : List F) (fork : F) → yielded ++ items ≡ all → items ≡ fork ∷ rest → length yielded < length all
+fewer yielded items all rest fork whole next =
+    let long : length yielded + length items ≡ length all = sym (length-append yielded items) ∙ ap length whole in
+    let one : length items ≡ length rest + 1 = ap length next ∙ omega arith in
+    omega (arith, long, one)
+
+ArePaired-push : {F J : Type 0} (gives : Opening F) (pairs : F → F → J → Type 0) (fork journal : F) (name : Text) (store : J) {forks : List F} {names : List Text} {stores : List J} → ArePaired gives pairs forks names stores → gives name (Some journal) → pairs fork journal store
+    → ArePaired gives pairs (forks ++ fork ∷ []) (names ++ name ∷ []) (stores ++ store ∷ [])
+ArePaired-push gives pairs fork journal name store no_fork given paired = one_fork journal given paired no_fork
+ArePaired-push gives pairs fork journal name store (one_fork j g p others) given paired = one_fork j g p (ArePaired-push gives pairs fork journal name store others given paired)
+
+-- one more fork has its journal
+pub ArePaired-step : {F J B : Type 0} (gives : Opening F) (pairs : F → F → J → Type 0) (forks : List F) (names : List B) (now : B → Text) (stores : List J) (fork journal : F) (name : B) (store : J) → length forks < length names → name ≡ get_or names (length forks) name
+    → ArePaired gives pairs forks (map now (take (length forks) names)) stores → gives (now name) (Some journal) → pairs fork journal store → ArePaired gives pairs (forks ++ fork ∷ []) (map now (take (length (forks ++ fork ∷ [])) names)) (stores ++ store ∷ [])
+ArePaired-step {B = B} gives pairs forks names now stores fork journal name store lt is are given paired =
+    let next : take (length (forks ++ fork ∷ [])) names ≡ take (length forks) names ++ name ∷ [] =
+            ap (λ (n : ℕ). take n names) (length-append forks (fork ∷ [])) ∙ take_more names (length forks) name lt ∙ ap (λ (b : B). take (length forks) names ++ b ∷ []) (sym is) in
+    subst (λ (ns : List Text). ArePaired gives pairs (forks ++ fork ∷ []) ns (stores ++ store ∷ []))
+    (sym (ap (λ (l : List B). map now l) next ∙ map-append now (take (length forks) names) (name ∷ [])))
+    (ArePaired-push gives pairs fork journal (now name) store are given paired)

@@ -9,16 +9,13 @@ use Rattle.mac_base.specs.ZoneSizes.{ZoneSizes, ArePossible, first_fault}
 use Rattle.macheap.specs.declared.asked.Asked.{Asked}
 use Rattle.macheap.specs.declared.asked.Asked.TheVariants.{Run, Help}
 use Rattle.macheap.specs.declared.asked.NotAsked.{NotAsked}
-use Rattle.macheap.specs.declared.asked.NotAsked.TheVariants.{Words, TooManyForks, NoNumber, Mode, Spec, HostFull}
-use Rattle.macheap.specs.Options.{faults, forks_of, heads_of, value_of, IsNumberOf, IsNoNumber}
+use Rattle.macheap.specs.declared.asked.NotAsked.TheVariants.{Words, TooManyForks, OtherJournals, NoNumber, Mode, Spec, HostFull}
+use Rattle.macheap.specs.Files.{most_forks, FitForks}
+use Rattle.macheap.specs.Options.{faults, forks_of, heads_of, journals_of, value_of, IsNumberOf, IsNoNumber}
 
--- the most files that a run may have
-abbrev pub most_forks : ℕ
-most_forks = 8
-
--- the words match the options, and name no more files than a run may have
+-- the words match the options, and name no more files than a run may have, with a journal for each or none
 abbrev pub Match : List Text → Type 0
-Match words = (faults words ≡ []) × (length (forks_of words) ≤ most_forks)
+Match words = (faults words ≡ []) × (length (forks_of words) ≤ most_forks) × FitForks (journals_of words) (forks_of words)
 
 -- the words match the options, and give these numbers: the zone's first address, its size in bytes, the size that it may grow to,
 -- which is its own where none is given, and the mode
@@ -29,8 +26,8 @@ pub record GivesNumbers (words : List Text) (base size limit mode : ℕ) : Type 
   pub base_given : IsNumberOf (value_of (codes "base") words) 0x10_0000 base
   pub mode_given : IsNumberOf (value_of (codes "mode") words) 24 mode
 
--- the words ask for a run on a zone of these sizes, of blocks as the mode has them, over the files of these names
-pub record AsksForRun (words : List Text) (sizes : ZoneSizes) (forks : List Text) : Type 0 where
+-- the words ask for a run on a zone of these sizes, of blocks as the mode has them, over the files of these names, with these journals
+pub record AsksForRun (words : List Text) (sizes : ZoneSizes) (forks journals : List Text) : Type 0 where
   pub base : ℕ
   pub size : ℕ
   pub limit : ℕ
@@ -41,6 +38,7 @@ pub record AsksForRun (words : List Text) (sizes : ZoneSizes) (forks : List Text
   pub is : sizes ≡ record { heads = heads; base = base; size = size; limit = limit }
   pub possible : ArePossible sizes
   pub forks_are : forks ≡ forks_of words
+  pub journals_are : journals ≡ journals_of words
 
 -- the words ask for help
 abbrev pub AsksForHelp : List Text → Type 0
@@ -53,6 +51,10 @@ DontMatch words = (fault : ErrorKind) × IsAmong fault (faults words) × (fault 
 -- the words match the options, and name more files than a run may have
 abbrev pub NamesTooMany : List Text → Type 0
 NamesTooMany words = (faults words ≡ []) × (most_forks < length (forks_of words))
+
+-- the words match the options, and name journals, and not one for each file
+abbrev pub JournalsDontFit : List Text → Type 0
+JournalsDontFit words = (faults words ≡ []) × ¬ FitForks (journals_of words) (forks_of words)
 
 -- the words match the options, and this is the first of `zone`, `limit`, `base` and `mode` whose value is no number
 pub data GivesNoNumber (words : List Text) (option : Text) : Type 0 where
@@ -76,18 +78,19 @@ GivesNoZone words fault = (base : ℕ) × (size : ℕ) × (limit : ℕ) × (mode
 
 -- What the words ask for, or why they ask for nothing; what is shown or told of it is of that kind. Want of memory may come at any time.
 abbrev pub Asks : List Text → Result Asked NotAsked → Type 0
-Asks words (Ok (Run sizes forks)) = AsksForRun words sizes (map (λ name. name.now) forks.items)
+Asks words (Ok (Run sizes files)) = AsksForRun words sizes (map (λ name. name.now) files.forks.items) (map (λ name. name.now) files.journals.items)
 Asks words (Ok (Help text)) = AsksForHelp words × (kind_of text ≡ DisplayHelp)
 Asks words (Err (Words fault)) = IsAmong (kind_of fault) (faults words) × (kind_of fault ≢ DisplayHelp)
 Asks words (Err (NoNumber option)) = GivesNoNumber words option.now
 Asks words (Err TooManyForks) = NamesTooMany words
+Asks words (Err OtherJournals) = JournalsDontFit words
 Asks words (Err (Mode mode)) = GivesNoMode words mode
 Asks words (Err (Spec fault)) = GivesNoZone words fault
 Asks words (Err HostFull) = Unit {0}
 
 -- what an error of this kind means: a question for help, want of memory, or words that don't match; the error is handed on
 abbrev pub MeansNoRun : ErrorKind → Result Asked NotAsked → Type 0
-MeansNoRun kind (Ok (Run sizes forks)) = ⊥
+MeansNoRun kind (Ok (Run sizes files)) = ⊥
 MeansNoRun kind (Ok (Help text)) = (kind ≡ DisplayHelp) × (kind_of text ≡ kind)
 MeansNoRun kind (Err (Words fault)) = (kind ≢ DisplayHelp) × (kind ≢ OutOfMemory) × (kind_of fault ≡ kind)
 MeansNoRun kind (Err HostFull) = kind ≡ OutOfMemory

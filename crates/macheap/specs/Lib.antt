@@ -1,3 +1,4 @@
+pub mod Files
 pub mod Disks
 pub mod Stores
 pub mod Options

@@ -10,13 +10,13 @@ use Rattle.clap.specs.declared.builder.ArgAction.TheVariants.{Set, Append}
 abbrev pub option_named : Text → Rule
 option_named name = record (new_rule name) { long = Some name; action = Some Set; value_names = 1 }
 
--- the option `--fork`, which may stand several times and takes a value each time
-abbrev pub fork_option : Rule
-fork_option = record (new_rule (codes "fork")) { long = Some (codes "fork"); action = Some Append; value_names = 1 }
+-- an option that may stand several times, as `--name`, and takes a value each time
+abbrev pub file_option : Text → Rule
+file_option name = record (new_rule name) { long = Some name; action = Some Append; value_names = 1 }
 
 -- the program and its options
 abbrev pub options : App
-options = with_rule (with_rule (with_rule (with_rule (with_rule (new_app (codes "macheap")) (option_named (codes "zone"))) (option_named (codes "limit"))) (option_named (codes "base"))) (option_named (codes "mode"))) fork_option
+options = with_rule (with_rule (with_rule (with_rule (with_rule (with_rule (new_app (codes "macheap")) (option_named (codes "zone"))) (option_named (codes "limit"))) (option_named (codes "base"))) (option_named (codes "mode"))) (file_option (codes "fork"))) (file_option (codes "journal"))
 
 -- the ways in which the words don't match the options, of which `--help` is one; none where they do
 abbrev pub faults : List Text → Kinds
@@ -26,9 +26,17 @@ faults words = fault_of options words
 abbrev pub value_of : Text → List Text → Option Text
 value_of name words = first_of name (matches_of options words)
 
--- the names of the files that the words give, in order
+-- the values that the words give an option that may stand several times, in order
+abbrev pub values_of : Text → List Text → List Text
+values_of name words = unwrap_or (all_of name (matches_of options words)) []
+
+-- the names of the files that the words give
 abbrev pub forks_of : List Text → List Text
-forks_of words = unwrap_or (all_of (codes "fork") (matches_of options words)) []
+forks_of words = values_of (codes "fork") words
+
+-- the names of the files of their journals
+abbrev pub journals_of : List Text → List Text
+journals_of words = values_of (codes "journal") words
 
 -- decimal digits, one or more, of a number below 2 ^ 32
 pub record IsDecimal (text : List ℕ) : Type 0 where

@@ -1,18 +1,16 @@
 -- The stores of a run.
-use Rattle.std.specs.Prelude.{◌≡◌, ℕ, List, [], ◌∷◌, ◌⊎◌, Option, Some, None, ⊤}
+use Rattle.std.specs.Prelude.{◌≡◌, ℕ, List, [], ◌∷◌, ◌⊎◌, Option, Some, None, map}
+use Rattle.std.specs.List.{AllZip}
 use Rattle.clap.specs.Words.{Text}
 use Rattle.fork_disk.specs.declared.store.ForkStore.{Ghosts}
 
--- what opening the file of a name may give: its store, or none where it can't be opened
+-- what opening the file of a name may give: the file, or none where it can't be opened
 abbrev pub Opening : Type 0 → Type 1
-Opening S = Text → Option S → Type 0
+Opening F = Text → Option F → Type 0
 
--- opening the files of these names gave these stores, in order
-abbrev pub AreOf : {S : Type 0} → Opening S → List Text → List S → Type 0
-AreOf gives [] [] = ⊤
-AreOf gives (name ∷ names) (store ∷ stores) = gives name (Some store) × AreOf gives names stores
-AreOf gives [] (store ∷ stores) = ⊥
-AreOf gives (name ∷ names) [] = ⊥
+-- opening the files of these names gave these, in order
+abbrev pub AreOf : {F : Type 0} → Opening F → List Text → List F → Type 0
+AreOf gives names files = AllZip (λ name file. gives name (Some file)) names files
 
 -- a store whose device is honest, and whose fork has no bytes
 pub record IsEmpty {S : Type 0} (store : Ghosts S) (s : S) : Type 0 where
@@ -20,12 +18,26 @@ pub record IsEmpty {S : Type 0} (store : Ghosts S) (s : S) : Type 0 where
   pub ready : store.is_ready s
   pub honest : store.is_honest s
 
--- the stores of a run over the files of these names: where there are none, an empty one
-abbrev pub AreStores : {S : Type 0} → Ghosts S → Opening S → List Text → List S → Type 0
-AreStores {S = S} store gives [] stores = (s : S) × (stores ≡ s ∷ []) × IsEmpty store s
-AreStores store gives (name ∷ names) stores = AreOf gives (name ∷ names) stores
+-- the stores of a run over the forks in the files of these names: where there are none, an empty one
+abbrev pub ArePlain : {F S : Type 0} → Ghosts S → Opening F → (F → S) → List Text → List S → Type 0
+ArePlain {S = S} store gives plain [] stores = (s : S) × (stores ≡ s ∷ []) × IsEmpty store s
+ArePlain {F = F} store gives plain (name ∷ names) stores = (files : List F) × AreOf gives (name ∷ names) files × (stores ≡ map plain files)
+
+-- the stores of the forks in these files, each with a journal in the file of a name
+pub data ArePaired {F J : Type 0} (gives : Opening F) (pairs : F → F → J → Type 0) : List F → List Text → List J → Type 0 where
+  no_fork : ArePaired gives pairs [] [] []
+  one_fork : {fork : F} {forks : List F} {name : Text} {names : List Text} {store : J} {stores : List J} (journal : F) → gives name (Some journal) → pairs fork journal store
+      → ArePaired gives pairs forks names stores → ArePaired gives pairs (fork ∷ forks) (name ∷ names) (store ∷ stores)
+
+-- the stores of a run over the forks and the journals in the files of these names
+abbrev pub AreJournalled : {F J : Type 0} → Opening F → (F → F → J → Type 0) → List Text → List Text → List J → Type 0
+AreJournalled {F = F} gives pairs names journals stores = (forks : List F) × AreOf gives names forks × ArePaired gives pairs forks journals stores
 
 -- one of the files of these names can't be opened
-abbrev pub CantBeOpened : {S : Type 0} → Opening S → List Text → Type 0
+abbrev pub CantBeOpened : {F : Type 0} → Opening F → List Text → Type 0
 CantBeOpened gives [] = ⊥
 CantBeOpened gives (name ∷ names) = gives name None ⊎ CantBeOpened gives names
+
+-- one of the files with forks or of those with journals can't be opened
+abbrev pub OneCantBeOpened : {F : Type 0} → Opening F → List Text → List Text → Type 0
+OneCantBeOpened gives names journals = CantBeOpened gives names ⊎ CantBeOpened gives journals

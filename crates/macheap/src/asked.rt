@@ -1,12 +1,13 @@
 //! The words of the command line.
 
-ghost use Rattle.std.specs.Prelude.{◌≡◌, ◌<◌, ◌≤◌, ◌⊎◌, [], IfOk, IfErr, OnErr, false, length, map, option_map, unwrap_or};
+ghost use Rattle.std.specs.Prelude.{◌≡◌, IfOk, IfErr, OnErr, false, map, option_map};
 ghost use Rattle.std.specs.Char.{is_ascii_digit};
 ghost use Rattle.std.specs.List.{list_all};
 ghost use Rattle.clap.specs.Words.{app_of, kind_of, rule_of};
 ghost use Rattle.macheap.specs.Asking.{Asks, MeansNoRun, IsNoNumberFault};
-ghost use Rattle.macheap.specs.Options.{fork_option, heads_of, option_named, options, IsNumberOf, IsNoNumber};
+ghost use Rattle.macheap.specs.Options.{file_option, heads_of, option_named, options, IsNumberOf, IsNoNumber};
 
+use crate::files::Files;
 use clap::error::ErrorKind;
 use clap::{Arg, ArgAction, Command};
 use mac_base::block::HeadKind;
@@ -24,14 +25,11 @@ pub const DEFAULT_BASE: u32 = 0x10_0000;
 /// The mode where `--mode` doesn't give one.
 pub const DEFAULT_MODE: u32 = 24;
 
-/// The most files that a run may have.
-const MOST_FORKS: usize = 8;
-
 /// What the words ask for.
-#[derive(Debug, Drop)]
+#[derive(Drop)]
 pub enum Asked<'a> {
-    /// To run the script of standard input on such a zone, over the files of these names.
-    Run(ZoneSpec, Vec<&'a str>),
+    /// To run the script of standard input on such a zone, over these files.
+    Run(ZoneSpec, Files<'a>),
     /// To show this help text, and to run nothing.
     Help(clap::Error),
 }
@@ -45,6 +43,9 @@ pub enum NotAsked {
     /// There are more files than a run may have.
     #[error("error: --fork may stand 8 times; see 'macheap --help'")]
     TooManyForks,
+    /// There are journals, and not one for each file.
+    #[error("error: --journal stands as often as --fork, or not at all; see 'macheap --help'")]
+    OtherJournals,
     /// An option's value is no number.
     #[error("error: --{0} takes decimal digits for a number up to 4294967295; see 'macheap --help'")]
     NoNumber(&'static str),
@@ -82,13 +83,13 @@ fn number_option<'a>(alloc: Global, name: &'a str, help: &'a str) -> Arg<'a>
         .help(help)
 }
 
-/// The option that names the file of a resource fork. It may stand several times.
-fn fork_option<'a>(alloc: Global, help: &'a str) -> Arg<'a>
-    ensures rule { rule_of result ≡ fork_option }
+/// The option of this name, which names a file. It may stand several times.
+fn file_option<'a>(alloc: Global, name: &'a str, help: &'a str) -> Arg<'a>
+    ensures rule { rule_of result ≡ file_option name.entry.now }
     ensures local { result.global ≡ false }
 {
-    Arg::new(alloc, "fork")
-        .long("fork")
+    Arg::new(alloc, name)
+        .long(name)
         .value_name("FILE")
         .action(ArgAction::Append)
         .help(help)
@@ -105,13 +106,16 @@ fn command<'a>(alloc: Global) -> Result<Command<'a>, AllocError>
         "The headers of its blocks: 24 for those of 8 bytes, 32 for those of 12 (default 24)";
     let fork_help =
         "A file with a resource fork, made where it is missing; up to 8 times (default: none in a file)";
+    let journal_help =
+        "A file for the journal of the k-th --fork, made where it is missing; as often as --fork, or not at all (default: none)";
     Command::new(alloc, "macheap")
         .about("Runs the script of standard input on a new heap zone, and writes each call's reply")
         .arg(number_option(alloc, "zone", zone_help))?
         .arg(number_option(alloc, "limit", limit_help))?
         .arg(number_option(alloc, "base", base_help))?
         .arg(number_option(alloc, "mode", mode_help))?
-        .arg(fork_option(alloc, fork_help))
+        .arg(file_option(alloc, "fork", fork_help))?
+        .arg(file_option(alloc, "journal", journal_help))
 }
 
 /// What the words ask for, of which the first is the program's name.
@@ -122,7 +126,9 @@ pub fn asked_by<'a, S: AsStr>(alloc: Global, words: &'a [S]) -> Result<Asked<'a>
         Ok(matches) => matches,
         Err(error) => return not_matched(error),
     };
-    let forks = forks_in(alloc, matches.get_strs("fork"))?;
+    let forks = matches.get_strs("fork").unwrap_or(&[]);
+    let journals = matches.get_strs("journal").unwrap_or(&[]);
+    let files = Files::named(alloc, forks, journals)?;
     let zone = number("zone", matches.get_str("zone"), DEFAULT_ZONE)?;
     let limit = number("limit", matches.get_str("limit"), zone)?;
     let base = number("base", matches.get_str("base"), DEFAULT_BASE)?;
@@ -131,23 +137,9 @@ pub fn asked_by<'a, S: AsStr>(alloc: Global, words: &'a [S]) -> Result<Asked<'a>
         return Err(NotAsked::Mode(mode));
     };
     match ZoneSpec::with_kind(base, zone, limit, heads) {
-        Ok(spec) => Ok(Asked::Run(spec, forks)),
+        Ok(spec) => Ok(Asked::Run(spec, files)),
         Err(fault) => Err(NotAsked::Spec(fault)),
     }
-}
-
-/// The names that `--fork` gives, in order: none where it doesn't stand.
-fn forks_in<'a>(alloc: Global, names: Option<&[&'a str]>) -> Result<Vec<&'a str>, NotAsked>
-    ensures forks { IfOk result (λ forks. forks.items ≡ unwrap_or (option_map (λ names. names.now) names.entry) []) }
-    ensures few { IfOk result (λ forks. length forks.items ≤ 8) }
-    ensures many { IfErr result (λ fault. fault ≡ NotAsked.TooManyForks → 8 < length (unwrap_or (option_map (λ names. names.now) names.entry) [])) }
-    ensures faults { IfErr result (λ fault. (fault ≡ NotAsked.TooManyForks) ⊎ (fault ≡ NotAsked.HostFull)) }
-{
-    let names = names.unwrap_or(&[]);
-    if names.len() > MOST_FORKS {
-        return Err(NotAsked::TooManyForks);
-    }
-    Ok(Vec::from_slice(alloc, names)?)
 }
 
 /// How blocks are headed in this mode, if there is such a mode.

@@ -1,8 +1,9 @@
-//! Runs a script of calls on a heap zone: `macheap [--zone N] [--limit N] [--base N] [--mode 24|32] [--fork FILE].. < script`.
+//! Runs a script of calls on a heap zone: `macheap [--zone N] [--limit N] [--base N] [--mode 24|32] [--fork FILE].. [--journal FILE].. < script`.
 #![tactic(auto)]
 
 mod asked;
 mod disk;
+mod files;
 mod program;
 mod stores;
 

@@ -1,13 +1,14 @@
 //! What the program does with its words, its input and its output.
 
-ghost use Rattle.std.specs.Prelude.{◌≡◌, ◌≢◌, ◌≤◌, ◌⊎◌, ℕ, List, IfSome, length, map};
+ghost use Rattle.std.specs.Prelude.{◌≡◌, ◌≢◌, ◌≤◌, ◌⊎◌, ℕ, List, IfOk, IfSome, IsErrOf, length, map};
 ghost use Rattle.std.specs.Io.KnownBytes.{Appends};
 ghost use Rattle.script_run.specs.Counting.{Rose};
-ghost use Rattle.macheap.specs.Program.{ProgramEnds, Answers, AskForNoFile, HasFewForks, HasNoFile, RunEnds, Refuses, HelpEnds};
-ghost use Rattle.macheap.specs.Stores.{CantBeOpened};
+ghost use Rattle.macheap.specs.Program.{ProgramEnds, Answers, AskForNoFile, HasNoFile, NoStoresEnd, RunEnds, RunsOn, Refuses, HelpEnds};
+ghost use Rattle.macheap.specs.Stores.{OneCantBeOpened};
 
 use crate::asked::{Asked, NotAsked, asked_by};
-use crate::stores::{NoStores, Opens, stores_of};
+use crate::files::Files;
+use crate::stores::{NoStores, Opens, journalled_stores, plain_stores};
 use fork_disk::store::ForkStore;
 use mac_base::zone_spec::ZoneSpec;
 use script_run::{Counted, RunEnd, run, status, tell_no_memory, write_whole};
@@ -22,9 +23,19 @@ pub const BAD_WORDS: u8 = 2;
 const CANNOT_OPEN: u8 = 1;
 
 /// Does what the words ask for, of which the first is the program's name, and gives the exit status. A run reads its
-/// script from `input` and writes to `output`, over the stores that `opener` gives; what is wrong with the words or the files is
-/// written to `messages`.
-pub fn program<T: AsStr, S: ForkStore + Drop, O: Opens<S>, R: Read, W: Write, M: Write>(
+/// script from `input` and writes to `output`, over the stores of the files that `opener` opens; what is wrong with the words or
+/// the files is written to `messages`. Where files have journals, what the run leaves behind a crash is what their stores promise of
+/// each call: the opening of each file recovers it, and an update is there as a whole or not at all.
+pub fn program<
+    T: AsStr,
+    F: Drop,
+    S: ForkStore + Drop,
+    J: ForkStore + Drop,
+    O: Opens<F, S, J>,
+    R: Read,
+    W: Write,
+    M: Write,
+>(
     alloc: Global,
     words: &[T],
     opener: &O,
@@ -33,8 +44,8 @@ pub fn program<T: AsStr, S: ForkStore + Drop, O: Opens<S>, R: Read, W: Write, M:
     messages: &mut M,
 ) -> u8
     ensures ends { (written : List ℕ) × Appends (W.contents output.old.inner) (W.contents output.new.inner) written
-        × IfSome (R.remaining input.old.inner) (λ script. ProgramEnds S.ForkStore (O.gives opener.now) (map T.text words.now)
-        (Rose input.old.failures input.new.failures) (Rose output.old.failures output.new.failures) script result written) }
+        × IfSome (R.remaining input.old.inner) (λ script. ProgramEnds (record { store = S.ForkStore; with_journal = J.ForkStore; gives = O.gives opener.now; plain = O.plain; pairs = O.pairs })
+        (map T.text words.now) (Rose input.old.failures input.new.failures) (Rose output.old.failures output.new.failures) script result written) }
     // Where something failed, the status says so.
     ensures no_read_failed { result ≢ 1 → input.new.failures ≡ input.old.failures }
     ensures no_write_failed { result ≢ 1 → output.new.failures ≡ output.old.failures }
@@ -48,7 +59,15 @@ pub fn program<T: AsStr, S: ForkStore + Drop, O: Opens<S>, R: Read, W: Write, M:
 }
 
 /// Does what was asked for, and gives the exit status.
-fn answer<S: ForkStore + Drop, O: Opens<S>, R: Read, W: Write, M: Write>(
+fn answer<
+    F: Drop,
+    S: ForkStore + Drop,
+    J: ForkStore + Drop,
+    O: Opens<F, S, J>,
+    R: Read,
+    W: Write,
+    M: Write,
+>(
     alloc: Global,
     opener: &O,
     asked: Asked<'_>,
@@ -56,49 +75,97 @@ fn answer<S: ForkStore + Drop, O: Opens<S>, R: Read, W: Write, M: Write>(
     output: &mut Counted<W>,
     messages: &mut M,
 ) -> u8
-    requires { HasFewForks asked }
     ensures ends { (written : List ℕ) × Appends (W.contents output.old.inner) (W.contents output.new.inner) written
-        × IfSome (R.remaining input.old.inner) (λ script. Answers S.ForkStore (O.gives opener.now) asked.entry
-        (Rose input.old.failures input.new.failures) (Rose output.old.failures output.new.failures) script result written) }
+        × IfSome (R.remaining input.old.inner) (λ script. Answers (record { store = S.ForkStore; with_journal = J.ForkStore; gives = O.gives opener.now; plain = O.plain; pairs = O.pairs })
+        asked.entry (Rose input.old.failures input.new.failures) (Rose output.old.failures output.new.failures) script result written) }
     ensures no_read_failed { result ≢ 1 → input.new.failures ≡ input.old.failures }
     ensures no_write_failed { result ≢ 1 → output.new.failures ≡ output.old.failures }
     ensures quiet { (messages.new ≡ messages.old) ⊎ ((result ≡ 1) × HasNoFile (O.gives opener.now) asked.entry) }
 {
     match asked {
-        Asked::Run(spec, forks) => run_over(alloc, opener, spec, &forks, input, output, messages),
+        Asked::Run(spec, files) => run_over(alloc, opener, spec, &files, input, output, messages),
         Asked::Help(text) => show_help(alloc, output, &text),
     }
 }
 
-/// Runs the script of the input on a new zone and the files of these names, and gives the exit status.
-fn run_over<S: ForkStore + Drop, O: Opens<S>, R: Read, W: Write, M: Write>(
+/// Runs the script of the input on a new zone and these files, and gives the exit status.
+fn run_over<
+    F: Drop,
+    S: ForkStore + Drop,
+    J: ForkStore + Drop,
+    O: Opens<F, S, J>,
+    R: Read,
+    W: Write,
+    M: Write,
+>(
     alloc: Global,
     opener: &O,
     spec: ZoneSpec,
-    names: &[&str],
+    files: &Files<'_>,
     input: &mut Counted<R>,
     output: &mut Counted<W>,
     messages: &mut M,
 ) -> u8
-    requires { length names.now ≤ 8 }
     ensures ends { (written : List ℕ) × Appends (W.contents output.old.inner) (W.contents output.new.inner) written
-        × IfSome (R.remaining input.old.inner) (λ script. RunEnds S.ForkStore (O.gives opener.now) spec (map (λ name. name.now) names.now)
+        × IfSome (R.remaining input.old.inner) (λ script. RunEnds (record { store = S.ForkStore; with_journal = J.ForkStore; gives = O.gives opener.now; plain = O.plain; pairs = O.pairs })
+        spec (map (λ name. name.now) files.now.forks.items) (map (λ name. name.now) files.now.journals.items)
         (Rose input.old.failures input.new.failures) (Rose output.old.failures output.new.failures) script result written) }
     ensures no_read_failed { result ≢ 1 → input.new.failures ≡ input.old.failures }
     ensures no_write_failed { result ≢ 1 → output.new.failures ≡ output.old.failures }
-    ensures quiet { (messages.new ≡ messages.old) ⊎ ((result ≡ 1) × CantBeOpened (O.gives opener.now) (map (λ name. name.now) names.now)) }
+    ensures quiet { (messages.new ≡ messages.old) ⊎ ((result ≡ 1) × OneCantBeOpened (O.gives opener.now) (map (λ name. name.now) files.now.forks.items) (map (λ name. name.now) files.now.journals.items)) }
 {
-    let stores = match stores_of(alloc, opener, names) {
+    if files.journals().is_empty() {
+        let stores = plain_stores(alloc, opener, files.forks());
+        return run_on(alloc, spec, stores, input, output, messages);
+    }
+    let stores = journalled_stores(alloc, opener, files.forks(), files.journals());
+    run_on(alloc, spec, stores, input, output, messages)
+}
+
+/// Runs the script of the input on a new zone and these stores, and gives the exit status.
+fn run_on<S: ForkStore + Drop, R: Read, W: Write, M: Write>(
+    alloc: Global,
+    spec: ZoneSpec,
+    stores: Result<Vec<S>, NoStores>,
+    input: &mut Counted<R>,
+    output: &mut Counted<W>,
+    messages: &mut M,
+) -> u8
+    requires { IfOk stores (λ stores. length stores.items ≤ 8) }
+    ensures ends { (written : List ℕ) × Appends (W.contents output.old.inner) (W.contents output.new.inner) written
+        × IfSome (R.remaining input.old.inner) (λ script. RunsOn S.ForkStore spec stores
+        (Rose input.old.failures input.new.failures) (Rose output.old.failures output.new.failures) script result written) }
+    ensures no_read_failed { result ≢ 1 → input.new.failures ≡ input.old.failures }
+    ensures no_write_failed { result ≢ 1 → output.new.failures ≡ output.old.failures }
+    ensures quiet { (messages.new ≡ messages.old) ⊎ ((result ≡ 1) × IsErrOf stores NoStores.CannotOpen) }
+{
+    let stores = match stores {
         Ok(stores) => stores,
-        Err(NoStores::HostFull) => return status(tell_no_memory(output)),
-        Err(NoStores::CannotOpen) => {
-            let _ = writeln!(messages, "cannot open");
-            return CANNOT_OPEN;
-        }
+        Err(fault) => return tell_no_stores(fault, output, messages),
     };
     let (end, stores) = run(alloc, input, output, spec, stores);
     drop(stores);
     status(end)
+}
+
+/// Says why there are no stores, and gives the exit status.
+fn tell_no_stores<W: Write, M: Write>(
+    fault: NoStores,
+    output: &mut Counted<W>,
+    messages: &mut M,
+) -> u8
+    ensures ends { (written : List ℕ) × Appends (W.contents output.old.inner) (W.contents output.new.inner) written
+        × NoStoresEnd fault (Rose output.old.failures output.new.failures) result written }
+    ensures failed { result ≡ 1 }
+    ensures quiet { (messages.new ≡ messages.old) ⊎ (fault ≡ NoStores.CannotOpen) }
+{
+    match fault {
+        NoStores::HostFull => status(tell_no_memory(output)),
+        NoStores::CannotOpen => {
+            let _ = writeln!(messages, "cannot open");
+            CANNOT_OPEN
+        }
+    }
 }
 
 /// Says why the words ask for nothing, and gives the exit status.
@@ -112,6 +179,7 @@ fn refuse<W: Write, M: Write>(error: &NotAsked, output: &mut Counted<W>, message
         NotAsked::HostFull => status(tell_no_memory(output)),
         NotAsked::Words(_)
         | NotAsked::TooManyForks
+        | NotAsked::OtherJournals
         | NotAsked::NoNumber(_)
         | NotAsked::Mode(_)
         | NotAsked::Spec(_) => {

@@ -1,21 +1,27 @@
 //! The stores of a run.
 
-ghost use Rattle.std.specs.Prelude.{◌≡◌, ◌≤◌, [], ⊤, List, ℕ, Option, length, map, IfOk, IfSome, OnOk, IsErrOf};
-ghost use Rattle.macheap.specs.Disks.{IsFile};
-ghost use Rattle.macheap.specs.Stores.{AreOf, AreStores, CantBeOpened};
+ghost use Rattle.std.specs.Prelude.{◌≡◌, ◌≤◌, [], ⊤, List, ℕ, Option, length, map, IfOk, IfSome, IsErrOf};
+ghost use Rattle.macheap.specs.Stores.{AreJournalled, AreOf, ArePlain, CantBeOpened, OneCantBeOpened};
 
 use crate::disk::Disk;
 use fork_disk::store::{ForkStore, PlainStore};
 use fork_disk::{FileDisk, MemDisk};
-use std::alloc::{AllocFailed, Global};
+use fork_journal::{FilePair, Journal};
+use std::alloc::{AllocError, AllocFailed, Global};
 
-/// What opens the stores of a run.
-pub trait Opens<S: ForkStore> {
-    /// What opening the file of a name may give: its store, or none where it can't be opened.
-    ghost gives: { Self → List ℕ → Option S → Type 0 };
+/// What opens the files of a run, and makes stores of them: `S` of a fork alone, and `J` of a fork with its journal.
+pub trait Opens<F, S: ForkStore, J: ForkStore> {
+    /// What opening the file of a name may give: the file, or none where it can't be opened.
+    ghost gives: { Self → List ℕ → Option F → Type 0 };
 
-    /// The store of the file of a name, which is made where it is missing. None where it can't be opened.
-    fn open(&self, name: &str) -> Option<S>
+    /// The store of a fork in a file.
+    ghost plain: { F → S };
+
+    /// What is a store of a fork and its journal, which are these files.
+    ghost pairs: { F → F → J → Type 0 };
+
+    /// The file of a name, which is made where it is missing. None where it can't be opened.
+    fn open(&self, name: &str) -> Option<F>
         ensures { gives self.now name.now result };
 
     /// A store in memory, without bytes.
@@ -23,6 +29,14 @@ pub trait Opens<S: ForkStore> {
         ensures fork { S.fork result ≡ [] }
         ensures ready { S.is_ready result }
         ensures honest { S.is_honest result };
+
+    /// The store of a fork in a file.
+    fn plain(&self, fork: F) -> S
+        ensures { result ≡ plain fork };
+
+    /// The store of a fork and its journal, each in a file.
+    fn journalled(&self, fork: F, journal: F) -> J
+        ensures { pairs fork journal result };
 }
 
 /// Opens the host's files, and disks in its memory.
@@ -31,14 +45,17 @@ pub struct HostDisks<'a> {
     pub runtime: &'a HostRuntime,
 }
 
-impl Opens<PlainStore<Disk>> for HostDisks<'_> {
-    ghost gives = { λ _ _ opened. IfSome opened (λ store. IsFile store.disk) };
+impl Opens<FileDisk, PlainStore<Disk>, Journal<FilePair>> for HostDisks<'_> {
+    ghost use Rattle.macheap.specs.declared.disk.Disk.TheVariants.{File};
 
-    fn open(&self, name: &str) -> Option<PlainStore<Disk>> {
-        let disk = FileDisk::open(self.runtime, name).ok()?;
-        Some(PlainStore {
-            disk: Disk::File(disk),
-        })
+    ghost gives = { λ _ _ _. ⊤ };
+
+    ghost plain = { λ file. record { disk = File file } };
+
+    ghost pairs = { λ fork journal store. (store.pair.fork ≡ fork) × (store.pair.journal ≡ journal) };
+
+    fn open(&self, name: &str) -> Option<FileDisk> {
+        FileDisk::open(self.runtime, name).ok()
     }
 
     fn in_memory(&self) -> PlainStore<Disk> {
@@ -46,15 +63,36 @@ impl Opens<PlainStore<Disk>> for HostDisks<'_> {
             disk: Disk::Memory(MemDisk::new(self.runtime.alloc())),
         }
     }
+
+    fn plain(&self, fork: FileDisk) -> PlainStore<Disk> {
+        PlainStore {
+            disk: Disk::File(fork),
+        }
+    }
+
+    fn journalled(&self, fork: FileDisk, journal: FileDisk) -> Journal<FilePair> {
+        Journal::new(self.runtime.alloc(), FilePair::new(fork, journal))
+    }
 }
 
 /// Why there are no stores.
-#[derive(Clone, Copy, Debug, PartialEq, Eq)]
+#[derive(Clone, Copy)]
 pub enum NoStores {
     /// The host has no memory.
     HostFull,
     /// A file can't be opened.
     CannotOpen,
+}
+
+impl From<AllocError> for NoStores {
+    ghost use Rattle.std.specs.Prelude.{◌≡◌};
+    ghost use Rattle.macheap.specs.declared.stores.NoStores.TheVariants.{HostFull};
+
+    ghost from_gives = { λ _ e. e ≡ HostFull };
+
+    fn from(_: AllocError) -> NoStores {
+        NoStores::HostFull
+    }
 }
 
 impl<S: Drop> From<AllocFailed<S>> for NoStores {
@@ -68,41 +106,65 @@ impl<S: Drop> From<AllocFailed<S>> for NoStores {
     }
 }
 
-/// The stores of a run over the files of these names: where there are none, one in memory.
-pub fn stores_of<S: ForkStore + Drop, O: Opens<S>>(
+/// The stores of the forks in the files of these names: where there are none, one in memory.
+pub fn plain_stores<F: Drop, S: ForkStore + Drop, J: ForkStore, O: Opens<F, S, J>>(
     alloc: Global,
     opener: &O,
     names: &[&str],
 ) -> Result<Vec<S>, NoStores>
     requires { length names.now ≤ 8 }
-    ensures stores { IfOk result (λ stores. AreStores S.ForkStore (O.gives opener.now) (map (λ name. name.now) names.now) stores.items) }
+    ensures stores { IfOk result (λ stores. ArePlain S.ForkStore (O.gives opener.now) O.plain (map (λ name. name.now) names.now) stores.items) }
     ensures few { IfOk result (λ stores. length stores.items ≤ 8) }
     ensures unopened { IsErrOf result NoStores.CannotOpen → CantBeOpened (O.gives opener.now) (map (λ name. name.now) names.now) }
 {
-    if !names.is_empty() {
-        return opened(alloc, opener, names);
+    if names.is_empty() {
+        let mut stores = Vec::new(alloc);
+        stores.push(opener.in_memory())?;
+        return Ok(stores);
     }
-    let mut stores = Vec::new(alloc);
-    stores.push(opener.in_memory())?;
-    Ok(stores)
+    let forks = opened(alloc, opener, names)?;
+    Ok(forks.into_iter().map(|fork| opener.plain(fork)).collect(alloc)?)
 }
 
-/// The stores of the files of these names.
-fn opened<S: ForkStore + Drop, O: Opens<S>>(
+/// The stores of the forks and the journals in the files of these names.
+pub fn journalled_stores<F: Drop, S: ForkStore, J: ForkStore + Drop, O: Opens<F, S, J>>(
     alloc: Global,
     opener: &O,
     names: &[&str],
-) -> Result<Vec<S>, NoStores>
-    ensures stores { IfOk result (λ stores. AreOf (O.gives opener.now) (map (λ name. name.now) names.now) stores.items) }
+    journals: &[&str],
+) -> Result<Vec<J>, NoStores>
+    requires { length journals.now ≡ length names.now }
+    ensures stores { IfOk result (λ stores. AreJournalled (O.gives opener.now) O.pairs (map (λ name. name.now) names.now) (map (λ name. name.now) journals.now) stores.items) }
     ensures count { IfOk result (λ stores. length stores.items ≡ length names.now) }
-    ensures unopened { IsErrOf result NoStores.CannotOpen → CantBeOpened (O.gives opener.now) (map (λ name. name.now) names.now) }
+    ensures unopened { IsErrOf result NoStores.CannotOpen → OneCantBeOpened (O.gives opener.now) (map (λ name. name.now) names.now) (map (λ name. name.now) journals.now) }
 {
+    let forks = opened(alloc, opener, names)?;
     let mut stores = Vec::new(alloc);
-    for name in names {
-        let Some(store) = opener.open(name) else {
+    for fork in forks {
+        let Some(journal) = opener.open(journals[stores.len()]) else {
             return Err(NoStores::CannotOpen);
         };
-        stores.push(store)?;
+        stores.push(opener.journalled(fork, journal))?;
     }
     Ok(stores)
+}
+
+/// The files of these names.
+fn opened<F: Drop, S: ForkStore, J: ForkStore, O: Opens<F, S, J>>(
+    alloc: Global,
+    opener: &O,
+    names: &[&str],
+) -> Result<Vec<F>, NoStores>
+    ensures files { IfOk result (λ files. AreOf (O.gives opener.now) (map (λ name. name.now) names.now) files.items) }
+    ensures count { IfOk result (λ files. length files.items ≡ length names.now) }
+    ensures unopened { IsErrOf result NoStores.CannotOpen → CantBeOpened (O.gives opener.now) (map (λ name. name.now) names.now) }
+{
+    let mut files = Vec::new(alloc);
+    for name in names {
+        let Some(file) = opener.open(name) else {
+            return Err(NoStores::CannotOpen);
+        };
+        files.push(file)?;
+    }
+    Ok(files)
 }

@@ -1,10 +1,14 @@
-use Rattle.std.proofs.Common.{◌≡◌, ◌<◌, length, map, codes, refl, sym, subst, ap, ◌∙◌, Option, Some, None, List, ℕ}
+use Rattle.std.proofs.Common.{◌≡◌, ◌<◌, length, map, codes, refl, sym, subst, ap, ◌∙◌, Option, Some, None, List, ℕ, Bor}
 use Rattle.std.proofs.lemmas.List.{length-map}
 use Rattle.mac_base.specs.ZoneSizes.{ArePossible}
 use Rattle.macheap.specs.Asking.{GivesNumbers, of_zone, of_limit, of_base, of_mode}
 use Rattle.macheap.specs.Options.{IsNoNumber, IsNumberOf}
-use Rattle.macheap.proofs.Found.{number_found, no_number_found, forks_asks, forks_given, match_of, matched, unmatched, error_kind, full_asks, no_number_error}
+use Rattle.macheap.proofs.Found.{number_found, no_number_found, files_asks, names_found, match_of, matched, unmatched, error_kind, full_asks, no_number_error}
+use Rattle.clap.specs.Words.{Text}
 use Rattle.macheap.proofs.asked.asked_by.Goals as goal
+
+abbrev names_of : List (Bor (List ℕ)) → List Text
+names_of = map (λ name. name.now)
 
 pub returns-in_err-command : goal.returns-in_err-command
 returns-in_err-command g c = full_asks _ _ c.from_residual.ensures.1
@@ -12,20 +16,23 @@ returns-in_err-command g c = full_asks _ _ c.from_residual.ensures.1
 pub returns-in-Err : goal.returns-in-Err
 returns-in-Err g c = unmatched _ c.in-Err.error _ (error_kind c.in_ok-command.field-0 _ c.in-Err.error c.in_ok-command.ensures c.in-Err.ensures.kinds) c.not_matched.ensures
 
-pub returns-in_err-forks : goal.returns-in_err-forks
-returns-in_err-forks g c =
+pub returns-in_err-files : goal.returns-in_err-files
+returns-in_err-files g c =
     let command = c.in_ok-command.field-0 in
     let words = map g.S.AsStr.text c.args.words.now in
-    let found = forks_given command words c.in-Ok.matches c.get_strs.result _ (λ s. s.now) (λ v. v.now) c.in_ok-command.ensures c.in-Ok.ensures.matches c.get_strs.ensures refl in
-    forks_asks words _ c.in_err-forks.field-0.0 c.from_residual-in_err-forks.ensures.1 c.in_err-forks.ensures.faults
-    (λ same. (matched command words c.in_ok-command.ensures c.in-Ok.ensures.kinds, subst (λ (n : ℕ). 8 < n) (sym (length-map _ _) ∙ ap length found) (c.in_err-forks.ensures.many same)))
+    let forks = names_found command words c.in-Ok.matches (codes "fork") c.get_strs.result _ c.unwrap_or-forks.result (λ s. s.now) (λ v. v.now) c.in_ok-command.ensures c.in-Ok.ensures.matches c.get_strs.ensures refl c.unwrap_or-forks.ensures in
+    let journals = names_found command words c.in-Ok.matches (codes "journal") c.get_strs-2.result _ c.unwrap_or-journals.result (λ s. s.now) (λ v. v.now) c.in_ok-command.ensures c.in-Ok.ensures.matches c.get_strs-2.ensures refl c.unwrap_or-journals.ensures in
+    files_asks words _ c.in_err-files.field-0.0 c.unwrap_or-forks.result.now c.unwrap_or-journals.result.now (λ v. v.now) c.from_residual-in_err-files.ensures.1
+    (matched command words c.in_ok-command.ensures c.in-Ok.ensures.kinds) forks journals c.in_err-files.ensures.fault
 
 pub returns-in_err-zone : goal.returns-in_err-zone
 returns-in_err-zone g c =
     let command = c.in_ok-command.field-0 in
     let words = map g.S.AsStr.text c.args.words.now in
-    let forks = forks_given command words c.in-Ok.matches c.get_strs.result c.in_ok-forks.forks.items (λ s. s.now) (λ v. v.now) c.in_ok-command.ensures c.in-Ok.ensures.matches c.get_strs.ensures c.in_ok-forks.ensures.forks in
-    let none = match_of words c.in_ok-forks.forks.items (λ v. v.now) (matched command words c.in_ok-command.ensures c.in-Ok.ensures.kinds) forks c.in_ok-forks.ensures.few in
+    let files = c.in_ok-files.files in
+    let forks = ap names_of c.in_ok-files.ensures.forks ∙ names_found command words c.in-Ok.matches (codes "fork") c.get_strs.result _ c.unwrap_or-forks.result (λ s. s.now) (λ v. v.now) c.in_ok-command.ensures c.in-Ok.ensures.matches c.get_strs.ensures refl c.unwrap_or-forks.ensures in
+    let journals = ap names_of c.in_ok-files.ensures.journals ∙ names_found command words c.in-Ok.matches (codes "journal") c.get_strs-2.result _ c.unwrap_or-journals.result (λ s. s.now) (λ v. v.now) c.in_ok-command.ensures c.in-Ok.ensures.matches c.get_strs-2.ensures refl c.unwrap_or-journals.ensures in
+    let none = match_of words files.forks.items files.journals.items (λ v. v.now) (matched command words c.in_ok-command.ensures c.in-Ok.ensures.kinds) forks journals files.few files.fit in
     let zone = no_number_found command words c.in-Ok.matches (codes "zone") _ c.in_ok-command.ensures c.in-Ok.ensures.matches c.get_str.ensures c.in_err-zone.ensures.none in
     no_number_error words _ c.in_err-zone.field-0.0 (codes "zone") c.from_residual-in_err-zone.ensures.1 c.in_err-zone.ensures.error (of_zone refl none zone)
 
@@ -33,8 +40,10 @@ pub returns-in_err-limit : goal.returns-in_err-limit
 returns-in_err-limit g c =
     let command = c.in_ok-command.field-0 in
     let words = map g.S.AsStr.text c.args.words.now in
-    let forks = forks_given command words c.in-Ok.matches c.get_strs.result c.in_ok-forks.forks.items (λ s. s.now) (λ v. v.now) c.in_ok-command.ensures c.in-Ok.ensures.matches c.get_strs.ensures c.in_ok-forks.ensures.forks in
-    let none = match_of words c.in_ok-forks.forks.items (λ v. v.now) (matched command words c.in_ok-command.ensures c.in-Ok.ensures.kinds) forks c.in_ok-forks.ensures.few in
+    let files = c.in_ok-files.files in
+    let forks = ap names_of c.in_ok-files.ensures.forks ∙ names_found command words c.in-Ok.matches (codes "fork") c.get_strs.result _ c.unwrap_or-forks.result (λ s. s.now) (λ v. v.now) c.in_ok-command.ensures c.in-Ok.ensures.matches c.get_strs.ensures refl c.unwrap_or-forks.ensures in
+    let journals = ap names_of c.in_ok-files.ensures.journals ∙ names_found command words c.in-Ok.matches (codes "journal") c.get_strs-2.result _ c.unwrap_or-journals.result (λ s. s.now) (λ v. v.now) c.in_ok-command.ensures c.in-Ok.ensures.matches c.get_strs-2.ensures refl c.unwrap_or-journals.ensures in
+    let none = match_of words files.forks.items files.journals.items (λ v. v.now) (matched command words c.in_ok-command.ensures c.in-Ok.ensures.kinds) forks journals files.few files.fit in
     let size = number_found command words c.in-Ok.matches (codes "zone") _ 4096 c.in_ok-zone.zone c.in_ok-command.ensures c.in-Ok.ensures.matches c.get_str.ensures c.in_ok-zone.ensures.number in
     let limit = no_number_found command words c.in-Ok.matches (codes "limit") _ c.in_ok-command.ensures c.in-Ok.ensures.matches c.get_str-2.ensures c.in_err-limit.ensures.none in
     no_number_error words _ c.in_err-limit.field-0.0 (codes "limit") c.from_residual-in_err-limit.ensures.1 c.in_err-limit.ensures.error (of_limit refl none c.in_ok-zone.zone size limit)
@@ -43,8 +52,10 @@ pub returns-in_err-base : goal.returns-in_err-base
 returns-in_err-base g c =
     let command = c.in_ok-command.field-0 in
     let words = map g.S.AsStr.text c.args.words.now in
-    let forks = forks_given command words c.in-Ok.matches c.get_strs.result c.in_ok-forks.forks.items (λ s. s.now) (λ v. v.now) c.in_ok-command.ensures c.in-Ok.ensures.matches c.get_strs.ensures c.in_ok-forks.ensures.forks in
-    let none = match_of words c.in_ok-forks.forks.items (λ v. v.now) (matched command words c.in_ok-command.ensures c.in-Ok.ensures.kinds) forks c.in_ok-forks.ensures.few in
+    let files = c.in_ok-files.files in
+    let forks = ap names_of c.in_ok-files.ensures.forks ∙ names_found command words c.in-Ok.matches (codes "fork") c.get_strs.result _ c.unwrap_or-forks.result (λ s. s.now) (λ v. v.now) c.in_ok-command.ensures c.in-Ok.ensures.matches c.get_strs.ensures refl c.unwrap_or-forks.ensures in
+    let journals = ap names_of c.in_ok-files.ensures.journals ∙ names_found command words c.in-Ok.matches (codes "journal") c.get_strs-2.result _ c.unwrap_or-journals.result (λ s. s.now) (λ v. v.now) c.in_ok-command.ensures c.in-Ok.ensures.matches c.get_strs-2.ensures refl c.unwrap_or-journals.ensures in
+    let none = match_of words files.forks.items files.journals.items (λ v. v.now) (matched command words c.in_ok-command.ensures c.in-Ok.ensures.kinds) forks journals files.few files.fit in
     let size = number_found command words c.in-Ok.matches (codes "zone") _ 4096 c.in_ok-zone.zone c.in_ok-command.ensures c.in-Ok.ensures.matches c.get_str.ensures c.in_ok-zone.ensures.number in
     let limit = number_found command words c.in-Ok.matches (codes "limit") _ c.in_ok-zone.zone c.in_ok-limit.limit c.in_ok-command.ensures c.in-Ok.ensures.matches c.get_str-2.ensures c.in_ok-limit.ensures.number in
     let base = no_number_found command words c.in-Ok.matches (codes "base") _ c.in_ok-command.ensures c.in-Ok.ensures.matches c.get_str-3.ensures c.in_err-base.ensures.none in
@@ -54,8 +65,10 @@ pub returns-in_err-mode : goal.returns-in_err-mode
 returns-in_err-mode g c =
     let command = c.in_ok-command.field-0 in
     let words = map g.S.AsStr.text c.args.words.now in
-    let forks = forks_given command words c.in-Ok.matches c.get_strs.result c.in_ok-forks.forks.items (λ s. s.now) (λ v. v.now) c.in_ok-command.ensures c.in-Ok.ensures.matches c.get_strs.ensures c.in_ok-forks.ensures.forks in
-    let none = match_of words c.in_ok-forks.forks.items (λ v. v.now) (matched command words c.in_ok-command.ensures c.in-Ok.ensures.kinds) forks c.in_ok-forks.ensures.few in
+    let files = c.in_ok-files.files in
+    let forks = ap names_of c.in_ok-files.ensures.forks ∙ names_found command words c.in-Ok.matches (codes "fork") c.get_strs.result _ c.unwrap_or-forks.result (λ s. s.now) (λ v. v.now) c.in_ok-command.ensures c.in-Ok.ensures.matches c.get_strs.ensures refl c.unwrap_or-forks.ensures in
+    let journals = ap names_of c.in_ok-files.ensures.journals ∙ names_found command words c.in-Ok.matches (codes "journal") c.get_strs-2.result _ c.unwrap_or-journals.result (λ s. s.now) (λ v. v.now) c.in_ok-command.ensures c.in-Ok.ensures.matches c.get_strs-2.ensures refl c.unwrap_or-journals.ensures in
+    let none = match_of words files.forks.items files.journals.items (λ v. v.now) (matched command words c.in_ok-command.ensures c.in-Ok.ensures.kinds) forks journals files.few files.fit in
     let size = number_found command words c.in-Ok.matches (codes "zone") _ 4096 c.in_ok-zone.zone c.in_ok-command.ensures c.in-Ok.ensures.matches c.get_str.ensures c.in_ok-zone.ensures.number in
     let limit = number_found command words c.in-Ok.matches (codes "limit") _ c.in_ok-zone.zone c.in_ok-limit.limit c.in_ok-command.ensures c.in-Ok.ensures.matches c.get_str-2.ensures c.in_ok-limit.ensures.number in
     let base = number_found command words c.in-Ok.matches (codes "base") _ 0x10_0000 c.in_ok-base.base c.in_ok-command.ensures c.in-Ok.ensures.matches c.get_str-3.ensures c.in_ok-base.ensures.number in
@@ -66,9 +79,11 @@ pub returns-in_default : goal.returns-in_default
 returns-in_default g c =
     let command = c.in_ok-command.field-0 in
     let words = map g.S.AsStr.text c.args.words.now in
-    let forks = forks_given command words c.in-Ok.matches c.get_strs.result c.in_ok-forks.forks.items (λ s. s.now) (λ v. v.now) c.in_ok-command.ensures c.in-Ok.ensures.matches c.get_strs.ensures c.in_ok-forks.ensures.forks in
+    let files = c.in_ok-files.files in
+    let forks = ap names_of c.in_ok-files.ensures.forks ∙ names_found command words c.in-Ok.matches (codes "fork") c.get_strs.result _ c.unwrap_or-forks.result (λ s. s.now) (λ v. v.now) c.in_ok-command.ensures c.in-Ok.ensures.matches c.get_strs.ensures refl c.unwrap_or-forks.ensures in
+    let journals = ap names_of c.in_ok-files.ensures.journals ∙ names_found command words c.in-Ok.matches (codes "journal") c.get_strs-2.result _ c.unwrap_or-journals.result (λ s. s.now) (λ v. v.now) c.in_ok-command.ensures c.in-Ok.ensures.matches c.get_strs-2.ensures refl c.unwrap_or-journals.ensures in
     let numbers : GivesNumbers words c.in_ok-base.base c.in_ok-zone.zone c.in_ok-limit.limit c.in_ok-mode.mode = record {
-      matched = match_of words c.in_ok-forks.forks.items (λ v. v.now) (matched command words c.in_ok-command.ensures c.in-Ok.ensures.kinds) forks c.in_ok-forks.ensures.few;
+      matched = match_of words files.forks.items files.journals.items (λ v. v.now) (matched command words c.in_ok-command.ensures c.in-Ok.ensures.kinds) forks journals files.few files.fit;
       size_given = number_found command words c.in-Ok.matches (codes "zone") _ 4096 c.in_ok-zone.zone c.in_ok-command.ensures c.in-Ok.ensures.matches c.get_str.ensures c.in_ok-zone.ensures.number;
       limit_given = number_found command words c.in-Ok.matches (codes "limit") _ c.in_ok-zone.zone c.in_ok-limit.limit c.in_ok-command.ensures c.in-Ok.ensures.matches c.get_str-2.ensures c.in_ok-limit.ensures.number;
       base_given = number_found command words c.in-Ok.matches (codes "base") _ 0x10_0000 c.in_ok-base.base c.in_ok-command.ensures c.in-Ok.ensures.matches c.get_str-3.ensures c.in_ok-base.ensures.number;
@@ -80,9 +95,11 @@ pub returns-in-Ok-with_kind : goal.returns-in-Ok-with_kind
 returns-in-Ok-with_kind g c =
     let command = c.in_ok-command.field-0 in
     let words = map g.S.AsStr.text c.args.words.now in
-    let forks = forks_given command words c.in-Ok.matches c.get_strs.result c.in_ok-forks.forks.items (λ s. s.now) (λ v. v.now) c.in_ok-command.ensures c.in-Ok.ensures.matches c.get_strs.ensures c.in_ok-forks.ensures.forks in
+    let files = c.in_ok-files.files in
+    let forks = ap names_of c.in_ok-files.ensures.forks ∙ names_found command words c.in-Ok.matches (codes "fork") c.get_strs.result _ c.unwrap_or-forks.result (λ s. s.now) (λ v. v.now) c.in_ok-command.ensures c.in-Ok.ensures.matches c.get_strs.ensures refl c.unwrap_or-forks.ensures in
+    let journals = ap names_of c.in_ok-files.ensures.journals ∙ names_found command words c.in-Ok.matches (codes "journal") c.get_strs-2.result _ c.unwrap_or-journals.result (λ s. s.now) (λ v. v.now) c.in_ok-command.ensures c.in-Ok.ensures.matches c.get_strs-2.ensures refl c.unwrap_or-journals.ensures in
     let numbers : GivesNumbers words c.in_ok-base.base c.in_ok-zone.zone c.in_ok-limit.limit c.in_ok-mode.mode = record {
-      matched = match_of words c.in_ok-forks.forks.items (λ v. v.now) (matched command words c.in_ok-command.ensures c.in-Ok.ensures.kinds) forks c.in_ok-forks.ensures.few;
+      matched = match_of words files.forks.items files.journals.items (λ v. v.now) (matched command words c.in_ok-command.ensures c.in-Ok.ensures.kinds) forks journals files.few files.fit;
       size_given = number_found command words c.in-Ok.matches (codes "zone") _ 4096 c.in_ok-zone.zone c.in_ok-command.ensures c.in-Ok.ensures.matches c.get_str.ensures c.in_ok-zone.ensures.number;
       limit_given = number_found command words c.in-Ok.matches (codes "limit") _ c.in_ok-zone.zone c.in_ok-limit.limit c.in_ok-command.ensures c.in-Ok.ensures.matches c.get_str-2.ensures c.in_ok-limit.ensures.number;
       base_given = number_found command words c.in-Ok.matches (codes "base") _ 0x10_0000 c.in_ok-base.base c.in_ok-command.ensures c.in-Ok.ensures.matches c.get_str-3.ensures c.in_ok-base.ensures.number;
@@ -99,15 +116,18 @@ returns-in-Ok-with_kind g c =
       is = c.in-Ok-with_kind.ensures.spec;
       possible = subst ArePossible (sym c.in-Ok-with_kind.ensures.spec) (c.in-Ok-with_kind.ensures.possible.0 refl);
       forks_are = forks;
+      journals_are = journals;
     }
 
 pub returns : goal.returns
 returns g c =
     let command = c.in_ok-command.field-0 in
     let words = map g.S.AsStr.text c.args.words.now in
-    let forks = forks_given command words c.in-Ok.matches c.get_strs.result c.in_ok-forks.forks.items (λ s. s.now) (λ v. v.now) c.in_ok-command.ensures c.in-Ok.ensures.matches c.get_strs.ensures c.in_ok-forks.ensures.forks in
+    let files = c.in_ok-files.files in
+    let forks = ap names_of c.in_ok-files.ensures.forks ∙ names_found command words c.in-Ok.matches (codes "fork") c.get_strs.result _ c.unwrap_or-forks.result (λ s. s.now) (λ v. v.now) c.in_ok-command.ensures c.in-Ok.ensures.matches c.get_strs.ensures refl c.unwrap_or-forks.ensures in
+    let journals = ap names_of c.in_ok-files.ensures.journals ∙ names_found command words c.in-Ok.matches (codes "journal") c.get_strs-2.result _ c.unwrap_or-journals.result (λ s. s.now) (λ v. v.now) c.in_ok-command.ensures c.in-Ok.ensures.matches c.get_strs-2.ensures refl c.unwrap_or-journals.ensures in
     let numbers : GivesNumbers words c.in_ok-base.base c.in_ok-zone.zone c.in_ok-limit.limit c.in_ok-mode.mode = record {
-      matched = match_of words c.in_ok-forks.forks.items (λ v. v.now) (matched command words c.in_ok-command.ensures c.in-Ok.ensures.kinds) forks c.in_ok-forks.ensures.few;
+      matched = match_of words files.forks.items files.journals.items (λ v. v.now) (matched command words c.in_ok-command.ensures c.in-Ok.ensures.kinds) forks journals files.few files.fit;
       size_given = number_found command words c.in-Ok.matches (codes "zone") _ 4096 c.in_ok-zone.zone c.in_ok-command.ensures c.in-Ok.ensures.matches c.get_str.ensures c.in_ok-zone.ensures.number;
       limit_given = number_found command words c.in-Ok.matches (codes "limit") _ c.in_ok-zone.zone c.in_ok-limit.limit c.in_ok-command.ensures c.in-Ok.ensures.matches c.get_str-2.ensures c.in_ok-limit.ensures.number;
       base_given = number_found command words c.in-Ok.matches (codes "base") _ 0x10_0000 c.in_ok-base.base c.in_ok-command.ensures c.in-Ok.ensures.matches c.get_str-3.ensures c.in_ok-base.ensures.number;

@@ -1,14 +1,30 @@
-use Rattle.std.proofs.Common.{[], Err, refl, ap}
-use Rattle.script_run.proofs.Ending.{for_all}
-use Rattle.script_run.proofs.Known.{Appends-none}
-use Rattle.macheap.specs.Program.{unopened}
-use Rattle.macheap.proofs.Ending.{ran_over}
+use Rattle.std.proofs.Common.{◌≡◌, ◌≢◌, ℕ, List, length, sym, ap, ◌∙◌, Bor, arith}
+use Rattle.std.proofs.lemmas.Bool.Decides.{nat_tests}
+use Rattle.clap.specs.Words.{Text}
+use Rattle.macheap.specs.Program.{Parts}
+use Rattle.macheap.proofs.Ending.{known, plain_ran, journalled_ran}
 use Rattle.macheap.proofs.program.run_over.Goals as goal
 
-pub returns-in-Err-CannotOpen-clause-ends : goal.returns-in-Err-CannotOpen-clause-ends
-returns-in-Err-CannotOpen-clause-ends g c = ([], Appends-none _, for_all (g.R.Read.remaining c.args.input.now.inner) _ (λ input. unopened (c.in-Err-CannotOpen.ensures.unopened (ap Err c.in-Err-CannotOpen.field-0-is)) refl refl))
+abbrev now_of : Bor (List ℕ) → Text
+now_of name = name.now
+
+pub returns-then-is_empty-clause-ends : goal.returns-then-is_empty-clause-ends
+returns-then-is_empty-clause-ends g c =
+    let ends = c.run_on.ensures.ends in
+    let stores = c.plain_stores-stores.ensures in
+    let parts : Parts g.row.F.Denot g.row.S.Denot g.row.J.Denot = record { store = g.S.ForkStore; with_journal = g.J.ForkStore; gives = g.O.Opens.gives c.args.opener.now; plain = g.O.Opens.plain; pairs = g.O.Opens.pairs } in
+    let is = c.is_empty.ensures in
+    let so = c.if-is_empty.true in
+    let empty : length c.journals.result.now ≡ 0 = grind (arith, nat_tests, is, so) in
+    (ends.0, ends.1, known (g.R.Read.remaining c.args.input.now.inner) (plain_ran parts c.args.spec now_of c.args.files.now.forks.items c.args.files.now.journals.items _ _ _ ends.0 c.forks.result.now c.plain_stores-stores.result c.forks.ensures.names (ap length (sym c.journals.ensures.names) ∙ empty) stores.stores stores.unopened) ends.2)
 
 pub returns-clause-ends : goal.returns-clause-ends
 returns-clause-ends g c =
-    let ends = c.run-end.ensures.ends in
-    (ends.0, ends.1, rw (c.status-2.ensures) (ran_over g.S.ForkStore _ c.args.spec _ c.in-Ok.stores.items _ _ _ _ (g.R.Read.remaining c.args.input.now.inner) ends.0 c.in-Ok.ensures.stores c.run-end.ensures.read_fault c.run-end.ensures.write_fault ends.2))
+    let ends = c.run_on-2.ensures.ends in
+    let stores = c.journalled_stores-stores.ensures in
+    let parts : Parts g.row.F.Denot g.row.S.Denot g.row.J.Denot = record { store = g.S.ForkStore; with_journal = g.J.ForkStore; gives = g.O.Opens.gives c.args.opener.now; plain = g.O.Opens.plain; pairs = g.O.Opens.pairs } in
+    let is = c.is_empty.ensures in
+    let so = c.if-is_empty.false in
+    let some : length c.journals.result.now ≢ 0 = grind (arith, nat_tests, is, so) in
+    (ends.0, ends.1, known (g.R.Read.remaining c.args.input.now.inner) (journalled_ran parts c.args.spec now_of c.args.files.now.forks.items c.args.files.now.journals.items _ _ _ ends.0 c.forks-2.result.now c.journals-2.result.now c.journalled_stores-stores.result c.forks-2.ensures.names c.journals-2.ensures.names
+    (λ none. some (ap length c.journals.ensures.names ∙ none)) stores.stores stores.unopened) ends.2)

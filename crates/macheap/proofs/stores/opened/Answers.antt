@@ -25,8 +25,8 @@ loop-name-preserved g c =
     let at = c.loop-name.name-index in
     let name = slice_index_or names at nowhere in
     subst (AreOf (g.O.Opens.gives c.args.opener.now) (map now_of (take (at + 1) names))) (sym c.in_ok-push.ensures.items)
-    (AreOf-step (g.O.Opens.gives c.args.opener.now) names now_of at name c.loop-name.stores.items c.in-Some.store c.loop-name-test.true (same_default names at nowhere name c.loop-name-test.true) c.loop-name.invariant c.in-Some.ensures)
+    (AreOf-step (g.O.Opens.gives c.args.opener.now) names now_of at name c.loop-name.files.items c.in-Some.file c.loop-name-test.true (same_default names at nowhere name c.loop-name-test.true) c.loop-name.invariant c.in-Some.ensures)
 
 -- src/stores.rt:91:1
 pub returns-clause-count : goal.returns-clause-count
-returns-clause-count g c = all_opened (g.O.Opens.gives c.args.opener.now) c.args.names.now now_of c.loop-name.name-index c.loop-name.stores.items c.loop-name-test.false c.loop-name.invariant
+returns-clause-count g c = all_opened (g.O.Opens.gives c.args.opener.now) c.args.names.now now_of c.loop-name.name-index c.loop-name.files.items c.loop-name-test.false c.loop-name.invariant
