@@ -1,5 +1,5 @@
 -- What the words ask for, from what `clap` found in them.
-use Rattle.std.proofs.Common.{◌≡◌, ℕ, true, List, [], codes, Option, option_map, unwrap_or, Result, Ok, Err, refl, sym, ap, subst, ◌∙◌, inl, inr, false, ◌∷◌, ◌<◌, ◌≤◌, ◌⊎◌, length, map, Some, None, arith}
+use Rattle.std.proofs.Common.{◌≡◌, ℕ, true, List, [], Option, option_map, unwrap_or, Result, Ok, Err, refl, sym, ap, subst, ◌∙◌, inl, inr, false, ◌∷◌, ◌<◌, ◌≤◌, length, map, Some, None, arith}
 use Rattle.std.specs.List.{list_all}
 use Rattle.std.specs.Char.{is_ascii_digit, digit_value}
 use Rattle.std.specs.Str.Parse.{AllDigits}

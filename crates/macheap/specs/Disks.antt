@@ -1,7 +1,5 @@
 -- A disk in memory or a file, as a disk.
 use Rattle.std.specs.Prelude.{ℕ, List, [], ⊤}
-use Rattle.fork_disk.specs.declared.file_disk.FileDisk.{FileDisk}
-use Rattle.fork_disk.specs.declared.mem_disk.MemDisk.{MemDisk}
 use Rattle.macheap.specs.declared.disk.Disk.{Disk}
 use Rattle.macheap.specs.declared.disk.Disk.TheVariants.{Memory, File}
 
@@ -24,8 +22,3 @@ stable (File disk) = ⊥
 abbrev pub fails : Disk → ℕ
 fails (Memory disk) = disk.failures
 fails (File disk) = disk.failures
-
--- a disk is a file
-abbrev pub IsFile : Disk → Type 0
-IsFile (Memory disk) = ⊥
-IsFile (File disk) = ⊤

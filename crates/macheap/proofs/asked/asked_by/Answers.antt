@@ -1,8 +1,6 @@
-use Rattle.std.proofs.Common.{◌≡◌, ◌<◌, length, map, codes, refl, sym, subst, ap, ◌∙◌, Option, Some, None, List, ℕ, Bor}
-use Rattle.std.proofs.lemmas.List.{length-map}
+use Rattle.std.proofs.Common.{map, codes, refl, sym, subst, ap, ◌∙◌, List, ℕ, Bor}
 use Rattle.mac_base.specs.ZoneSizes.{ArePossible}
 use Rattle.macheap.specs.Asking.{GivesNumbers, of_zone, of_limit, of_base, of_mode}
-use Rattle.macheap.specs.Options.{IsNoNumber, IsNumberOf}
 use Rattle.macheap.proofs.Found.{number_found, no_number_found, files_asks, names_found, match_of, matched, unmatched, error_kind, full_asks, no_number_error}
 use Rattle.clap.specs.Words.{Text}
 use Rattle.macheap.proofs.asked.asked_by.Goals as goal

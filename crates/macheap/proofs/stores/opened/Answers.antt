@@ -1,4 +1,4 @@
-use Rattle.std.proofs.Common.{List, ℕ, [], ◌+◌, ◌∷◌, take, map, sym, subst, slice_index_or, Bor}
+use Rattle.std.proofs.Common.{List, ℕ, [], ◌+◌, take, map, sym, subst, slice_index_or, Bor}
 use Rattle.clap.specs.Words.{Text}
 use Rattle.macheap.specs.Stores.{AreOf}
 use Rattle.macheap.proofs.Opening.{AreOf-step, all_opened, cant_at, same_default}
