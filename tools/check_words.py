@@ -13,7 +13,7 @@ import tempfile
 
 SCRIPT = b"ZoneMap\n"
 OLD = b"old"
-OPTIONS = ("--zone", "--limit", "--base", "--mode", "--fork")
+OPTIONS = ("--zone", "--limit", "--base", "--mode", "--fork", "--journal")
 
 # words, and the zone that they ask for: its first address, its size in bytes, and that of its master block
 ZONES = [

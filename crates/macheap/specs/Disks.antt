@@ -22,8 +22,3 @@ stable (File disk) = ⊥
 abbrev pub fails : Disk → ℕ
 fails (Memory disk) = disk.failures
 fails (File disk) = disk.failures
-
--- a disk is a file
-abbrev pub IsFile : Disk → Type 0
-IsFile (Memory disk) = ⊥
-IsFile (File disk) = ⊤

@@ -1,0 +1,109 @@
+#!/usr/bin/env python3
+"""Checks what a macheap program leaves on forks and their journals, and which words it takes for them: check_journal.py PROGRAM."""
+import os
+import struct
+import subprocess
+import sys
+import tempfile
+
+# the fork of one resource 'TEXT' 128 with the bytes "Hi"
+HI = (
+    struct.pack(">4I", 256, 262, 6, 50)
+    + bytes(240)
+    + struct.pack(">I2s", 2, b"Hi")
+    + struct.pack(">4I", 256, 262, 6, 50)
+    + bytes(8)
+    + struct.pack(">2H", 28, 50)
+    + struct.pack(">H4s2H", 0, b"TEXT", 0, 10)
+    + struct.pack(">2H", 128, 0xFFFF)
+    + bytes(8)
+)
+WRITES = "h = NewHandle 2\nPoke h 0 \"Hi\"\nAddResource h 'TEXT' 128\nUpdateResFile\n"
+WRITTEN = "1 NewHandle $0010003C 0\n2 Poke 0\n3 AddResource 0\n4 UpdateResFile 0\n"
+REFUSED = "0 OpenResFile -199\n"
+TEXT = struct.pack(">I", len(HI)) + HI
+OPEN, SHUT = b"\1" + TEXT, b"\0" + TEXT
+
+# what it is; the forks before, the journals before, the script; what is printed, the forks after, the journals after. None: no such file
+ROWS = [
+    ("an update leaves a shut gate, a length and the fork", [b""], [b""], WRITES, WRITTEN, [HI], [SHUT]),
+    ("files that are missing are made", [None], [None], WRITES, WRITTEN, [HI], [SHUT]),
+    ("a start writes the fork of an open journal, and shuts it", [HI[:100]], [OPEN], "", "", [HI], [SHUT]),
+    ("also where bytes follow the text", [b"x" * 400], [OPEN + b"more"], "", "", [HI], [SHUT + b"more"]),
+    ("a gate of 2 is shut", [HI[:100]], [b"\2" + TEXT], "", REFUSED, [HI[:100]], [b"\2" + TEXT]),
+    ("a text that lacks its last byte isn't used", [HI[:100]], [OPEN[:-1]], "", REFUSED, [HI[:100]], [OPEN[:-1]]),
+    ("four bytes are no journal", [HI], [OPEN[:4]], "", "", [HI], [OPEN[:4]]),
+    ("a shut journal is left alone", [HI], [SHUT], "", "", [HI], [SHUT]),
+    ("an open gate without a whole text is shut by an update", [b""], [b"\1"], WRITES, WRITTEN, [HI], [SHUT]),
+    ("an update cuts the journal", [b""], [SHUT + b"more"], WRITES, WRITTEN, [HI], [SHUT]),
+    ("a second file waits for its opening", [HI, b""], [SHUT, OPEN], "", "", [HI, b""], [SHUT, OPEN]),
+    ("and is recovered by it", [HI, b""], [b"", OPEN], "OpenResFile 2\n", "1 OpenResFile 2 0\n", [HI, HI], [b"", SHUT]),
+    ("a script that is none recovers nothing", [b"", None], [OPEN, None], "?\n", "script fault at line 1\n", [b"", b""], [OPEN, b""]),
+]
+
+# words, the status that they end with, and which files are there then
+WORDS = [
+    (["--journal", "j1"], 2, []),
+    (["--fork", "f1", "--fork", "f2", "--journal", "j1"], 2, []),
+    (["--fork", "f1", "--journal", "j1", "--journal", "j2"], 2, []),
+    (["--fork", "f1", "--journal"], 2, []),
+    (["--fork", "f1", "--journal", "none/j1"], 1, ["f1"]),
+    (["--fork", "none/f1", "--journal", "j1"], 1, []),
+    (["--fork", "f1", "--fork", "f2", "--journal", "j1", "--journal", "none/j2"], 1, ["f1", "f2", "j1"]),
+    (["--fork=f1", "--journal=j1"], 0, ["f1", "j1"]),
+    (["--journal", "j1", "--fork", "f1", "--zone", "2048"], 0, ["f1", "j1"]),
+]
+
+
+def ran(program, words, script, folder):
+    return subprocess.run([program, *words], input=script.encode(), capture_output=True, cwd=folder, check=False)
+
+
+def row_fault(program, forks, journals, script, printed, forks_left, journals_left):
+    """What is wrong with a row, or ''."""
+    with tempfile.TemporaryDirectory() as folder:
+        words, names = [], []
+        for option, disks in (("fork", forks), ("journal", journals)):
+            for number, disk in enumerate(disks, 1):
+                names.append(f"{option}{number}")
+                words += [f"--{option}", names[-1]]
+                if disk is not None:
+                    with open(os.path.join(folder, names[-1]), "wb") as file:
+                        file.write(disk)
+        end = ran(program, words, script, folder)
+        left = []
+        for name in names:
+            with open(os.path.join(folder, name), "rb") as file:
+                left.append(file.read())
+        wanted = 3 if printed.startswith("script fault") else 0
+        if end.returncode != wanted or end.stdout != printed.encode():
+            return f"status {end.returncode}, {end.stdout!r}, {end.stderr!r}"
+        if left != forks_left + journals_left:
+            return f"files of {[len(it) for it in left]} bytes, {[it[:5] for it in left]}"
+    return ""
+
+
+def words_fault(program, words, status, there):
+    """What is wrong with these words, or ''."""
+    with tempfile.TemporaryDirectory() as folder:
+        end = ran(program, words, "", folder)
+        left = sorted(os.listdir(folder))
+        if (end.returncode, left) != (status, there) or end.stdout or bool(end.stderr) != bool(status):
+            return f"status {end.returncode}, {end.stdout!r}, {end.stderr!r}, files {left}"
+    return ""
+
+
+def main(program):
+    found = [(name, row_fault(program, *row)) for name, *row in ROWS]
+    found += [(" ".join(words), words_fault(program, words, status, there)) for words, status, there in WORDS]
+    faults = [(name, fault) for name, fault in found if fault]
+    for name, fault in faults:
+        print(f"{name}: {fault}")
+    print(f"forks and their journals: {len(found) - len(faults)} rows as they should be, {len(faults)} not")
+    return 1 if faults else 0
+
+
+if __name__ == "__main__":
+    if len(sys.argv) != 2 or not os.access(sys.argv[1], os.X_OK):
+        sys.exit("usage: tools/check_journal.py PROGRAM")
+    sys.exit(main(os.path.realpath(sys.argv[1])))
