@@ -95,7 +95,7 @@ module _ {F S J B : Type 0} (parts : Parts F S J) (sizes : ZoneSizes) (now : B �
   pub plain_ran : (names : List B) (stores : Result (Vec S Global) NoStores) → names ≡ forks → length journals ≡ 0 → IfOk stores (λ stores. ArePlain parts.store parts.gives parts.plain (map now names) stores.items) → (IsErrOf stores why.CannotOpen → CantBeOpened parts.gives (map now names))
       → (script : List ℕ) → RunsOn parts.store sizes stores read_failed write_failed script status written → Ran script
   plain_ran names stores same none = subst (λ (fs : List B). IfOk stores (λ stores. ArePlain parts.store parts.gives parts.plain (map now fs) stores.items) → (IsErrOf stores why.CannotOpen → CantBeOpened parts.gives (map now fs)) → (script : List ℕ)
-    → RunsOn parts.store sizes stores read_failed write_failed script status written → Ran script) (sym same) (over_forks stores (no_names now journals none))
+      → RunsOn parts.store sizes stores read_failed write_failed script status written → Ran script) (sym same) (over_forks stores (no_names now journals none))
 
   -- a run over forks with journals
   pub journalled_ran : (names journal_names : List B) (stores : Result (Vec J Global) NoStores) → names ≡ forks → journal_names ≡ journals → length journals ≢ 0
@@ -103,6 +103,6 @@ module _ {F S J B : Type 0} (parts : Parts F S J) (sizes : ZoneSizes) (now : B �
       → RunsOn parts.with_journal sizes stores read_failed write_failed script status written → Ran script
   journalled_ran names journal_names stores same theirs some =
       subst (λ (fs : List B). IfOk stores (λ stores. AreJournalled parts.gives parts.pairs (map now fs) (map now journal_names) stores.items) → (IsErrOf stores why.CannotOpen → OneCantBeOpened parts.gives (map now fs) (map now journal_names)) → (script : List ℕ)
-        → RunsOn parts.with_journal sizes stores read_failed write_failed script status written → Ran script) (sym same)
+      → RunsOn parts.with_journal sizes stores read_failed write_failed script status written → Ran script) (sym same)
       (subst (λ (js : List B). IfOk stores (λ stores. AreJournalled parts.gives parts.pairs (map now forks) (map now js) stores.items) → (IsErrOf stores why.CannotOpen → OneCantBeOpened parts.gives (map now forks) (map now js)) → (script : List ℕ)
-        → RunsOn parts.with_journal sizes stores read_failed write_failed script status written → Ran script) (sym theirs) (over_pairs stores (some_names now journals some)))
+      → RunsOn parts.with_journal sizes stores read_failed write_failed script status written → Ran script) (sym theirs) (over_pairs stores (some_names now journals some)))

@@ -63,7 +63,7 @@ pub ArePaired-step : {F J B : Type 0} (gives : Opening F) (pairs : F → F → J
     → ArePaired gives pairs forks (map now (take (length forks) names)) stores → gives (now name) (Some journal) → pairs fork journal store → ArePaired gives pairs (forks ++ fork ∷ []) (map now (take (length (forks ++ fork ∷ [])) names)) (stores ++ store ∷ [])
 ArePaired-step {B = B} gives pairs forks names now stores fork journal name store lt is are given paired =
     let next : take (length (forks ++ fork ∷ [])) names ≡ take (length forks) names ++ name ∷ [] =
-            ap (λ (n : ℕ). take n names) (length-append forks (fork ∷ [])) ∙ take_more names (length forks) name lt ∙ ap (λ (b : B). take (length forks) names ++ b ∷ []) (sym is) in
+    ap (λ (n : ℕ). take n names) (length-append forks (fork ∷ [])) ∙ take_more names (length forks) name lt ∙ ap (λ (b : B). take (length forks) names ++ b ∷ []) (sym is) in
     subst (λ (ns : List Text). ArePaired gives pairs (forks ++ fork ∷ []) ns (stores ++ store ∷ []))
     (sym (ap (λ (l : List B). map now l) next ∙ map-append now (take (length forks) names) (name ∷ [])))
     (ArePaired-push gives pairs fork journal (now name) store are given paired)

@@ -123,7 +123,12 @@ pub fn plain_stores<F: Drop, S: ForkStore + Drop, J: ForkStore, O: Opens<F, S, J
         return Ok(stores);
     }
     let forks = opened(alloc, opener, names)?;
-    Ok(forks.into_iter().map(|fork| opener.plain(fork)).collect(alloc)?)
+    Ok(
+        forks
+            .into_iter()
+            .map(|fork| opener.plain(fork))
+            .collect(alloc)?,
+    )
 }
 
 /// The stores of the forks and the journals in the files of these names.

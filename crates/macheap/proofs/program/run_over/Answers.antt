@@ -25,6 +25,9 @@ returns-clause-ends g c =
     let parts : Parts g.row.F.Denot g.row.S.Denot g.row.J.Denot = record { store = g.S.ForkStore; with_journal = g.J.ForkStore; gives = g.O.Opens.gives c.args.opener.now; plain = g.O.Opens.plain; pairs = g.O.Opens.pairs } in
     let is = c.is_empty.ensures in
     let so = c.if-is_empty.false in
-    let some : length c.journals.result.now ≢ 0 = grind (arith, nat_tests, is, so) in
-    (ends.0, ends.1, known (g.R.Read.remaining c.args.input.now.inner) (journalled_ran parts c.args.spec now_of c.args.files.now.forks.items c.args.files.now.journals.items _ _ _ ends.0 c.forks-2.result.now c.journals-2.result.now c.journalled_stores-stores.result c.forks-2.ensures.names c.journals-2.ensures.names
-    (λ none. some (ap length c.journals.ensures.names ∙ none)) stores.stores stores.unopened) ends.2)
+    let some : length c.journals.result.now ≢ 0 = grind (arith, nat_tests, is, so) in (
+      ends.0,
+      ends.1,
+      known (g.R.Read.remaining c.args.input.now.inner) (journalled_ran parts c.args.spec now_of c.args.files.now.forks.items c.args.files.now.journals.items _ _ _ ends.0 c.forks-2.result.now c.journals-2.result.now c.journalled_stores-stores.result c.forks-2.ensures.names c.journals-2.ensures.names
+          (λ none. some (ap length c.journals.ensures.names ∙ none)) stores.stores stores.unopened) ends.2,
+    )

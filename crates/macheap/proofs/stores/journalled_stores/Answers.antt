@@ -43,12 +43,13 @@ loop-fork-preserved g c =
     let all : at < length (into_iter_items c.into_iter-fork-iterator.result) = fewer now.yielded _ _ _ fork now.invariant.0 steps in
     let count : length (into_iter_items c.into_iter-fork-iterator.result) ≡ length names = ap length c.into_iter-fork-iterator.ensures.into_iter_gives.0 ∙ c.in_ok-forks.ensures.count ∙ sym c.requires in
     let lt : at < length names = omega (arith, all, count) in
-    let is : name ≡ slice_index_or names at name = ap (λ (n : ℕ). slice_index_or names n nowhere) here ∙ same_default names at nowhere name lt in
-    (append_assoc now.yielded (fork ∷ []) _ ∙ ap (λ (rest : List g.row.F.Denot). now.yielded ++ rest) (sym steps) ∙ now.invariant.0,
+    let is : name ≡ slice_index_or names at name = ap (λ (n : ℕ). slice_index_or names n nowhere) here ∙ same_default names at nowhere name lt in (
+      append_assoc now.yielded (fork ∷ []) _ ∙ ap (λ (rest : List g.row.F.Denot). now.yielded ++ rest) (sym steps) ∙ now.invariant.0,
       subst (ArePaired (g.O.Opens.gives c.args.opener.now) g.O.Opens.pairs (now.yielded ++ fork ∷ []) _) (sym c.in_ok-push.ensures.items)
-      (ArePaired-step (g.O.Opens.gives c.args.opener.now) g.O.Opens.pairs now.yielded names now_of now.stores.items fork c.in-Some-open.journal name _ lt is now.invariant.1 c.in-Some-open.ensures c.journalled.ensures),
+          (ArePaired-step (g.O.Opens.gives c.args.opener.now) g.O.Opens.pairs now.yielded names now_of now.stores.items fork c.in-Some-open.journal name _ lt is now.invariant.1 c.in-Some-open.ensures c.journalled.ensures),
       ap length c.in_ok-push.ensures.items ∙ length-append now.stores.items _ ∙ (let two = length-append now.yielded (fork ∷ []) in omega (arith, same, two)),
       let was = now.invariant.3 in
           let gone = c.in-Some.ensures.steps.1 in
           let short = ap length steps in
-          omega (arith, was, gone, short))
+          omega (arith, was, gone, short),
+    )
