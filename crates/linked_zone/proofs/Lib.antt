@@ -16,6 +16,7 @@ mod ChangeTaken
 mod ChangeTurned
 mod ChangeUnfixed
 mod ChangeWritten
+mod Counting
 mod Ends
 mod EndsCopied
 mod EndsCut

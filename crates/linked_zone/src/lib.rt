@@ -5,6 +5,7 @@ mod changes;
 mod copying;
 mod flags;
 mod loans;
+mod purging;
 mod relocating;
 mod sizes;
 mod zone;

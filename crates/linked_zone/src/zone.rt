@@ -13,6 +13,8 @@ use zone_records::{Records, Slot};
 /// the order in which they are given. Free neighbours need not be joined. After `create` no call takes memory of the host.
 pub struct LinkedZone {
     pub(crate) records: Records,
+    /// How many handles may be purged, at most; the greatest number says nothing.
+    pub(crate) purgeable: u32,
 }
 
 impl Model for LinkedZone {
@@ -20,11 +22,11 @@ impl Model for LinkedZone {
 
     ghost Value = { ZoneState };
 
-    ghost use Rattle.linked_zone.specs.Reading.{state_of_field, StandsAsRead};
+    ghost use Rattle.linked_zone.specs.Reading.{state_of_field, IsCounted};
 
     ghost view = { state_of_field };
 
-    ghost invariant = { StandsAsRead };
+    ghost invariant = { IsCounted };
 }
 
 impl Drop for LinkedZone {
@@ -34,7 +36,10 @@ impl Drop for LinkedZone {
     fn drop(self)
         requires nothing_lent { self.heap.table.lent ≡ [] }
     {
-        let LinkedZone { records } = self;
+        let LinkedZone {
+            records,
+            purgeable: _,
+        } = self;
         drop(records);
     }
 }
@@ -53,6 +58,7 @@ impl LinkedZone {
     ghost use Rattle.linked_zone.specs.Changes.{bare_zone, taken, given_back, pointed, without_block, fixed, unfixed, held_there, enlarged, cut_in_two, joined_pair, with_master, flagged};
     ghost use Rattle.linked_zone.specs.WritingBack.{WritesBackBytes};
     ghost use Rattle.linked_zone.specs.Places.{EntryAt, HasOwner, FreeAt, BlockOf, NamedAt, LowestAt, RoomFor, CanCut, CanHold, CanGrow, FreePair, SplitAt, FirstFree, LastFree, none_free};
+    ghost use Rattle.linked_zone.specs.Purgeable.{NonePurgeable};
     ghost use Rattle.linked_zone.specs.Sizes.{sizes_of};
     ghost use Rattle.linked_zone.specs.Image.{IsImage};
     ghost use Rattle.block_bytes.specs.Walk.{Walks};
@@ -65,6 +71,7 @@ impl LinkedZone {
         prove!(starts_high_enough);
         Ok(LinkedZone {
             records: Records::create(alloc, spec)?,
+            purgeable: 0,
         })
     }
 
@@ -179,6 +186,13 @@ impl LinkedZone {
             }
             Slot::Free(_) | Slot::Empty => Flags::NONE,
         }
+    }
+
+    /// Whether there may be a handle that may be purged. Where not, there is none.
+    pub fn has_purgeable(&self) -> bool
+        ensures { IsFalse result → NonePurgeable self.now.heap.table }
+    {
+        self.purgeable != 0
     }
 
     /// The bytes of a handle or a pointer that has a block.

@@ -26,6 +26,11 @@ pub record GapAt (z : ZoneState) (start : ℕ) : Type 0 where
   pub among : Contains (gaps z.heap.table z.heap.map) gap
   pub place : start ≡ address_behind z.shape gap.before
 
+-- a gap begins at an address and ends at another
+pub record GapBetween (z : ZoneState) (start end : ℕ) : Type 0 where
+  pub at : GapAt z start
+  pub long : end ≡ start + total_size at.gap.blocks
+
 -- the first free block of a gap stands at an address
 pub record FirstFreeOf (z : ZoneState) (g : Gap) (at : ℕ) : Type 0 where
   pub used : ZoneMap

@@ -7,7 +7,7 @@ ghost use Rattle.mac_base.specs.HandleTable.{is_full, is_locked};
 ghost use Rattle.mac_base.specs.ZoneMap.{address_behind};
 ghost use Rattle.linked_zone.specs.Changes.{with_map};
 ghost use Rattle.linked_zone.specs.Loans.{KeepsLoans};
-ghost use Rattle.zone_gaps.specs.Gaps.{Settled, GapAt, GapFrom, with_gap, opened_after};
+ghost use Rattle.zone_gaps.specs.Gaps.{Settled, GapBetween, GapFrom, with_gap, opened_after};
 
 use crate::gap::{gap_end, gap_start, zone_end};
 use crate::run::{carry_up, press_down, press_up};
@@ -29,16 +29,15 @@ pub fn squeeze_down(zone: &mut LinkedZone, at: u32) -> u32
     press_down(zone, at, end)
 }
 
-/// Arranges the gap that begins at an address up: its blocks are moved up, and its free bytes are below them in one
-/// block. The bytes of each block are moved once.
-pub fn squeeze_up(zone: &mut LinkedZone, start: u32)
-    requires gap { GapAt zone.old start }
+/// Arranges the gap that begins at an address and ends at another up: its blocks are moved up, and its free bytes are below
+/// them in one block. The bytes of each block are moved once.
+pub fn squeeze_up(zone: &mut LinkedZone, start: u32, end: u32)
+    requires gap { GapBetween zone.old start end }
     requires settled { Settled zone.old }
-    ensures zone { (at : GapAt zone.old start) → zone.new ≡ with_gap zone.old at.gap (up at.gap.blocks) }
+    ensures zone { (gap : GapBetween zone.old start end) → zone.new ≡ with_gap zone.old gap.at.gap (up gap.at.gap.blocks) }
     ensures loans { KeepsLoans zone.old zone.new }
     ensures settled { Settled zone.new }
 {
-    let end = gap_end(zone, start);
     press_up(zone, start, end);
 }
 

@@ -12,6 +12,7 @@ use Rattle.mac_base.specs.Gap.{Gap, gaps, filled, lowest_gap, room}
 use Rattle.mac_base.specs.Serve.{begins_free, taken, take_lowest, placed_relocatable}
 use Rattle.mac_base.specs.ZoneMap.{ZoneMap, block, free_bytes, has_free, address_behind, total_size}
 use Rattle.mac_base.specs.ZoneState.{ZoneState}
+use Rattle.zone_laws.proofs.GapAppend.{total_size-append}
 use Rattle.zone_laws.proofs.Arranging.{IsArrangement, down-IsArrangement, up-IsArrangement}
 use Rattle.zone_laws.proofs.Fitting.{free_block-some}
 use Rattle.zone_laws.proofs.GapParts.{IsGap, lowest_gap-is}
@@ -20,9 +21,9 @@ use Rattle.gap_laws.proofs.RearrangedSuits.{Sound-arranged}
 use Rattle.linked_zone.specs.Changes.{with_map}
 use Rattle.linked_zone.specs.Fit.{HasSizes}
 use Rattle.linked_zone.specs.Places.{EntryAt, LowestAt}
-use Rattle.zone_gaps.specs.Gaps.{GapAt, GapFrom, IsLowestGap, with_gap}
+use Rattle.zone_gaps.specs.Gaps.{GapAt, GapBetween, GapFrom, IsLowestGap, with_gap}
 use Rattle.zone_gaps.proofs.Laws.{gap_from}
-use Rattle.zone_gaps.proofs.Squeezing.{map_from, start_from, none_before}
+use Rattle.zone_gaps.proofs.Squeezing.{map_from, rest_from, start_from, none_before}
 use Rattle.zone_heap.specs.Attempts.{SoundZone}
 use Rattle.zone_heap.specs.Room.{IsCleared, IsOpened}
 use Rattle.zone_heap.proofs.Finding.{NoneHas, before_none, used_none, used_begins}
@@ -121,6 +122,13 @@ module _ (z : ZoneState) (k at : ℕ) (some : 0 < k) (is : IsLowestGap z k at) w
     -- the gap begins there
     abbrev pub at_start : GapAt z start
     at_start = record { gap = g; among = from.among; place = start_from z at from start there }
+
+    -- and ends where its blocks from the free one on do
+    abbrev pub between : (end : ℕ) → end ≡ at + total_size (rest_from z at from).blocks → GapBetween z start end
+    between end long = record {
+      at = at_start;
+      long = (let all = ap total_size (is.first).blocks ∙ total_size-append (is.first).used (block Free (is.first).size ∷ (is.first).rest) in omega (arith, all, long, there));
+    }
 
     -- arranged up where it begins with used blocks, or with too few free bytes
     pub cleared_up : (new : ZoneState) → begins_free k g.blocks ≡ false → new ≡ with_gap z g (up g.blocks) → IsCleared z k start new

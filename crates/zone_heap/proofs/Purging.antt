@@ -1,14 +1,16 @@
 -- What purging keeps: the zone is sound, and what is lent of it can come back.
-use Rattle.std.proofs.Common.{◌≡◌, ℕ, Bool, true, false, not, List, [], ◌∷◌, refl, ap, sym, ◌∙◌, Contains, subst}
-use Rattle.std.specs.Prelude.{◌&&◌, ◌||◌, filter_map}
+use Rattle.std.proofs.Common.{◌≡◌, ℕ, Bool, true, false, not, cond, List, [], ◌∷◌, refl, ap, sym, ◌∙◌, Contains}
+use Rattle.std.specs.Prelude.{◌&&◌, ◌||◌, filter, filter_map, nat_le}
 use Rattle.std.proofs.lemmas.Bool.{and_parts, not-true, true≢false}
 use Rattle.std.proofs.lemmas.List.Elements.{All-contains, filter_passes}
 use Rattle.mac_base.specs.declared.block.Entry.{Entry}
-use Rattle.mac_base.specs.HandleTable.{HandleTable, flags_of, is_full, is_lent, is_locked, is_pointer, is_purgeable}
-use Rattle.mac_base.specs.Heap.{Heap, with_emptied, with_all_emptied}
+use Rattle.mac_base.specs.HandleTable.{HandleTable, flags_of, is_full, is_lent, is_locked, is_purgeable}
+use Rattle.mac_base.specs.Heap.{Heap, all_purged, with_emptied, with_all_emptied}
 use Rattle.mac_base.specs.Loans.{LoansAreFixed}
-use Rattle.mac_base.specs.Request.{candidates_in, is_among}
-use Rattle.mac_base.specs.ZoneMap.{ZoneMap, handle_of}
+use Rattle.mac_base.specs.Purging.{purged, purged_for}
+use Rattle.mac_base.specs.Request.{blocks_to_purge, candidates_in, fits, is_among, purged_until}
+use Rattle.mac_base.specs.declared.request.Request.{Request}
+use Rattle.mac_base.specs.ZoneMap.{ZoneMap, handle_of, largest_free}
 use Rattle.mac_base.specs.ZoneState.{ZoneState, with_heap}
 use Rattle.mac_base.specs.HeadKind.{Shape}
 use Rattle.mac_base.specs.declared.releasing.ReleasingCall.TheVariants.{Empties}
@@ -18,6 +20,7 @@ use Rattle.zone_laws.proofs.SlotPlaces.{Contains-here, Contains-later}
 use Rattle.zone_laws.proofs.SuitsNamed.{full-no_pointer}
 use Rattle.gap_laws.proofs.SoundPurged.{candidate-handle, sound-all_emptied}
 use Rattle.linked_zone.specs.Loans.{KeepsLoans}
+use Rattle.linked_zone.specs.Purgeable.{NonePurgeable}
 use Rattle.zone_heap.specs.Attempts.{SoundZone}
 use Rattle.zone_heap.proofs.Loans.{keeps-both, keeps-loans}
 
@@ -78,3 +81,23 @@ module _ (z : ZoneState) (protected : List ℕ) (m : ZoneMap) (sound : SoundZone
   -- and what is lent of it can come back
   pub keeps-purged : KeepsLoans z (with_heap (with_all_emptied (candidates_in z.heap.table protected m) z.heap) z)
   keeps-purged = keeps-emptied (candidates_in z.heap.table protected m) z (λ h c. purged-here z.heap protected h sound.fixed (candidate-parts z.heap.table protected m h c))
+
+-- where no handle may be purged there are none to purge
+pub none-candidates : (t : HandleTable) (protected : List ℕ) (m : ZoneMap) → NonePurgeable t → candidates_in t protected m ≡ []
+none-candidates t protected m none = by_handles (filter_map (λ (e : Entry). handle_of e.kind) m)
+  where
+    by_handles : (hs : List ℕ) → filter (λ h. is_purgeable t h && not (is_among protected h)) hs ≡ []
+    by_handles [] = refl
+    by_handles (h ∷ hs) = ap (λ b. cond (b && not (is_among protected h)) (h ∷ filter (λ h. is_purgeable t h && not (is_among protected h)) hs) (filter (λ h. is_purgeable t h && not (is_among protected h)) hs)) (none h) ∙ by_handles hs
+
+-- and the zone is as after any purging
+module _ (z : ZoneState) (none : NonePurgeable z.heap.table) where
+  pub unpurged-all : z ≡ with_heap (all_purged z.heap) z
+  unpurged-all = ap (λ hs. with_heap (with_all_emptied hs z.heap) z) (sym (none-candidates z.heap.table [] z.heap.map none))
+
+  pub unpurged-to : (n : ℕ) → z ≡ with_heap (purged_for n z.heap) z
+  unpurged-to n = ap (λ hs. with_heap (with_all_emptied (purged_until (λ (m : ZoneMap). nat_le n (largest_free m)) hs z.heap.map) z.heap) z) (sym (none-candidates z.heap.table [] z.heap.map none))
+
+  pub unpurged-for : (protected : List ℕ) (r : Request) → z ≡ with_heap (purged z.shape protected r z.heap) z
+  unpurged-for protected r =
+      ap (λ hs. with_heap (with_all_emptied (purged_until (fits z.shape z.heap.table r) hs z.heap.map) z.heap) z) (sym (none-candidates z.heap.table protected (blocks_to_purge z.heap.table r z.heap.map) none))

@@ -25,7 +25,7 @@ use Rattle.linked_zone.specs.Changes.{with_map}
 use Rattle.linked_zone.specs.Loans.{KeepsLoans}
 use Rattle.linked_zone.specs.Places.{EntryAt}
 use Rattle.zone_gaps.specs.declared.gap.FoundGap.{FoundGap}
-use Rattle.zone_gaps.specs.Gaps.{GapAt, IsGapOf, opened_after}
+use Rattle.zone_gaps.specs.Gaps.{GapBetween, IsGapOf, opened_after}
 use Rattle.zone_gaps.proofs.Laws.{find-contains}
 use Rattle.zone_heap.specs.Attempts.{SoundZone}
 use Rattle.zone_heap.specs.Placed.{resized_there}
@@ -60,11 +60,14 @@ pub there-loans : (z new : ZoneState) (x n : ℕ) → SoundZone z → is_lent z.
 there-loans z new x n sound here is shape memory = keeps-loans z new memory shape (keeps-there z.shape z.heap new.heap x n sound.sound here is)
 
 -- the gap behind a block that stays begins at an address
-abbrev pub gap-behind-at : (z : ZoneState) (x : ℕ) (found : FoundGap) → stays z.heap.table x ≡ true → IsGapOf z (gap_to_grow z.heap.table x z.heap.map) found → GapAt z found.start
+abbrev pub gap-behind-at : (z : ZoneState) (x : ℕ) (found : FoundGap) → stays z.heap.table x ≡ true → IsGapOf z (gap_to_grow z.heap.table x z.heap.map) found → GapBetween z found.start found.end
 gap-behind-at z x found fixed is = record {
-  gap = is.gap;
-  among = find-contains (λ g. ends_with x g.before) (gaps z.heap.table z.heap.map) is.gap (ap (λ c. cond c (gap_behind x (gaps z.heap.table z.heap.map)) (own_gap x (gaps z.heap.table z.heap.map))) (sym fixed) ∙ is.is);
-  place = is.start;
+  at = record {
+    gap = is.gap;
+    among = find-contains (λ g. ends_with x g.before) (gaps z.heap.table z.heap.map) is.gap (ap (λ c. cond c (gap_behind x (gaps z.heap.table z.heap.map)) (own_gap x (gaps z.heap.table z.heap.map))) (sym fixed) ∙ is.is);
+    place = is.start;
+  };
+  long = is.end;
 }
 
 -- arranged up, it has made way

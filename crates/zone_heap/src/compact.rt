@@ -4,8 +4,8 @@ use crate::zone::Zone;
 use linked_zone::LinkedZone;
 use mac_base::block::Kind;
 use mac_base::handle::Handle;
-use mac_base::size::ZONE_HEADER;
-use zone_gaps::{lowest_gap, raise, squeeze_all_down, squeeze_down};
+use mac_base::zone_spec::ADDRESS_END;
+use zone_gaps::{lowest_gap, raise, squeeze_all_down, squeeze_down, zone_end};
 
 impl Zone {
     ghost use Rattle.std.specs.Prelude.{◌≡◌, IsTrue, IsFalse};
@@ -79,26 +79,19 @@ impl Zone {
 ghost use Rattle.std.specs.Prelude.{◌≡◌, ◌<◌};
 ghost use Rattle.mac_base.specs.ZoneMap.{handle_of, largest_free};
 ghost use Rattle.linked_zone.specs.Changes.{with_map as zone_with_map};
-ghost use Rattle.linked_zone.specs.Fit.{HasSizes};
 ghost use Rattle.linked_zone.specs.Loans.{KeepsLoans};
 ghost use Rattle.zone_gaps.specs.Gaps.{Settled};
 ghost use Rattle.zone_heap.specs.Squeezed.{squeezed};
 
-/// The size of the largest free block, and 0 where none is free.
+/// The size of the largest free block, and 0 where none is free. From each free block the search goes on to the lowest
+/// larger one: no other block is read.
 fn largest_free(pointers: &LinkedZone) -> u32
-    requires { HasSizes pointers.now }
     ensures { result ≡ largest_free pointers.now.heap.map }
 {
-    let spec = pointers.spec();
-    let end = spec.base() + spec.size();
-    let mut at = spec.base() + ZONE_HEADER;
+    prove!(zone_end(pointers) <= ADDRESS_END);
     let mut largest = 0;
-    while at < end {
-        let here = pointers.entry_at(at);
-        if here.kind.is_free() {
-            largest = here.size.max(largest);
-        }
-        at += here.size;
+    while let Some(at) = pointers.lowest_free(largest + 1) {
+        largest = pointers.entry_at(at).size;
     }
     largest
 }

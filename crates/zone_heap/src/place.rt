@@ -6,7 +6,7 @@ use linked_zone::LinkedZone;
 use mac_base::handle::{Handle, Ptr};
 use mac_base::size::{MASTER_LENGTH, need_for};
 use mac_base::zone_spec::ADDRESS_END;
-use zone_gaps::{gap_start, lowest_gap, squeeze_down, squeeze_up};
+use zone_gaps::{gap_end, gap_start, lowest_gap, squeeze_down, squeeze_up};
 
 impl Zone {
     ghost use Rattle.std.specs.Prelude.{◌≤◌, MatchResult};
@@ -188,7 +188,8 @@ fn clear_lowest(zone: &mut LinkedZone, needed: u32) -> Option<u32>
     let at = lowest_gap(zone, needed)?;
     let start = gap_start(zone, at);
     if start < at || zone.entry_at(at).size < needed {
-        squeeze_up(zone, start);
+        let end = gap_end(zone, at);
+        squeeze_up(zone, start, end);
     }
     Some(start)
 }

@@ -277,6 +277,9 @@ pub(crate) fn purge_all(zone: &mut LinkedZone)
     ensures loans { KeepsLoans zone.old zone.new }
     ensures sound { SoundZone zone.new }
 {
+    if !zone.has_purgeable() {
+        return;
+    }
     let start = zone.spec().base() + ZONE_HEADER;
     let end = zone_end(zone);
     purge_between(zone, start, end, &[]);
@@ -389,6 +392,9 @@ pub(crate) fn purge_for(zone: &mut LinkedZone, request: Request, protected: &[u3
     ensures loans { KeepsLoans zone.old zone.new }
     ensures sound { SoundZone zone.new }
 {
+    if !zone.has_purgeable() {
+        return false;
+    }
     let limit = limit_for(zone, request, protected);
     purge_between(zone, limit.start, limit.end, protected);
     limit.enough
@@ -454,6 +460,9 @@ pub(crate) fn purge_to(zone: &mut LinkedZone, needed: u32) -> bool
 {
     if has_free(zone, needed) {
         return true;
+    }
+    if !zone.has_purgeable() {
+        return false;
     }
     let start = zone_start(zone);
     let end = zone_end(zone);

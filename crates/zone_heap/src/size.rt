@@ -123,7 +123,7 @@ fn make_way(zone: &mut LinkedZone, block: u32, length: u32) -> bool
         return false;
     }
     if stays(zone, block) {
-        squeeze_up(zone, gap.start);
+        squeeze_up(zone, gap.start, gap.end);
     } else {
         open_after(zone, Handle::new(block));
     }

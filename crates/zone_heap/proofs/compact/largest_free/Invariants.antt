@@ -1,11 +1,11 @@
-use Rattle.std.proofs.Common.{◌-◌}
-use Rattle.zone_heap.proofs.Largest.{Passed}
+use Rattle.std.proofs.Common.{◌≤◌, ◌-◌}
+use Rattle.mac_base.specs.ZoneMap.{largest_free}
 use Rattle.zone_heap.proofs.compact.largest_free.Given as goal
 
--- the blocks below are passed
+-- no free block that is found is larger than the largest
 abbrev pub invariant-loop-at : goal.invariant-loop-at
-invariant-loop-at l = Passed l.pointers l.at l.largest
+invariant-loop-at l = l.largest ≤ largest_free l.pointers.heap.map
 
--- the bytes that are left
+-- how much larger that is
 abbrev pub decreases-loop-at : goal.decreases-loop-at
-decreases-loop-at l = l.end - l.at
+decreases-loop-at l = largest_free l.pointers.heap.map - l.largest

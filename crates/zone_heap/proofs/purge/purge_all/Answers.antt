@@ -1,8 +1,12 @@
-use Rattle.std.proofs.Common.{◌≡◌, ◌+◌, ◌∙◌, sym, ap, arith, []}
+use Rattle.std.proofs.Common.{◌≡◌, ◌+◌, ◌∙◌, ap, arith, []}
 use Rattle.mac_base.specs.ZoneMap.{address_behind}
 use Rattle.mac_base.specs.ZoneSizes.{ZoneSizes}
 use Rattle.zone_heap.proofs.EmptyingBlocks.{whole-zone}
+use Rattle.zone_heap.proofs.Purging.{unpurged-all}
 use Rattle.zone_heap.proofs.purge.purge_all.Goals as goal
+
+pub returns-then-not-has_purgeable-clause-zone : goal.returns-then-not-has_purgeable-clause-zone
+returns-then-not-has_purgeable-clause-zone c = unpurged-all c.args.zone.now (c.has_purgeable.ensures c.if-not-has_purgeable.true)
 
 pub purge_between-requires-clause-blocks : goal.purge_between-requires-clause-blocks
 purge_between-requires-clause-blocks c =

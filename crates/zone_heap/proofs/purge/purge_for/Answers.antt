@@ -1,11 +1,15 @@
-use Rattle.std.proofs.Common.{◌≡◌, ◌∙◌, sym, ap}
+use Rattle.std.proofs.Common.{◌∙◌, sym, ap}
 use Rattle.mac_base.specs.Heap.{with_all_emptied}
 use Rattle.mac_base.specs.Request.{candidates_in, fits}
 use Rattle.mac_base.specs.ZoneState.{ZoneState, with_heap}
 use Rattle.zone_heap.specs.Purge.{all_emptied, all_released}
 use Rattle.zone_heap.proofs.FreedBlocks.{emptied-parts}
 use Rattle.zone_heap.proofs.Limits.{same-fits, same-purged}
+use Rattle.zone_heap.proofs.Purging.{unpurged-for}
 use Rattle.zone_heap.proofs.purge.purge_for.Goals as goal
+
+pub returns-then-not-has_purgeable-clause-zone : goal.returns-then-not-has_purgeable-clause-zone
+returns-then-not-has_purgeable-clause-zone c = unpurged-for c.args.zone.now (c.has_purgeable.ensures c.if-not-has_purgeable.true) c.args.protected.now c.args.request
 
 pub purge_between-requires-clause-blocks : goal.purge_between-requires-clause-blocks
 purge_between-requires-clause-blocks c = c.limit_for-limit.ensures.between

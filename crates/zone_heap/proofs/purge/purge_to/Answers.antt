@@ -1,4 +1,4 @@
-use Rattle.std.proofs.Common.{◌≡◌, ◌∙◌, sym, ap, subst, refl, true, false, [], None}
+use Rattle.std.proofs.Common.{◌≡◌, ◌∙◌, sym, ap, subst, refl, [], None}
 use Rattle.std.specs.Prelude.{nat_le}
 use Rattle.mac_base.specs.Heap.{with_all_emptied}
 use Rattle.mac_base.specs.Request.{candidates_in}
@@ -8,8 +8,12 @@ use Rattle.zone_heap.specs.Purge.{IsLimit, PurgesTo, ShortBlocks, all_released, 
 use Rattle.zone_heap.proofs.EmptyingBlocks.{whole-zone}
 use Rattle.zone_heap.proofs.FreedBlocks.{emptied-parts}
 use Rattle.zone_heap.proofs.RunWalks.{largest-less, purged-already, purges-to}
+use Rattle.zone_heap.proofs.Purging.{unpurged-to}
 use Rattle.zone_heap.proofs.purge.purge_to.Goals as goal
 use Rattle.zone_heap.proofs.purge.purge_to.Goals.{After-zone_end-end, After-block_limit-limit}
+
+pub returns-then-not-has_purgeable-clause-zone : goal.returns-then-not-has_purgeable-clause-zone
+returns-then-not-has_purgeable-clause-zone c = unpurged-to c.args.zone.now (c.has_purgeable.ensures c.if-not-has_purgeable.true) c.args.needed
 
 pub returns-then-has_free-clause-zone : goal.returns-then-has_free-clause-zone
 returns-then-has_free-clause-zone c = purged-already c.args.zone.now c.args.needed (sym c.has_free.ensures ∙ c.if-has_free.true)
