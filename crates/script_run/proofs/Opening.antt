@@ -41,7 +41,7 @@ module _ (One : MemoryRelation) (MayLeave : LeaveRelation) (device : Device) (ol
 
 -- nor does it update a file
 opening_updates_none : (old : ResState) (k : ℕ) → update_in (work_of old (call.OpenResFile k)) ≡ None
-opening_updates_none old k = elim (is_open k old.files) as (λ (b : Bool). update_in (if b then Quiet else Opens k) ≡ None) [ | true ↦ refl | false ↦ refl ]
+opening_updates_none old k = elim (is_open k old.files) as (λ (b : Bool). update_in (if b then Quiet else Opens k) ≡ None) [ true ↦ refl | false ↦ refl ]
 
 -- whatever it gives
 pub opening_keeps_forks : {S : Type 0} (store : Ghosts S) (old new : ToolState S) (k : ℕ) (asks : List Ask) (outcome : Outcome) → Gives store old (Resource (call.OpenResFile k)) asks outcome new → SameForks store old.resources.stores new.resources.stores
