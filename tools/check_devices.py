@@ -3,9 +3,11 @@
 
     tools/check_devices.py PROGRAM
 
-The calls are letters: s asks for the file's length, r reads, w writes, c cuts, y syncs. A call that fails isn't made: the line that made it
-answers ioErr, and no further call is made for it. Where it came before the first write of an update the file keeps its bytes and stays
-open; else the file is closed. The lines behind it answer as on a device that works again. Needs a C compiler: `cc`, or $CC.
+The calls are letters: s asks for the file's length, r reads, w writes, c cuts, y syncs; capital ones are those on its journal, where it has one. A
+call that fails isn't made: the line that made it answers ioErr, and no further call is made for it. Where it came before the first write of an
+update the file keeps its bytes and stays open; else the file is closed. The lines behind it answer as on a device that works again. With a
+journal the next start, or the next OpenResFile, finds the fork from before the update where the gate wasn't opened yet, and else the new
+one. Needs a C compiler: `cc`, or $CC.
 """
 import os
 import subprocess
@@ -14,7 +16,7 @@ import tempfile
 
 from check_files import A_XYZ, AB, BARE, HI, NONE, ZERO
 from check_fork_table import TABLE, read_table
-from check_resources import File, Row
+from check_resources import File, Row, journal_of
 from check_runs import are_wanted
 
 TOOLS = os.path.dirname(os.path.abspath(__file__))
@@ -54,28 +56,32 @@ OPENED = [
 
 
 class Played:
-    """What a program printed over a file, its calls, and the bytes that it left."""
+    """What a program printed over a file, with a journal or without, its calls, and the bytes that it left."""
 
-    def __init__(self, program, shim, folder, fork, lines, **settings):
-        path, log = os.path.join(folder, "fork"), os.path.join(folder, "log")
-        with open(path, "wb") as file:
-            file.write(fork)
-        with open(log, "wb"):
-            pass
-        environment = {**os.environ, "LD_PRELOAD": shim, "DEVICE_LOG": log, **{name: str(it) for name, it in settings.items()}}
-        done = subprocess.run([program, "--fork", path], input="\n".join(lines), capture_output=True, text=True, env=environment, check=False)
+    def __init__(self, program, shim, folder, fork, lines, journal=None, **settings):
+        path, log, beside = (os.path.join(folder, it) for it in ("fork", "log", "journal"))
+        words = ["--fork", path] + (["--journal", beside] if journal is not None else [])
+        for name, data in ((path, fork), (log, b""), (beside, journal or b"")):
+            with open(name, "wb") as file:
+                file.write(data)
+        environment = {**os.environ, "LD_PRELOAD": shim, "DEVICE_LOG": log, "DEVICE_JOURNAL": beside, **{name: str(it) for name, it in settings.items()}}
+        done = subprocess.run([program, *words], input="\n".join(lines), capture_output=True, text=True, env=environment, check=False)
         self.printed, self.status = done.stdout, done.returncode
         with open(log, encoding="ascii") as file:
             self.calls = file.read()
         with open(path, "rb") as file:
             self.left = file.read()
+        with open(beside, "rb") as file:
+            self.journal = file.read()
 
-    def fault(self, printed, calls, left):
-        """What isn't as it should be, or None."""
+    def fault(self, printed, calls, left, journal=b""):
+        """What isn't as it should be, or None. Calls of None, and a journal of None, may be any."""
         if self.status != 0 or not are_wanted(self.printed, printed):
             return f"status {self.status}, it printed {self.printed!r} and not {printed}"
-        if self.calls != calls:
+        if calls is not None and self.calls != calls:
             return f"its calls were {self.calls} and not {calls}"
+        if journal is not None and self.journal != journal:
+            return f"its journal has {len(self.journal)} bytes, {self.journal[:5]}, which aren't the {len(journal)} that are wanted"
         return None if self.left == left else f"it left {len(self.left)} bytes, which aren't the {len(left)} that are wanted"
 
 
@@ -90,6 +96,18 @@ def opened(play):
             yield f"{what}, call {turn}", played.fault(["0 OpenResFile -36", again], calls[:turn] + calls, fork)
 
 
+def torn(made, old, new):
+    """What stands on a file without a journal where these calls of an update were made, and then one failed."""
+    if "c" in made:
+        return new
+    return new + old[len(new) :] if "w" in made else old
+
+
+def found(made, calls, old, new):
+    """The fork that a start finds with a journal, where these of an update's calls were made, and then one failed: it ends with those of OPEN_GATE."""
+    return new if len(made) > len(calls) - len(OPEN_GATE) else old
+
+
 class Update:
     """A script whose last line updates a file: its calls before that line and for it, and the forks before and behind it."""
 
@@ -97,11 +115,8 @@ class Update:
         self.lines, self.fork, self.before, self.calls, self.new = script.split(" / "), fork, before, calls, new
 
     def left(self, turn):
-        """What stands on the file where the call of this number of the update fails: the writes before it are made."""
-        made = self.calls[: turn - 1]
-        if "c" in made:
-            return self.new
-        return self.new + self.fork[len(self.new) :] if "w" in made else self.fork
+        """What stands on the file where the call of this number of the update fails."""
+        return torn(self.calls[: turn - 1], self.fork, self.new)
 
 
 # all changed rows are written by one write, a cut and a sync; each row that keeps its bytes is read before them, if it has any
@@ -131,6 +146,28 @@ UPDATES = [
     Update("h = NewHandle 1 / AddResource h 'TEXT' 128 / CloseResFile", b"", "s", "wcy", ZERO),
 ]
 
+# With a journal an update opens the gate, writes the fork and shuts the gate again; before that it puts the text into the journal.
+OPEN_GATE = "WY" + "wcy" + "WY"
+PUT_TEXT = "WWCY"
+# Journals that no start uses: what they are, the calls of a start, and those by which an update finds the gate, and shuts it where need be
+UNUSED = [("an empty journal", b"", "YS", "SWY"), ("a shut one", journal_of(0, HI), "YSR", "SR"), ("an open one cut short", journal_of(1, HI)[:-1], "YSR", "SRWY")]
+
+# whole scripts, some with loads or an update before their last line, and the fork on which they run
+ROWS = [
+    ("UpdateResFile", b""),
+    ('h = NewHandle 2 / Poke h 0 "Hi" / AddResource h \'TEXT\' 128 / UpdateResFile', b""),
+    ("a = NewHandle 1 / b = NewHandle 1 / AddResource a 'TEXT' 5 / AddResource b 'TEXT' 5 / GetResource 'TEXT' 5 / CountResources 'TEXT' / UpdateResFile", b""),
+    ("h = GetResource 'TEXT' 128 / ChangedResource h / DetachResource h / UpdateResFile / DetachResource h / k = GetResource 'TEXT' 128 / Peek k 0 2", HI),
+    (
+        "SetResLoad 0 / h = GetResource 'TEXT' 128 / GetHandleSize h / LoadResource h / GetHandleSize h / GetResInfo h / GetIndResource 'TEXT' 1 / GetIndResource 'TEXT' 2",
+        HI,
+    ),
+    (
+        'h = NewHandle 2 / Poke h 0 "Hi" / AddResource h \'TEXT\' 128 "n" / UniqueID \'TEXT\' / CountTypes / GetIndType 1 / GetIndType 2 / ReleaseResource h / WriteResource h / GetResInfo h / SizeResource h / ReleaseResource h / GetHandleSize h / ResError / k = GetResource \'TEXT\' 128 / Peek k 0 2',
+        b"",
+    ),
+]
+
 
 def updated(play):
     """Each update is made, and each call of it fails in turn; then the file is opened again where it was closed."""
@@ -147,6 +184,74 @@ def updated(play):
                 again = play(update.fork, [*update.lines, update.lines[-1]], DEVICE_FAIL=len(update.before) + turn)
                 printed = ["..", f"{number} {name} -36", f"{number + 1} {name} 0"]
                 yield f"{what}, call {turn}, again", again.fault(printed, update.before + update.calls[:turn] + update.calls, update.new)
+
+
+def journalled(play):
+    """Each update is made with each of these journals, and each call of it fails in turn. Then the next OpenResFile finds the old fork or the new one, and so does the next start."""
+    for update in UPDATES:
+        name, number, old, new = update.lines[-1].split(" ")[0], len(update.lines), update.fork, update.new
+        for which, journal, start, gate in UNUSED:
+            what, before = f"{name}, {update.calls}, {which}", start + update.before
+            calls = update.calls.removesuffix("wcy") + gate + PUT_TEXT + OPEN_GATE
+            whole = play(old, update.lines, journal)
+            yield what, whole.fault(["..", f"{number} {name} 0"], before + calls, new, journal_of(0, new))
+            for turn in range(1, len(calls) + 1):
+                made, stays = calls[: turn - 1], "W" not in calls[:turn]
+                ended = play(old, [*update.lines, "CurResFile"], journal, DEVICE_FAIL=len(before) + turn)
+                printed = ["..", f"{number} {name} -36", f"{number + 1} CurResFile {int(stays)} 0"]
+                yield f"{what}, call {turn}", ended.fault(printed, before + calls[:turn], torn(made, old, new), journal if stays else None)
+                fork = found(made, calls, old, new)
+                yield f"{what}, call {turn}, the next start", next_start(play, ended, fork)
+                again = play(old, [*update.lines, "OpenResFile 1"], journal, DEVICE_FAIL=len(before) + turn)
+                yield f"{what}, call {turn}, opened again", again.fault([*printed[:2], f"{number + 1} OpenResFile 1 0"], None, fork, None)
+
+
+def next_start(play, ended, fork):
+    """What isn't as it should be where an empty script runs over the files that a run left: it finds this fork, and leaves nothing to recover."""
+    once = play(ended.left, [], ended.journal)
+    twice = play(once.left, [], once.journal)
+    return once.fault([], None, fork, None) or twice.fault([], None, fork, once.journal)
+
+
+def recovered(play):
+    """A start recovers a fork that is half written, and each call of it fails in turn. Then the next OpenResFile recovers it, and so does the next start."""
+    half, journal = HI[:100], journal_of(1, HI)
+    whole = play(half, ["CountTypes"], journal)
+    yield "a recovery", whole.fault(["1 CountTypes 1 0"], "YSRR" + "wcy" + "WY" + "ssrrr", HI, journal_of(0, HI))
+    for turn in range(1, len(whole.calls) + 1):
+        ended = play(half, [], journal, DEVICE_FAIL=turn)
+        left = torn(whole.calls[: turn - 1], half, HI)
+        yield f"a recovery, call {turn}", ended.fault(["0 OpenResFile -36"], whole.calls[:turn], left, None)
+        yield f"a recovery, call {turn}, the next start", next_start(play, ended, HI)
+        again = play(half, ["OpenResFile 1"], journal, DEVICE_FAIL=turn)
+        yield f"a recovery, call {turn}, opened again", again.fault(["0 OpenResFile -36", "1 OpenResFile 1 0"], None, HI, journal_of(0, HI))
+
+
+def in_rows(play):
+    """Each call of each of these scripts fails in turn, with a journal and without: the line that made it answers ioErr, those before it what they did without it, and
+    each behind it something. What a start finds behind that line is the fork from before it, or with a journal the one from behind it, by whether the gate was opened."""
+    for script, fork in ROWS:
+        lines = script.split(" / ")
+        for journal in (None, b""):
+            upto = [play(fork, lines[:count], journal) for count in range(len(lines) + 1)]
+            replies = upto[-1].printed.splitlines()
+            for turn in range(1, len(upto[-1].calls) + 1):
+                at = next(count for count, it in enumerate(upto) if len(it.calls) >= turn)
+                what = f"{script}{', with a journal' if journal is not None else ''}, call {turn} of them all"
+                name = lines[at - 1].split(" = ")[-1].split(" ")[0] if at else "OpenResFile"
+                printed = [*replies[: max(at - 1, 0)], f"{at} {name} -36"]
+                played = play(fork, lines, journal, DEVICE_FAIL=turn)
+                if len(played.printed.splitlines()) != len(lines) + (at == 0):
+                    yield what, f"it printed {played.printed!r}"
+                    continue
+                old, new = upto[max(at - 1, 0)], upto[at]
+                calls = new.calls if at == 0 else new.calls[len(old.calls) :]
+                made = upto[-1].calls[: turn - 1].removeprefix(old.calls if at else "")
+                ended = play(fork, lines[:at], journal, DEVICE_FAIL=turn)
+                left = torn(made, old.left, new.left)
+                yield what, ended.fault(printed, upto[-1].calls[:turn], left, None)
+                if journal is not None:
+                    yield f"{what}, the next start", next_start(play, ended, found(made, calls, old.left, new.left))
 
 
 def loaded(play):
@@ -170,10 +275,10 @@ def main(program):
         shim = os.path.join(folder, "device.so")
         subprocess.run([os.environ.get("CC", "cc"), "-O1", "-shared", "-fPIC", "-o", shim, SHIM, "-ldl"], check=True)
 
-        def play(fork, lines, **settings):
-            return Played(program, shim, folder, fork, lines, **settings)
+        def play(fork, lines, journal=None, **settings):
+            return Played(program, shim, folder, fork, lines, journal, **settings)
 
-        for rows in (opened, updated, loaded):
+        for rows in (opened, updated, loaded, recovered, journalled, in_rows):
             for what, fault in rows(play):
                 count += 1
                 failures += [f"{what}: {fault}"] if fault else []

@@ -317,6 +317,9 @@ LINES = [
     (["FILE", "--extract", "\\x54E\\x58T", "5"], 0, ""),
     (["FILE", "--extract", "'\\x54\\x45\\x58\\x54'", "5"], 0, ""),
     (["FILE", "--extract", "TEXT", "-5"], 1, "no resource"),
+    (["FILE", "--extract", "'-abc'", "5"], 1, "no resource"),
+    (["FILE", "--extract", "-abc", "5"], 2, "Usage"),
+    (["FILE", "--extract", "-123", "5"], 1, "no resource"),
     (["FILE", "--extract", "TEX", "5"], 1, "no resource"),
     (["FILE", "--extract", "TEX ", "5"], 1, "no resource"),
     (["NO_SUCH_FILE"], 1, "NO_SUCH_FILE"),
@@ -339,8 +342,10 @@ def compare(what, got, status, output, told):
 
 
 def operand(kind, choice):
-    """A type as a word of the command line: as the list shows it, or without its quotes or last blanks where it can."""
+    """A type as a word of the command line: as the list shows it, or without its quotes or last blanks where it can. One that begins with a hyphen keeps its quotes."""
     shown = quoted("'", kind)
+    if kind.startswith(b"-"):
+        return shown
     if choice == 1:
         return shown[1:-1]
     if choice == 2 and kind.rstrip(b" "):

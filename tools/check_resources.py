@@ -5,8 +5,9 @@
 
 The model is written from the rules of docs/SCRIPT.md and docs/RESOURCES.md alone, and shares nothing with the program: a file is a
 list of rows, a disk the bytes of a fork. What a zone does is the model of check_random.py, and how a fork is read that of
-check_forks.py. Each script runs over one to three files, which are empty, forks, or damaged; its output is compared, and every byte of
-the files behind it. By default it runs 40 scripts of 300 lines. Each is made from its number, so a difference can be made again:
+check_forks.py. Each script runs over one to three files, which are empty, forks, or damaged. Half of the scripts run with a journal beside each file,
+by docs/JOURNAL.md: it is empty, shut, cut short, or open with a fork that is to be recovered. The output is compared, and every byte of the files and
+their journals behind it. By default it runs 40 scripts of 300 lines. Each is made from its number, so a difference can be made again:
 FIRST is the number of the first script.
 """
 import os
@@ -97,12 +98,28 @@ def opened(number, disk):
     return File(number, kept, disk[16:256].ljust(240, b"\0"), int.from_bytes(disk[at + 22 : at + 24], "big"))
 
 
-class Toolbox(Zone):
-    """A zone, and resource files: the open ones in the order of opening, and the bytes of all disks."""
+def journal_of(gate, fork):
+    """The journal with this first byte and the text of a fork."""
+    return bytes([gate]) + struct.pack(">I", len(fork)) + fork
 
-    def __init__(self, mode, size, limit, base, disks):
+
+def recovered(disk, journal):
+    """A disk and its journal behind a recovery: the fork of an open gate's whole text is written, and the gate is shut."""
+    end = 5 + int.from_bytes(journal[1:5], "big")
+    if journal[:1] != b"\1" or len(journal) < end:
+        return disk, journal
+    return journal[5:end], b"\0" + journal[1:]
+
+
+class Toolbox(Zone):
+    """A zone, and resource files: the open ones in the order of opening, and the bytes of all disks and of their journals.
+
+    A run without journals is as one with empty ones, which nobody looks at."""
+
+    def __init__(self, mode, size, limit, base, disks, journals=None):
         super().__init__(mode, size, limit, base)
         self.disks, self.files, self.current = disks, [], 0
+        self.journals = journals or [b""] * len(disks)
         self.loads, self.res_refused = True, 0
 
     # what is looked up, or refuses a call
@@ -244,6 +261,7 @@ class Toolbox(Zone):
         fork = file.fork(lambda row: self.contents(row) if row in rows else row.disk)
         self.test(len(fork) > MOST_BYTES, DISK_FULL)
         self.disks[file.number - 1] = fork
+        self.journals[file.number - 1] = journal_of(0, fork)
         for row in rows:
             row.disk, row.attributes = self.contents(row), row.attributes & ~CHANGED
 
@@ -306,7 +324,9 @@ class Toolbox(Zone):
     def open_res_file(self, number):
         self.test(not 1 <= number <= len(self.disks), NO_SUCH_FILE)
         if self.file(number) is None:
-            self.files.append(opened(number, self.disks[number - 1]))
+            at = number - 1
+            self.disks[at], self.journals[at] = recovered(self.disks[at], self.journals[at])
+            self.files.append(opened(number, self.disks[at]))
             self.current = number
         return str(number)
 
@@ -439,24 +459,60 @@ def written(operand, is_hexadecimal):
     return check_random.written(operand, is_hexadecimal)
 
 
-def start_disks(seed, dice):
-    """The bytes of one to three files: nothing, or a fork, which may be damaged."""
-    disks = []
-    for number in range(dice.choice([1, 1, 2, 3])):
-        if dice.random() < 0.3:
-            disks.append(b"")
-            continue
-        choices = Choices(seed * 8 + number)
-        fork = choices.fork()
-        if dice.random() < 0.7:
-            for _ in range(20):
-                try:
-                    opened(1, fork)
-                    break
-                except Refused:
-                    fork = choices.fork()
-        disks.append(fork)
-    return disks
+def start_fork(number, dice):
+    """The bytes of a file: nothing, or a fork, which may be damaged."""
+    if dice.random() < 0.3:
+        return b""
+    choices = Choices(number)
+    fork = choices.fork()
+    if dice.random() < 0.7:
+        for _ in range(20):
+            try:
+                opened(1, fork)
+                break
+            except Refused:
+                fork = choices.fork()
+    return fork
+
+
+def start_journal(number, dice):
+    """The bytes of a journal: nothing, or one that is open, shut or neither, whose text may be cut short or followed by more."""
+    if dice.random() < 0.3:
+        return b""
+    journal = journal_of(dice.choice([1, 1, 1, 1, 0, 2, 255]), start_fork(number, dice))
+    if dice.random() < 0.2:
+        return journal[: dice.randrange(len(journal))]
+    return journal + dice.randbytes(dice.choice([0, 0, 1, 50]))
+
+
+def start_files(seed, dice):
+    """The bytes of one to three files, and those of their journals, or none where the script runs without."""
+    count = dice.choice([1, 1, 2, 3])
+    disks = [start_fork(seed * 8 + it, dice) for it in range(count)]
+    journals = [start_journal(seed * 8 + 4 + it, dice) for it in range(count)] if dice.random() < 0.5 else []
+    return disks, journals
+
+
+class Files:
+    """The files of a run in a folder, with the words of the command line that name them."""
+
+    def __init__(self, folder, disks, journals):
+        self.words, self.paths = [], []
+        for option, files in (("fork", disks), ("journal", journals)):
+            for number, data in enumerate(files, 1):
+                self.paths.append(os.path.join(folder, f"{option}{number}"))
+                self.words += [f"--{option}", self.paths[-1]]
+                with open(self.paths[-1], "wb") as file:
+                    file.write(data)
+
+    def difference(self, wanted):
+        """The first file whose bytes aren't the ones that are wanted, or None."""
+        for path, data in zip(self.paths, wanted):
+            with open(path, "rb") as file:
+                left = file.read()
+            if left != data:
+                return f"{path} has {len(left)} bytes, {left[:400].hex()}, and not {len(data)}, {data[:400].hex()}"
+        return None
 
 
 def compare(program, seed, lines, folder):
@@ -464,12 +520,9 @@ def compare(program, seed, lines, folder):
     dice = random.Random(seed)
     mode, size, base = dice.choice([24, 32]), dice.choice([1024, 2048, 4096, 65536]), dice.choice([0x1000, 0x100000, 0x400000])
     limit = size + dice.choice([0, 0, 16, 1000, size])
-    disks = start_disks(seed, dice)
-    paths = [os.path.join(folder, f"fork{index + 1}") for index in range(len(disks))]
-    for path, disk in zip(paths, disks):
-        with open(path, "wb") as file:
-            file.write(disk)
-    toolbox = Toolbox(mode, size, limit, base, disks)
+    disks, journals = start_files(seed, dice)
+    files = Files(folder, disks, journals)
+    toolbox = Toolbox(mode, size, limit, base, disks, journals)
     chooser = ResourceChooser(seed, toolbox, size)
     script, wanted = [], []
     try:
@@ -486,22 +539,17 @@ def compare(program, seed, lines, folder):
             continue
         script.append(" ".join([name, *map(text, operands)]))
         wanted += f"{number} {name} {toolbox.reply(name, operands)}".split("\n")
-    words = [program, "--mode", str(mode), "--zone", str(size), "--limit", str(limit), "--base", str(base)]
-    for path in paths:
-        words += ["--fork", path]
-    ran = subprocess.run(words, input="\n".join(script), capture_output=True, text=True, check=False)
+    words = ["--mode", str(mode), "--zone", str(size), "--limit", str(limit), "--base", str(base), *files.words]
+    ran = subprocess.run([program, *words], input="\n".join(script), capture_output=True, text=True, check=False)
     printed = ran.stdout.split("\n")[:-1]
     if printed != wanted:
         at = next((it for it, (left, right) in enumerate(zip(printed, wanted)) if left != right), min(len(printed), len(wanted)))
-        print(f"script {seed}, {' '.join(words[1:])}: {printed[at : at + 1]} was printed, and {wanted[at : at + 1]} is right")
+        print(f"script {seed}, {' '.join(words)}: {printed[at : at + 1]} was printed, and {wanted[at : at + 1]} is right")
         return False
-    for path, disk in zip(paths, toolbox.disks):
-        with open(path, "rb") as file:
-            left = file.read()
-        if left != disk:
-            print(f"script {seed}, {' '.join(words[1:])}: {path} has {len(left)} bytes, {left[:400].hex()}, and not {len(disk)}, {disk[:400].hex()}")
-            return False
-    return True
+    difference = files.difference(toolbox.disks + toolbox.journals)
+    if difference:
+        print(f"script {seed}, {' '.join(words)}: {difference}")
+    return difference is None
 
 
 def main(program, scripts=40, lines=300, first=0):

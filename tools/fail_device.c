@@ -1,7 +1,9 @@
 /* Stands between a program and the C library's calls on open files. It adds a letter for each to the file DEVICE_LOG: s for statx, r for
-   pread, w for pwrite, c for ftruncate, y for fsync. The call of the number in DEVICE_FAIL, from 1 on, isn't made and fails with EIO; before that
-   of the number in DEVICE_CUT the file is cut to DEVICE_LENGTH bytes. To be loaded ahead of the C library, with LD_PRELOAD. */
+   pread, w for pwrite, c for ftruncate, y for fsync; capital ones for the calls on the file DEVICE_JOURNAL. The call of the number in DEVICE_FAIL,
+   from 1 on, isn't made and fails with EIO; before that of the number in DEVICE_CUT the file is cut to DEVICE_LENGTH bytes. To be loaded ahead of
+   the C library, with LD_PRELOAD. */
 #define _GNU_SOURCE
+#include <ctype.h>
 #include <dlfcn.h>
 #include <errno.h>
 #include <fcntl.h>
@@ -17,6 +19,14 @@ static long number_of(const char *name)
     return text == NULL ? 0 : atol(text);
 }
 
+/* Whether this open file is the journal. */
+static int is_journal(int file)
+{
+    struct stat open_file, journal;
+    const char *path = getenv("DEVICE_JOURNAL");
+    return path != NULL && fstat(file, &open_file) == 0 && stat(path, &journal) == 0 && open_file.st_ino == journal.st_ino;
+}
+
 /* Logs a call on a file, and tells whether it fails. */
 static int fails(int file, char letter)
 {
@@ -25,6 +35,8 @@ static int fails(int file, char letter)
     const char *path = getenv("DEVICE_LOG");
     if (log < 0 && path != NULL)
         log = open(path, O_WRONLY | O_CREAT | O_APPEND | O_CLOEXEC, 0600);
+    if (is_journal(file))
+        letter = (char)toupper(letter);
     if (log < 0 || write(log, &letter, 1) != 1)
         abort();
     calls++;

@@ -1,0 +1,163 @@
+#!/usr/bin/env python3
+"""Checks what a macheap program does where its input or its output fails: at each byte of the scripts below, and of what they print.
+
+    tools/check_streams.py PROGRAM
+
+An output that takes some bytes, and then fails, is interrupted or takes none: these bytes are the beginning of what the whole run prints, nothing is told
+on standard error, and the status is 1. The calls up to the reply that isn't whole were made, so the file and its journal are as behind them.
+An input that gives some bytes and then fails or is interrupted: nothing is printed, the status is 1, and the file and its journal keep their bytes. One
+that ends there is the script of these bytes. Inputs and outputs that go byte by byte change nothing. Beside this stand such as a system has: a device
+that is full, a pipe without a reader, a folder to read from. Needs a C compiler: `cc`, or $CC.
+"""
+import errno
+import os
+import subprocess
+import sys
+import tempfile
+
+from check_files import HI
+from check_memory import replies_of
+from check_resources import journal_of
+
+TOOLS = os.path.dirname(os.path.abspath(__file__))
+SHIM = os.path.join(TOOLS, "fail_stream.c")
+READ_ERRORS = [errno.EIO, errno.EINTR]
+# the last stands for an output that takes no byte
+WRITE_ERRORS = [errno.EIO, errno.EINTR, 0]
+
+PRINTS = "h = NewHandle 100\nPoke h 0 \"Hi\"\nPeek h 0 4\nZoneMap"
+UPDATES = "h = GetResource 'TEXT' 128\nPoke h 0 \"No\"\nChangedResource h\nUpdateResFile\nSetHandleSize h 3\nChangedResource h\nCloseResFile\nCountTypes"
+# the words, the script, and the bytes of the fork and of its journal, or None for none. The last journal is recovered by a start.
+ROWS = [
+    ([], PRINTS, None, None),
+    ([], "ZoneMap\nNewHandl 3\n", None, None),
+    (["--help"], "", None, None),
+    ([], UPDATES, HI, None),
+    ([], UPDATES, HI, b""),
+    ([], "CountTypes\nUpdateResFile\n", HI[:100], journal_of(1, HI)),
+]
+
+
+class Files:
+    """The fork and the journal of a row in a folder: the words that name them, and their bytes."""
+
+    def __init__(self, folder, *files):
+        self.files = [(os.path.join(folder, name), data) for name, data in zip(("fork", "journal"), files) if data is not None]
+        self.words = [word for (path, _), option in zip(self.files, ("--fork", "--journal")) for word in (option, path)]
+        for path, data in self.files:
+            with open(path, "wb") as file:
+                file.write(data)
+
+    def left(self):
+        """The bytes that stand there now."""
+        contents = []
+        for path, _ in self.files:
+            with open(path, "rb") as file:
+                contents.append(file.read())
+        return contents
+
+
+class Player:
+    """Runs a row's script over its files, which are new each time."""
+
+    def __init__(self, program, shim, folder, row):
+        self.program, self.shim, self.folder = program, shim, folder
+        self.words, self.script, *self.files = row
+
+    def play(self, script=None, **settings):
+        """The status, what was printed, what was told, and the files behind the run, with these settings of the shim."""
+        files = Files(self.folder, *self.files)
+        environment = {**os.environ, "LD_PRELOAD": self.shim, **{name: str(it) for name, it in settings.items()}}
+        script = self.script if script is None else script
+        done = subprocess.run([self.program, *self.words, *files.words], input=script.encode(), capture_output=True, env=environment, check=False)
+        return done.returncode, done.stdout, done.stderr, files.left()
+
+    def before(self):
+        """The files as a row has them."""
+        return [data for data in self.files if data is not None]
+
+
+def steps(player):
+    """Inputs and outputs that go byte by byte change nothing."""
+    whole = player.play()
+    yield "byte by byte", player.play(STREAM_STEP=1), whole
+
+
+def outputs(player):
+    """An output ends at each byte."""
+    status, whole, told, after = player.play()
+    lines = player.script.split("\n")
+    # a reply's number is that of its line
+    ends = [0]
+    behind = []
+    for reply in replies_of(whole.decode()):
+        ends.append(ends[-1] + len(reply))
+        behind.append(player.play("\n".join(lines[: int(reply.split(" ")[0])]))[3])
+    for count in range(len(whole)):
+        made = sum(end <= count for end in ends[1:])
+        left = behind[made] if behind else player.before()
+        for error in WRITE_ERRORS:
+            wanted = (1, whole[:count], b"", left)
+            yield f"an output of {count} bytes, error {error}", player.play(STREAM_TAKES=count, STREAM_ERROR=error), wanted
+    yield "an output of all bytes", player.play(STREAM_TAKES=len(whole), STREAM_ERROR=errno.EIO), (status, whole, told, after)
+
+
+def inputs(player):
+    """An input fails at each byte, the end among them, or ends there."""
+    if not player.script:
+        return
+    for count in range(len(player.script) + 1):
+        for error in READ_ERRORS:
+            wanted = (1, b"", b"", player.before())
+            yield f"an input of {count} bytes, error {error}", player.play(STREAM_GIVES=count, STREAM_ERROR=error), wanted
+        wanted = player.play(player.script[:count])
+        if wanted[0] not in (0, 3):
+            wanted = "status 0 or 3"
+        yield f"an input that ends behind {count} bytes", player.play(STREAM_GIVES=count), wanted
+
+
+def of_the_system(program, folder):
+    """Outputs and inputs such as a system has."""
+    script, gone = os.path.join(folder, "script"), os.pipe()
+    os.close(gone[0])
+    with open(script, "w", encoding="ascii") as file:
+        file.write(PRINTS)
+    with open(script, "rb") as given, open("/dev/full", "wb") as full:
+        for what, output in (("a full device", full), ("a pipe without a reader", gone[1])):
+            given.seek(0)
+            done = subprocess.run([program], stdin=given, stdout=output, stderr=subprocess.PIPE, check=False)
+            yield what, (done.returncode, done.stderr), (1, b"")
+    os.close(gone[1])
+    directory = os.open(folder, os.O_RDONLY)
+    done = subprocess.run([program], stdin=directory, capture_output=True, check=False)
+    os.close(directory)
+    yield "a folder to read from", (done.returncode, done.stdout, done.stderr), (1, b"", b"")
+    for what, closed, printed in (("no input", 0, b""), ("no output", 1, b"")):
+        with open(script, "rb") as given:
+            done = subprocess.run([program], stdin=given, capture_output=True, preexec_fn=lambda file=closed: os.close(file), check=False)
+        yield what, (done.returncode, done.stdout, done.stderr), (1, printed, b"")
+
+
+def main(program):
+    count, failures = 0, []
+    with tempfile.TemporaryDirectory() as folder:
+        shim = os.path.join(folder, "stream.so")
+        subprocess.run([os.environ.get("CC", "cc"), "-O1", "-shared", "-fPIC", "-o", shim, SHIM, "-ldl"], check=True)
+        runs = [("", of_the_system(program, folder))]
+        for row in ROWS:
+            player = Player(program, shim, folder, row)
+            runs += [(f"{' '.join(row[0])} {row[1]!r}, ", kind(player)) for kind in (steps, outputs, inputs)]
+        for row, results in runs:
+            for what, got, wanted in results:
+                count += 1
+                failures += [f"{row}{what}: {got} and not {wanted}"] if got != wanted else []
+    for it in failures:
+        print(it)
+    print(f"streams: {count - len(failures)} runs as they should be, {len(failures)} not")
+    return 1 if failures or not count else 0
+
+
+if __name__ == "__main__":
+    if len(sys.argv) != 2 or not os.access(sys.argv[1], os.X_OK):
+        sys.exit("usage: tools/check_streams.py PROGRAM")
+    sys.exit(main(os.path.realpath(sys.argv[1])))
