@@ -1,23 +1,36 @@
 #!/bin/sh
-# Runs the C programs of c/ over the static library: the calls, whose answers are compared with what stands there, plainly
-# and with the sanitizers over the C side, a zone that the host has no memory for, and the example. It needs `rt`, `cc` and the kit's C code for the heap
-# (RATTLE_KIT: the kit's folder).
+# check_c.sh PROGRAM LIBRARY: runs the C programs of c/ over the static library that `build_c.sh LIBRARY` builds: the calls, whose
+# answers are compared with what stands there, plainly and with the sanitizers over the C side; 100,000 random calls, of which
+# PROGRAM, a macheap, prints the same; a zone that the host has no memory for; and the example, as C and, where there is a
+# compiler, as C++. It needs a C compiler and the kit's C code for the heap (RATTLE_KIT: the kit's folder).
 set -e
+program=$(realpath "$1")
+library=$(realpath "$2")
 top=$(cd "$(dirname "$0")/.." && pwd)
 kit=${RATTLE_KIT:-/opt/rattle}
-out="$top/crates/macheap_c/out"
-(cd "$top/crates/macheap_c" && rt lib) > /dev/null
+room=$(mktemp -d)
+trap 'rm -rf "$room"' EXIT
 # built NAME FLAG..: the program of c/NAME.c
 built() {
     name=$1
     shift
-    ${CC:-cc} -std=c11 -Wall -Wextra -Werror "$@" -I"$top/include" "$top/c/$name.c" "$out/libmacheap_c.a" "$kit/c/liblibc_c.a" -o "$out/$name"
+    ${CC:-cc} -std=c11 -Wall -Wextra -Werror "$@" -I"$top/include" "$top/c/$name.c" "$library" "$kit/c/liblibc_c.a" -o "$room/$name"
 }
 built calls -O2
-"$out/calls"
+"$room/calls"
 built calls -O1 -fsanitize=address,undefined
-"$out/calls"
+"$room/calls"
+built random -O1 -fsanitize=address,undefined
+for seed in 1 2 3 4; do
+    "$room/random" "$room/script" "$room/replies" $seed 25000
+    "$program" --limit 8192 < "$room/script" | cmp - "$room/replies"
+done
 built no_memory -O1 -fsanitize=address,undefined -Wl,--wrap=malloc
-"$out/no_memory"
+"$room/no_memory"
 built emulator -O2
-"$out/emulator" | cmp - "$top/c/emulator.output"
+"$room/emulator" | cmp - "$top/c/emulator.output"
+if command -v c++ > /dev/null; then
+    c++ -x c++ -std=c++17 -Wall -Wextra -Werror -I"$top/include" -c "$top/c/emulator.c" -o "$room/emulator.o"
+    c++ "$room/emulator.o" "$library" "$kit/c/liblibc_c.a" -o "$room/emulator"
+    "$room/emulator" | cmp - "$top/c/emulator.output"
+fi
