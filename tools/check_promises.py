@@ -11,7 +11,7 @@ import sys
 PAGE = "docs/PROMISES.md"
 HEADING = re.compile(r"## (`\w+`(?:, `\w+`)*)")
 CARRIER = re.compile(r"(?:(\w+)::)?(\w+)(?:: (\w+))?")
-FUNCTION = re.compile(r"^\s*(?:pub(?:\(crate\))? )?(?:const )?(?:unsafe )?fn (\w+)")
+FUNCTION = re.compile(r"^\s*(?:pub(?:\(crate\))? )?(?:const )?(?:unsafe )?(?:extern .C. )?fn (\w+)")
 
 
 def sources(crate):

@@ -1,0 +1,434 @@
+/* Makes calls of the library in C, and compares what C is told with what is expected. It prints a line for each that
+ * differs, and ends with status 1 then. */
+#include "macheap.h"
+
+#include <inttypes.h>
+#include <stdio.h>
+#include <string.h>
+
+enum { BASE = 0x100000 };
+
+static int faults, checks;
+
+static void same(int line, const char *what, int64_t is, int64_t wanted) {
+    checks++;
+    if (is != wanted) {
+        printf("line %d: %s is %" PRId64 ", not %" PRId64 "\n", line, what, is, wanted);
+        faults++;
+    }
+}
+#define IS(what, wanted) same(__LINE__, #what, (int64_t)(what), (wanted))
+
+static MhZone sized(uint32_t size, uint32_t limit, uint32_t mode) {
+    MhZone zone = MH_NO_ZONE;
+    IS(mh_make_zone(&zone, BASE, size, limit, mode), MH_NO_ERR);
+    return zone;
+}
+
+static MhZone fresh(void) { return sized(4096, 4096, 24); }
+
+static void ended(MhZone *zone) { IS(mh_end_zone(zone), MH_NO_ERR); }
+
+static uint32_t new_handle(MhZone *zone, uint32_t size) {
+    uint32_t handle = 0;
+    IS(mh_new_handle(zone, size, &handle), MH_NO_ERR);
+    return handle;
+}
+
+static uint32_t new_ptr(MhZone *zone, uint32_t size) {
+    uint32_t pointer = 0;
+    IS(mh_new_ptr(zone, size, &pointer), MH_NO_ERR);
+    return pointer;
+}
+
+static void poke(MhZone *zone, uint32_t block, const char *text) {
+    IS(mh_poke(zone, block, 0, (const uint8_t *)text, strlen(text)), MH_NO_ERR);
+}
+
+static void peeks(int line, MhZone *zone, uint32_t block, uint32_t offset, const char *wanted) {
+    uint8_t bytes[64];
+    size_t count = strlen(wanted);
+    same(line, "the code of a peek", mh_peek(zone, block, offset, bytes, count), MH_NO_ERR);
+    same(line, "what is peeked", memcmp(bytes, wanted, count), 0);
+}
+#define PEEKS(zone, block, offset, wanted) peeks(__LINE__, zone, block, offset, wanted)
+
+/* The zone's blocks are these. */
+static void maps(int line, MhZone *zone, const MhBlock *wanted, uint32_t count) {
+    uint32_t at = 0, n = 0;
+    MhBlock block;
+    same(line, "the code of the first block", mh_first_block(zone, &at), MH_NO_ERR);
+    for (; mh_block(zone, at, &block) == MH_NO_ERR; at += block.size, n++) {
+        if (n >= count) continue;
+        same(line, "address", block.address, wanted[n].address);
+        same(line, "size", block.size, wanted[n].size);
+        same(line, "kind", block.kind, wanted[n].kind);
+        same(line, "owner", block.owner, wanted[n].owner);
+        same(line, "length", block.length, wanted[n].length);
+        same(line, "flags", block.flags, wanted[n].flags);
+    }
+    same(line, "count of blocks", n, count);
+    same(line, "code behind the last block", mh_block(zone, at, &block), MH_MEM_WZ_ERR);
+}
+#define MAPS(zone, ...) \
+    do { \
+        const MhBlock wanted[] = {__VA_ARGS__}; \
+        maps(__LINE__, zone, wanted, sizeof wanted / sizeof wanted[0]); \
+    } while (0)
+
+/* No zone: each call says so, and writes nothing. Then what can't be a zone. */
+static void misuse(void) {
+    MhZone zone = MH_NO_ZONE;
+    uint32_t out = 7, other = 8;
+    uint8_t byte = 9;
+    MhBlock block = {1, 2, 3, 4, 5, 6};
+    MhAnswer answer = {.value = 1};
+    MhAsk ask = {.needed = 11};
+    MhCarried carried = {.kind = 12};
+    for (int round = 0; round < 2; round++) {
+        IS(mh_end_zone(&zone), MH_PARAM_ERR);
+        IS(mh_new_handle(&zone, 6, &out), MH_PARAM_ERR);
+        IS(mh_new_ptr(&zone, 6, &out), MH_PARAM_ERR);
+        IS(mh_dispose_handle(&zone, BASE + 0x3C), MH_PARAM_ERR);
+        IS(mh_set_handle_size(&zone, BASE + 0x3C, 10), MH_PARAM_ERR);
+        IS(mh_get_handle_size(&zone, BASE + 0x3C, &out), MH_PARAM_ERR);
+        IS(mh_free_mem(&zone, &out), MH_PARAM_ERR);
+        IS(mh_max_mem(&zone, &out, &other), MH_PARAM_ERR);
+        IS(mh_hlock(&zone, BASE + 0x3C), MH_PARAM_ERR);
+        IS(mh_peek(&zone, BASE + 0x3C, 0, &byte, 1), MH_PARAM_ERR);
+        IS(mh_poke(&zone, BASE + 0x3C, 0, &byte, 1), MH_PARAM_ERR);
+        IS(mh_first_block(&zone, &out), MH_PARAM_ERR);
+        IS(mh_block(&zone, BASE + 0x34, &block), MH_PARAM_ERR);
+        IS(mh_queue_answer(&zone, &answer), MH_PARAM_ERR);
+        IS(mh_asked(&zone, &out), MH_PARAM_ERR);
+        IS(mh_ask(&zone, 0, &ask), MH_PARAM_ERR);
+        IS(mh_carried(&zone, 0, 0, &carried), MH_PARAM_ERR);
+        if (round == 0) { /* once more behind a zone that has ended */
+            zone = fresh();
+            ended(&zone);
+        }
+    }
+    IS(mh_make_zone(&zone, BASE, 4096, 4096, 16), MH_PARAM_ERR);
+    IS(mh_make_zone(&zone, BASE, 1020, 4096, 24), MH_PARAM_ERR);
+    IS(mh_make_zone(&zone, BASE + 2, 4096, 4096, 24), MH_PARAM_ERR);
+    IS(mh_make_zone(&zone, BASE, 4096, 4104, 24), MH_PARAM_ERR);
+    IS(mh_make_zone(&zone, BASE, UINT32_MAX, UINT32_MAX, 32), MH_PARAM_ERR);
+    IS(out, 7);
+    IS(other, 8);
+    IS(byte, 9);
+    IS(block.address + block.flags, 7);
+    IS(ask.needed + carried.kind, 23);
+    zone = fresh();
+    uint32_t h = new_handle(&zone, 6);
+    IS(mh_make_zone(&zone, BASE, 4096, 4096, 24), MH_PARAM_ERR);
+    IS(mh_get_handle_size(&zone, h, &out), MH_NO_ERR);
+    IS(out, 6);
+    ended(&zone);
+}
+
+/* Refused calls write nothing through their pointers. */
+static void refused(void) {
+    MhZone zone = fresh();
+    uint32_t h = new_handle(&zone, 6), out = 7;
+    uint8_t bytes[4] = {1, 2, 3, 4};
+    IS(mh_new_handle(&zone, 4000, &out), MH_MEM_FULL_ERR);
+    IS(mh_new_handle(&zone, 8388609, &out), MH_PARAM_ERR);
+    IS(mh_get_handle_size(&zone, 0, &out), MH_NIL_HANDLE_ERR);
+    IS(mh_get_handle_size(&zone, h + 1, &out), MH_MEM_WZ_ERR);
+    IS(mh_get_ptr_size(&zone, h, &out), MH_MEM_WZ_ERR);
+    IS(mh_recover_handle(&zone, 5, &out), MH_MEM_BC_ERR);
+    IS(mh_ask(&zone, 0, &(MhAsk){0}), MH_PARAM_ERR);
+    IS(out, 7);
+    IS(mh_peek(&zone, h, 3, bytes, 4), MH_PARAM_ERR);
+    IS(mh_peek(&zone, h, UINT32_MAX, bytes, 4), MH_PARAM_ERR);
+    IS(mh_poke(&zone, h, 6, bytes, 1), MH_PARAM_ERR);
+    IS(mh_poke(&zone, 0, 0, bytes, 0), MH_NIL_HANDLE_ERR);
+    IS(memcmp(bytes, "\1\2\3\4", 4), 0);
+    IS(mh_dispose_handle(&zone, h), MH_NO_ERR);
+    IS(mh_dispose_handle(&zone, h), MH_MEM_WZ_ERR);
+    ended(&zone);
+}
+
+static void blocks(void) {
+    MhZone zone = fresh();
+    IS(new_handle(&zone, 100), 0x10003C);
+    MAPS(&zone, {0x100034, 264, MH_MASTER, 0, 256, 0}, {0x10013C, 108, MH_REL, 0x10003C, 100, 0}, {0x1001A8, 3672, MH_FREE, 0, 0, 0});
+    ended(&zone);
+    zone = fresh();
+    new_handle(&zone, 0);
+    MAPS(&zone, {0x100034, 264, MH_MASTER, 0, 256, 0}, {0x10013C, 12, MH_REL, 0x10003C, 0, 0}, {0x100148, 3768, MH_FREE, 0, 0, 0});
+    ended(&zone);
+    zone = fresh();
+    uint32_t out = 7;
+    IS(mh_new_handle(&zone, 3773, &out), MH_MEM_FULL_ERR);
+    IS(new_handle(&zone, 3772), 0x10003C);
+    ended(&zone);
+    zone = fresh();
+    new_handle(&zone, 3764);
+    MAPS(&zone, {0x100034, 264, MH_MASTER, 0, 256, 0}, {0x10013C, 3780, MH_REL, 0x10003C, 3764, 0});
+    ended(&zone);
+    zone = fresh();
+    uint32_t p = new_ptr(&zone, 200);
+    IS(p, 0x100144);
+    IS(new_ptr(&zone, 100), 0x100214);
+    IS(mh_dispose_ptr(&zone, p), MH_NO_ERR);
+    uint32_t h = new_handle(&zone, 50);
+    IS(mh_move_hhi(&zone, h), MH_NO_ERR);
+    IS(mh_hlock(&zone, h), MH_NO_ERR);
+    IS(mh_move_hhi(&zone, h), MH_MEM_LOCKED_ERR);
+    MAPS(&zone, {0x100034, 264, MH_MASTER, 0, 256, 0}, {0x10013C, 148, MH_FREE, 0, 0, 0}, {0x1001D0, 60, MH_REL, 0x10003C, 50, MH_LOCK},
+         {0x10020C, 108, MH_PTR, 0x100214, 100, 0}, {0x100278, 3464, MH_FREE, 0, 0, 0});
+    ended(&zone);
+}
+
+/* Blocks move to make room; a locked one doesn't. */
+static void moving(void) {
+    MhZone zone = fresh();
+    uint32_t a = new_handle(&zone, 1000), b = new_handle(&zone, 1000), out = 7;
+    new_handle(&zone, 1000);
+    poke(&zone, b, "BB");
+    IS(mh_dispose_handle(&zone, a), MH_NO_ERR);
+    IS(new_handle(&zone, 1500), 0x10003C);
+    PEEKS(&zone, b, 0, "BB");
+    MAPS(&zone, {0x100034, 264, MH_MASTER, 0, 256, 0}, {0x10013C, 1008, MH_REL, 0x100040, 1000, 0}, {0x10052C, 1008, MH_REL, 0x100044, 1000, 0},
+         {0x10091C, 1508, MH_REL, 0x10003C, 1500, 0}, {0x100F00, 256, MH_FREE, 0, 0, 0});
+    ended(&zone);
+    zone = fresh();
+    a = new_handle(&zone, 1000), b = new_handle(&zone, 1000);
+    new_handle(&zone, 1000);
+    IS(mh_hlock(&zone, b), MH_NO_ERR);
+    IS(mh_dispose_handle(&zone, a), MH_NO_ERR);
+    IS(mh_new_handle(&zone, 1500, &out), MH_MEM_FULL_ERR);
+    IS(out, 7);
+    ended(&zone);
+}
+
+static void purging(void) {
+    MhZone zone = fresh();
+    uint32_t a = new_handle(&zone, 1000), out = 0, total = 0, contiguous = 0;
+    new_handle(&zone, 1000);
+    uint32_t c = new_handle(&zone, 1000);
+    IS(mh_hpurge(&zone, a), MH_NO_ERR);
+    IS(mh_hpurge(&zone, c), MH_NO_ERR);
+    IS(new_handle(&zone, 1500), 0x100048);
+    IS(mh_get_handle_size(&zone, a, &out), MH_NIL_HANDLE_ERR);
+    IS(mh_get_handle_size(&zone, c, &out), MH_NO_ERR);
+    IS(out, 1000);
+    ended(&zone);
+    zone = fresh();
+    uint32_t h = new_handle(&zone, 1000);
+    IS(mh_hpurge(&zone, h), MH_NO_ERR);
+    IS(mh_purge_space(&zone, &total, &contiguous), MH_NO_ERR);
+    IS(total, 3780);
+    IS(contiguous, 3780);
+    IS(mh_max_block(&zone, &out), MH_NO_ERR);
+    IS(out, 2772);
+    IS(mh_purge_mem(&zone, 3000), MH_NO_ERR);
+    IS(mh_purge_mem(&zone, 3781), MH_MEM_FULL_ERR);
+    ended(&zone);
+    zone = sized(1024, 4096, 24);
+    a = new_handle(&zone, 500);
+    IS(mh_hpurge(&zone, a), MH_NO_ERR);
+    uint32_t b = new_handle(&zone, 1000);
+    IS(mh_get_handle_size(&zone, a, &out), MH_NO_ERR);
+    IS(out, 500);
+    MAPS(&zone, {0x100034, 264, MH_MASTER, 0, 256, 0}, {0x10013C, 508, MH_REL, a, 500, MH_PURGE}, {0x100338, 1008, MH_REL, b, 1000, 0},
+         {0x100728, 2264, MH_FREE, 0, 0, 0});
+    ended(&zone);
+}
+
+static void copying(void) {
+    MhZone zone = fresh();
+    uint32_t h = new_handle(&zone, 2), e = 0, out = 0;
+    poke(&zone, h, "ab");
+    IS(mh_hand_and_hand(&zone, h, h), MH_NO_ERR);
+    PEEKS(&zone, h, 0, "abab");
+    IS(mh_new_empty_handle(&zone, &e), MH_NO_ERR);
+    IS(e, 0x100040);
+    IS(mh_hand_and_hand(&zone, e, h), MH_NIL_HANDLE_ERR);
+    IS(mh_get_handle_size(&zone, h, &out), MH_NO_ERR);
+    IS(out, 4);
+    ended(&zone);
+    zone = fresh();
+    uint32_t p = new_ptr(&zone, 4), k = 0, largest = 7, growth = 7;
+    poke(&zone, p, "abcd");
+    IS(mh_ptr_to_hand(&zone, p, 3, &h), MH_NO_ERR);
+    IS(mh_ptr_and_hand(&zone, p, h, 2), MH_NO_ERR);
+    PEEKS(&zone, h, 0, "abcab");
+    IS(mh_ptr_to_xhand(&zone, p, h, 1), MH_NO_ERR);
+    IS(mh_hand_to_hand(&zone, h, &k), MH_NO_ERR);
+    IS(k, 0x100040);
+    PEEKS(&zone, k, 0, "a");
+    IS(mh_set_handle_size(&zone, h, 300), MH_NO_ERR);
+    IS(mh_set_ptr_size(&zone, p, 40), MH_NO_ERR);
+    IS(mh_reallocate_handle(&zone, k, 10), MH_NO_ERR);
+    IS(mh_more_masters(&zone), MH_NO_ERR);
+    IS(mh_reserve_mem(&zone, 500), MH_NO_ERR);
+    IS(mh_purge_mem(&zone, 100), MH_NO_ERR);
+    IS(mh_compact_mem(&zone, 4000, &out), MH_NO_ERR);
+    IS(out, 3140);
+    IS(mh_max_mem(&zone, &largest, &growth), MH_NO_ERR);
+    IS(largest, 3140);
+    IS(growth, 0);
+    IS(mh_free_mem(&zone, &out), MH_NO_ERR);
+    IS(out, 3140);
+    MAPS(&zone, {0x100034, 264, MH_MASTER, 0, 256, 0}, {0x10013C, 48, MH_PTR, 0x100144, 40, 0}, {0x10016C, 264, MH_MASTER, 0, 256, 0},
+         {0x100274, 20, MH_REL, 0x100040, 10, 0}, {0x100288, 308, MH_REL, 0x10003C, 300, 0}, {0x1003BC, 3140, MH_FREE, 0, 0, 0});
+    ended(&zone);
+}
+
+static void places(void) {
+    MhZone zone = fresh();
+    uint32_t h = new_handle(&zone, 100), a = 0, r = 0;
+    IS(new_ptr(&zone, 20), 0x100144);
+    IS(mh_deref(&zone, h, &a), MH_NO_ERR);
+    IS(a, 0x100F9C);
+    ended(&zone);
+    zone = fresh();
+    h = new_handle(&zone, 8);
+    IS(mh_deref(&zone, h, &a), MH_NO_ERR);
+    IS(a, 0x100144);
+    IS(mh_recover_handle(&zone, a, &r), MH_NO_ERR);
+    IS(r, 0x10003C);
+    IS(mh_dispose_handle(&zone, h), MH_NO_ERR);
+    IS(mh_dispose_handle(&zone, h), MH_MEM_WZ_ERR);
+    IS(mh_recover_handle(&zone, a, &r), MH_MEM_BC_ERR);
+    IS(mh_hlock(&zone, 0), MH_NIL_HANDLE_ERR);
+    IS(new_handle(&zone, 8), 0x10003C);
+    IS(mh_get_handle_size(&zone, h, &r), MH_NO_ERR);
+    IS(r, 8);
+    ended(&zone);
+    zone = fresh();
+    h = new_handle(&zone, 100);
+    uint8_t bytes[20];
+    IS(mh_peek(&zone, h, 90, bytes, 20), MH_PARAM_ERR);
+    IS(mh_hlock(&zone, h), MH_NO_ERR);
+    IS(mh_empty_handle(&zone, h), MH_MEM_PUR_ERR);
+    IS(mh_reallocate_handle(&zone, h, 4), MH_MEM_PUR_ERR);
+    IS(mh_new_handle(&zone, 8388608, &r), MH_MEM_FULL_ERR);
+    IS(mh_new_handle(&zone, 8388609, &r), MH_PARAM_ERR);
+    ended(&zone);
+}
+
+static void asks(int line, MhZone *zone, uint32_t index, uint32_t needed, uint32_t value, uint32_t carried) {
+    MhAsk ask;
+    same(line, "the code of an ask", mh_ask(zone, index, &ask), MH_NO_ERR);
+    same(line, "needed", ask.needed, needed);
+    same(line, "answered", ask.answered, 1);
+    same(line, "value", ask.value, value);
+    same(line, "carried", ask.carried, carried);
+}
+#define ASKS(zone, index, needed, value, carried) asks(__LINE__, zone, index, needed, value, carried)
+
+static void growing(void) {
+    MhZone zone = fresh();
+    uint32_t h = new_handle(&zone, 3000), count = 0, out = 0;
+    MhAsk ask = {0};
+    MhCarried carried = {0};
+    /* The answer's call is on the handle that grows, so it is skipped. */
+    IS(mh_queue_answer(&zone, &(MhAnswer){40, {{MH_DISPOSE_HANDLE, h}}}), MH_NO_ERR);
+    IS(mh_queue_answer(&zone, &(MhAnswer){.value = 0}), MH_NO_ERR);
+    IS(mh_set_handle_size(&zone, h, 3800), MH_MEM_FULL_ERR);
+    IS(mh_asked(&zone, &count), MH_NO_ERR);
+    IS(count, 2);
+    ASKS(&zone, 0, 3808, 40, 0);
+    ASKS(&zone, 1, 3808, 0, 0);
+    IS(mh_ask(&zone, 2, &ask), MH_PARAM_ERR);
+    IS(mh_get_handle_size(&zone, h, &out), MH_NO_ERR);
+    IS(out, 3000);
+    IS(mh_asked(&zone, &count), MH_NO_ERR);
+    IS(count, 0);
+    ended(&zone);
+    /* Sixteen answers may wait, and all are asked for. */
+    zone = fresh();
+    for (int n = 0; n < 16; n++) IS(mh_queue_answer(&zone, &(MhAnswer){.value = 1}), MH_NO_ERR);
+    IS(mh_queue_answer(&zone, &(MhAnswer){.value = 1}), MH_PARAM_ERR);
+    IS(mh_new_handle(&zone, 4000, &out), MH_MEM_FULL_ERR);
+    IS(mh_asked(&zone, &count), MH_NO_ERR);
+    IS(count, 16);
+    for (uint32_t n = 0; n < 16; n++) ASKS(&zone, n, 4008, 1, 0);
+    ended(&zone);
+    /* A handle is given up, and the call is served. */
+    zone = fresh();
+    uint32_t r = new_handle(&zone, 2000);
+    IS(mh_queue_answer(&zone, &(MhAnswer){1, {{MH_NO_CALL, 9}, {MH_DISPOSE_HANDLE, r}}}), MH_NO_ERR);
+    IS(mh_queue_answer(&zone, &(MhAnswer){1, {{4, r}}}), MH_PARAM_ERR);
+    IS(new_handle(&zone, 3000), 0x10003C);
+    ASKS(&zone, 0, 3008, 1, 1);
+    IS(mh_carried(&zone, 0, 0, &carried), MH_NO_ERR);
+    IS(carried.kind, MH_DISPOSE_HANDLE);
+    IS(carried.operand, r);
+    IS(carried.code, MH_NO_ERR);
+    IS(mh_carried(&zone, 0, 1, &carried), MH_PARAM_ERR);
+    IS(mh_carried(&zone, 1, 0, &carried), MH_PARAM_ERR);
+    /* With no answer left there is no procedure. */
+    IS(mh_new_handle(&zone, 3000, &out), MH_MEM_FULL_ERR);
+    IS(mh_ask(&zone, 0, &ask), MH_NO_ERR);
+    IS(ask.needed, 3008);
+    IS(ask.answered, 0);
+    ended(&zone);
+}
+
+/* A lent block stays where it is, and its bytes are C's until it comes back. */
+static void lending(void) {
+    MhZone zone = fresh();
+    uint32_t a = new_handle(&zone, 1000), b = new_handle(&zone, 4), out = 0;
+    uint8_t bytes[4] = {0};
+    (void)a;
+    IS(mh_lend(&zone, b), MH_PARAM_ERR);
+    IS(mh_hlock(&zone, b), MH_NO_ERR);
+    IS(mh_return(&zone, b), MH_PARAM_ERR);
+    IS(mh_lent_peek(&zone, b, 0, bytes, 4), MH_PARAM_ERR);
+    IS(mh_lend(&zone, b), MH_NO_ERR);
+    IS(mh_lend(&zone, b), MH_MEM_LOCKED_ERR);
+    IS(mh_lent_poke(&zone, b, 0, (const uint8_t *)"wxyz", 4), MH_NO_ERR);
+    IS(mh_lent_poke(&zone, b, 1, (const uint8_t *)"wxyz", 4), MH_PARAM_ERR);
+    uint32_t c = new_handle(&zone, 1000), d = new_handle(&zone, 1000);
+    IS(mh_dispose_handle(&zone, c), MH_NO_ERR);
+    IS(new_handle(&zone, 1500), 0x100044);
+    IS(mh_peek(&zone, b, 0, bytes, 4), MH_MEM_LOCKED_ERR);
+    IS(mh_hunlock(&zone, b), MH_MEM_LOCKED_ERR);
+    IS(mh_lent_peek(&zone, b, 2, bytes, 2), MH_NO_ERR);
+    IS(memcmp(bytes, "yz", 2), 0);
+    IS(mh_return(&zone, b), MH_NO_ERR);
+    IS(mh_return(&zone, b), MH_PARAM_ERR);
+    PEEKS(&zone, b, 0, "wxyz");
+    IS(mh_deref(&zone, b, &out), MH_NO_ERR);
+    IS(out, 0x100534);
+    IS(mh_deref(&zone, d, &out), MH_NO_ERR);
+    IS(out, 0x100540);
+    ended(&zone);
+    /* Eight may be lent, and the zone may end with them. */
+    zone = fresh();
+    for (int n = 0; n < 8; n++) IS(mh_lend(&zone, new_ptr(&zone, 4)), MH_NO_ERR);
+    IS(mh_lend(&zone, new_ptr(&zone, 4)), MH_PARAM_ERR);
+    ended(&zone);
+    IS(mh_lend(&zone, b), MH_PARAM_ERR);
+    IS(mh_return(&zone, b), MH_PARAM_ERR);
+}
+
+/* Two zones know nothing of each other. */
+static void two_zones(void) {
+    MhZone one = fresh(), other = sized(4096, 4096, 32);
+    uint32_t h = new_handle(&one, 6), k = new_handle(&other, 6);
+    poke(&one, h, "onexyz");
+    poke(&other, k, "other.");
+    ended(&one);
+    PEEKS(&other, k, 0, "other.");
+    ended(&other);
+}
+
+int main(void) {
+    misuse();
+    refused();
+    blocks();
+    moving();
+    purging();
+    copying();
+    places();
+    growing();
+    lending();
+    two_zones();
+    printf("%d of %d checks differ\n", faults, checks);
+    return faults != 0;
+}

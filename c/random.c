@@ -1,0 +1,126 @@
+/* Makes random calls on a zone, and writes them as a script to the first file and what C is told as replies to the second: macheap
+ * prints the same replies for that script. Its words: the files, a seed, and how many calls. */
+#include "macheap.h"
+
+#include <inttypes.h>
+#include <stdio.h>
+#include <stdlib.h>
+
+enum { KEPT = 48, BYTES = 8 };
+
+static MhZone zone = MH_NO_ZONE;
+static FILE *script, *replies;
+static uint64_t state;
+static uint32_t kept[KEPT]; /* handles and pointers, some of which are dead */
+static int line;
+
+static uint32_t below(uint32_t limit) {
+    state = state * 6364136223846793005u + 1442695040888963407u;
+    return (uint32_t)(state >> 33) % limit;
+}
+
+/* A block, mostly one that was given. */
+static uint32_t block(void) { return below(40) ? kept[below(KEPT)] : below(0x2000) + 0xFF000; }
+
+static uint32_t size(void) { return below(60) ? below(below(4) ? 60 : 900) : 8388600 + below(16); }
+
+/* The reply of a call with a number, which stands behind `sign`. */
+static void told(const char *name, MhErr code, const char *sign, uint32_t number) {
+    fprintf(replies, "%d %s", line, name);
+    if (code == MH_NO_ERR && sign) fprintf(replies, *sign ? " $%08" PRIX32 : " %" PRIu32, number);
+    fprintf(replies, " %d\n", code);
+}
+
+typedef MhErr OneOperand(MhZone *, uint32_t);
+typedef MhErr TwoOperands(MhZone *, uint32_t, uint32_t);
+typedef MhErr Looks(MhZone *, uint32_t, uint32_t *);
+typedef MhErr LooksAround(MhZone *, uint32_t *);
+
+static void one_operand(void) {
+    static const struct { const char *name; OneOperand *call; } calls[] = {
+        {"DisposeHandle", mh_dispose_handle}, {"DisposePtr", mh_dispose_ptr}, {"EmptyHandle", mh_empty_handle},
+        {"HLock", mh_hlock}, {"HUnlock", mh_hunlock}, {"HPurge", mh_hpurge}, {"HNoPurge", mh_hno_purge},
+        {"HSetRBit", mh_hset_rbit}, {"HClrRBit", mh_hclr_rbit}, {"MoveHHi", mh_move_hhi}, {"HLockHi", mh_hlock_hi},
+        {"Lend", mh_lend}, {"Return", mh_return}, {"Return", mh_return}, {"HUnlock", mh_hunlock},
+        {"DisposeHandle", mh_dispose_handle}, {"DisposePtr", mh_dispose_ptr},
+    };
+    uint32_t which = below(sizeof calls / sizeof calls[0]), x = block();
+    fprintf(script, "%s %" PRIu32 "\n", calls[which].name, x);
+    told(calls[which].name, calls[which].call(&zone, x), NULL, 0);
+}
+
+static void two_operands(void) {
+    static const struct { const char *name; TwoOperands *call; bool is_size; } calls[] = {
+        {"SetHandleSize", mh_set_handle_size, true}, {"SetPtrSize", mh_set_ptr_size, true},
+        {"ReallocateHandle", mh_reallocate_handle, true}, {"HSetState", mh_hset_state, true}, {"HandAndHand", mh_hand_and_hand, false},
+    };
+    uint32_t which = below(sizeof calls / sizeof calls[0]), x = block(), y = calls[which].is_size ? size() : block();
+    fprintf(script, "%s %" PRIu32 " %" PRIu32 "\n", calls[which].name, x, y);
+    told(calls[which].name, calls[which].call(&zone, x, y), NULL, 0);
+}
+
+static void looks(void) {
+    static const struct { const char *name; Looks *call; const char *sign; } calls[] = {
+        {"GetHandleSize", mh_get_handle_size, ""}, {"GetPtrSize", mh_get_ptr_size, ""}, {"HGetState", mh_hget_state, ""},
+        {"Deref", mh_deref, "$"}, {"CompactMem", mh_compact_mem, ""},
+    };
+    uint32_t which = below(sizeof calls / sizeof calls[0]), x = block(), number = 0;
+    fprintf(script, "%s %" PRIu32 "\n", calls[which].name, x);
+    MhErr code = calls[which].call(&zone, x, &number);
+    told(calls[which].name, code, calls[which].sign, number);
+}
+
+static void looks_around(void) {
+    static const struct { const char *name; LooksAround *call; } calls[] = {{"FreeMem", mh_free_mem}, {"MaxBlock", mh_max_block}};
+    uint32_t which = below(2), number = 0;
+    fprintf(script, "%s\n", calls[which].name);
+    MhErr code = calls[which].call(&zone, &number);
+    told(calls[which].name, code, "", number);
+}
+
+/* A block that comes: its number is kept. */
+static void comes(void) {
+    static const struct { const char *name; Looks *call; } calls[] = {
+        {"NewHandle", mh_new_handle}, {"NewHandle", mh_new_handle}, {"NewPtr", mh_new_ptr}, {"HandToHand", mh_hand_to_hand},
+    };
+    uint32_t which = below(4), operand = which == 3 ? block() : size(), number = 0;
+    fprintf(script, "%s %" PRIu32 "\n", calls[which].name, operand);
+    MhErr code = calls[which].call(&zone, operand, &number);
+    told(calls[which].name, code, "$", number);
+    if (code == MH_NO_ERR) kept[below(KEPT)] = number;
+}
+
+/* Bytes go in and come out, of a block or of one that is lent. Each begins with a byte over $7E, so that it is shown in digits. */
+static void bytes(void) {
+    bool lent = !below(4);
+    uint32_t x = block(), at = below(6), count = 1 + below(BYTES);
+    uint8_t some[BYTES] = {0};
+    if (below(2)) {
+        const char *name = lent ? "LentPoke" : "Poke";
+        fprintf(script, "%s %" PRIu32 " %" PRIu32 " $\"", name, x, at);
+        for (uint32_t n = 0; n < count; n++) fprintf(script, "%02X", some[n] = (uint8_t)(0x80 + below(128)));
+        fprintf(script, "\"\n");
+        told(name, (lent ? mh_lent_poke : mh_poke)(&zone, x, at, some, count), NULL, 0);
+        return;
+    }
+    const char *name = lent ? "LentPeek" : "Peek";
+    fprintf(script, "%s %" PRIu32 " %" PRIu32 " %" PRIu32 "\n", name, x, at, count);
+    MhErr code = (lent ? mh_lent_peek : mh_peek)(&zone, x, at, some, count);
+    fprintf(replies, "%d %s", line, name);
+    if (code == MH_NO_ERR) {
+        fprintf(replies, " $\"");
+        for (uint32_t n = 0; n < count; n++) fprintf(replies, "%02X", some[n]);
+        fprintf(replies, "\"");
+    }
+    fprintf(replies, " %d\n", code);
+}
+
+int main(int count, char **words) {
+    if (count != 5 || !(script = fopen(words[1], "w")) || !(replies = fopen(words[2], "w"))) return 2;
+    state = strtoull(words[3], NULL, 10);
+    int calls = atoi(words[4]);
+    if (mh_make_zone(&zone, 0x100000, 4096, 8192, 24) != MH_NO_ERR) return 1;
+    static void (*const kinds[])(void) = {one_operand, one_operand, one_operand, two_operands, looks, looks_around, comes, comes, comes, bytes, bytes};
+    for (line = 1; line <= calls; line++) kinds[below(sizeof kinds / sizeof kinds[0])]();
+    return mh_end_zone(&zone) != MH_NO_ERR || fclose(script) || fclose(replies);
+}

@@ -1,0 +1,5 @@
+mod Queued
+mod Shown
+mod Steps
+mod Words
+mod Written

@@ -1,0 +1,9 @@
+use Rattle.std.proofs.Common.{rules, ◌∙◌, Some}
+use Rattle.macheap_c.specs.Told.{shown_outcome}
+use Rattle.macheap_c.proofs.Shown.{bytes-shown, code-shown}
+use Rattle.macheap_c.proofs.bytes.mh_peek.Goals as goal
+
+pub returns : goal.returns
+returns c =
+    let code = c.done.ensures ∙ code-shown c.peek-done.result c.peek-done.new.bytes in
+    (Some (shown_outcome c.peek-done.result c.peek-done.new.bytes), search rules, bytes-shown c.peek-done.result c.args.bytes.now c.peek-done.new.bytes c.peek-done.ensures.kept, search rules)

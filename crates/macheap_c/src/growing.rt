@@ -1,0 +1,247 @@
+//! The grow-zone procedure of C: answers that are queued before a call, and what a call asked, which is read behind it.
+
+ghost use Rattle.std.specs.Prelude.{◌≡◌, option_map};
+ghost use Rattle.std.specs.List.{list_all, slice_get};
+ghost use Rattle.mac_calls.specs.GrowZone.{Ask};
+ghost use Rattle.macheap_c.specs.Growing.{AnswerTold, IsShown, answer_of, ask_at, asks_made, carried_at, carried_for, is_known, release_of, shown_ask, shown_carried};
+
+use crate::answers::{Carried, MadeAsk, Queued};
+use crate::told::{self, NO_ZONE};
+use crate::zone::MhZone;
+use mac_base::error::{NO_ERR, OsErr};
+use mac_base::handle::{Handle, Ptr};
+use mac_base::releasing::ReleasingCall;
+use std::alloc::Global;
+
+/// The kind of a call of an answer with the largest number.
+const LAST_KIND: u32 = 3;
+
+/// A call of an answer, or none: its kind (0 none, 1 DisposeHandle, 2 DisposePtr, 3 EmptyHandle) and its operand.
+#[repr(C)]
+#[derive(Clone, Copy)]
+pub struct MhRelease {
+    pub kind: u32,
+    pub operand: u32,
+}
+
+/// An answer of the grow-zone procedure: a value that isn't 0 where another trial may find room, and calls that release
+/// blocks, in order: in C an array of eight.
+#[repr(C)]
+#[derive(Clone, Copy)]
+pub struct MhAnswer {
+    pub value: u32,
+    pub first: MhRelease,
+    pub second: MhRelease,
+    pub third: MhRelease,
+    pub fourth: MhRelease,
+    pub fifth: MhRelease,
+    pub sixth: MhRelease,
+    pub seventh: MhRelease,
+    pub eighth: MhRelease,
+}
+
+/// One ask of a call: the bytes that were needed, whether it was answered (1) or not (0), the answer's value, and how
+/// many of its calls were carried out.
+#[repr(C)]
+#[derive(Clone, Copy)]
+pub struct MhAsk {
+    pub needed: u32,
+    pub answered: u32,
+    pub value: u32,
+    pub carried: u32,
+}
+
+/// A call of an answer that was carried out, and its code.
+#[repr(C)]
+#[derive(Clone, Copy)]
+pub struct MhCarried {
+    pub kind: u32,
+    pub operand: u32,
+    pub code: i16,
+}
+
+/// Queues an answer behind the others, for the calls to come. Sixteen may wait.
+#[unsafe(no_mangle)]
+pub extern "C" fn mh_queue_answer(alloc: Global, zone: &mut MhZone, answer: &MhAnswer) -> i16
+    ensures { AnswerTold zone.old.held.session answer.now result zone.new.held.session }
+{
+    let Some(mut session) = zone.take(alloc) else {
+        return NO_ZONE;
+    };
+    let Some(answer) = queued(answer) else {
+        zone.put(session);
+        return OsErr::ParamErr.code();
+    };
+    let done = session.queue(answer);
+    zone.put(session);
+    told::done(done)
+}
+
+/// The answer that C gives, if all its places are of known kinds.
+fn queued(answer: &MhAnswer) -> Option<Queued>
+    ensures { result ≡ answer_of answer.now }
+{
+    let MhAnswer {
+        value,
+        first,
+        second,
+        third,
+        fourth,
+        fifth,
+        sixth,
+        seventh,
+        eighth,
+    } = *answer;
+    if !are_known(&[first, second, third, fourth, fifth, sixth, seventh, eighth]) {
+        return None;
+    }
+    let calls = [
+        release(first),
+        release(second),
+        release(third),
+        release(fourth),
+        release(fifth),
+        release(sixth),
+        release(seventh),
+        release(eighth),
+    ];
+    Some(Queued::new(calls, value))
+}
+
+/// Whether all these places are of known kinds.
+fn are_known(places: &[MhRelease]) -> bool
+    ensures { result ≡ list_all is_known places.now }
+{
+    places.iter().all(|place| place.kind <= LAST_KIND)
+}
+
+/// The call at a place of an answer, if it has one.
+fn release(place: MhRelease) -> Option<ReleasingCall>
+    ensures { result ≡ release_of place }
+{
+    match place.kind {
+        1 => Some(ReleasingCall::DisposesHandle(Handle::new(place.operand))),
+        2 => Some(ReleasingCall::DisposesPtr(Ptr::new(place.operand))),
+        3 => Some(ReleasingCall::Empties(Handle::new(place.operand))),
+        _ => None,
+    }
+}
+
+/// How often the last call of the Memory Manager asked.
+#[unsafe(no_mangle)]
+pub extern "C" fn mh_asked(alloc: Global, zone: &mut MhZone, count: &mut u32) -> i16
+    ensures { IsShown asks_made zone.old.held.session result count.old count.new zone.new.held.session }
+{
+    let Some(session) = zone.take(alloc) else {
+        return NO_ZONE;
+    };
+    *count = session.asks_made();
+    zone.put(session);
+    NO_ERR
+}
+
+/// One of the asks of the last call, from 0 on. paramErr where there are not so many.
+#[unsafe(no_mangle)]
+pub extern "C" fn mh_ask(alloc: Global, zone: &mut MhZone, index: u32, ask: &mut MhAsk) -> i16
+    ensures { IsShown (ask_at index) zone.old.held.session result ask.old ask.new zone.new.held.session }
+{
+    let Some(session) = zone.take(alloc) else {
+        return NO_ZONE;
+    };
+    let found = shown_at(session.asks(), index as usize);
+    zone.put(session);
+    match found {
+        Some(found) => {
+            *ask = found;
+            NO_ERR
+        }
+        None => OsErr::ParamErr.code(),
+    }
+}
+
+/// One of the calls that were carried out for one of these asks, both from 0 on. paramErr where there are not so many.
+#[unsafe(no_mangle)]
+pub extern "C" fn mh_carried(
+    alloc: Global,
+    zone: &mut MhZone,
+    index: u32,
+    place: u32,
+    carried: &mut MhCarried,
+) -> i16
+    ensures { IsShown (carried_at index place) zone.old.held.session result carried.old carried.new zone.new.held.session }
+{
+    let Some(session) = zone.take(alloc) else {
+        return NO_ZONE;
+    };
+    let found = carried_in(session.asks(), index as usize, place as usize);
+    zone.put(session);
+    match found {
+        Some(found) => {
+            *carried = found;
+            NO_ERR
+        }
+        None => OsErr::ParamErr.code(),
+    }
+}
+
+/// The ask at a place, as C is shown it.
+fn shown_at(asks: &[MadeAsk], index: usize) -> Option<MhAsk>
+    ensures { result ≡ option_map shown_ask (slice_get asks.now index) }
+{
+    if index < asks.len() {
+        Some(shown_ask(&asks[index]))
+    } else {
+        None
+    }
+}
+
+/// An ask as C is shown it.
+fn shown_ask(ask: &MadeAsk) -> MhAsk
+    ensures { result ≡ shown_ask ask.now }
+{
+    let (answered, value) = match ask.answer() {
+        Some(answer) => (1, answer.value()),
+        None => (0, 0),
+    };
+    MhAsk {
+        needed: ask.needed(),
+        answered,
+        value,
+        carried: ask.carried().len() as u32,
+    }
+}
+
+/// A call that was carried out for one of these asks, as C is shown it.
+fn carried_in(asks: &[MadeAsk], index: usize, place: usize) -> Option<MhCarried>
+    ensures { result ≡ option_map shown_carried (slice_get (carried_for (slice_get asks.now index)) place) }
+{
+    if index >= asks.len() {
+        return None;
+    }
+    let carried = asks[index].carried();
+    if place < carried.len() {
+        Some(shown_carried(&carried[place]))
+    } else {
+        None
+    }
+}
+
+/// A call that was carried out, as C is shown it.
+fn shown_carried(carried: &Carried) -> MhCarried
+    ensures { result ≡ shown_carried carried.now }
+{
+    let (kind, operand) = match carried.call() {
+        ReleasingCall::DisposesHandle(handle) => (1, handle.number()),
+        ReleasingCall::DisposesPtr(pointer) => (2, pointer.number()),
+        ReleasingCall::Empties(handle) => (3, handle.number()),
+    };
+    let code = match carried.code() {
+        None => NO_ERR,
+        Some(code) => code.code(),
+    };
+    MhCarried {
+        kind,
+        operand,
+        code,
+    }
+}

@@ -1,0 +1,99 @@
+//! The calls on blocks that are lent. C has their bytes by copies.
+
+ghost use Rattle.std.specs.Prelude.{◌≡◌, length, OnErr};
+ghost use Rattle.held_loans.specs.Holding.{Holds, loans_of};
+ghost use Rattle.mac_calls.specs.declared.loan_call.LoanCall.TheVariants as loan_call;
+ghost use Rattle.mac_calls.specs.Loans.{LoanStep};
+ghost use Rattle.macheap_c.specs.Told.{LoanTold, LoanToldBytes, shown_outcome};
+
+use crate::told::{self, NO_ZONE};
+use crate::zone::MhZone;
+use held_loans::lending;
+use held_loans::loans::Loans;
+use mac_base::error::OsErr;
+use mem_calls::MemoryManager;
+use std::alloc::Global;
+
+/// Lend: C has the bytes of a pointer's or a locked handle's block, until it gives them back. The block stays where it is,
+/// and calls that would read, write, free, resize or unlock it are refused.
+#[unsafe(no_mangle)]
+pub extern "C" fn mh_lend(alloc: Global, zone: &mut MhZone, block: u32) -> i16
+    ensures { LoanTold zone.old.held.session (loan_call.Lend block) result zone.new.held.session }
+{
+    let Some(mut session) = zone.take(alloc) else {
+        return NO_ZONE;
+    };
+    let outcome = session.lend(block);
+    zone.put(session);
+    told::code(&Some(outcome))
+}
+
+/// Return: gives a block's bytes back.
+#[unsafe(no_mangle)]
+pub extern "C" fn mh_return(alloc: Global, zone: &mut MhZone, block: u32) -> i16
+    ensures { LoanTold zone.old.held.session (loan_call.Return block) result zone.new.held.session }
+{
+    let Some(mut session) = zone.take(alloc) else {
+        return NO_ZONE;
+    };
+    let outcome = session.take_back(block);
+    zone.put(session);
+    told::code(&Some(outcome))
+}
+
+/// Copies bytes that C has of a lent block, from an offset on.
+#[unsafe(no_mangle)]
+pub extern "C" fn mh_lent_peek(
+    alloc: Global,
+    zone: &mut MhZone,
+    block: u32,
+    offset: u32,
+    bytes: &mut [u8],
+) -> i16
+    ensures { LoanToldBytes zone.old.held.session (loan_call.LentPeek block offset (length bytes.old)) result bytes.old bytes.new zone.new.held.session }
+{
+    let Some(mut session) = zone.take(alloc) else {
+        return NO_ZONE;
+    };
+    let done = session.lent_peek(block, offset, bytes);
+    zone.put(session);
+    told::done(done)
+}
+
+/// Copies bytes over those that C has of a lent block, from an offset on.
+#[unsafe(no_mangle)]
+pub extern "C" fn mh_lent_poke(
+    alloc: Global,
+    zone: &mut MhZone,
+    block: u32,
+    offset: u32,
+    bytes: &[u8],
+) -> i16
+    ensures { LoanTold zone.old.held.session (loan_call.LentPoke block offset bytes.now) result zone.new.held.session }
+{
+    let Some(mut session) = zone.take(alloc) else {
+        return NO_ZONE;
+    };
+    let outcome = session.lent_poke(block, offset, bytes);
+    zone.put(session);
+    told::code(&Some(outcome))
+}
+
+/// Copies bytes of a loan.
+pub(crate) fn peek(
+    memory: &MemoryManager,
+    loans: &Loans,
+    block: u32,
+    offset: u32,
+    bytes: &mut [u8],
+) -> Result<(), OsErr>
+    requires { Holds memory.now loans.now }
+    ensures step { LoanStep memory.now.shape (loans_of loans.now) memory.now.heap (loan_call.LentPeek block offset (length bytes.old)) (shown_outcome result bytes.new) (loans_of loans.now) memory.now.heap }
+    ensures kept { OnErr result (bytes.new ≡ bytes.old) }
+{
+    let count = bytes.len();
+    let lent = lending::lent_bytes(memory, loans, block, offset, count)?;
+    let start = offset as usize;
+    bytes.copy_from_slice(&lent[start..start + count]);
+    Ok(())
+}

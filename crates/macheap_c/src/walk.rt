@@ -1,0 +1,99 @@
+//! The walk over the blocks of a zone.
+
+ghost use Rattle.std.specs.Prelude.{◌≡◌};
+ghost use Rattle.mac_base.specs.FlagState.{state_of};
+ghost use Rattle.macheap_c.specs.Walk.{BlockTold, FirstTold, kind_number, owner_number, shown_block};
+
+use crate::told::NO_ZONE;
+use crate::zone::MhZone;
+use mac_base::block::{Block, Entry, Flags, Kind};
+use mac_base::error::{NO_ERR, OsErr};
+use std::alloc::Global;
+
+/// A block: its header's address, its physical size, its kind (0 free, 1 master, 2 nonrelocatable, 3 relocatable), the
+/// pointer or handle whose block it is, and the bytes of contents and the flags that this one has.
+#[repr(C)]
+#[derive(Clone, Copy)]
+pub struct MhBlock {
+    pub address: u32,
+    pub size: u32,
+    pub kind: u32,
+    pub owner: u32,
+    pub length: u32,
+    pub flags: u32,
+}
+
+/// The address of the zone's first block header.
+#[unsafe(no_mangle)]
+pub extern "C" fn mh_first_block(alloc: Global, zone: &mut MhZone, at: &mut u32) -> i16
+    ensures { FirstTold zone.old.held.session result at.old at.new zone.new.held.session }
+{
+    let Some(session) = zone.take(alloc) else {
+        return NO_ZONE;
+    };
+    *at = session.first_block();
+    zone.put(session);
+    NO_ERR
+}
+
+/// The block whose header stands at an address. memWZErr where none does.
+#[unsafe(no_mangle)]
+pub extern "C" fn mh_block(alloc: Global, zone: &mut MhZone, at: u32, block: &mut MhBlock) -> i16
+    ensures { BlockTold zone.old.held.session at result block.old block.new zone.new.held.session }
+{
+    let Some(session) = zone.take(alloc) else {
+        return NO_ZONE;
+    };
+    let found = session.block(at);
+    zone.put(session);
+    match found {
+        Some(found) => {
+            *block = shown_block(found);
+            NO_ERR
+        }
+        None => OsErr::MemWzErr.code(),
+    }
+}
+
+/// A block as C is shown it.
+fn shown_block(block: Block) -> MhBlock
+    ensures { result ≡ shown_block block }
+{
+    let Block {
+        address,
+        entry: Entry { size, kind },
+        length,
+        flags,
+    } = block;
+    let (kind, owner) = kind_and_owner(kind);
+    MhBlock {
+        address,
+        size,
+        kind,
+        owner,
+        length,
+        flags: state_of(flags),
+    }
+}
+
+/// The number of a kind of block, and the pointer or the handle whose block it is, or 0 where it is nobody's.
+fn kind_and_owner(kind: Kind) -> (u32, u32)
+    ensures { result ≡ (kind_number kind, owner_number kind) }
+{
+    match kind {
+        Kind::Free => (0, 0),
+        Kind::Master => (1, 0),
+        Kind::Ptr(pointer) => (2, pointer.number()),
+        Kind::Rel(handle) => (3, handle.number()),
+    }
+}
+
+/// Flags as a number: lock 128, purgeable 64, resource 32, added.
+fn state_of(flags: Flags) -> u32
+    ensures { result ≡ state_of flags }
+{
+    let lock = if flags.lock { 128 } else { 0 };
+    let purge = if flags.purge { 64 } else { 0 };
+    let resource = if flags.resource { 32 } else { 0 };
+    lock + purge + resource
+}

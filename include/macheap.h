@@ -1,0 +1,178 @@
+/* The classic Macintosh Memory Manager over one heap zone, for programs in C and C++.
+ *
+ * Each function is one call, and answers with an OSErr: 0 (noErr) or a negative code. A call that is refused writes
+ * nothing through its pointers. What each does, to the byte, is what the project's contracts say of the call of that
+ * name: crates/macheap_c/specs, and docs/PROMISES.md.
+ *
+ * What the caller promises, and nothing tests:
+ *  - An MhZone begins as MH_NO_ZONE, and then only these functions write it. It may be moved, but a copy of one with a
+ *    zone is never passed to them.
+ *  - A pointer is not null, is aligned, and leads to what its type says, to be read, or where it isn't const, written.
+ *    Those of one call don't overlap. This holds where a count is 0, too.
+ *  - One call at a time on one zone, on one thread, and none from a signal handler. Two zones are independent.
+ *  - malloc, realloc and free of the program are those of one C library.
+ *
+ * What is tested, and answered with a code that changes nothing: any call before mh_make_zone or behind mh_end_zone,
+ * mh_make_zone on a zone that is there, mh_end_zone twice (paramErr); any number as a handle, a pointer, a size, an
+ * offset or an address, live or not. A zone that is forgotten keeps its memory: end it. All memory of the host is taken
+ * by mh_make_zone.
+ */
+#ifndef MACHEAP_H
+#define MACHEAP_H
+
+#include <stdbool.h>
+#include <stddef.h>
+#include <stdint.h>
+
+#ifdef __cplusplus
+extern "C" {
+#endif
+
+typedef int16_t MhErr;
+
+enum {
+    MH_NO_ERR = 0,
+    MH_PARAM_ERR = -50,       /* an operand is out of its range, or there is no zone */
+    MH_MEM_FULL_ERR = -108,   /* the zone has no room; of mh_make_zone: the host has no memory */
+    MH_NIL_HANDLE_ERR = -109, /* the handle is 0 or empty */
+    MH_MEM_WZ_ERR = -111,     /* the number names no block of the zone */
+    MH_MEM_PUR_ERR = -112,    /* the block is locked, and can't be purged */
+    MH_MEM_BC_ERR = -115,     /* no handle's contents begin there */
+    MH_MEM_LOCKED_ERR = -117  /* the block is locked, or lent */
+};
+
+/* A zone, or none. Its fields are the library's. */
+typedef struct MhZone {
+    bool live;
+    void *held;
+} MhZone;
+
+#define MH_NO_ZONE {false, NULL}
+
+/* Makes a zone that begins at the address `base`, has `size` bytes and may grow to `limit` bytes, all of them multiples
+ * of 4: size 1024 at least, limit 1048576 at most and size or at least 16 more, base $1000 at least, base + limit
+ * $1000000 at most. `mode` is 24 or 32: blocks with headers of 8 or of 12 bytes. Else paramErr. */
+MhErr mh_make_zone(MhZone *zone, uint32_t base, uint32_t size, uint32_t limit, uint32_t mode);
+/* Ends a zone. It is MH_NO_ZONE then, and may be made again. */
+MhErr mh_end_zone(MhZone *zone);
+
+/* Blocks that come and go. A handle is the address of a master pointer, a pointer that of its block's contents; both are
+ * numbers of the zone's own addresses, and no pointers of C. New bytes are zero. */
+MhErr mh_new_handle(MhZone *zone, uint32_t size, uint32_t *handle);
+MhErr mh_new_empty_handle(MhZone *zone, uint32_t *handle);
+MhErr mh_new_ptr(MhZone *zone, uint32_t size, uint32_t *pointer);
+MhErr mh_dispose_handle(MhZone *zone, uint32_t handle);
+MhErr mh_dispose_ptr(MhZone *zone, uint32_t pointer);
+MhErr mh_empty_handle(MhZone *zone, uint32_t handle);
+
+/* Their sizes, in bytes of contents: 8388608 at most. */
+MhErr mh_set_handle_size(MhZone *zone, uint32_t handle, uint32_t size);
+MhErr mh_get_handle_size(MhZone *zone, uint32_t handle, uint32_t *number);
+MhErr mh_set_ptr_size(MhZone *zone, uint32_t pointer, uint32_t size);
+MhErr mh_get_ptr_size(MhZone *zone, uint32_t pointer, uint32_t *number);
+MhErr mh_reallocate_handle(MhZone *zone, uint32_t handle, uint32_t size);
+
+/* Their flags. A state is MH_LOCK, MH_PURGE and MH_RESOURCE, added. */
+enum { MH_LOCK = 128, MH_PURGE = 64, MH_RESOURCE = 32 };
+MhErr mh_hlock(MhZone *zone, uint32_t handle);
+MhErr mh_hunlock(MhZone *zone, uint32_t handle);
+MhErr mh_hpurge(MhZone *zone, uint32_t handle);
+MhErr mh_hno_purge(MhZone *zone, uint32_t handle);
+MhErr mh_hset_rbit(MhZone *zone, uint32_t handle);
+MhErr mh_hclr_rbit(MhZone *zone, uint32_t handle);
+MhErr mh_hget_state(MhZone *zone, uint32_t handle, uint32_t *number);
+MhErr mh_hset_state(MhZone *zone, uint32_t handle, uint32_t state);
+
+/* Where they stand. mh_deref gives what the handle's master pointer says: where the contents begin. */
+MhErr mh_deref(MhZone *zone, uint32_t handle, uint32_t *address);
+MhErr mh_move_hhi(MhZone *zone, uint32_t handle);
+MhErr mh_hlock_hi(MhZone *zone, uint32_t handle);
+MhErr mh_recover_handle(MhZone *zone, uint32_t address, uint32_t *handle);
+
+/* Room. mh_compact_mem gives the largest free block then, mh_max_mem that and the bytes by which the zone may still grow,
+ * mh_purge_space the bytes that purging would free in all and in one block, mh_max_block those that moving would bring
+ * together, mh_free_mem all free ones. */
+MhErr mh_reserve_mem(MhZone *zone, uint32_t size);
+MhErr mh_more_masters(MhZone *zone);
+MhErr mh_compact_mem(MhZone *zone, uint32_t size, uint32_t *number);
+MhErr mh_purge_mem(MhZone *zone, uint32_t size);
+MhErr mh_max_mem(MhZone *zone, uint32_t *largest, uint32_t *growth);
+MhErr mh_purge_space(MhZone *zone, uint32_t *total, uint32_t *contiguous);
+MhErr mh_max_block(MhZone *zone, uint32_t *number);
+MhErr mh_free_mem(MhZone *zone, uint32_t *number);
+MhErr mh_max_appl_zone(MhZone *zone);
+
+/* Bytes from block to block. mh_hand_and_hand appends the first handle's bytes to the second's. mh_block_move copies `count`
+ * bytes of `from`, from `start` on, over those of `to` from `offset` on; blocks are a handle's or a pointer's. */
+MhErr mh_hand_to_hand(MhZone *zone, uint32_t handle, uint32_t *new_handle);
+MhErr mh_ptr_to_hand(MhZone *zone, uint32_t pointer, uint32_t count, uint32_t *handle);
+MhErr mh_ptr_to_xhand(MhZone *zone, uint32_t pointer, uint32_t handle, uint32_t count);
+MhErr mh_ptr_and_hand(MhZone *zone, uint32_t pointer, uint32_t handle, uint32_t count);
+MhErr mh_hand_and_hand(MhZone *zone, uint32_t one, uint32_t other);
+MhErr mh_block_move(MhZone *zone, uint32_t from, uint32_t start, uint32_t to, uint32_t offset, uint32_t count);
+
+/* Bytes out of a block and into it, from an offset on. The block is a handle's or a pointer's. paramErr where it has
+ * fewer bytes. */
+MhErr mh_peek(MhZone *zone, uint32_t block, uint32_t offset, uint8_t *bytes, size_t count);
+MhErr mh_poke(MhZone *zone, uint32_t block, uint32_t offset, const uint8_t *bytes, size_t count);
+
+/* Loans. mh_lend lends a pointer's block, or that of a locked handle: then its bytes are C's, until mh_return. The block
+ * stays where it is, and each call that would read, write, free, resize or unlock it answers memLockedErr. C reads and
+ * writes the bytes by copies: there is no window into a zone, and no pointer is ever handed out. paramErr for an unlocked
+ * handle, for a ninth loan, and of the other three calls for a block that isn't lent. mh_end_zone takes back what is lent. */
+MhErr mh_lend(MhZone *zone, uint32_t block);
+MhErr mh_lent_peek(MhZone *zone, uint32_t block, uint32_t offset, uint8_t *bytes, size_t count);
+MhErr mh_lent_poke(MhZone *zone, uint32_t block, uint32_t offset, const uint8_t *bytes, size_t count);
+MhErr mh_return(MhZone *zone, uint32_t block);
+
+/* The walk over the zone's blocks, lowest first: from mh_first_block on, the next header stands at address + size, and
+ * behind the last block memWZErr is answered. */
+enum { MH_FREE = 0, MH_MASTER = 1, MH_PTR = 2, MH_REL = 3 };
+typedef struct MhBlock {
+    uint32_t address; /* of its header */
+    uint32_t size;    /* in all, header included */
+    uint32_t kind;    /* MH_FREE, MH_MASTER, MH_PTR (nonrelocatable) or MH_REL (relocatable) */
+    uint32_t owner;   /* its pointer or its handle, or 0 */
+    uint32_t length;  /* of its contents; 256 of a master block, whose 64 master pointers they are */
+    uint32_t flags;   /* of its handle */
+} MhBlock;
+MhErr mh_first_block(MhZone *zone, uint32_t *at);
+MhErr mh_block(MhZone *zone, uint32_t at, MhBlock *block);
+
+/* The grow-zone procedure. A call that finds no room asks it for bytes. It answers here what was queued before the call,
+ * first in, first out; with none left there is no procedure. An answer's calls are carried out in order, those on a
+ * block of the running call skipped; then a value that isn't 0 has the call try once more, 16 times at most. Sixteen
+ * answers may wait; paramErr for the next, and for a kind that there isn't. */
+enum { MH_NO_CALL = 0, MH_DISPOSE_HANDLE = 1, MH_DISPOSE_PTR = 2, MH_EMPTY_HANDLE = 3 };
+typedef struct MhRelease {
+    uint32_t kind; /* MH_NO_CALL, MH_DISPOSE_HANDLE, MH_DISPOSE_PTR or MH_EMPTY_HANDLE */
+    uint32_t operand;
+} MhRelease;
+typedef struct MhAnswer {
+    uint32_t value;
+    MhRelease calls[8];
+} MhAnswer;
+MhErr mh_queue_answer(MhZone *zone, const MhAnswer *answer);
+
+/* What the last call asked, from 0 on: mh_asked counts the asks, and mh_ask shows one. Of an ask mh_carried shows the
+ * calls of its answer that were carried out, from 0 on. paramErr where there are not so many. Each call of the Memory
+ * Manager above, and mh_queue_answer, forgets what was asked before it; the walk doesn't. */
+typedef struct MhAsk {
+    uint32_t needed;   /* bytes, header included */
+    uint32_t answered; /* 1, or 0 where no answer was left */
+    uint32_t value;    /* of the answer */
+    uint32_t carried;  /* how many of its calls were carried out */
+} MhAsk;
+typedef struct MhCarried {
+    uint32_t kind;
+    uint32_t operand;
+    MhErr code;
+} MhCarried;
+MhErr mh_asked(MhZone *zone, uint32_t *count);
+MhErr mh_ask(MhZone *zone, uint32_t index, MhAsk *ask);
+MhErr mh_carried(MhZone *zone, uint32_t index, uint32_t place, MhCarried *carried);
+
+#ifdef __cplusplus
+}
+#endif
+#endif
