@@ -5,4 +5,5 @@ pub mod Bare
 pub mod Files
 pub mod Pairs
 pub mod Resources
+pub mod Sorting
 pub mod Expanded

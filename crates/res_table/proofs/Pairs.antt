@@ -1,5 +1,5 @@
 -- The rows that have a key, in the order of keys.
-use Rattle.std.proofs.Common.{ℤ, ◌++◌, ◌≡◌, refl, sym, ap, ◌∙◌, subst, arith, ℕ, zero, suc, ◌+◌, ◌-◌, ◌*◌, ◌%◌, ◌<◌, ◌≤◌, List, [], ◌∷◌, length, map, get_or, take, drop, set, remove, slice_get, Bool, true, false, ◌||◌, ◌&&◌, ◌==◌, Option, Some, None, position, if◌then◌else◌}
+use Rattle.std.proofs.Common.{ℤ, ◌≡◌, refl, sym, ap, ◌∙◌, subst, arith, ℕ, zero, suc, ◌+◌, ◌-◌, ◌*◌, ◌%◌, ◌<◌, ◌≤◌, List, [], ◌∷◌, length, map, get_or, take, drop, set, remove, slice_get, Bool, true, false, ◌||◌, ◌&&◌, ◌==◌, Option, Some, None, position, if◌then◌else◌}
 use Rattle.std.specs.Prelude.{option_map, insert, nat_lt, nat_le, not, All, IsTrue, ◌↔◌}
 use Rattle.std.specs.List.{position_from}
 use Rattle.std.specs.List.Sorted.{IsPartitionedBy}
@@ -149,14 +149,6 @@ pairs_insert key at (suc i) k r (q ∷ qs) is within =
     ∙ commute_key (key q) (key r) at k (map (pushed_back k) (pairs_from key (at + 1) qs))
     ∙ ap (with_key (key r) k) (sym (push_at k at at (key q) (pairs_from key (at + 1) qs) (λ g. before k at g (omega arith))))
 
--- or stands behind all others
-pub pairs_more : {D : Type 0} (key : Row D → Option ℕ) (at : ℕ) (r : Row D) (rows : List (Row D)) → pairs_from key at (rows ++ r ∷ []) ≡ with_key (key r) (at + length rows) (pairs_from key at rows)
-pairs_more key at r [] = let e : at ≡ at + 0 = omega arith in ap (λ (n : ℕ). with_key (key r) n []) e
-pairs_more key at r (q ∷ qs) =
-    ap (with_key (key q) at) (pairs_more key (at + 1) r qs)
-    ∙ commute_key (key q) (key r) at (at + 1 + length qs) (pairs_from key (at + 1) qs)
-    ∙ (let e : at + 1 + length qs ≡ at + suc (length qs) = omega arith in ap (λ (n : ℕ). with_key (key r) n (with_key (key q) at (pairs_from key (at + 1) qs))) e)
-
 -- and taken out
 back : (k g a : ℕ) → pulled_up k (pushed_back k (record { key = g; place = a })) ≡ record { key = g; place = a }
 back k g a = by (nat_le k a) refl
@@ -234,7 +226,7 @@ none_before_with q p (r ∷ rs) first none = by (is_before r p) (none_before_wit
     by true deeper = (none.0, deeper)
     by false deeper = (first, none)
 
-none_before_through : (p q : Pair) (rs : List Pair) → is_before q p ≡ false → NoneBefore q rs → NoneBefore p rs
+pub none_before_through : (p q : Pair) (rs : List Pair) → is_before q p ≡ false → NoneBefore q rs → NoneBefore p rs
 none_before_through p q [] first none = tt
 none_before_through p q (r ∷ rs) first none = (none_through p q r first none.0, none_before_through p q rs first none.1)
 

@@ -34,6 +34,11 @@ abbrev pub with_pair : Pair → List Pair → List Pair
 with_pair p [] = p ∷ []
 with_pair p (q ∷ qs) = if is_before q p then q ∷ with_pair p qs else p ∷ q ∷ qs
 
+-- pairs, put in where they belong
+abbrev pub in_order : List Pair → List Pair
+in_order [] = []
+in_order (p ∷ ps) = with_pair p (in_order ps)
+
 -- the pairs without the one that stands where this one belongs
 abbrev pub without_pair : Pair → List Pair → List Pair
 without_pair p ps = remove ps (rank p ps)

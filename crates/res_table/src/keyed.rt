@@ -1,7 +1,7 @@
 //! Where the rows stand that have a key.
 
 ghost use Rattle.std.specs.Prelude.{◌≡◌, ◌<◌, ◌≤◌, ◌+◌, ◌^◌, ◌↔◌, [], length, map, All, OnOk, IfSome, IsTrue, vec_len, vec_capacity};
-ghost use Rattle.res_table.specs.Keyed.{is_before, rank, with_pair, without_pair, with_key, without_key, pushed_back, pulled_up, first_place, AreInOrder};
+ghost use Rattle.res_table.specs.Keyed.{in_order, is_before, rank, with_pair, without_pair, with_key, without_key, pushed_back, pulled_up, first_place, AreInOrder};
 
 use mac_base::error::HostFull;
 use std::alloc::Global;
@@ -12,10 +12,10 @@ const NEAR: usize = 4;
 const FAR: usize = 64;
 
 /// The key of a row that has one, and where the row stands.
-#[derive(Clone, Copy)]
+#[derive(Clone, Copy, PartialEq, Eq, PartialOrd, Ord)]
 pub(crate) struct Pair {
-    key: u64,
-    place: usize,
+    pub(crate) key: u64,
+    pub(crate) place: usize,
 }
 
 impl Pair {
@@ -169,6 +169,14 @@ impl Keyed {
         Keyed {
             pairs: Vec::new(alloc),
         }
+    }
+
+    /// The pairs of rows, which may come in any order.
+    pub(crate) fn sorted(mut pairs: Vec<Pair>) -> Keyed
+        ensures { result.pairs.items ≡ in_order pairs.items }
+    {
+        pairs.sort_unstable();
+        Keyed { pairs }
     }
 
     /// Makes room for so many pairs.

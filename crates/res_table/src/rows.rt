@@ -1,7 +1,7 @@
 //! The rows of an open file, in order.
 
 use crate::ids::{first_free, mark_taken};
-use crate::keyed::Keyed;
+use crate::keyed::{Keyed, Pair};
 use crate::keys::{key_of_handle, key_of_resource};
 use crate::kinds::Kinds;
 use crate::row::Row;
@@ -65,12 +65,14 @@ impl<D> Rows<D> {
     {
         let mut rows = Vec::with_capacity(alloc, resources.len())?;
         let mut kinds = Kinds::new(alloc);
-        let mut keys = Keyed::new(alloc);
+        let mut keys = Vec::with_capacity(alloc, resources.len())?;
         for resource in resources {
             let row = Row::opened(resource);
             kinds.push(row.kind())?;
-            keys.reserve(rows.len() + 1)?;
-            keys.add(Some(row.resource_key()), rows.len());
+            keys.push(Pair {
+                key: row.resource_key(),
+                place: rows.len(),
+            })?;
             rows.push(row)?;
         }
         let mut handles = Keyed::new(alloc);
@@ -79,7 +81,7 @@ impl<D> Rows<D> {
             rows,
             handles,
             kinds,
-            resources: keys,
+            resources: Keyed::sorted(keys),
         })
     }
 
