@@ -548,8 +548,15 @@ below_at high [] k d all within = absurd (omega arith)
 below_at high (p ∷ ps) zero d all within = all.0
 below_at high (p ∷ ps) (suc k) d all within = below_at high ps k d all.1 (omega arith)
 
-pub places_below : {D : Type 0} (key : Row D → Option ℕ) (high : ℕ) (rows : List (Row D)) → length rows < high → All (λ p. p.place + 1 < high + 1) (pairs_of key rows)
-places_below key high rows within k d inside = let low = below_at (length rows) (pairs_of key rows) k d (pairs_are_below key 0 (length rows) rows (omega arith)) inside in omega arith
+pub places_below : {D : Type 0} (key : Row D → Option ℕ) (count : ℕ) (rows : List (Row D)) → count ≡ length rows → All (λ p. p.place < count) (pairs_of key rows)
+places_below key count rows many k d inside = let low = below_at (length rows) (pairs_of key rows) k d (pairs_are_below key 0 (length rows) rows (omega arith)) inside in omega arith
+
+-- those of rows before an index don't move
+pub unmoved : (k : ℕ) (ps : List Pair) → ((i : ℕ) (d : Pair) → i < length ps → (get_or ps i d).place < k) → map (pushed_back k) ps ≡ ps
+unmoved k [] low = refl
+unmoved k (p ∷ ps) low =
+    ap (λ (q : Pair). q ∷ map (pushed_back k) ps) (before k p.place p.key (low 0 p (omega arith)))
+    ∙ ap (λ (qs : List Pair). p ∷ qs) (unmoved k ps (λ i d inside. low (suc i) d (omega arith)))
 
 -- where a pair is read at its rank
 pub first_at : (h : ℕ) (ps : List Pair) (i : ℕ) (p : Pair) → i ≡ rank (record { key = h; place = 0 }) ps → i < length ps → p ≡ get_or ps i p → first_place h ps ≡ (if p.key == h then Some p.place else None)

@@ -242,13 +242,15 @@ impl Keyed {
         }
     }
 
-    /// Moves the pairs behind a row that is put in.
-    pub(crate) fn push_back(&mut self, at: usize)
-        requires { All (λ p. p.place + 1 < 2 ^ 64) self.old.pairs.items }
+    /// Moves the pairs behind a row that is put in at an index of so many rows. Behind all of them no pair moves.
+    pub(crate) fn push_back(&mut self, at: usize, count: usize)
+        requires { All (λ p. p.place < count) self.old.pairs.items }
         ensures pairs { self.new.pairs.items ≡ map (pushed_back at) self.old.pairs.items }
         ensures room { vec_capacity self.new.pairs ≡ vec_capacity self.old.pairs }
     {
-        push_back(&mut self.pairs, at);
+        if at < count {
+            push_back(&mut self.pairs, at);
+        }
     }
 
     /// Moves the pairs behind a row that is taken out.

@@ -171,14 +171,15 @@ impl<D> Rows<D> {
         let at = self.end_of_type(kind);
         let handle = row.handle_key();
         let key = row.resource_key();
-        self.handles.reserve(self.rows.len() + 1)?;
+        let count = self.rows.len();
+        self.handles.reserve(count + 1)?;
         self.kinds.reserve()?;
-        self.resources.reserve(self.rows.len() + 1)?;
+        self.resources.reserve(count + 1)?;
         self.rows.insert(at, row)?;
-        self.handles.push_back(at);
+        self.handles.push_back(at, count);
         self.handles.add(handle, at);
         self.kinds.add(kind);
-        self.resources.push_back(at);
+        self.resources.push_back(at, count);
         self.resources.add(Some(key), at);
         Ok(())
     }

@@ -1,4 +1,4 @@
-use Rattle.std.proofs.Common.{Option, Some, ◌≡◌, sym, ap, ◌∙◌, ◌≤◌, ◌<◌, ◌+◌, ℕ, List, length, map, subst, arith, rules}
+use Rattle.std.proofs.Common.{Option, Some, ◌≡◌, sym, ap, ◌∙◌, ◌≤◌, ◌<◌, ◌+◌, ℕ, List, length, map, subst, arith}
 use Rattle.std.specs.Prelude.{insert, vec_len, All}
 use Rattle.std.proofs.lemmas.List.Edits.{length-insert}
 use Rattle.res_table.specs.declared.row.Row.{Row}
@@ -24,15 +24,15 @@ returns-clause-added g c = c.in_ok-insert.ensures.items
     ∙ ap (λ rows. insert rows (end_of_type c.args.row.resource.kind c.args.self.now) c.args.row) c.self.view_is
     ∙ insert-at-end c.args.row c.args.self.now
 
--- a pair is moved by one at most
-moved : {D : Type 0} (key : Row D → Option ℕ) (rows : List (Row D)) (pairs : List Pair) → length rows < 18446744073709551615 → pairs ≡ pairs_of key rows → All (λ p. p.place + 1 < 18446744073709551616) pairs
-moved key rows pairs small is = subst (λ (ps : List Pair). All (λ p. p.place + 1 < 18446744073709551616) ps) (sym is) (places_below key 18446744073709551615 rows small)
+-- each pair is of a row
+of_rows : {D : Type 0} (key : Row D → Option ℕ) (count : ℕ) (rows : List (Row D)) (pairs : List Pair) → count ≡ length rows → pairs ≡ pairs_of key rows → All (λ p. p.place < count) pairs
+of_rows key count rows pairs many is = subst (λ (ps : List Pair). All (λ p. p.place < count) ps) (sym is) (places_below key count rows many)
 
 pub push_back-requires : goal.push_back-requires
-push_back-requires g c = moved handle_key c.self.inside.rows.items _ (search (rules, c.self.inside.rows.small, c.self.inside.rows.ok)) (c.reserve.ensures.same ∙ c.self.invariant.0)
+push_back-requires g c = of_rows handle_key c.len-count.result c.self.inside.rows.items _ (c.len-count.ensures ∙ c.self.inside.rows.ok.0) (c.reserve.ensures.same ∙ c.self.invariant.0)
 
 pub push_back-requires-2 : goal.push_back-requires-2
-push_back-requires-2 g c = moved resource_key c.self.inside.rows.items _ (search (rules, c.self.inside.rows.small, c.self.inside.rows.ok)) (c.reserve-3.ensures.same ∙ c.self.invariant.3)
+push_back-requires-2 g c = of_rows resource_key c.len-count.result c.self.inside.rows.items _ (c.len-count.ensures ∙ c.self.inside.rows.ok.0) (c.reserve-3.ensures.same ∙ c.self.invariant.3)
 
 within : {D : Type 0} (kind : List ℕ) (at : ℕ) (rows now : List (Row D)) → rows ≡ now → at ≡ end_of_type kind now → at ≤ length rows
 within kind at rows now same is = subst (λ (n : ℕ). n ≤ length rows) (sym (is ∙ ap (end_of_type kind) (sym same))) (end-within kind rows)
@@ -63,7 +63,7 @@ add-requires-clause-room g c =
     let rows = c.self.inside.rows.items in let at = c.end_of_type-at.result in let r = c.args.row in
     let inside = within c.kind-kind.result at rows c.args.self.now c.self.view_is c.end_of_type-at.ensures in
     let is = with_new handle_key c.handle_key-handle.result at r rows _ c.push_back.new.self.pairs.items c.handle_key-handle.ensures inside c.push_back.ensures.pairs (c.reserve.ensures.same ∙ c.self.invariant.0) in
-    let len = c.len.ensures in let ok = c.self.inside.rows.ok.0 in let room = c.in_ok-reserve.ensures.room in let then = c.push_back.ensures.room in
+    let len = c.len-count.ensures in let ok = c.self.inside.rows.ok.0 in let room = c.in_ok-reserve.ensures.room in let then = c.push_back.ensures.room in
     room_for_new handle_key at _ r rows _ inside is (omega arith)
 
 pub add-requires-3-clause-room : goal.add-requires-3-clause-room
@@ -71,7 +71,7 @@ add-requires-3-clause-room g c =
     let rows = c.self.inside.rows.items in let at = c.end_of_type-at.result in let r = c.args.row in
     let inside = within c.kind-kind.result at rows c.args.self.now c.self.view_is c.end_of_type-at.ensures in
     let is = with_new resource_key (Some c.resource_key-key.result) at r rows _ c.push_back-2.new.self.pairs.items (ap Some c.resource_key-key.ensures) inside c.push_back-2.ensures.pairs (c.reserve-3.ensures.same ∙ c.self.invariant.3) in
-    let len = c.len-2.ensures in let ok = c.self.inside.rows.ok.0 in let room = c.in_ok-reserve-3.ensures.room in let then = c.push_back-2.ensures.room in
+    let len = c.len-count.ensures in let ok = c.self.inside.rows.ok.0 in let room = c.in_ok-reserve-3.ensures.room in let then = c.push_back-2.ensures.room in
     room_for_new resource_key at _ r rows _ inside is (omega arith)
 
 pub invariant_of-self-2 : goal.invariant_of-self-2
@@ -82,7 +82,7 @@ invariant_of-self-2 g c =
     let keyed = with_new resource_key (Some c.resource_key-key.result) at r rows _ c.push_back-2.new.self.pairs.items (ap Some c.resource_key-key.ensures) inside c.push_back-2.ensures.pairs (c.reserve-3.ensures.same ∙ c.self.invariant.3) in
     let new = c.in_ok-insert.ensures.items in
     let count = ap (λ (rs : List (Row _)). length rs) new in let n = length-insert rows at r inside in
-    let len = c.len.ensures in let ok = c.self.inside.rows.ok.0 in let room = c.in_ok-reserve.ensures.room in
+    let len = c.len-count.ensures in let ok = c.self.inside.rows.ok.0 in let room = c.in_ok-reserve.ensures.room in
     let then = c.push_back.ensures.room in let last = c.add.ensures.room in (
       c.add.ensures.pairs ∙ is ∙ ap (pairs_of handle_key) (sym new),
       omega arith,
