@@ -15,7 +15,7 @@ const COUNTS: [i16; 5] = [100, 500, 2_000, 5_458, 8_192];
 /// What is measured, and how many times in a run.
 const CALLS: [(&str, u32); 5] = [
     ("row_of_handle", 200_000),
-    ("find", 1_000),
+    ("find", 20_000),
     ("unique_id", 200),
     ("remove, add", 500),
     ("set_handle, twice", 2_000),

@@ -4,4 +4,6 @@ pub mod FreeIds
 pub mod Bare
 pub mod Files
 pub mod Pairs
+pub mod Resources
+pub mod Sorting
 pub mod Expanded

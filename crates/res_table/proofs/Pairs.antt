@@ -1,101 +1,101 @@
--- The rows that have a handle, in the order of the handles' keys.
-use Rattle.std.proofs.Common.{◌≡◌, refl, sym, ap, ◌∙◌, subst, arith, ℕ, zero, suc, ◌+◌, ◌-◌, ◌*◌, ◌%◌, ◌<◌, ◌≤◌, List, [], ◌∷◌, length, map, get_or, take, drop, set, remove, slice_get, Bool, true, false, ◌||◌, ◌&&◌, ◌==◌, Option, Some, None, position, if◌then◌else◌}
-use Rattle.std.specs.Prelude.{insert, nat_lt, nat_le, not, All, IsTrue, ◌↔◌}
+-- The rows that have a key, in the order of keys.
+use Rattle.std.proofs.Common.{ℤ, ◌≡◌, refl, sym, ap, ◌∙◌, subst, arith, ℕ, zero, suc, ◌+◌, ◌-◌, ◌*◌, ◌%◌, ◌<◌, ◌≤◌, List, [], ◌∷◌, length, map, get_or, take, drop, set, remove, slice_get, Bool, true, false, ◌||◌, ◌&&◌, ◌==◌, Option, Some, None, position, if◌then◌else◌}
+use Rattle.std.specs.Prelude.{option_map, insert, nat_lt, nat_le, not, All, IsTrue, ◌↔◌}
 use Rattle.std.specs.List.{position_from}
 use Rattle.std.specs.List.Sorted.{IsPartitionedBy}
 use Rattle.std.proofs.lemmas.Bool.Decides.{nat_tests}
 use Rattle.std.proofs.lemmas.Iterator.Adapters.{position_from-zero}
 use Rattle.res_table.specs.declared.row.Row.{Row}
-use Rattle.res_table.specs.declared.handles.Held.{Held}
+use Rattle.res_table.specs.declared.keyed.Pair.{Pair}
 use Rattle.std.specs.Option.{option_map_or}
-use Rattle.std.proofs.lemmas.List.{length-set, get_or-set_same}
+use Rattle.std.proofs.lemmas.List.{length-set}
 use Rattle.res_base.specs.declared.resource.Resource.{Resource}
-use Rattle.res_table.specs.Rows.{has_handle, with_handle, changed_at, opened_row}
-use Rattle.res_table.specs.Held.{key_of, is_before, rank, with_pair, without_pair, with_held, without_held, pairs_from, pairs_of, pushed_back, pulled_up, first_place, NoneBefore, AreInOrder}
+use Rattle.res_table.specs.Rows.{has_handle, changed_at, opened_row}
+use Rattle.res_table.specs.Keyed.{key_of_handle, key_of_resource, handle_key, resource_key, is_before, rank, with_pair, without_pair, with_key, without_key, pairs_from, pairs_of, pushed_back, pulled_up, first_place, NoneBefore, AreInOrder}
 
 -- pairs stand in an order
 by_numbers : (g h a b : ℕ) → (nat_lt g h || (g == h && nat_lt a b)) ≡ true → (nat_lt h g || (h == g && nat_lt b a)) ≡ false
 by_numbers g h a b is = grind (arith, nat_tests)
 
-pub never_both : (p q : Held) → is_before p q ≡ true → is_before q p ≡ false
+pub never_both : (p q : Pair) → is_before p q ≡ true → is_before q p ≡ false
 never_both p q is = by_numbers p.key q.key p.place q.place is
 
 through : (g h i a b c : ℕ) → (nat_lt h g || (h == g && nat_lt b a)) ≡ false → (nat_lt i h || (i == h && nat_lt c b)) ≡ false → (nat_lt i g || (i == g && nat_lt c a)) ≡ false
 through g h i a b c first second = grind (arith, nat_tests)
 
-pub none_through : (p q r : Held) → is_before q p ≡ false → is_before r q ≡ false → is_before r p ≡ false
+pub none_through : (p q r : Pair) → is_before q p ≡ false → is_before r q ≡ false → is_before r p ≡ false
 none_through p q r first second = through p.key q.key r.key p.place q.place r.place first second
 
 onto : (g h i a b c : ℕ) → (nat_lt g h || (g == h && nat_lt a b)) ≡ true → (nat_lt g i || (g == i && nat_lt a c)) ≡ false → (nat_lt i h || (i == h && nat_lt c b)) ≡ true
 onto g h i a b c first second = grind (arith, nat_tests)
 
 -- what stands before one, and not before another
-pub between : (z x y : Held) → is_before z x ≡ true → is_before z y ≡ false → is_before y x ≡ true
+pub between : (z x y : Pair) → is_before z x ≡ true → is_before z y ≡ false → is_before y x ≡ true
 between z x y first second = onto z.key x.key y.key z.place x.place y.place first second
 
 not_itself : (g a : ℕ) → (nat_lt g g || (g == g && nat_lt a a)) ≡ false
 not_itself g a = grind (arith, nat_tests)
 
-pub never_itself : (p : Held) → is_before p p ≡ false
+pub never_itself : (p : Pair) → is_before p p ≡ false
 never_itself p = not_itself p.key p.place
 
 tied : (g h a b : ℕ) → (nat_lt g h || (g == h && nat_lt a b)) ≡ false → (nat_lt h g || (h == g && nat_lt b a)) ≡ false → (g ≡ h) × (a ≡ b)
 tied g h a b first second = (grind (arith, nat_tests), grind (arith, nat_tests))
 
-same_pair : (p q : Held) → p.key ≡ q.key → p.place ≡ q.place → p ≡ q
+same_pair : (p q : Pair) → p.key ≡ q.key → p.place ≡ q.place → p ≡ q
 same_pair p q handles places =
-    ap (λ (h : ℕ). let pair : Held = record { key = h; place = p.place } in pair) handles ∙ ap (λ (a : ℕ). let pair : Held = record { key = q.key; place = a } in pair) places
+    ap (λ (h : ℕ). let pair : Pair = record { key = h; place = p.place } in pair) handles ∙ ap (λ (a : ℕ). let pair : Pair = record { key = q.key; place = a } in pair) places
 
-pub neither : (p q : Held) → is_before p q ≡ false → is_before q p ≡ false → p ≡ q
+pub neither : (p q : Pair) → is_before p q ≡ false → is_before q p ≡ false → p ≡ q
 neither p q first second = let e = tied p.key q.key p.place q.place first second in same_pair p q e.0 e.1
 
 -- two pairs at the front
-two : (x y : Held) (ps : List Held) → (if is_before y x then y ∷ x ∷ ps else x ∷ y ∷ ps) ≡ (if is_before x y then x ∷ y ∷ ps else y ∷ x ∷ ps)
+two : (x y : Pair) (ps : List Pair) → (if is_before y x then y ∷ x ∷ ps else x ∷ y ∷ ps) ≡ (if is_before x y then x ∷ y ∷ ps else y ∷ x ∷ ps)
 two x y ps = by (is_before y x) (is_before x y) refl refl
   where
     by : (b c : Bool) → is_before y x ≡ b → is_before x y ≡ c → (if b then y ∷ x ∷ ps else x ∷ y ∷ ps) ≡ (if c then x ∷ y ∷ ps else y ∷ x ∷ ps)
     by true true e f = absurd (let g = never_both y x e in cc)
     by true false e f = refl
     by false true e f = refl
-    by false false e f = let s : x ≡ y = neither x y f e in ap (λ (z : Held). z ∷ y ∷ ps) s ∙ ap (λ (z : Held). y ∷ z ∷ ps) (sym s)
+    by false false e f = let s : x ≡ y = neither x y f e in ap (λ (z : Pair). z ∷ y ∷ ps) s ∙ ap (λ (z : Pair). y ∷ z ∷ ps) (sym s)
 
 -- it doesn't matter which of two pairs is put in first
-pub commute : (x y : Held) (ps : List Held) → with_pair x (with_pair y ps) ≡ with_pair y (with_pair x ps)
+pub commute : (x y : Pair) (ps : List Pair) → with_pair x (with_pair y ps) ≡ with_pair y (with_pair x ps)
 commute x y [] = two x y []
 commute x y (z ∷ zs) = by (is_before z x) (is_before z y) refl refl (commute x y zs)
   where
     by : (b c : Bool) → is_before z x ≡ b → is_before z y ≡ c → with_pair x (with_pair y zs) ≡ with_pair y (with_pair x zs)
         → with_pair x (if c then z ∷ with_pair y zs else y ∷ z ∷ zs) ≡ with_pair y (if b then z ∷ with_pair x zs else x ∷ z ∷ zs)
-    by true true e f deeper = rw (e, f) (ap (λ (ps : List Held). z ∷ ps) deeper)
+    by true true e f deeper = rw (e, f) (ap (λ (ps : List Pair). z ∷ ps) deeper)
     by true false e f deeper = rw (between z x y e f, e, f) refl
     by false true e f deeper = rw (between z y x f e, e, f) refl
     by false false e f deeper = rw (e, f) (two x y (z ∷ zs))
 
-pub commute_held : (g h : Option ℕ) (a b : ℕ) (ps : List Held) → with_held g a (with_held h b ps) ≡ with_held h b (with_held g a ps)
-commute_held None h a b ps = refl
-commute_held (Some g) None a b ps = refl
-commute_held (Some g) (Some h) a b ps = commute _ _ ps
+pub commute_key : (g h : Option ℕ) (a b : ℕ) (ps : List Pair) → with_key g a (with_key h b ps) ≡ with_key h b (with_key g a ps)
+commute_key None h a b ps = refl
+commute_key (Some g) None a b ps = refl
+commute_key (Some g) (Some h) a b ps = commute _ _ ps
 
 -- a pair stands at its rank
-pub insert_is : (p : Held) (ps : List Held) → insert ps (rank p ps) p ≡ with_pair p ps
+pub insert_is : (p : Pair) (ps : List Pair) → insert ps (rank p ps) p ≡ with_pair p ps
 insert_is p [] = refl
 insert_is p (q ∷ qs) = by (is_before q p) (insert_is p qs)
   where
     by : (b : Bool) → insert qs (rank p qs) p ≡ with_pair p qs → insert (q ∷ qs) (if b then suc (rank p qs) else 0) p ≡ (if b then q ∷ with_pair p qs else p ∷ q ∷ qs)
-    by true deeper = ap (λ (rs : List Held). q ∷ rs) deeper
+    by true deeper = ap (λ (rs : List Pair). q ∷ rs) deeper
     by false deeper = refl
 
-pub without_with : (p : Held) (ps : List Held) → without_pair p (with_pair p ps) ≡ ps
+pub without_with : (p : Pair) (ps : List Pair) → without_pair p (with_pair p ps) ≡ ps
 without_with p [] = rw (never_itself p) refl
 without_with p (q ∷ qs) = by (is_before q p) refl (without_with p qs)
   where
     by : (b : Bool) → is_before q p ≡ b → without_pair p (with_pair p qs) ≡ qs → without_pair p (if b then q ∷ with_pair p qs else p ∷ q ∷ qs) ≡ q ∷ qs
-    by true e deeper = rw e (ap (λ (rs : List Held). q ∷ rs) deeper)
+    by true e deeper = rw e (ap (λ (rs : List Pair). q ∷ rs) deeper)
     by false e deeper = rw (never_itself p) refl
 
-pub without_held_with : (h : Option ℕ) (a : ℕ) (ps : List Held) → without_held h a (with_held h a ps) ≡ ps
-without_held_with None a ps = refl
-without_held_with (Some h) a ps = without_with _ ps
+pub without_key_with : (h : Option ℕ) (a : ℕ) (ps : List Pair) → without_key h a (with_key h a ps) ≡ ps
+without_key_with None a ps = refl
+without_key_with (Some h) a ps = without_with _ ps
 
 -- pairs move, and stay in their order
 moved : (k g h a b : ℕ) → is_before (pushed_back k (record { key = g; place = a })) (pushed_back k (record { key = h; place = b })) ≡ (nat_lt g h || (g == h && nat_lt a b))
@@ -109,21 +109,21 @@ moved k g h a b = by (nat_le k a) (nat_le k b) refl refl
     by false true e f = let s : nat_lt a (b + 1) ≡ nat_lt a b = grind (arith, nat_tests) in ap (λ (t : Bool). nat_lt g h || (g == h && t)) s
     by false false e f = refl
 
-pub same_order : (k : ℕ) (p q : Held) → is_before (pushed_back k p) (pushed_back k q) ≡ is_before p q
+pub same_order : (k : ℕ) (p q : Pair) → is_before (pushed_back k p) (pushed_back k q) ≡ is_before p q
 same_order k p q = moved k p.key q.key p.place q.place
 
-pub push_with : (k : ℕ) (p : Held) (ps : List Held) → map (pushed_back k) (with_pair p ps) ≡ with_pair (pushed_back k p) (map (pushed_back k) ps)
+pub push_with : (k : ℕ) (p : Pair) (ps : List Pair) → map (pushed_back k) (with_pair p ps) ≡ with_pair (pushed_back k p) (map (pushed_back k) ps)
 push_with k p [] = refl
 push_with k p (q ∷ qs) = by (is_before q p) (same_order k q p) (push_with k p qs)
   where
     by : (b : Bool) → is_before (pushed_back k q) (pushed_back k p) ≡ b → map (pushed_back k) (with_pair p qs) ≡ with_pair (pushed_back k p) (map (pushed_back k) qs)
         → map (pushed_back k) (if b then q ∷ with_pair p qs else p ∷ q ∷ qs) ≡ with_pair (pushed_back k p) (pushed_back k q ∷ map (pushed_back k) qs)
-    by true e deeper = rw e (ap (λ (rs : List Held). pushed_back k q ∷ rs) deeper)
+    by true e deeper = rw e (ap (λ (rs : List Pair). pushed_back k q ∷ rs) deeper)
     by false e deeper = rw e refl
 
-push_at : (k a b : ℕ) (h : Option ℕ) (ps : List Held) → ((g : ℕ) → pushed_back k (record { key = g; place = a }) ≡ record { key = g; place = b }) → map (pushed_back k) (with_held h a ps) ≡ with_held h b (map (pushed_back k) ps)
+push_at : (k a b : ℕ) (h : Option ℕ) (ps : List Pair) → ((g : ℕ) → pushed_back k (record { key = g; place = a }) ≡ record { key = g; place = b }) → map (pushed_back k) (with_key h a ps) ≡ with_key h b (map (pushed_back k) ps)
 push_at k a b None ps is = refl
-push_at k a b (Some g) ps is = push_with k _ ps ∙ ap (λ (p : Held). with_pair p (map (pushed_back k) ps)) (is (key_of g))
+push_at k a b (Some g) ps is = push_with k _ ps ∙ ap (λ (p : Pair). with_pair p (map (pushed_back k) ps)) (is g)
 
 behind : (k a : ℕ) (g : ℕ) → k ≤ a → pushed_back k (record { key = g; place = a }) ≡ record { key = g; place = a + 1 }
 behind k a g at_least = let e : nat_le k a ≡ true = grind (arith, nat_tests) in rw e refl
@@ -132,22 +132,22 @@ before : (k a : ℕ) (g : ℕ) → a < k → pushed_back k (record { key = g; pl
 before k a g below = let e : nat_le k a ≡ false = grind (arith, nat_tests) in rw e refl
 
 -- all rows stand behind
-pub push_all : {D : Type 0} (k at : ℕ) (rows : List (Row D)) → k ≤ at → map (pushed_back k) (pairs_from at rows) ≡ pairs_from (at + 1) rows
-push_all k at [] least = refl
-push_all k at (r ∷ rows) least =
-    push_at k at (at + 1) r.handle (pairs_from (at + 1) rows) (λ g. behind k at g least)
-    ∙ ap (with_held r.handle (at + 1)) (push_all k (at + 1) rows (omega arith))
+pub push_all : {D : Type 0} (key : Row D → Option ℕ) (k at : ℕ) (rows : List (Row D)) → k ≤ at → map (pushed_back k) (pairs_from key at rows) ≡ pairs_from key (at + 1) rows
+push_all key k at [] least = refl
+push_all key k at (r ∷ rows) least =
+    push_at k at (at + 1) (key r) (pairs_from key (at + 1) rows) (λ g. behind k at g least)
+    ∙ ap (with_key (key r) (at + 1)) (push_all key k (at + 1) rows (omega arith))
 
 -- a row is put in
-pub pairs_insert : {D : Type 0} (at i k : ℕ) (r : Row D) (rows : List (Row D)) → k ≡ at + i → i ≤ length rows
-    → pairs_from at (insert rows i r) ≡ with_held r.handle k (map (pushed_back k) (pairs_from at rows))
-pairs_insert at zero k r rows is within = let e : k ≡ at = omega arith in
-    rw e (ap (with_held r.handle at) (sym (push_all at at rows (omega arith))))
-pairs_insert at (suc i) k r [] is within = absurd (omega arith)
-pairs_insert at (suc i) k r (q ∷ qs) is within =
-    ap (with_held q.handle at) (pairs_insert (at + 1) i k r qs (omega arith) (omega arith))
-    ∙ commute_held q.handle r.handle at k (map (pushed_back k) (pairs_from (at + 1) qs))
-    ∙ ap (with_held r.handle k) (sym (push_at k at at q.handle (pairs_from (at + 1) qs) (λ g. before k at g (omega arith))))
+pub pairs_insert : {D : Type 0} (key : Row D → Option ℕ) (at i k : ℕ) (r : Row D) (rows : List (Row D)) → k ≡ at + i → i ≤ length rows
+    → pairs_from key at (insert rows i r) ≡ with_key (key r) k (map (pushed_back k) (pairs_from key at rows))
+pairs_insert key at zero k r rows is within = let e : k ≡ at = omega arith in
+    rw e (ap (with_key (key r) at) (sym (push_all key at at rows (omega arith))))
+pairs_insert key at (suc i) k r [] is within = absurd (omega arith)
+pairs_insert key at (suc i) k r (q ∷ qs) is within =
+    ap (with_key (key q) at) (pairs_insert key (at + 1) i k r qs (omega arith) (omega arith))
+    ∙ commute_key (key q) (key r) at k (map (pushed_back k) (pairs_from key (at + 1) qs))
+    ∙ ap (with_key (key r) k) (sym (push_at k at at (key q) (pairs_from key (at + 1) qs) (λ g. before k at g (omega arith))))
 
 -- and taken out
 back : (k g a : ℕ) → pulled_up k (pushed_back k (record { key = g; place = a })) ≡ record { key = g; place = a }
@@ -157,9 +157,9 @@ back k g a = by (nat_le k a) refl
     by true e = let f : nat_lt k (a + 1) ≡ true = grind (arith, nat_tests) in let s : (a + 1) - 1 ≡ a = omega arith in rw (f, s) refl
     by false e = let f : nat_lt k a ≡ false = grind (arith, nat_tests) in rw f refl
 
-pub pull_push : (k : ℕ) (ps : List Held) → map (pulled_up k) (map (pushed_back k) ps) ≡ ps
+pub pull_push : (k : ℕ) (ps : List Pair) → map (pulled_up k) (map (pushed_back k) ps) ≡ ps
 pull_push k [] = refl
-pull_push k (p ∷ ps) = ap (λ (q : Held). q ∷ map (pulled_up k) (map (pushed_back k) ps)) (back k p.key p.place) ∙ ap (λ (qs : List Held). p ∷ qs) (pull_push k ps)
+pull_push k (p ∷ ps) = ap (λ (q : Pair). q ∷ map (pulled_up k) (map (pushed_back k) ps)) (back k p.key p.place) ∙ ap (λ (qs : List Pair). p ∷ qs) (pull_push k ps)
 
 insert_removed : {X : Type 0} (xs : List X) (i : ℕ) (d : X) → i < length xs → insert (remove xs i) i (get_or xs i d) ≡ xs
 insert_removed [] i d within = absurd (omega arith)
@@ -176,32 +176,32 @@ still_within [] i within = absurd (omega arith)
 still_within (x ∷ xs) zero within = omega arith
 still_within (x ∷ xs) (suc i) within = let deeper = still_within xs i (omega arith) in omega arith
 
-pub pairs_removed : {D : Type 0} (i : ℕ) (r : Row D) (rows : List (Row D)) → i < length rows → r ≡ get_or rows i r
-    → map (pulled_up i) (without_held r.handle i (pairs_of rows)) ≡ pairs_of (remove rows i)
-pairs_removed i r rows within is =
-    ap (λ (rs : List (Row _)). map (pulled_up i) (without_held r.handle i (pairs_of rs))) (sym (ap (insert (remove rows i) i) is ∙ insert_removed rows i r within))
-    ∙ ap (λ (ps : List Held). map (pulled_up i) (without_held r.handle i ps)) (pairs_insert 0 i i r (remove rows i) (omega arith) (still_within rows i within))
-    ∙ ap (map (pulled_up i)) (without_held_with r.handle i _)
-    ∙ pull_push i (pairs_of (remove rows i))
+pub pairs_removed : {D : Type 0} (key : Row D → Option ℕ) (i : ℕ) (r : Row D) (rows : List (Row D)) → i < length rows → r ≡ get_or rows i r
+    → map (pulled_up i) (without_key (key r) i (pairs_of key rows)) ≡ pairs_of key (remove rows i)
+pairs_removed key i r rows within is =
+    ap (λ (rs : List (Row _)). map (pulled_up i) (without_key (key r) i (pairs_of key rs))) (sym (ap (insert (remove rows i) i) is ∙ insert_removed rows i r within))
+    ∙ ap (λ (ps : List Pair). map (pulled_up i) (without_key (key r) i ps)) (pairs_insert key 0 i i r (remove rows i) (omega arith) (still_within rows i within))
+    ∙ ap (map (pulled_up i)) (without_key_with (key r) i _)
+    ∙ pull_push i (pairs_of key (remove rows i))
 
--- a row changes its handle
-pub pairs_set : {D : Type 0} (i : ℕ) (r new : Row D) (rows : List (Row D)) → i < length rows → r ≡ get_or rows i r
-    → with_held new.handle i (without_held r.handle i (pairs_of rows)) ≡ pairs_of (set rows i new)
-pairs_set i r new rows within is =
-    ap (λ (rs : List (Row _)). with_held new.handle i (without_held r.handle i (pairs_of rs))) (sym (ap (insert (remove rows i) i) is ∙ insert_removed rows i r within))
-    ∙ ap (λ (ps : List Held). with_held new.handle i (without_held r.handle i ps)) (pairs_insert 0 i i r (remove rows i) (omega arith) (still_within rows i within))
-    ∙ ap (with_held new.handle i) (without_held_with r.handle i _)
-    ∙ sym (pairs_insert 0 i i new (remove rows i) (omega arith) (still_within rows i within))
-    ∙ ap pairs_of (insert_set rows i new within)
+-- a row changes its key
+pub pairs_set : {D : Type 0} (key : Row D → Option ℕ) (i : ℕ) (r new : Row D) (rows : List (Row D)) → i < length rows → r ≡ get_or rows i r
+    → with_key (key new) i (without_key (key r) i (pairs_of key rows)) ≡ pairs_of key (set rows i new)
+pairs_set key i r new rows within is =
+    ap (λ (rs : List (Row _)). with_key (key new) i (without_key (key r) i (pairs_of key rs))) (sym (ap (insert (remove rows i) i) is ∙ insert_removed rows i r within))
+    ∙ ap (λ (ps : List Pair). with_key (key new) i (without_key (key r) i ps)) (pairs_insert key 0 i i r (remove rows i) (omega arith) (still_within rows i within))
+    ∙ ap (with_key (key new) i) (without_key_with (key r) i _)
+    ∙ sym (pairs_insert key 0 i i new (remove rows i) (omega arith) (still_within rows i within))
+    ∙ ap (pairs_of key) (insert_set rows i new within)
 
 -- or keeps it
-pub pairs_kept : {D : Type 0} (at i : ℕ) (r new : Row D) (rows : List (Row D)) → r ≡ get_or rows i r → new.handle ≡ r.handle → pairs_from at (set rows i new) ≡ pairs_from at rows
-pairs_kept at i r new [] is kept = refl
-pairs_kept at zero r new (q ∷ qs) is kept = ap (λ (h : Option ℕ). with_held h at (pairs_from (at + 1) qs)) (kept ∙ ap (λ (x : Row _). x.handle) is)
-pairs_kept at (suc i) r new (q ∷ qs) is kept = ap (with_held q.handle at) (pairs_kept (at + 1) i r new qs is kept)
+pub pairs_kept : {D : Type 0} (key : Row D → Option ℕ) (at i : ℕ) (r new : Row D) (rows : List (Row D)) → r ≡ get_or rows i r → key new ≡ key r → pairs_from key at (set rows i new) ≡ pairs_from key at rows
+pairs_kept key at i r new [] is kept = refl
+pairs_kept key at zero r new (q ∷ qs) is kept = ap (λ (k : Option ℕ). with_key k at (pairs_from key (at + 1) qs)) (kept ∙ ap key is)
+pairs_kept key at (suc i) r new (q ∷ qs) is kept = ap (with_key (key q) at) (pairs_kept key (at + 1) i r new qs is kept)
 
 -- there are no more of them than rows
-length-with : (p : Held) (ps : List Held) → length (with_pair p ps) ≡ suc (length ps)
+length-with : (p : Pair) (ps : List Pair) → length (with_pair p ps) ≡ suc (length ps)
 length-with p [] = refl
 length-with p (q ∷ qs) = by (is_before q p) (length-with p qs)
   where
@@ -209,16 +209,16 @@ length-with p (q ∷ qs) = by (is_before q p) (length-with p qs)
     by true deeper = ap suc deeper
     by false deeper = refl
 
-pub few_pairs : {D : Type 0} (at : ℕ) (rows : List (Row D)) → length (pairs_from at rows) ≤ length rows
-few_pairs at [] = omega arith
-few_pairs at (r ∷ rows) = by r.handle (few_pairs (at + 1) rows)
+pub few_pairs : {D : Type 0} (key : Row D → Option ℕ) (at : ℕ) (rows : List (Row D)) → length (pairs_from key at rows) ≤ length rows
+few_pairs key at [] = omega arith
+few_pairs key at (r ∷ rows) = by (key r) (few_pairs key (at + 1) rows)
   where
-    by : (h : Option ℕ) → length (pairs_from (at + 1) rows) ≤ length rows → length (with_held h at (pairs_from (at + 1) rows)) ≤ suc (length rows)
+    by : (k : Option ℕ) → length (pairs_from key (at + 1) rows) ≤ length rows → length (with_key k at (pairs_from key (at + 1) rows)) ≤ suc (length rows)
     by None deeper = omega arith
-    by (Some g) deeper = let one = length-with (record { key = key_of g; place = at }) (pairs_from (at + 1) rows) in omega arith
+    by (Some k) deeper = let one = length-with (record { key = k; place = at }) (pairs_from key (at + 1) rows) in omega arith
 
 -- they stand in order
-none_before_with : (q p : Held) (ps : List Held) → is_before p q ≡ false → NoneBefore q ps → NoneBefore q (with_pair p ps)
+none_before_with : (q p : Pair) (ps : List Pair) → is_before p q ≡ false → NoneBefore q ps → NoneBefore q (with_pair p ps)
 none_before_with q p [] first none = (first, tt)
 none_before_with q p (r ∷ rs) first none = by (is_before r p) (none_before_with q p rs first none.1)
   where
@@ -226,11 +226,11 @@ none_before_with q p (r ∷ rs) first none = by (is_before r p) (none_before_wit
     by true deeper = (none.0, deeper)
     by false deeper = (first, none)
 
-none_before_through : (p q : Held) (rs : List Held) → is_before q p ≡ false → NoneBefore q rs → NoneBefore p rs
+pub none_before_through : (p q : Pair) (rs : List Pair) → is_before q p ≡ false → NoneBefore q rs → NoneBefore p rs
 none_before_through p q [] first none = tt
 none_before_through p q (r ∷ rs) first none = (none_through p q r first none.0, none_before_through p q rs first none.1)
 
-pub order_with : (p : Held) (ps : List Held) → AreInOrder ps → AreInOrder (with_pair p ps)
+pub order_with : (p : Pair) (ps : List Pair) → AreInOrder ps → AreInOrder (with_pair p ps)
 order_with p [] order = (tt, tt)
 order_with p (q ∷ qs) order = by (is_before q p) refl (order_with p qs order.1)
   where
@@ -238,38 +238,38 @@ order_with p (q ∷ qs) order = by (is_before q p) refl (order_with p qs order.1
     by true e deeper = (none_before_with q p qs (never_both q p e) order.0, deeper)
     by false e deeper = ((e, none_before_through p q qs e order.0), order)
 
-pub pairs_in_order : {D : Type 0} (at : ℕ) (rows : List (Row D)) → AreInOrder (pairs_from at rows)
-pairs_in_order at [] = tt
-pairs_in_order at (r ∷ rows) = by r.handle (pairs_in_order (at + 1) rows)
+pub pairs_in_order : {D : Type 0} (key : Row D → Option ℕ) (at : ℕ) (rows : List (Row D)) → AreInOrder (pairs_from key at rows)
+pairs_in_order key at [] = tt
+pairs_in_order key at (r ∷ rows) = by (key r) (pairs_in_order key (at + 1) rows)
   where
-    by : (h : Option ℕ) → AreInOrder (pairs_from (at + 1) rows) → AreInOrder (with_held h at (pairs_from (at + 1) rows))
+    by : (k : Option ℕ) → AreInOrder (pairs_from key (at + 1) rows) → AreInOrder (with_key k at (pairs_from key (at + 1) rows))
     by None deeper = deeper
-    by (Some g) deeper = order_with _ (pairs_from (at + 1) rows) deeper
+    by (Some k) deeper = order_with _ (pairs_from key (at + 1) rows) deeper
 
 -- without one of them too
-none_before_removed : (p : Held) (ps : List Held) (i : ℕ) → NoneBefore p ps → NoneBefore p (remove ps i)
+none_before_removed : (p : Pair) (ps : List Pair) (i : ℕ) → NoneBefore p ps → NoneBefore p (remove ps i)
 none_before_removed p [] zero none = tt
 none_before_removed p [] (suc i) none = tt
 none_before_removed p (q ∷ qs) zero none = none.1
 none_before_removed p (q ∷ qs) (suc i) none = (none.0, none_before_removed p qs i none.1)
 
-order_removed : (ps : List Held) (i : ℕ) → AreInOrder ps → AreInOrder (remove ps i)
+order_removed : (ps : List Pair) (i : ℕ) → AreInOrder ps → AreInOrder (remove ps i)
 order_removed [] zero order = tt
 order_removed [] (suc i) order = tt
 order_removed (q ∷ qs) zero order = order.1
 order_removed (q ∷ qs) (suc i) order = (none_before_removed q qs i order.0, order_removed qs i order.1)
 
-pub order_without : (h : Option ℕ) (a : ℕ) (ps : List Held) → AreInOrder ps → AreInOrder (without_held h a ps)
+pub order_without : (h : Option ℕ) (a : ℕ) (ps : List Pair) → AreInOrder ps → AreInOrder (without_key h a ps)
 order_without None a ps order = order
 order_without (Some g) a ps order = order_removed ps _ order
 
 -- those before a pair stand at the front
-none_at : (p : Held) (ps : List Held) (j : ℕ) (d : Held) → NoneBefore p ps → j < length ps → is_before (get_or ps j d) p ≡ false
+none_at : (p : Pair) (ps : List Pair) (j : ℕ) (d : Pair) → NoneBefore p ps → j < length ps → is_before (get_or ps j d) p ≡ false
 none_at p [] j d none within = absurd (omega arith)
 none_at p (q ∷ qs) zero d none within = none.0
 none_at p (q ∷ qs) (suc j) d none within = none_at p qs j d none.1 (omega arith)
 
-pub partitioned : (x : Held) (ps : List Held) → AreInOrder ps → IsPartitionedBy (λ p. is_before p x) ps
+pub partitioned : (x : Pair) (ps : List Pair) → AreInOrder ps → IsPartitionedBy (λ p. is_before p x) ps
 partitioned x [] order i j d up within is = absurd (omega arith)
 partitioned x (p ∷ ps) order zero zero d up within is = is
 partitioned x (p ∷ ps) order zero (suc j) d up within is = by (is_before p x) refl
@@ -280,19 +280,19 @@ partitioned x (p ∷ ps) order zero (suc j) d up within is = by (is_before p x) 
 partitioned x (p ∷ ps) order (suc i) zero d up within is = absurd (omega arith)
 partitioned x (p ∷ ps) order (suc i) (suc j) d up within is = partitioned x ps order.1 i j d (omega arith) (omega arith) is
 
-pub rank_is : (x : Held) (ps : List Held) (i : ℕ) → i ≤ length ps → ((k : ℕ) (d : Held) → k < i → is_before (get_or ps k d) x ≡ true) → ((k : ℕ) (d : Held) → i ≤ k → k < length ps → is_before (get_or ps k d) x ≡ false) → i ≡ rank x ps
+pub rank_is : (x : Pair) (ps : List Pair) (i : ℕ) → i ≤ length ps → ((k : ℕ) (d : Pair) → k < i → is_before (get_or ps k d) x ≡ true) → ((k : ℕ) (d : Pair) → i ≤ k → k < length ps → is_before (get_or ps k d) x ≡ false) → i ≡ rank x ps
 rank_is x [] i within below above = omega arith
 rank_is x (p ∷ ps) zero within below above = rw (above 0 p (omega arith) (omega arith)) refl
 rank_is x (p ∷ ps) (suc i) within below above =
     rw (below 0 p (omega arith)) (ap suc (rank_is x ps i (omega arith) (λ k d less. below (suc k) d (omega arith)) (λ k d least less. above (suc k) d (omega arith) (omega arith))))
 
 -- a pair belongs behind those before it, and not behind others
-pub rank_over : (x : Held) (ps : List Held) (i : ℕ) (d : Held) → AreInOrder ps → i < length ps → is_before (get_or ps i d) x ≡ true → i < rank x ps
+pub rank_over : (x : Pair) (ps : List Pair) (i : ℕ) (d : Pair) → AreInOrder ps → i < length ps → is_before (get_or ps i d) x ≡ true → i < rank x ps
 rank_over x [] i d order within is = absurd (omega arith)
 rank_over x (p ∷ ps) zero d order within is = rw is (omega arith)
 rank_over x (p ∷ ps) (suc i) d order within is = rw (partitioned x (p ∷ ps) order 0 (suc i) d (omega arith) within is) (let deeper = rank_over x ps i d order.1 (omega arith) is in omega arith)
 
-pub rank_up_to : (x : Held) (ps : List Held) (i : ℕ) (d : Held) → i < length ps → is_before (get_or ps i d) x ≡ false → rank x ps ≤ i
+pub rank_up_to : (x : Pair) (ps : List Pair) (i : ℕ) (d : Pair) → i < length ps → is_before (get_or ps i d) x ≡ false → rank x ps ≤ i
 rank_up_to x [] i d within is = absurd (omega arith)
 rank_up_to x (p ∷ ps) zero d within is = rw is (omega arith)
 rank_up_to x (p ∷ ps) (suc i) d within is = by (is_before p x) (rank_up_to x ps i d (omega arith) is)
@@ -302,16 +302,16 @@ rank_up_to x (p ∷ ps) (suc i) d within is = by (is_before p x) (rank_up_to x p
     by false deeper = omega arith
 
 -- as a test tells
-pub told_from : (x : Held) (ps : List Held) (i at : ℕ) (d : Held) (test : Bool) → AreInOrder ps → at ≡ i + 1 → i < length ps → test ≡ is_before (get_or ps i d) x → IsTrue test ↔ at ≤ rank x ps
+pub told_from : (x : Pair) (ps : List Pair) (i at : ℕ) (d : Pair) (test : Bool) → AreInOrder ps → at ≡ i + 1 → i < length ps → test ≡ is_before (get_or ps i d) x → IsTrue test ↔ at ≤ rank x ps
 told_from x ps i at d true order next within is = (λ t. let over = rank_over x ps i d order within (sym is) in omega arith, λ from. refl)
 told_from x ps i at d false order next within is = (λ t. absurd (cc t), λ from. absurd (let up = rank_up_to x ps i d within (sym is) in omega arith))
 
-pub told_up_to : (x : Held) (ps : List Held) (i : ℕ) (d : Held) (test : Bool) → AreInOrder ps → i < length ps → test ≡ is_before (get_or ps i d) x → IsTrue (not test) ↔ rank x ps ≤ i
+pub told_up_to : (x : Pair) (ps : List Pair) (i : ℕ) (d : Pair) (test : Bool) → AreInOrder ps → i < length ps → test ≡ is_before (get_or ps i d) x → IsTrue (not test) ↔ rank x ps ≤ i
 told_up_to x ps i d true order within is = (λ t. absurd (cc t), λ up. absurd (let over = rank_over x ps i d order within (sym is) in omega arith))
 told_up_to x ps i d false order within is = (λ t. rank_up_to x ps i d within (sym is), λ up. refl)
 
 -- where it belongs among some of them
-rank_dropped : (x : Held) (ps : List Held) (n : ℕ) → n ≤ rank x ps → rank x ps ≡ n + rank x (drop n ps)
+rank_dropped : (x : Pair) (ps : List Pair) (n : ℕ) → n ≤ rank x ps → rank x ps ≡ n + rank x (drop n ps)
 rank_dropped x ps zero from = omega arith
 rank_dropped x [] (suc n) from = absurd (omega arith)
 rank_dropped x (p ∷ ps) (suc n) from = by (is_before p x) from (rank_dropped x ps n)
@@ -320,7 +320,7 @@ rank_dropped x (p ∷ ps) (suc n) from = by (is_before p x) from (rank_dropped x
     by true over deeper = let e = deeper (omega arith) in omega arith
     by false over deeper = absurd (omega arith)
 
-rank_taken : (x : Held) (ps : List Held) (n : ℕ) → rank x ps ≤ n → rank x (take n ps) ≡ rank x ps
+rank_taken : (x : Pair) (ps : List Pair) (n : ℕ) → rank x ps ≤ n → rank x (take n ps) ≡ rank x ps
 rank_taken x [] zero up = refl
 rank_taken x [] (suc n) up = refl
 rank_taken x (p ∷ ps) zero up = omega arith
@@ -330,30 +330,30 @@ rank_taken x (p ∷ ps) (suc n) up = by (is_before p x) up (rank_taken x ps n)
     by true over deeper = ap suc (deeper (omega arith))
     by false over deeper = refl
 
-pub rank_between : (x : Held) (ps : List Held) (from to : ℕ) → from ≤ rank x ps → rank x ps ≤ to → rank x ps ≡ from + rank x (take (to - from) (drop from ps))
+pub rank_between : (x : Pair) (ps : List Pair) (from to : ℕ) → from ≤ rank x ps → rank x ps ≤ to → rank x ps ≡ from + rank x (take (to - from) (drop from ps))
 rank_between x ps from to least most =
     let e = rank_dropped x ps from least in
     let f : rank x (take (to - from) (drop from ps)) ≡ rank x (drop from ps) = rank_taken x (drop from ps) (to - from) (omega arith) in omega arith
 
 -- some of them in a row stand in order too
-pub order_dropped : (ps : List Held) (n : ℕ) → AreInOrder ps → AreInOrder (drop n ps)
+pub order_dropped : (ps : List Pair) (n : ℕ) → AreInOrder ps → AreInOrder (drop n ps)
 order_dropped ps zero order = order
 order_dropped [] (suc n) order = tt
 order_dropped (p ∷ ps) (suc n) order = order_dropped ps n order.1
 
-none_before_taken : (p : Held) (ps : List Held) (n : ℕ) → NoneBefore p ps → NoneBefore p (take n ps)
+none_before_taken : (p : Pair) (ps : List Pair) (n : ℕ) → NoneBefore p ps → NoneBefore p (take n ps)
 none_before_taken p [] zero none = tt
 none_before_taken p [] (suc n) none = tt
 none_before_taken p (q ∷ qs) zero none = tt
 none_before_taken p (q ∷ qs) (suc n) none = (none.0, none_before_taken p qs n none.1)
 
-pub order_taken : (ps : List Held) (n : ℕ) → AreInOrder ps → AreInOrder (take n ps)
+pub order_taken : (ps : List Pair) (n : ℕ) → AreInOrder ps → AreInOrder (take n ps)
 order_taken [] zero order = tt
 order_taken [] (suc n) order = tt
 order_taken (p ∷ ps) zero order = tt
 order_taken (p ∷ ps) (suc n) order = (none_before_taken p ps n order.0, order_taken ps n order.1)
 
-pub rank_within : (x : Held) (ps : List Held) → rank x ps ≤ length ps
+pub rank_within : (x : Pair) (ps : List Pair) → rank x ps ≤ length ps
 rank_within x [] = omega arith
 rank_within x (p ∷ ps) = by (is_before p x) (rank_within x ps)
   where
@@ -362,7 +362,7 @@ rank_within x (p ∷ ps) = by (is_before p x) (rank_within x ps)
     by false deeper = omega arith
 
 -- the first pair of a handle
-pub first_none : (h : ℕ) (ps : List Held) → length ps ≤ rank (record { key = h; place = 0 }) ps → first_place h ps ≡ None
+pub first_none : (h : ℕ) (ps : List Pair) → length ps ≤ rank (record { key = h; place = 0 }) ps → first_place h ps ≡ None
 first_none h [] past = refl
 first_none h (p ∷ ps) past = by (is_before p (record { key = h; place = 0 })) past (first_none h ps)
   where
@@ -371,7 +371,7 @@ first_none h (p ∷ ps) past = by (is_before p (record { key = h; place = 0 })) 
     by true over deeper = deeper (omega arith)
     by false over deeper = absurd (omega arith)
 
-pub first_some : (h : ℕ) (ps : List Held) (d : Held) → rank (record { key = h; place = 0 }) ps < length ps
+pub first_some : (h : ℕ) (ps : List Pair) (d : Pair) → rank (record { key = h; place = 0 }) ps < length ps
     → first_place h ps ≡ (if (get_or ps (rank (record { key = h; place = 0 }) ps) d).key == h then Some ((get_or ps (rank (record { key = h; place = 0 }) ps) d).place) else None)
 first_some h [] d within = absurd (omega arith)
 first_some h (p ∷ ps) d within = by (is_before p (record { key = h; place = 0 })) within (first_some h ps d)
@@ -389,7 +389,7 @@ first_some h (p ∷ ps) d within = by (is_before p (record { key = h; place = 0 
 starts_at : (g h a : ℕ) → (nat_lt g h || (g == h && nat_lt a 0)) ≡ nat_lt g h
 starts_at g h a = grind (arith, nat_tests)
 
-starts : (p : Held) (h : ℕ) → is_before p (record { key = h; place = 0 }) ≡ nat_lt p.key h
+starts : (p : Pair) (h : ℕ) → is_before p (record { key = h; place = 0 }) ≡ nat_lt p.key h
 starts p h = starts_at p.key h p.place
 
 less_or_same : (g h : ℕ) → nat_lt g h ≡ true → (g == h) ≡ true → ⊥
@@ -402,11 +402,11 @@ past_it : (g h q a b : ℕ) → (nat_lt q g || (q == g && nat_lt b a)) ≡ false
 past_it g h q a b first least other = (grind (arith, nat_tests), grind (arith, nat_tests))
 
 -- all of the rows stand from this index on
-abbrev pub AreFrom : ℕ → List Held → Type 0
+abbrev pub AreFrom : ℕ → List Pair → Type 0
 AreFrom low [] = Unit {0}
 AreFrom low (p ∷ ps) = (low ≤ p.place) × AreFrom low ps
 
-from_with : (low : ℕ) (p : Held) (ps : List Held) → low ≤ p.place → AreFrom low ps → AreFrom low (with_pair p ps)
+from_with : (low : ℕ) (p : Pair) (ps : List Pair) → low ≤ p.place → AreFrom low ps → AreFrom low (with_pair p ps)
 from_with low p [] least all = (least, tt)
 from_with low p (q ∷ qs) least all = by (is_before q p) (from_with low p qs least all.1)
   where
@@ -414,19 +414,19 @@ from_with low p (q ∷ qs) least all = by (is_before q p) (from_with low p qs le
     by true deeper = (all.0, deeper)
     by false deeper = (least, all)
 
-from_less : (low high : ℕ) (ps : List Held) → low ≤ high → AreFrom high ps → AreFrom low ps
+from_less : (low high : ℕ) (ps : List Pair) → low ≤ high → AreFrom high ps → AreFrom low ps
 from_less low high [] less all = tt
 from_less low high (p ∷ ps) less all = (let least = all.0 in omega arith, from_less low high ps less all.1)
 
-pairs_are_from : {D : Type 0} (at : ℕ) (rows : List (Row D)) → AreFrom at (pairs_from at rows)
-pairs_are_from at [] = tt
-pairs_are_from at (r ∷ rows) = by r.handle (from_less at (at + 1) (pairs_from (at + 1) rows) (omega arith) (pairs_are_from (at + 1) rows))
+pairs_are_from : {D : Type 0} (key : Row D → Option ℕ) (at : ℕ) (rows : List (Row D)) → AreFrom at (pairs_from key at rows)
+pairs_are_from key at [] = tt
+pairs_are_from key at (r ∷ rows) = by (key r) (from_less at (at + 1) (pairs_from key (at + 1) rows) (omega arith) (pairs_are_from key (at + 1) rows))
   where
-    by : (h : Option ℕ) → AreFrom at (pairs_from (at + 1) rows) → AreFrom at (with_held h at (pairs_from (at + 1) rows))
+    by : (k : Option ℕ) → AreFrom at (pairs_from key (at + 1) rows) → AreFrom at (with_key k at (pairs_from key (at + 1) rows))
     by None deeper = deeper
-    by (Some g) deeper = from_with at _ (pairs_from (at + 1) rows) (omega arith) deeper
+    by (Some k) deeper = from_with at _ (pairs_from key (at + 1) rows) (omega arith) deeper
 
-first_with : (h at g : ℕ) (ps : List Held) → AreFrom (at + 1) ps → first_place h (with_pair (record { key = g; place = at }) ps) ≡ (if g == h then Some at else first_place h ps)
+first_with : (h at g : ℕ) (ps : List Pair) → AreFrom (at + 1) ps → first_place h (with_pair (record { key = g; place = at }) ps) ≡ (if g == h then Some at else first_place h ps)
 first_with h at g [] all = rw (starts (record { key = g; place = at }) h) (by (nat_lt g h) (g == h) refl refl)
   where
     by : (e f : Bool) → nat_lt g h ≡ e → (g == h) ≡ f → (if e then None else if f then Some at else None) ≡ (if f then Some at else None)
@@ -436,7 +436,7 @@ first_with h at g [] all = rw (starts (record { key = g; place = at }) h) (by (n
 first_with h at g (q ∷ qs) all =
     by (is_before q (record { key = g; place = at })) (is_before q (record { key = h; place = 0 })) (g == h) refl refl refl (first_with h at g qs all.1)
   where
-    p : Held
+    p : Pair
     p = record { key = g; place = at }
 
     here : Option ℕ
@@ -462,6 +462,25 @@ first_with h at g (q ∷ qs) all =
         rw (starts p h) (later (nat_lt g h) (g == h) refl refl first ∙ ap (λ (t : Bool). if t then Some at else first_place h (q ∷ qs)) same
         ∙ ap (λ (t : Bool). if f then Some at else if t then first_place h qs else here) least)
 
+-- whether a row has the key
+abbrev pub has_key : {D : Type 0} → (Row D → Option ℕ) → ℕ → Row D → Bool
+has_key key k r = option_map_or (λ g. g == k) (key r) false
+
+first_from : {D : Type 0} (key : Row D → Option ℕ) (k at : ℕ) (rows : List (Row D)) → first_place k (pairs_from key at rows) ≡ position_from (has_key key k) at rows
+first_from key k at [] = refl
+first_from key k at (r ∷ rows) = by (key r) (first_from key k (at + 1) rows)
+  where
+    by : (g : Option ℕ) → first_place k (pairs_from key (at + 1) rows) ≡ position_from (has_key key k) (at + 1) rows
+        → first_place k (with_key g at (pairs_from key (at + 1) rows)) ≡ (if option_map_or (λ n. n == k) g false then Some at else position_from (has_key key k) (at + 1) rows)
+    by None deeper = deeper
+    by (Some g) deeper =
+        first_with k at g (pairs_from key (at + 1) rows) (pairs_are_from key (at + 1) rows)
+        ∙ ap (λ (found : Option ℕ). if g == k then Some at else found) deeper
+
+-- the first place of a key is that of the first row with it
+pub first_is : {D : Type 0} (key : Row D → Option ℕ) (k : ℕ) (rows : List (Row D)) → first_place k (pairs_of key rows) ≡ position (has_key key k) rows
+first_is key k rows = first_from key k 0 rows ∙ sym (position_from-zero (has_key key k) rows)
+
 -- handles with one key are the same
 one_key : (g h a b : ℕ) → a < 4294967296 → b < 4294967296 → a ≡ (g * 2654435761) % 4294967296 → b ≡ (h * 2654435761) % 4294967296 → a * 4294967296 + g ≡ b * 4294967296 + h → g ≡ h
 one_key g h a b low_a low_b is_a is_b same = omega arith
@@ -475,39 +494,40 @@ told g h same is = grind (arith, nat_tests)
 below : (n : ℕ) → n % 4294967296 < 4294967296
 below n = omega arith
 
-same_key : (g h : ℕ) → (key_of g == key_of h) ≡ true → g ≡ h
-same_key g h is = one_key g h _ _ (below (g * 2654435761)) (below (h * 2654435761)) refl refl (same_number (key_of g) (key_of h) is)
+same_key : (g h : ℕ) → (key_of_handle g == key_of_handle h) ≡ true → g ≡ h
+same_key g h is = one_key g h _ _ (below (g * 2654435761)) (below (h * 2654435761)) refl refl (same_number (key_of_handle g) (key_of_handle h) is)
 
-key_tells : (g h : ℕ) → (key_of g == key_of h) ≡ (g == h)
-key_tells g h = by (key_of g == key_of h) (g == h) refl refl
+key_tells : (g h : ℕ) → (key_of_handle g == key_of_handle h) ≡ (g == h)
+key_tells g h = by (key_of_handle g == key_of_handle h) (g == h) refl refl
   where
-    by : (e f : Bool) → (key_of g == key_of h) ≡ e → (g == h) ≡ f → e ≡ f
+    by : (e f : Bool) → (key_of_handle g == key_of_handle h) ≡ e → (g == h) ≡ f → e ≡ f
     by true true e f = refl
     by false false e f = refl
     by true false e f = absurd (told g h (same_key g h e) f)
-    by false true e f = absurd (told (key_of g) (key_of h) (ap key_of (same_number g h f)) e)
+    by false true e f = absurd (told (key_of_handle g) (key_of_handle h) (ap key_of_handle (same_number g h f)) e)
 
-first_from : {D : Type 0} (h at : ℕ) (rows : List (Row D)) → first_place (key_of h) (pairs_from at rows) ≡ position_from (has_handle h) at rows
-first_from h at [] = refl
-first_from h at (r ∷ rows) = by r.handle (first_from h (at + 1) rows)
+-- a row is found by the key of its handle
+by_handle_from : {D : Type 0} (h at : ℕ) (rows : List (Row D)) → position_from (has_key handle_key (key_of_handle h)) at rows ≡ position_from (has_handle h) at rows
+by_handle_from h at [] = refl
+by_handle_from h at (r ∷ rows) = by r.handle (by_handle_from h (at + 1) rows)
   where
-    by : (g : Option ℕ) → first_place (key_of h) (pairs_from (at + 1) rows) ≡ position_from (has_handle h) (at + 1) rows
-        → first_place (key_of h) (with_held g at (pairs_from (at + 1) rows)) ≡ (if has_handle h (record r { handle = g }) then Some at else position_from (has_handle h) (at + 1) rows)
+    by : (g : Option ℕ) → position_from (has_key handle_key (key_of_handle h)) (at + 1) rows ≡ position_from (has_handle h) (at + 1) rows
+        → (if has_key handle_key (key_of_handle h) (record r { handle = g }) then Some at else position_from (has_key handle_key (key_of_handle h)) (at + 1) rows)
+        ≡ (if has_handle h (record r { handle = g }) then Some at else position_from (has_handle h) (at + 1) rows)
     by None deeper = deeper
     by (Some g) deeper =
-        first_with (key_of h) at (key_of g) (pairs_from (at + 1) rows) (pairs_are_from (at + 1) rows)
-        ∙ ap (λ (same : Bool). if same then Some at else first_place (key_of h) (pairs_from (at + 1) rows)) (key_tells g h)
+        ap (λ (same : Bool). if same then Some at else position_from (has_key handle_key (key_of_handle h)) (at + 1) rows) (key_tells g h)
         ∙ ap (λ (found : Option ℕ). if g == h then Some at else found) deeper
 
-pub first_is : {D : Type 0} (h : ℕ) (rows : List (Row D)) → first_place (key_of h) (pairs_of rows) ≡ position (has_handle h) rows
-first_is h rows = first_from h 0 rows ∙ sym (position_from-zero (has_handle h) rows)
+pub by_handle : {D : Type 0} (h : ℕ) (rows : List (Row D)) → first_place (key_of_handle h) (pairs_of handle_key rows) ≡ position (has_handle h) rows
+by_handle h rows = first_from handle_key (key_of_handle h) 0 rows ∙ by_handle_from h 0 rows ∙ sym (position_from-zero (has_handle h) rows)
 
 -- each row stands before the end
-abbrev AreBelow : ℕ → List Held → Type 0
+abbrev AreBelow : ℕ → List Pair → Type 0
 AreBelow high [] = Unit {0}
 AreBelow high (p ∷ ps) = (p.place < high) × AreBelow high ps
 
-below_with : (high : ℕ) (p : Held) (ps : List Held) → p.place < high → AreBelow high ps → AreBelow high (with_pair p ps)
+below_with : (high : ℕ) (p : Pair) (ps : List Pair) → p.place < high → AreBelow high ps → AreBelow high (with_pair p ps)
 below_with high p [] least all = (least, tt)
 below_with high p (q ∷ qs) least all = by (is_before q p) (below_with high p qs least all.1)
   where
@@ -515,37 +535,43 @@ below_with high p (q ∷ qs) least all = by (is_before q p) (below_with high p q
     by true deeper = (all.0, deeper)
     by false deeper = (least, all)
 
-pairs_are_below : {D : Type 0} (at high : ℕ) (rows : List (Row D)) → at + length rows ≤ high → AreBelow high (pairs_from at rows)
-pairs_are_below at high [] within = tt
-pairs_are_below at high (r ∷ rows) within = by r.handle (pairs_are_below (at + 1) high rows (omega arith))
+pairs_are_below : {D : Type 0} (key : Row D → Option ℕ) (at high : ℕ) (rows : List (Row D)) → at + length rows ≤ high → AreBelow high (pairs_from key at rows)
+pairs_are_below key at high [] within = tt
+pairs_are_below key at high (r ∷ rows) within = by (key r) (pairs_are_below key (at + 1) high rows (omega arith))
   where
-    by : (h : Option ℕ) → AreBelow high (pairs_from (at + 1) rows) → AreBelow high (with_held h at (pairs_from (at + 1) rows))
+    by : (k : Option ℕ) → AreBelow high (pairs_from key (at + 1) rows) → AreBelow high (with_key k at (pairs_from key (at + 1) rows))
     by None deeper = deeper
-    by (Some g) deeper = below_with high _ (pairs_from (at + 1) rows) (omega arith) deeper
+    by (Some k) deeper = below_with high _ (pairs_from key (at + 1) rows) (omega arith) deeper
 
-below_at : (high : ℕ) (ps : List Held) (k : ℕ) (d : Held) → AreBelow high ps → k < length ps → (get_or ps k d).place < high
+below_at : (high : ℕ) (ps : List Pair) (k : ℕ) (d : Pair) → AreBelow high ps → k < length ps → (get_or ps k d).place < high
 below_at high [] k d all within = absurd (omega arith)
 below_at high (p ∷ ps) zero d all within = all.0
 below_at high (p ∷ ps) (suc k) d all within = below_at high ps k d all.1 (omega arith)
 
-pub places_below : {D : Type 0} (high : ℕ) (rows : List (Row D)) → length rows < high → All (λ p. p.place + 1 < high + 1) (pairs_of rows)
-places_below high rows within k d inside = let low = below_at (length rows) (pairs_of rows) k d (pairs_are_below 0 (length rows) rows (omega arith)) inside in omega arith
+pub places_below : {D : Type 0} (key : Row D → Option ℕ) (count : ℕ) (rows : List (Row D)) → count ≡ length rows → All (λ p. p.place < count) (pairs_of key rows)
+places_below key count rows many k d inside = let low = below_at (length rows) (pairs_of key rows) k d (pairs_are_below key 0 (length rows) rows (omega arith)) inside in omega arith
+
+-- those of rows before an index don't move
+pub unmoved : (k : ℕ) (ps : List Pair) → ((i : ℕ) (d : Pair) → i < length ps → (get_or ps i d).place < k) → map (pushed_back k) ps ≡ ps
+unmoved k [] low = refl
+unmoved k (p ∷ ps) low =
+    ap (λ (q : Pair). q ∷ map (pushed_back k) ps) (before k p.place p.key (low 0 p (omega arith)))
+    ∙ ap (λ (qs : List Pair). p ∷ qs) (unmoved k ps (λ i d inside. low (suc i) d (omega arith)))
 
 -- where a pair is read at its rank
-pub first_at : (h : ℕ) (ps : List Held) (i : ℕ) (p : Held) → i ≡ rank (record { key = h; place = 0 }) ps → i < length ps → p ≡ get_or ps i p → first_place h ps ≡ (if p.key == h then Some p.place else None)
+pub first_at : (h : ℕ) (ps : List Pair) (i : ℕ) (p : Pair) → i ≡ rank (record { key = h; place = 0 }) ps → i < length ps → p ≡ get_or ps i p → first_place h ps ≡ (if p.key == h then Some p.place else None)
 first_at h ps i p is within read =
     let at : get_or ps (rank (record { key = h; place = 0 }) ps) p ≡ p = ap (λ (k : ℕ). get_or ps k p) (sym is) ∙ sym read in
-    first_some h ps p (omega arith) ∙ ap (λ (q : Held). if q.key == h then Some q.place else None) at
+    first_some h ps p (omega arith) ∙ ap (λ (q : Pair). if q.key == h then Some q.place else None) at
 
 -- where a pair is put in
-pub put_in : (g : Option ℕ) (a h k i : ℕ) (ps new : List Held) → g ≡ Some h → k ≡ key_of h → i ≡ rank (record { key = k; place = a }) ps → new ≡ insert ps i (record { key = k; place = a }) → new ≡ with_held g a ps
-put_in g a h k i ps new some key is now =
-    rw some (now ∙ ap (λ (at : ℕ). insert ps at (record { key = k; place = a })) is ∙ insert_is (record { key = k; place = a }) ps
-    ∙ ap (λ (n : ℕ). with_pair (record { key = n; place = a }) ps) key)
+pub put_in : (g : Option ℕ) (a k i : ℕ) (ps new : List Pair) → g ≡ Some k → i ≡ rank (record { key = k; place = a }) ps → new ≡ insert ps i (record { key = k; place = a }) → new ≡ with_key g a ps
+put_in g a k i ps new some is now =
+    rw some (now ∙ ap (λ (at : ℕ). insert ps at (record { key = k; place = a })) is ∙ insert_is (record { key = k; place = a }) ps)
 
 -- one less than their number
-pub room_for : (g : Option ℕ) (a h : ℕ) (ps : List Held) (room : ℕ) → g ≡ Some h → length (with_held g a ps) ≤ room → length ps < room
-room_for g a h ps room some few = let one = length-with (record { key = key_of h; place = a }) ps in let n : length (with_held g a ps) ≡ suc (length ps) = rw some one in omega arith
+pub room_for : (g : Option ℕ) (a k : ℕ) (ps : List Pair) (room : ℕ) → g ≡ Some k → length (with_key g a ps) ≤ room → length ps < room
+room_for g a k ps room some few = let one = length-with (record { key = k; place = a }) ps in let n : length (with_key g a ps) ≡ suc (length ps) = rw some one in omega arith
 
 -- a row is read
 pub row_is : {D : Type 0} (i : ℕ) (r : Row D) (rows : List (Row D)) → i < length rows → r ≡ get_or rows i r → slice_get rows i ≡ Some r
@@ -558,35 +584,48 @@ pub changed_is : {D : Type 0} (i : ℕ) (change : Row D → Row D) (r : Row D) (
 changed_is i change r rows within is = sym (ap (λ (found : Option (Row _)). option_map_or (λ x. set rows i (change x)) found rows) (row_is i r rows within is))
 
 -- what is kept of pairs beside rows
-abbrev pub AreKept : {D : Type 0} → List Held → ℕ → List (Row D) → Type 0
-AreKept ps room rows = (ps ≡ pairs_of rows) × (length rows ≤ room)
+abbrev pub AreKept : {D : Type 0} → List Pair → ℕ → List (Row D) → Type 0
+AreKept ps room rows = (ps ≡ pairs_of handle_key rows) × (length rows ≤ room)
 
-pub kept : {D : Type 0} (i : ℕ) (r new : Row D) (rows : List (Row D)) (ps : List Held) (room : ℕ) → r ≡ get_or rows i r → new.handle ≡ r.handle → AreKept ps room rows → AreKept ps room (set rows i new)
-kept i r new rows ps room is same all = (all.0 ∙ sym (pairs_kept 0 i r new rows is same), let n = length-set rows i new in let few = all.1 in omega arith)
+pub kept : {D : Type 0} (i : ℕ) (r new : Row D) (rows : List (Row D)) (ps : List Pair) (room : ℕ) → r ≡ get_or rows i r → new.handle ≡ r.handle → AreKept ps room rows → AreKept ps room (set rows i new)
+kept i r new rows ps room is same all = (all.0 ∙ sym (pairs_kept handle_key 0 i r new rows is (ap (option_map key_of_handle) same)), let n = length-set rows i new in let few = all.1 in omega arith)
 
-pub order_kept : {D : Type 0} (ps : List Held) (rows : List (Row D)) → ps ≡ pairs_of rows → AreInOrder ps
-order_kept ps rows is = subst AreInOrder (sym is) (pairs_in_order 0 rows)
+-- a row that keeps its type and its id
+pub resources_kept : {D : Type 0} (i : ℕ) (r new : Row D) (rows : List (Row D)) (ps : List Pair) → r ≡ get_or rows i r → new.resource.kind ≡ r.resource.kind → new.resource.id ≡ r.resource.id
+    → ps ≡ pairs_of resource_key rows → ps ≡ pairs_of resource_key (set rows i new)
+resources_kept i r new rows ps is kind id all =
+    all ∙ sym (pairs_kept resource_key 0 i r new rows is (ap (λ (k : List ℕ). Some (key_of_resource k new.resource.id)) kind ∙ ap (λ (n : ℤ). Some (key_of_resource r.resource.kind n)) id))
+
+pub order_kept : {D : Type 0} (key : Row D → Option ℕ) (ps : List Pair) (rows : List (Row D)) → ps ≡ pairs_of key rows → AreInOrder ps
+order_kept key ps rows is = subst AreInOrder (sym is) (pairs_in_order key 0 rows)
 
 -- pairs of rows, one of which is put in
-pub pushed_is : {D : Type 0} (i : ℕ) (r : Row D) (rows : List (Row D)) → i ≤ length rows → with_held r.handle i (map (pushed_back i) (pairs_of rows)) ≡ pairs_of (insert rows i r)
-pushed_is i r rows within = sym (pairs_insert 0 i i r rows (omega arith) within)
+pub pushed_is : {D : Type 0} (key : Row D → Option ℕ) (i : ℕ) (r : Row D) (rows : List (Row D)) → i ≤ length rows → with_key (key r) i (map (pushed_back i) (pairs_of key rows)) ≡ pairs_of key (insert rows i r)
+pushed_is key i r rows within = sym (pairs_insert key 0 i i r rows (omega arith) within)
 
-pub order_pushed : {D : Type 0} (i : ℕ) (r : Row D) (rows : List (Row D)) → i ≤ length rows → AreInOrder (map (pushed_back i) (pairs_of rows))
-order_pushed i r rows within = subst AreInOrder (sym (pushed_is i (with_handle None r) rows within)) (pairs_in_order 0 (insert rows i (with_handle None r)))
+order_pushed_from : (k : ℕ) (ps : List Pair) → AreInOrder ps → AreInOrder (map (pushed_back k) ps)
+order_pushed_from k [] order = tt
+order_pushed_from k (p ∷ ps) order = (none ps order.0, order_pushed_from k ps order.1)
+  where
+    none : (qs : List Pair) → NoneBefore p qs → NoneBefore (pushed_back k p) (map (pushed_back k) qs)
+    none [] all = tt
+    none (q ∷ qs) all = (same_order k q p ∙ all.0, none qs all.1)
+
+pub order_pushed : {D : Type 0} (key : Row D → Option ℕ) (i : ℕ) (rows : List (Row D)) → AreInOrder (map (pushed_back i) (pairs_of key rows))
+order_pushed key i rows = order_pushed_from i (pairs_of key rows) (pairs_in_order key 0 rows)
 
 -- rows that were read have no handle
-pub opened_pairs : {D : Type 0} (at : ℕ) (resources : List (Resource D)) → pairs_from at (map opened_row resources) ≡ []
+pub opened_pairs : {D : Type 0} (at : ℕ) (resources : List (Resource D)) → pairs_from handle_key at (map opened_row resources) ≡ []
 opened_pairs at [] = refl
 opened_pairs at (r ∷ resources) = opened_pairs (at + 1) resources
 
--- pairs of rows, one of which changes its handle
-pub replaced_is : {D : Type 0} (i : ℕ) (r new now : Row D) (rows : List (Row D)) (ps left : List Held) → i < length rows → r ≡ get_or rows i r → now ≡ get_or (set rows i new) i now
-    → ps ≡ pairs_of rows → left ≡ without_held r.handle i ps → with_held now.handle i left ≡ pairs_of (set rows i new)
-replaced_is i r new now rows ps left within is read all less =
-    ap (λ (x : Row _). with_held x.handle i left) (read ∙ get_or-set_same rows i new now within)
-    ∙ ap (with_held new.handle i) (less ∙ ap (without_held r.handle i) all) ∙ pairs_set i r new rows within is
+-- pairs of rows, one of which changes its key
+pub replaced_is : {D : Type 0} (key : Row D → Option ℕ) (i : ℕ) (r new : Row D) (rows : List (Row D)) (ps left : List Pair) → i < length rows → r ≡ get_or rows i r
+    → ps ≡ pairs_of key rows → left ≡ without_key (key r) i ps → with_key (key new) i left ≡ pairs_of key (set rows i new)
+replaced_is key i r new rows ps left within is all less =
+    ap (with_key (key new) i) (less ∙ ap (without_key (key r) i) all) ∙ pairs_set key i r new rows within is
 
 -- as many as before, at most
-pub replaced_few : {D : Type 0} (i : ℕ) (new : Row D) (rows : List (Row D)) (ps : List Held) (room : ℕ) → ps ≡ pairs_of (set rows i new) → length rows ≤ room → length ps ≤ room
-replaced_few i new rows ps room is few =
-    let count = ap (λ (qs : List Held). length qs) is in let less = few_pairs 0 (set rows i new) in let n = length-set rows i new in omega arith
+pub replaced_few : {D : Type 0} (key : Row D → Option ℕ) (i : ℕ) (new : Row D) (rows : List (Row D)) (ps : List Pair) (room : ℕ) → ps ≡ pairs_of key (set rows i new) → length rows ≤ room → length ps ≤ room
+replaced_few key i new rows ps room is few =
+    let count = ap (λ (qs : List Pair). length qs) is in let less = few_pairs key 0 (set rows i new) in let n = length-set rows i new in omega arith

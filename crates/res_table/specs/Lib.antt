@@ -4,5 +4,5 @@ pub mod Saved
 pub mod Behind
 pub mod Marks
 pub mod OpenFiles
-pub mod Held
+pub mod Keyed
 pub mod Kinds

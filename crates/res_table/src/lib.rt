@@ -2,8 +2,9 @@
 #![tactic(auto)]
 
 pub mod chain;
-mod handles;
 mod ids;
+mod keyed;
+mod keys;
 mod kinds;
 pub mod row;
 pub mod rows;

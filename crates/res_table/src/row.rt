@@ -1,5 +1,6 @@
 //! A row: a resource while its file is open.
 
+use crate::keys::{key_of_handle, key_of_resource};
 use bitflags::Flags;
 use mac_base::handle::Handle;
 use res_base::resource::{ResAttrs, ResType, Resource};
@@ -12,7 +13,8 @@ pub struct Row<D> {
 }
 
 impl<D> Row<D> {
-    ghost use Rattle.std.specs.Prelude.{◌≡◌};
+    ghost use Rattle.std.specs.Prelude.{◌≡◌, ◌==◌};
+    ghost use Rattle.res_table.specs.Keyed.{handle_key, key_of_resource};
     ghost use Rattle.res_table.specs.Rows.{is_of_type, is_resource, is_changed, opened_row};
 
     /// The row of a resource that was read: it has no handle and is not changed.
@@ -44,6 +46,28 @@ impl<D> Row<D> {
         ensures { result ≡ self.now.resource.kind }
     {
         self.resource.kind
+    }
+
+    /// The key of the row's handle, if it has one.
+    pub(crate) fn handle_key(&self) -> Option<u64>
+        ensures { result ≡ handle_key self.now }
+    {
+        self.handle.map(key_of_handle)
+    }
+
+    /// The key of the row's type and id.
+    pub(crate) fn resource_key(&self) -> u64
+        ensures { result ≡ key_of_resource self.now.resource.kind self.now.resource.id }
+    {
+        key_of_resource(self.resource.kind, self.resource.id)
+    }
+
+    /// Whether the row has the key of a type and an id: it is of that type then, and has that id.
+    pub(crate) fn has_key_of(&self, kind: ResType, id: i16) -> bool
+        ensures key { result ≡ (key_of_resource self.now.resource.kind self.now.resource.id == key_of_resource kind id) }
+        ensures resource { result ≡ is_resource kind id self.now }
+    {
+        key_of_resource(self.resource.kind, self.resource.id) == key_of_resource(kind, id)
     }
 
     /// Whether the row is of a type.

@@ -1,7 +1,8 @@
 //! The rows of an open file, in order.
 
-use crate::handles::Handles;
 use crate::ids::{first_free, mark_taken};
+use crate::keyed::{Keyed, Pair};
+use crate::keys::{key_of_handle, key_of_resource};
 use crate::kinds::Kinds;
 use crate::row::Row;
 use crate::runs::{MAX_OFFSET, names_fit, run_end};
@@ -12,27 +13,28 @@ use res_base::resource::{ResAttrs, ResType, Resource};
 use std::alloc::Global;
 use std::marker::Model;
 
-/// The rows of an open file, in order. A contract sees the list. A row is found by its handle without going through the rows, and
-/// what is asked of a type goes through the runs of rows of one type alone.
+/// The rows of an open file, in order. A contract sees the list. A row is found by its handle, or by its type and id, without going
+/// through the rows, and what is asked of a type goes through the runs of rows of one type alone.
 #[derive(Drop)]
 pub struct Rows<D> {
     rows: Vec<Row<D>>,
-    handles: Handles,
+    handles: Keyed,
     kinds: Kinds,
+    resources: Keyed,
 }
 
 impl<D> Model for Rows<D> {
     ghost use Rattle.std.specs.Prelude.{◌≡◌, ◌≤◌, List, length, vec_capacity};
     ghost use Rattle.res_table.specs.declared.row.Row.{Row};
-    ghost use Rattle.res_table.specs.Held.{pairs_of};
+    ghost use Rattle.res_table.specs.Keyed.{pairs_of, handle_key, resource_key};
     ghost use Rattle.res_table.specs.Kinds.{expanded, kinds_of};
 
     ghost Value = { List (Row D) };
 
     ghost view = { λ r. r.rows.items };
 
-    ghost invariant = { λ r. (r.handles.pairs.items ≡ pairs_of r.rows.items) × (length r.rows.items ≤ vec_capacity r.handles.pairs)
-        × (expanded r.kinds.runs.items ≡ kinds_of r.rows.items) };
+    ghost invariant = { λ r. (r.handles.pairs.items ≡ pairs_of handle_key r.rows.items) × (length r.rows.items ≤ vec_capacity r.handles.pairs)
+        × (expanded r.kinds.runs.items ≡ kinds_of r.rows.items) × (r.resources.pairs.items ≡ pairs_of resource_key r.rows.items) };
 }
 
 impl<D> Rows<D> {
@@ -48,8 +50,9 @@ impl<D> Rows<D> {
     {
         Rows {
             rows: Vec::new(alloc),
-            handles: Handles::new(alloc),
+            handles: Keyed::new(alloc),
             kinds: Kinds::new(alloc),
+            resources: Keyed::new(alloc),
         }
     }
 
@@ -62,17 +65,23 @@ impl<D> Rows<D> {
     {
         let mut rows = Vec::with_capacity(alloc, resources.len())?;
         let mut kinds = Kinds::new(alloc);
+        let mut keys = Vec::with_capacity(alloc, resources.len())?;
         for resource in resources {
             let row = Row::opened(resource);
             kinds.push(row.kind())?;
+            keys.push(Pair {
+                key: row.resource_key(),
+                place: rows.len(),
+            })?;
             rows.push(row)?;
         }
-        let mut handles = Handles::new(alloc);
+        let mut handles = Keyed::new(alloc);
         handles.reserve(rows.len())?;
         Ok(Rows {
             rows,
             handles,
             kinds,
+            resources: Keyed::sorted(keys),
         })
     }
 
@@ -95,14 +104,16 @@ impl<D> Rows<D> {
     pub fn find(&self, kind: ResType, id: i16) -> Option<usize>
         ensures { result ≡ position (is_resource kind id) self.now }
     {
-        self.rows.iter().position(|row| row.is_resource(kind, id))
+        let index = self.resources.find(key_of_resource(kind, id))?;
+        prove!(self.rows[index].has_key_of(kind, id));
+        Some(index)
     }
 
     /// Where the first row with a handle stands.
     pub fn row_of_handle(&self, handle: Handle) -> Option<usize>
         ensures { result ≡ position (has_handle handle) self.now }
     {
-        self.handles.find(handle)
+        self.handles.find(key_of_handle(handle))
     }
 
     /// Gives the row at an index this handle, or none.
@@ -110,10 +121,11 @@ impl<D> Rows<D> {
         requires { index < length self.old }
         ensures { self.new ≡ changed_at index (with_handle handle) self.old }
     {
-        let old = self.rows[index].handle;
+        let old = self.rows[index].handle_key();
         self.rows[index].handle = handle;
+        let new = self.rows[index].handle_key();
         self.handles.remove(old, index);
-        self.handles.add(self.rows[index].handle, index);
+        self.handles.add(new, index);
     }
 
     /// Gives the row at an index these attributes.
@@ -157,13 +169,18 @@ impl<D> Rows<D> {
     {
         let kind = row.kind();
         let at = self.end_of_type(kind);
-        let handle = row.handle;
-        self.handles.reserve(self.rows.len() + 1)?;
+        let handle = row.handle_key();
+        let key = row.resource_key();
+        let count = self.rows.len();
+        self.handles.reserve(count + 1)?;
         self.kinds.reserve()?;
+        self.resources.reserve(count + 1)?;
         self.rows.insert(at, row)?;
-        self.handles.push_back(at);
+        self.handles.push_back(at, count);
         self.handles.add(handle, at);
         self.kinds.add(kind);
+        self.resources.push_back(at, count);
+        self.resources.add(Some(key), at);
         Ok(())
     }
 
@@ -174,9 +191,11 @@ impl<D> Rows<D> {
         ensures rows { self.new ≡ remove self.old index }
     {
         let row = self.rows.remove(index);
-        self.handles.remove(row.handle, index);
+        self.handles.remove(row.handle_key(), index);
         self.handles.pull_up(index);
         self.kinds.remove(index);
+        self.resources.remove(Some(row.resource_key()), index);
+        self.resources.pull_up(index);
         row
     }
 

@@ -1,9 +1,9 @@
-use Rattle.std.proofs.Common.{◌≡◌, sym, ap, ◌∙◌, ◌≤◌, ◌<◌, ◌+◌, ℕ, List, length, map, subst, arith, rules}
+use Rattle.std.proofs.Common.{Option, Some, ◌≡◌, sym, ap, ◌∙◌, ◌≤◌, ◌<◌, ◌+◌, ℕ, List, length, map, subst, arith}
 use Rattle.std.specs.Prelude.{insert, vec_len, All}
 use Rattle.std.proofs.lemmas.List.Edits.{length-insert}
 use Rattle.res_table.specs.declared.row.Row.{Row}
-use Rattle.res_table.specs.declared.handles.Held.{Held}
-use Rattle.res_table.specs.Held.{pairs_of, pushed_back, with_held, AreInOrder}
+use Rattle.res_table.specs.declared.keyed.Pair.{Pair}
+use Rattle.res_table.specs.Keyed.{handle_key, resource_key, pairs_of, pushed_back, with_key, AreInOrder}
 use Rattle.res_table.proofs.Pairs.{places_below, order_pushed, pushed_is, few_pairs}
 use Rattle.res_table.specs.Behind.{end_of_type}
 use Rattle.res_table.proofs.Adding.{insert-at-end, end-within}
@@ -24,44 +24,70 @@ returns-clause-added g c = c.in_ok-insert.ensures.items
     ∙ ap (λ rows. insert rows (end_of_type c.args.row.resource.kind c.args.self.now) c.args.row) c.self.view_is
     ∙ insert-at-end c.args.row c.args.self.now
 
--- a pair is moved by one at most
+-- each pair is of a row
+of_rows : {D : Type 0} (key : Row D → Option ℕ) (count : ℕ) (rows : List (Row D)) (pairs : List Pair) → count ≡ length rows → pairs ≡ pairs_of key rows → All (λ p. p.place < count) pairs
+of_rows key count rows pairs many is = subst (λ (ps : List Pair). All (λ p. p.place < count) ps) (sym is) (places_below key count rows many)
+
 pub push_back-requires : goal.push_back-requires
-push_back-requires g c =
-    let rows = c.self.inside.rows.items in let pairs = c.reserve.new.self.pairs.items in
-    let small : length rows < 18446744073709551615 = search (rules, c.self.inside.rows.small, c.self.inside.rows.ok) in
-    let is : pairs ≡ pairs_of rows = c.reserve.ensures.same ∙ c.self.invariant.0 in
-    subst (λ (ps : List Held). All (λ p. p.place + 1 < 18446744073709551616) ps) (sym is) (places_below 18446744073709551615 rows small)
+push_back-requires g c = of_rows handle_key c.len-count.result c.self.inside.rows.items _ (c.len-count.ensures ∙ c.self.inside.rows.ok.0) (c.reserve.ensures.same ∙ c.self.invariant.0)
+
+pub push_back-requires-2 : goal.push_back-requires-2
+push_back-requires-2 g c = of_rows resource_key c.len-count.result c.self.inside.rows.items _ (c.len-count.ensures ∙ c.self.inside.rows.ok.0) (c.reserve-3.ensures.same ∙ c.self.invariant.3)
 
 within : {D : Type 0} (kind : List ℕ) (at : ℕ) (rows now : List (Row D)) → rows ≡ now → at ≡ end_of_type kind now → at ≤ length rows
 within kind at rows now same is = subst (λ (n : ℕ). n ≤ length rows) (sym (is ∙ ap (end_of_type kind) (sym same))) (end-within kind rows)
 
+-- pairs that have moved
+in_order : {D : Type 0} (key : Row D → Option ℕ) (at : ℕ) (rows : List (Row D)) (old moved : List Pair) → moved ≡ map (pushed_back at) old → old ≡ pairs_of key rows → AreInOrder moved
+in_order key at rows old moved is all = subst AreInOrder (sym (is ∙ ap (map (pushed_back at)) all)) (order_pushed key at rows)
+
+-- with that of the new row
+with_new : {D : Type 0} (key : Row D → Option ℕ) (k : Option ℕ) (at : ℕ) (r : Row D) (rows : List (Row D)) (old moved : List Pair) → k ≡ key r → at ≤ length rows → moved ≡ map (pushed_back at) old → old ≡ pairs_of key rows
+    → with_key k at moved ≡ pairs_of key (insert rows at r)
+with_new key k at r rows old moved same inside is all =
+    ap (λ (m : Option ℕ). with_key m at moved) same ∙ ap (with_key (key r) at) (is ∙ ap (map (pushed_back at)) all) ∙ pushed_is key at r rows inside
+
+-- there is room for it
+room_for_new : {D : Type 0} (key : Row D → Option ℕ) (at room : ℕ) (r : Row D) (rows : List (Row D)) (ps : List Pair) → at ≤ length rows → ps ≡ pairs_of key (insert rows at r) → length rows + 1 ≤ room → length ps ≤ room
+room_for_new key at room r rows ps inside is more =
+    let count = ap (λ (qs : List Pair). length qs) is in let few = few_pairs key 0 (insert rows at r) in let n = length-insert rows at r inside in omega arith
+
 pub add-requires-clause-order : goal.add-requires-clause-order
-add-requires-clause-order g c =
-    let rows = c.self.inside.rows.items in let at = c.end_of_type-at.result in
-    let inside = within c.kind-kind.result at rows c.args.self.now c.self.view_is c.end_of_type-at.ensures in
-    subst AreInOrder (sym (c.push_back.ensures.pairs ∙ ap (map (pushed_back at)) (c.reserve.ensures.same ∙ c.self.invariant.0))) (order_pushed at c.args.row rows inside)
+add-requires-clause-order g c = in_order handle_key c.end_of_type-at.result c.self.inside.rows.items _ _ c.push_back.ensures.pairs (c.reserve.ensures.same ∙ c.self.invariant.0)
+
+pub add-requires-3-clause-order : goal.add-requires-3-clause-order
+add-requires-3-clause-order g c = in_order resource_key c.end_of_type-at.result c.self.inside.rows.items _ _ c.push_back-2.ensures.pairs (c.reserve-3.ensures.same ∙ c.self.invariant.3)
 
 pub add-requires-clause-room : goal.add-requires-clause-room
 add-requires-clause-room g c =
     let rows = c.self.inside.rows.items in let at = c.end_of_type-at.result in let r = c.args.row in
     let inside = within c.kind-kind.result at rows c.args.self.now c.self.view_is c.end_of_type-at.ensures in
-    let is = ap (with_held r.handle at) (c.push_back.ensures.pairs ∙ ap (map (pushed_back at)) (c.reserve.ensures.same ∙ c.self.invariant.0)) ∙ pushed_is at r rows inside in
-    let count = ap (λ (ps : List Held). length ps) is in let few = few_pairs 0 (insert rows at r) in let n = length-insert rows at r inside in
-    let len = c.len.ensures in let ok = c.self.inside.rows.ok.0 in let room = c.in_ok-reserve.ensures.room in let then = c.push_back.ensures.room in
-    omega arith
+    let is = with_new handle_key c.handle_key-handle.result at r rows _ c.push_back.new.self.pairs.items c.handle_key-handle.ensures inside c.push_back.ensures.pairs (c.reserve.ensures.same ∙ c.self.invariant.0) in
+    let len = c.len-count.ensures in let ok = c.self.inside.rows.ok.0 in let room = c.in_ok-reserve.ensures.room in let then = c.push_back.ensures.room in
+    room_for_new handle_key at _ r rows _ inside is (omega arith)
+
+pub add-requires-3-clause-room : goal.add-requires-3-clause-room
+add-requires-3-clause-room g c =
+    let rows = c.self.inside.rows.items in let at = c.end_of_type-at.result in let r = c.args.row in
+    let inside = within c.kind-kind.result at rows c.args.self.now c.self.view_is c.end_of_type-at.ensures in
+    let is = with_new resource_key (Some c.resource_key-key.result) at r rows _ c.push_back-2.new.self.pairs.items (ap Some c.resource_key-key.ensures) inside c.push_back-2.ensures.pairs (c.reserve-3.ensures.same ∙ c.self.invariant.3) in
+    let len = c.len-count.ensures in let ok = c.self.inside.rows.ok.0 in let room = c.in_ok-reserve-3.ensures.room in let then = c.push_back-2.ensures.room in
+    room_for_new resource_key at _ r rows _ inside is (omega arith)
 
 pub invariant_of-self-2 : goal.invariant_of-self-2
 invariant_of-self-2 g c =
     let rows = c.self.inside.rows.items in let at = c.end_of_type-at.result in let r = c.args.row in
     let inside = within c.kind-kind.result at rows c.args.self.now c.self.view_is c.end_of_type-at.ensures in
-    let is = ap (with_held r.handle at) (c.push_back.ensures.pairs ∙ ap (map (pushed_back at)) (c.reserve.ensures.same ∙ c.self.invariant.0)) ∙ pushed_is at r rows inside in
+    let is = with_new handle_key c.handle_key-handle.result at r rows _ c.push_back.new.self.pairs.items c.handle_key-handle.ensures inside c.push_back.ensures.pairs (c.reserve.ensures.same ∙ c.self.invariant.0) in
+    let keyed = with_new resource_key (Some c.resource_key-key.result) at r rows _ c.push_back-2.new.self.pairs.items (ap Some c.resource_key-key.ensures) inside c.push_back-2.ensures.pairs (c.reserve-3.ensures.same ∙ c.self.invariant.3) in
     let new = c.in_ok-insert.ensures.items in
     let count = ap (λ (rs : List (Row _)). length rs) new in let n = length-insert rows at r inside in
-    let len = c.len.ensures in let ok = c.self.inside.rows.ok.0 in let room = c.in_ok-reserve.ensures.room in
+    let len = c.len-count.ensures in let ok = c.self.inside.rows.ok.0 in let room = c.in_ok-reserve.ensures.room in
     let then = c.push_back.ensures.room in let last = c.add.ensures.room in (
-      c.add.ensures.pairs ∙ is ∙ ap pairs_of (sym new),
+      c.add.ensures.pairs ∙ is ∙ ap (pairs_of handle_key) (sym new),
       omega arith,
       c.add-2.ensures ∙ ap (with_kind c.kind-kind.result) (ap (λ (runs : List TypeCount). expanded runs) c.reserve-2.ensures.same ∙ c.self.invariant.2)
           ∙ ap (λ (k : List ℕ). with_kind k (kinds_of rows)) c.kind-kind.ensures ∙ added_are r rows
           ∙ ap kinds_of (sym (new ∙ ap (λ (i : ℕ). insert rows i r) (c.end_of_type-at.ensures ∙ ap (λ (k : List ℕ). end_of_type k c.args.self.now) c.kind-kind.ensures ∙ ap (end_of_type r.resource.kind) (sym c.self.view_is)) ∙ insert-at-end r rows)),
+      c.add-3.ensures.pairs ∙ keyed ∙ ap (pairs_of resource_key) (sym new),
     )

@@ -1,26 +1,38 @@
-use Rattle.std.proofs.Common.{◌++◌, ◌∷◌, [], ℕ, List, map, sym, ap, ◌∙◌, arith}
+use Rattle.std.proofs.Common.{◌++◌, ◌∷◌, [], ◌+◌, ℕ, List, length, map, sym, ap, ◌∙◌, ◌≡◌, arith}
 use Rattle.std.proofs.lemmas.List.{map-append}
 use Rattle.res_table.specs.declared.row.Row.{Row}
+use Rattle.res_table.specs.declared.keyed.Pair.{Pair}
 use Rattle.res_table.specs.Rows.{opened_row}
-use Rattle.res_table.specs.Held.{pairs_of}
+use Rattle.res_table.specs.Keyed.{handle_key, key_of_resource, in_order, pairs_of}
 use Rattle.res_table.specs.Kinds.{kinds_of}
 use Rattle.res_table.proofs.Pairs.{opened_pairs}
+use Rattle.res_table.proofs.Sorting.{listed, listed_more, listed_are}
 use Rattle.res_table.proofs.Expanded.{kinds_more}
 use Rattle.res_table.proofs.rows.Rows.opened.Goals as goal
 
+-- the pairs as they come, with that of one more row
+with_last : {D : Type 0} (k n : ℕ) (r : Row D) (rows : List (Row D)) → k ≡ key_of_resource r.resource.kind r.resource.id → n ≡ length rows → listed 0 rows ++ record { key = k; place = n } ∷ [] ≡ listed 0 (rows ++ r ∷ [])
+with_last k n r rows key long =
+    ap (λ (m : ℕ). let p : Pair = record { key = m; place = n } in listed 0 rows ++ p ∷ []) key
+    ∙ (let e : n ≡ 0 + length rows = omega arith in ap (λ (m : ℕ). let p : Pair = record { key = key_of_resource r.resource.kind r.resource.id; place = m } in listed 0 rows ++ p ∷ []) e)
+    ∙ sym (listed_more 0 r rows)
+
 pub loop-resource-preserved : goal.loop-resource-preserved
 loop-resource-preserved g c =
-    let rows = c.loop-resource.rows.items in let row = c.opened-row.result in let items = c.in_ok-push-2.ensures.items in (
+    let rows = c.loop-resource.rows.items in let row = c.opened-row.result in let items = c.in_ok-push-3.ensures.items in (
       items ∙ ap (λ (rs : List (Row _)). rs ++ row ∷ []) c.loop-resource.invariant.0
           ∙ ap (λ (r : Row _). map opened_row c.loop-resource.yielded ++ r ∷ []) c.opened-row.ensures ∙ sym (map-append opened_row c.loop-resource.yielded (c.in-Some.resource ∷ [])),
       c.in_ok-push.ensures ∙ ap (λ (ks : List (List ℕ)). ks ++ c.kind.result ∷ []) c.loop-resource.invariant.1
           ∙ ap (λ (k : List ℕ). kinds_of rows ++ k ∷ []) c.kind.ensures ∙ sym (kinds_more rows row) ∙ ap kinds_of (sym items),
+      c.in_ok-push-2.ensures.items ∙ ap (λ (ps : List Pair). ps ++ record { key = c.resource_key.result; place = c.len-in-loop-resource.result } ∷ []) c.loop-resource.invariant.2
+          ∙ with_last c.resource_key.result c.len-in-loop-resource.result row rows c.resource_key.ensures (c.len-in-loop-resource.ensures ∙ c.loop-resource.rows.ok.0) ∙ ap (listed 0) (sym items),
     )
 
 pub invariant_of-result : goal.invariant_of-result
 invariant_of-result g c =
-    let len = c.len.ensures in let room = c.in_ok-reserve.ensures.room in let ok = c.loop-resource.rows.ok.0 in (
-      c.reserve.ensures.same ∙ c.new-handles.ensures ∙ sym (ap pairs_of c.loop-resource.invariant.0 ∙ opened_pairs 0 c.loop-resource.yielded),
+    let len = c.len-2.ensures in let room = c.in_ok-reserve.ensures.room in let ok = c.loop-resource.rows.ok.0 in (
+      c.reserve.ensures.same ∙ c.new-handles.ensures ∙ sym (ap (pairs_of handle_key) c.loop-resource.invariant.0 ∙ opened_pairs 0 c.loop-resource.yielded),
       omega arith,
       c.loop-resource.invariant.1,
+      c.sorted.ensures ∙ ap in_order c.loop-resource.invariant.2 ∙ listed_are 0 c.loop-resource.rows.items,
     )

@@ -1,13 +1,13 @@
-use Rattle.std.proofs.Common.{ℕ, remove, ◌<◌, List, length, sym, ap, ◌∙◌, arith, map, slice_get}
+use Rattle.std.proofs.Common.{ℕ, Option, Some, remove, ◌<◌, List, length, sym, ap, ◌∙◌, arith, map, slice_get}
 use Rattle.res_table.specs.declared.row.Row.{Row}
-use Rattle.res_table.specs.Held.{pulled_up, without_held, pairs_of}
+use Rattle.res_table.specs.Keyed.{handle_key, resource_key, pulled_up, without_key, pairs_of}
 use Rattle.res_table.proofs.Pairs.{order_kept, pairs_removed, row_is}
 use Rattle.res_table.specs.Kinds.{kinds_of}
 use Rattle.res_table.proofs.Expanded.{removed_are, as_many}
 use Rattle.res_table.proofs.rows.Rows.remove.Goals as goal
 
 pub remove-requires : goal.remove-requires
-remove-requires g c = record { order = order_kept c.self.inside.handles.pairs.items c.self.inside.rows.items c.self.invariant.0 }
+remove-requires g c = record { order = order_kept handle_key c.self.inside.handles.pairs.items c.self.inside.rows.items c.self.invariant.0 }
 
 pub invariant_of-self : goal.invariant_of-self
 invariant_of-self g c =
@@ -16,10 +16,12 @@ invariant_of-self g c =
     let within : i < length rows = omega arith in
     let count = c.remove-row.ensures.len in let old = c.self.inside.rows.ok.0 in let new = c.remove-row.new.self.ok.0 in
     let few = c.self.invariant.1 in let room = c.remove.ensures.room in let then = c.pull_up.ensures.room in (
-      c.pull_up.ensures.pairs ∙ ap (map (pulled_up i)) (c.remove.ensures.pairs ∙ ap (without_held r.handle i) c.self.invariant.0)
-          ∙ pairs_removed i r rows within c.remove-row.ensures.value ∙ ap pairs_of (sym c.remove-row.ensures.items),
+      c.pull_up.ensures.pairs ∙ ap (map (pulled_up i)) (c.remove.ensures.pairs ∙ ap (λ (k : Option ℕ). without_key k i c.self.inside.handles.pairs.items) c.handle_key.ensures ∙ ap (without_key (handle_key r) i) c.self.invariant.0)
+          ∙ pairs_removed handle_key i r rows within c.remove-row.ensures.value ∙ ap (pairs_of handle_key) (sym c.remove-row.ensures.items),
       omega arith,
       c.remove-2.ensures ∙ ap (λ (ks : List (List ℕ)). remove ks i) c.self.invariant.2 ∙ removed_are i rows ∙ ap kinds_of (sym c.remove-row.ensures.items),
+      c.pull_up-2.ensures.pairs ∙ ap (map (pulled_up i)) (c.remove-3.ensures.pairs ∙ ap (λ (k : ℕ). without_key (Some k) i c.self.inside.resources.pairs.items) c.resource_key.ensures ∙ ap (without_key (resource_key r) i) c.self.invariant.3)
+          ∙ pairs_removed resource_key i r rows within c.remove-row.ensures.value ∙ ap (pairs_of resource_key) (sym c.remove-row.ensures.items),
     )
 
 pub remove-requires-2 : goal.remove-requires-2
@@ -34,3 +36,6 @@ returns-clause-row g c =
     let long = ap (λ (rs : List (Row _)). length rs) c.self.view_is in
     let within : c.args.index < length rows = omega arith in
     sym (ap (λ (rs : List (Row _)). slice_get rs c.args.index) c.self.view_is) ∙ row_is c.args.index c.remove-row.result rows within c.remove-row.ensures.value
+
+pub remove-requires-3 : goal.remove-requires-3
+remove-requires-3 g c = record { order = order_kept resource_key c.self.inside.resources.pairs.items c.self.inside.rows.items c.self.invariant.3 }

@@ -1,20 +1,28 @@
-use Rattle.std.proofs.Common.{◌<◌, List, length, refl, subst, sym, ap, ◌∙◌, arith}
+use Rattle.std.proofs.Common.{◌≡◌, ◌<◌, ℕ, Option, List, get_or, set, length, refl, subst, sym, ap, ◌∙◌, arith}
 use Rattle.std.specs.Prelude.{vec_capacity}
-use Rattle.std.proofs.lemmas.List.{length-set}
+use Rattle.std.proofs.lemmas.List.{length-set, get_or-set_same}
 use Rattle.res_table.specs.declared.row.Row.{Row}
+use Rattle.res_table.specs.declared.keyed.Pair.{Pair}
 use Rattle.res_table.specs.Rows.{changed_at, with_handle}
-use Rattle.res_table.specs.Held.{AreInOrder}
-use Rattle.res_table.proofs.Pairs.{order_kept, order_without, replaced_is, replaced_few, changed_is}
+use Rattle.res_table.specs.Keyed.{AreInOrder, handle_key, with_key, without_key, pairs_of}
+use Rattle.res_table.proofs.Pairs.{order_kept, order_without, replaced_is, replaced_few, resources_kept, changed_is}
 use Rattle.res_table.proofs.Expanded.{kinds_kept}
 use Rattle.res_table.proofs.rows.Rows.set_handle.Goals as goal
 
 pub remove-requires : goal.remove-requires
-remove-requires g c = record { order = order_kept c.self.inside.handles.pairs.items c.self.inside.rows.items c.self.invariant.0 }
+remove-requires g c = record { order = order_kept handle_key c.self.inside.handles.pairs.items c.self.inside.rows.items c.self.invariant.0 }
 
 pub add-requires-clause-order : goal.add-requires-clause-order
 add-requires-clause-order g c =
     let pairs = c.self.inside.handles.pairs.items in
-    subst AreInOrder (sym c.remove.ensures.pairs) (order_without c.index.result.now.handle c.args.index pairs (order_kept pairs c.self.inside.rows.items c.self.invariant.0))
+    subst AreInOrder (sym c.remove.ensures.pairs) (order_without c.handle_key-old.result c.args.index pairs (order_kept handle_key pairs c.self.inside.rows.items c.self.invariant.0))
+
+-- the pairs are those of the rows, of which one has another handle
+pairs_are : {D : Type 0} (i : ℕ) (r new now : Row D) (rows : List (Row D)) (ps left : List Pair) (k l : Option ℕ) → i < length rows → r ≡ get_or rows i r → now ≡ get_or (set rows i new) i now → ps ≡ pairs_of handle_key rows
+    → left ≡ without_key k i ps → k ≡ handle_key r → l ≡ handle_key now → with_key l i left ≡ pairs_of handle_key (set rows i new)
+pairs_are i r new now rows ps left k l within is read all less old then =
+    ap (λ (m : Option ℕ). with_key m i left) (then ∙ ap handle_key (read ∙ get_or-set_same rows i new now within))
+    ∙ replaced_is handle_key i r new rows ps left within is all (less ∙ ap (λ (m : Option ℕ). without_key m i ps) old)
 
 pub add-requires-clause-room : goal.add-requires-clause-room
 add-requires-clause-room g c =
@@ -22,9 +30,10 @@ add-requires-clause-room g c =
     let long = ap (λ (rs : List (Row _)). length rs) c.self.view_is in
     let within : i < length rows = omega arith in
     let new = with_handle c.args.handle c.index_mut.result.now in
-    let is = replaced_is i c.index.result.now new c.index-2.result.now rows pairs.items c.remove.new.self.pairs.items within c.index.ensures c.index-2.ensures c.self.invariant.0 c.remove.ensures.pairs in
+    let is = pairs_are i c.index.result.now new c.index-2.result.now rows pairs.items c.remove.new.self.pairs.items c.handle_key-old.result c.handle_key-new.result within c.index.ensures c.index-2.ensures
+    c.self.invariant.0 c.remove.ensures.pairs c.handle_key-old.ensures c.handle_key-new.ensures in
     let room = c.remove.ensures.room in let few = c.self.invariant.1 in
-    replaced_few i new rows _ (vec_capacity c.remove.new.self.pairs) is (omega arith)
+    replaced_few handle_key i new rows _ (vec_capacity c.remove.new.self.pairs) is (omega arith)
 
 pub invariant_of-self : goal.invariant_of-self
 invariant_of-self g c =
@@ -32,11 +41,13 @@ invariant_of-self g c =
     let long = ap (λ (rs : List (Row _)). length rs) c.self.view_is in
     let within : i < length rows = omega arith in
     let new = with_handle c.args.handle c.index_mut.result.now in
-    let is = replaced_is i c.index.result.now new c.index-2.result.now rows pairs.items c.remove.new.self.pairs.items within c.index.ensures c.index-2.ensures c.self.invariant.0 c.remove.ensures.pairs in
+    let is = pairs_are i c.index.result.now new c.index-2.result.now rows pairs.items c.remove.new.self.pairs.items c.handle_key-old.result c.handle_key-new.result within c.index.ensures c.index-2.ensures
+    c.self.invariant.0 c.remove.ensures.pairs c.handle_key-old.ensures c.handle_key-new.ensures in
     let room = c.remove.ensures.room in let last = c.add.ensures.room in let few = c.self.invariant.1 in let n = length-set rows i new in (
       c.add.ensures.pairs ∙ is,
       omega arith,
       c.self.invariant.2 ∙ sym (kinds_kept i c.index_mut.result.now new rows c.index_mut.ensures.value refl),
+      resources_kept i c.index_mut.result.now new rows c.self.inside.resources.pairs.items c.index_mut.ensures.value refl refl c.self.invariant.3,
     )
 
 pub returns : goal.returns

@@ -1,27 +1,27 @@
 use Rattle.std.proofs.Common.{rules, ◌≡◌, ◌<◌, arith, true}
 use Rattle.std.specs.Prelude.{vec_len, vec_capacity, is_ok}
 use Rattle.res_table.proofs.Pairs.{rank_within, put_in, room_for}
-use Rattle.res_table.proofs.handles.Handles.add.Goals as goal
+use Rattle.res_table.proofs.keyed.Keyed.add.Goals as goal
 
 pub insert-requires : goal.insert-requires
 insert-requires c =
     let ok = c.args.self.now.pairs.ok.0 in let r = c.rank-at.ensures in
-    let within = rank_within (record { key = c.key_of-key.result; place = c.args.place }) c.args.self.now.pairs.items in
+    let within = rank_within (record { key = c.in-Some.key; place = c.args.place }) c.args.self.now.pairs.items in
     omega arith
 
 pub returns-in-Some-clause-pairs : goal.returns-in-Some-clause-pairs
 returns-in-Some-clause-pairs c =
     let ps = c.args.self.now.pairs.items in
     let ok = c.args.self.now.pairs.ok.0 in
-    let few = room_for c.args.handle c.args.place c.in-Some.handle ps (vec_capacity c.args.self.now.pairs) c.in-Some.is c.requires.room in
+    let few = room_for c.args.key c.args.place c.in-Some.key ps (vec_capacity c.args.self.now.pairs) c.in-Some.is c.requires.room in
     let room : vec_len c.args.self.now.pairs < vec_capacity c.args.self.now.pairs = omega arith in
     let done : is_ok c.insert.result ≡ true = search (rules, c.insert.ensures.succeeds room) in
-    put_in c.args.handle c.args.place c.in-Some.handle c.key_of-key.result c.rank-at.result ps c.insert.new.self.items c.in-Some.is c.key_of-key.ensures c.rank-at.ensures (rw done at c.insert.ensures.items)
+    put_in c.args.key c.args.place c.in-Some.key c.rank-at.result ps c.insert.new.self.items c.in-Some.is c.rank-at.ensures (rw done at c.insert.ensures.items)
 
 pub returns-in-Some-clause-room : goal.returns-in-Some-clause-room
 returns-in-Some-clause-room c =
     let ps = c.args.self.now.pairs.items in
     let ok = c.args.self.now.pairs.ok.0 in
-    let few = room_for c.args.handle c.args.place c.in-Some.handle ps (vec_capacity c.args.self.now.pairs) c.in-Some.is c.requires.room in
+    let few = room_for c.args.key c.args.place c.in-Some.key ps (vec_capacity c.args.self.now.pairs) c.in-Some.is c.requires.room in
     let room : vec_len c.args.self.now.pairs < vec_capacity c.args.self.now.pairs = omega arith in
     (c.insert.ensures.in_place room).1.0

@@ -1,7 +1,7 @@
 use Rattle.std.proofs.Common.{rules, ◌≡◌, ◌<◌, ◌+◌, sym, ap, ◌∙◌, arith}
-use Rattle.res_table.specs.Held.{rank}
+use Rattle.res_table.specs.Keyed.{rank}
 use Rattle.res_table.proofs.Pairs.{rank_between, order_dropped, order_taken}
-use Rattle.res_table.proofs.handles.rank_near.Goals as goal
+use Rattle.res_table.proofs.keyed.rank_near.Goals as goal
 
 pub rank_by_halving-requires : goal.rank_by_halving-requires
 rank_by_halving-requires c = order_taken _ _ (order_dropped c.args.pairs.now c.saturating_sub-from.result c.requires.order)

@@ -1,6 +1,6 @@
 use Rattle.std.proofs.Common.{◌<◌, ◌-◌, length, arith}
 use Rattle.res_table.proofs.Pairs.{told_from}
-use Rattle.res_table.proofs.handles.is_from.Goals as goal
+use Rattle.res_table.proofs.keyed.is_from.Goals as goal
 
 pub returns-else-index-eq0 : goal.returns-else-index-eq0
 returns-else-index-eq0 c =

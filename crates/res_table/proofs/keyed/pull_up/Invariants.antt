@@ -1,6 +1,6 @@
 use Rattle.std.proofs.Common.{◌≡◌, ◌++◌, map, take, drop}
-use Rattle.res_table.specs.Held.{pulled_up}
-use Rattle.res_table.proofs.handles.pull_up.Given as goal
+use Rattle.res_table.specs.Keyed.{pulled_up}
+use Rattle.res_table.proofs.keyed.pull_up.Given as goal
 
 -- the pairs so far have moved, and the others are as they were
 abbrev pub invariant-loop-index : goal.invariant-loop-index

@@ -1,6 +1,6 @@
 use Rattle.std.proofs.Common.{rules, ◌<◌, length, arith}
 use Rattle.res_table.proofs.Pairs.{told_up_to, rank_within}
-use Rattle.res_table.proofs.handles.is_up_to.Goals as goal
+use Rattle.res_table.proofs.keyed.is_up_to.Goals as goal
 
 pub returns-then-index-pairs : goal.returns-then-index-pairs
 returns-then-index-pairs c =

@@ -1,50 +1,38 @@
-//! Where the rows stand that have a handle.
+//! Where the rows stand that have a key.
 
 ghost use Rattle.std.specs.Prelude.{◌≡◌, ◌<◌, ◌≤◌, ◌+◌, ◌^◌, ◌↔◌, [], length, map, All, OnOk, IfSome, IsTrue, vec_len, vec_capacity};
-ghost use Rattle.res_table.specs.Held.{key_of, is_before, rank, with_pair, without_pair, with_held, without_held, pushed_back, pulled_up, first_place, AreInOrder};
+ghost use Rattle.res_table.specs.Keyed.{in_order, is_before, rank, with_pair, without_pair, with_key, without_key, pushed_back, pulled_up, first_place, AreInOrder};
 
 use mac_base::error::HostFull;
-use mac_base::handle::Handle;
 use std::alloc::Global;
-
-/// What handles are multiplied by: those of one zone, which stand close, are then spread evenly.
-const SPREAD: u32 = 2_654_435_761;
 
 /// How far from where a pair should stand it is looked for first, and then.
 const NEAR: usize = 4;
 
 const FAR: usize = 64;
 
-/// The number by which a handle has its place in the order: the upper half spreads handles evenly, the lower one is the handle.
-fn key_of(handle: Handle) -> u64
-    ensures { result ≡ key_of handle }
-{
-    let number = handle.number();
-    u64::from(number.wrapping_mul(SPREAD)) * 4_294_967_296 + u64::from(number)
+/// The key of a row that has one, and where the row stands.
+#[derive(Clone, Copy, PartialEq, Eq, PartialOrd, Ord)]
+pub(crate) struct Pair {
+    pub(crate) key: u64,
+    pub(crate) place: usize,
 }
 
-/// The key of the handle of a row that has one, and where the row stands.
-#[derive(Clone, Copy)]
-pub(crate) struct Held {
-    key: u64,
-    place: usize,
-}
-
-impl Held {
+impl Pair {
     /// Whether the pair stands before another.
-    fn is_before(self, other: Held) -> bool
+    fn is_before(self, other: Pair) -> bool
         ensures { result ≡ is_before self other }
     {
         self.key < other.key || (self.key == other.key && self.place < other.place)
     }
 
     /// The pair, where a row is put in at an index.
-    fn pushed_back(self, at: usize) -> Held
+    fn pushed_back(self, at: usize) -> Pair
         requires { self.place + 1 < 2 ^ 64 }
         ensures { result ≡ pushed_back at self }
     {
         if at <= self.place {
-            Held {
+            Pair {
                 key: self.key,
                 place: self.place + 1,
             }
@@ -54,11 +42,11 @@ impl Held {
     }
 
     /// The pair, where the row at an index, which isn't its own, is taken out.
-    fn pulled_up(self, at: usize) -> Held
+    fn pulled_up(self, at: usize) -> Pair
         ensures { result ≡ pulled_up at self }
     {
         if at < self.place {
-            Held {
+            Pair {
                 key: self.key,
                 place: self.place - 1,
             }
@@ -69,7 +57,7 @@ impl Held {
 }
 
 /// Moves pairs, where a row is put in at an index.
-fn push_back(pairs: &mut [Held], at: usize)
+fn push_back(pairs: &mut [Pair], at: usize)
     requires { All (λ p. p.place + 1 < 2 ^ 64) pairs.old }
     ensures { pairs.new ≡ map (pushed_back at) pairs.old }
 {
@@ -79,7 +67,7 @@ fn push_back(pairs: &mut [Held], at: usize)
 }
 
 /// Moves pairs, where the row at an index is taken out.
-fn pull_up(pairs: &mut [Held], at: usize)
+fn pull_up(pairs: &mut [Pair], at: usize)
     ensures { pairs.new ≡ map (pulled_up at) pairs.old }
 {
     for index in 0..pairs.len() {
@@ -93,24 +81,24 @@ fn count_within(distance: u64, count: usize) -> usize {
 }
 
 /// Where a pair should stand, if the keys are spread evenly: as told by a pair that stands near.
-fn guess(pairs: &[Held], pair: Held) -> usize
+fn guess(pairs: &[Pair], pair: Pair) -> usize
     ensures { result ≤ length pairs.now }
 {
     let count = pairs.len();
     let at = count_within(pair.key, count);
-    let Some(held) = pairs.get(at) else {
+    let Some(near) = pairs.get(at) else {
         return count;
     };
-    if held.key <= pair.key {
-        at.saturating_add(count_within(pair.key - held.key, count))
+    if near.key <= pair.key {
+        at.saturating_add(count_within(pair.key - near.key, count))
             .min(count)
     } else {
-        at.saturating_sub(count_within(held.key - pair.key, count))
+        at.saturating_sub(count_within(near.key - pair.key, count))
     }
 }
 
 /// Whether a pair stands, or belongs, at an index or behind it.
-fn is_from(pairs: &[Held], pair: Held, index: usize) -> bool
+fn is_from(pairs: &[Pair], pair: Pair, index: usize) -> bool
     requires order { AreInOrder pairs.now }
     requires within { index ≤ length pairs.now }
     ensures { IsTrue result ↔ index ≤ rank pair pairs.now }
@@ -119,7 +107,7 @@ fn is_from(pairs: &[Held], pair: Held, index: usize) -> bool
 }
 
 /// Whether a pair stands, or belongs, at an index or before it.
-fn is_up_to(pairs: &[Held], pair: Held, index: usize) -> bool
+fn is_up_to(pairs: &[Pair], pair: Pair, index: usize) -> bool
     requires order { AreInOrder pairs.now }
     ensures { IsTrue result ↔ rank pair pairs.now ≤ index }
 {
@@ -127,15 +115,15 @@ fn is_up_to(pairs: &[Held], pair: Held, index: usize) -> bool
 }
 
 /// Where a pair stands, or belongs, among pairs: by halving.
-fn rank_by_halving(pairs: &[Held], pair: Held) -> usize
+fn rank_by_halving(pairs: &[Pair], pair: Pair) -> usize
     requires { AreInOrder pairs.now }
     ensures { result ≡ rank pair pairs.now }
 {
-    pairs.partition_point(|held| held.is_before(pair))
+    pairs.partition_point(|other| other.is_before(pair))
 }
 
 /// Where a pair stands, or belongs, if that is so near to an index.
-fn rank_near(pairs: &[Held], pair: Held, index: usize, reach: usize) -> Option<usize>
+fn rank_near(pairs: &[Pair], pair: Pair, index: usize, reach: usize) -> Option<usize>
     requires order { AreInOrder pairs.now }
     requires within { index ≤ length pairs.now }
     ensures { IfSome result (λ at. at ≡ rank pair pairs.now) }
@@ -148,11 +136,14 @@ fn rank_near(pairs: &[Held], pair: Held, index: usize, reach: usize) -> Option<u
     Some(from + rank_by_halving(&pairs[from..to], pair))
 }
 
-/// Where a pair stands, or belongs: near to where it should stand, or else by halving.
-fn rank(pairs: &[Held], pair: Held) -> usize
+/// Where a pair stands, or belongs: behind all others, or near to where it should stand, or else by halving.
+fn rank(pairs: &[Pair], pair: Pair) -> usize
     requires { AreInOrder pairs.now }
     ensures { result ≡ rank pair pairs.now }
 {
+    if is_from(pairs, pair, pairs.len()) {
+        return pairs.len();
+    }
     let index = guess(pairs, pair);
     if let Some(at) = rank_near(pairs, pair, index, NEAR) {
         return at;
@@ -163,21 +154,29 @@ fn rank(pairs: &[Held], pair: Held) -> usize
     rank_by_halving(pairs, pair)
 }
 
-/// The rows that have a handle, in the order of the handles' keys, and among those with the same handle in the order of rows. So a
-/// row is found where its key says that it should stand, or else by halving.
+/// The rows that have a key, in the order of keys, and among those with the same key in the order of rows. So a row is found where
+/// its key says that it should stand, or else by halving.
 #[derive(Drop)]
-pub(crate) struct Handles {
-    pairs: Vec<Held>,
+pub(crate) struct Keyed {
+    pairs: Vec<Pair>,
 }
 
-impl Handles {
-    /// No row has a handle. This takes no memory of the host.
-    pub(crate) fn new(alloc: Global) -> Handles
+impl Keyed {
+    /// No row has a key. This takes no memory of the host.
+    pub(crate) fn new(alloc: Global) -> Keyed
         ensures { result.pairs.items ≡ [] }
     {
-        Handles {
+        Keyed {
             pairs: Vec::new(alloc),
         }
+    }
+
+    /// The pairs of rows, which may come in any order.
+    pub(crate) fn sorted(mut pairs: Vec<Pair>) -> Keyed
+        ensures { result.pairs.items ≡ in_order pairs.items }
+    {
+        pairs.sort_unstable();
+        Keyed { pairs }
     }
 
     /// Makes room for so many pairs.
@@ -192,67 +191,66 @@ impl Handles {
     }
 
     /// Where a pair stands, or belongs.
-    fn rank(&self, pair: Held) -> usize
+    fn rank(&self, pair: Pair) -> usize
         requires { AreInOrder self.now.pairs.items }
         ensures { result ≡ rank pair self.now.pairs.items }
     {
         rank(&self.pairs, pair)
     }
 
-    /// Where the first row with a handle stands.
-    pub(crate) fn find(&self, handle: Handle) -> Option<usize>
+    /// Where the first row with a key stands.
+    pub(crate) fn find(&self, key: u64) -> Option<usize>
         requires { AreInOrder self.now.pairs.items }
-        ensures { result ≡ first_place (key_of handle) self.now.pairs.items }
+        ensures { result ≡ first_place key self.now.pairs.items }
     {
-        let key = key_of(handle);
-        let start = self.rank(Held { key, place: 0 });
+        let start = self.rank(Pair { key, place: 0 });
         if start >= self.pairs.len() {
             return None;
         }
-        let held = self.pairs[start];
-        if held.key == key {
-            Some(held.place)
+        let found = self.pairs[start];
+        if found.key == key {
+            Some(found.place)
         } else {
             None
         }
     }
 
-    /// Adds the pair of the row at a place, which has this handle, or none.
-    pub(crate) fn add(&mut self, handle: Option<Handle>, place: usize)
+    /// Adds the pair of the row at a place, which has this key, or none.
+    pub(crate) fn add(&mut self, key: Option<u64>, place: usize)
         requires order { AreInOrder self.old.pairs.items }
-        requires room { length (with_held handle place self.old.pairs.items) ≤ vec_capacity self.old.pairs }
-        ensures pairs { self.new.pairs.items ≡ with_held handle place self.old.pairs.items }
+        requires room { length (with_key key place self.old.pairs.items) ≤ vec_capacity self.old.pairs }
+        ensures pairs { self.new.pairs.items ≡ with_key key place self.old.pairs.items }
         ensures room { vec_capacity self.new.pairs ≡ vec_capacity self.old.pairs }
     {
-        if let Some(handle) = handle {
-            let key = key_of(handle);
-            let at = self.rank(Held { key, place });
-            let _ = self.pairs.insert(at, Held { key, place });
+        if let Some(key) = key {
+            let at = self.rank(Pair { key, place });
+            let _ = self.pairs.insert(at, Pair { key, place });
         }
     }
 
-    /// Takes out the pair of the row at a place, which had this handle, or none.
-    pub(crate) fn remove(&mut self, handle: Option<Handle>, place: usize)
+    /// Takes out the pair of the row at a place, which had this key, or none.
+    pub(crate) fn remove(&mut self, key: Option<u64>, place: usize)
         requires order { AreInOrder self.old.pairs.items }
-        ensures pairs { self.new.pairs.items ≡ without_held handle place self.old.pairs.items }
+        ensures pairs { self.new.pairs.items ≡ without_key key place self.old.pairs.items }
         ensures room { vec_capacity self.new.pairs ≡ vec_capacity self.old.pairs }
     {
-        if let Some(handle) = handle {
-            let key = key_of(handle);
-            let at = self.rank(Held { key, place });
+        if let Some(key) = key {
+            let at = self.rank(Pair { key, place });
             if at < self.pairs.len() {
                 let _pair = self.pairs.remove(at);
             }
         }
     }
 
-    /// Moves the pairs behind a row that is put in.
-    pub(crate) fn push_back(&mut self, at: usize)
-        requires { All (λ p. p.place + 1 < 2 ^ 64) self.old.pairs.items }
+    /// Moves the pairs behind a row that is put in at an index of so many rows. Behind all of them no pair moves.
+    pub(crate) fn push_back(&mut self, at: usize, count: usize)
+        requires { All (λ p. p.place < count) self.old.pairs.items }
         ensures pairs { self.new.pairs.items ≡ map (pushed_back at) self.old.pairs.items }
         ensures room { vec_capacity self.new.pairs ≡ vec_capacity self.old.pairs }
     {
-        push_back(&mut self.pairs, at);
+        if at < count {
+            push_back(&mut self.pairs, at);
+        }
     }
 
     /// Moves the pairs behind a row that is taken out.

@@ -1,6 +1,6 @@
 use Rattle.std.proofs.Common.{◌≡◌, ◌++◌, map, take, drop}
-use Rattle.res_table.specs.Held.{pushed_back}
-use Rattle.res_table.proofs.handles.push_back.Given as goal
+use Rattle.res_table.specs.Keyed.{pushed_back}
+use Rattle.res_table.proofs.keyed.push_back.Given as goal
 
 -- the pairs so far have moved, and the others are as they were
 abbrev pub invariant-loop-index : goal.invariant-loop-index
