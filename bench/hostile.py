@@ -3,7 +3,7 @@
 
 PROGRAM is a macheap, as `rt run` in crates/macheap builds it. Each script has as many lines as a script may have, or bytes, and runs over the
 largest zone. What is told of each: seconds of processor time, of those the seconds in the system (reading, writing, syncing), the most
-memory in MB, and the bytes that were printed. With WORD only those run whose name has it. A run ends after 60 seconds.
+memory in MB, and the bytes that were printed. With WORD only those run whose name has it. A run ends after 120 seconds.
 """
 import os
 import resource
@@ -62,6 +62,10 @@ def empty_types(count):
 SHARED = fork_of([(b"TEXT", it, None, 0) for it in range(-4096, 4096)], struct.pack(">I", 496) + bytes(496))
 WIDE = fork_of([(b"TEXT", it, None, 1004 * it) for it in range(4000)], b"".join(struct.pack(">I", 1000) + bytes(1000) for _ in range(4000)))
 TYPES = empty_types(65000)
+# the last of its 8,192 data lies outside, which shows when all others have been looked at
+LATE = fork_of([(b"TEXT", it, None, 0) for it in range(8191)] + [(b"TEXT", 8191, None, 1000)], struct.pack(">I", 496) + bytes(496))
+FULL = fork_of([(b"TEXT", it, None, 0) for it in range(5458)], bytes(4))
+ALMOST = fork_of([(b"TEXT", it, None, 0) for it in range(5457)], bytes(4))
 ONE_EACH = fork_of([(b"%04d" % it, 1, None, 0) for it in range(3000)], bytes(4))
 
 
@@ -80,33 +84,57 @@ def purged_by_turns():
 
 
 def slides():
-    """A hole at the front is closed and opened: all blocks move at each request."""
-    lines = ["a=NewHandle 400"] + named(2000, 500)
-    for it in range(16000):
-        lines += ["DisposeHandle a", "CompactMem 1000000", f"a=NewHandle {400 - it % 2 * 4}"]
-    return lines
+    """The lowest block becomes smaller, and all others move down; then it grows, and they move up."""
+    lines = ["a=NewHandle 400"] + handles(2000, 492)
+    return lines + ["SetHandleSize a 8", "CompactMem 1000000", "SetHandleSize a 400"] * LINES
+
+
+def small_gaps(count):
+    """So many gaps of 16 bytes between blocks that can't move."""
+    return [line for it in range(count) for line in ("NewPtr 8", f"q{it:X}=NewPtr 8")] + [f"DisposePtr q{it:X}" for it in range(count)]
 
 
 def fixed_between():
     """Blocks that can't move stand between small gaps, and no gap has room."""
-    lines = []
-    for it in range(7000):
-        lines += [f"p{it:X}=NewPtr 8", f"q{it:X}=NewPtr 24"]
-    lines += [f"DisposePtr q{it:X}" for it in range(7000)]
-    return lines + ["NewHandle 900000"] * LINES
+    return small_gaps(7000) + ["NewHandle 900000"] * LINES
+
+
+def above_gaps(count):
+    """A block that can't move comes and goes above gaps that are too small for it."""
+    return small_gaps(count) + ["a=NewPtr 100", "DisposePtr a"] * LINES
+
+
+def below_others(lines, request):
+    """The lowest of 20,000 handles, with which something was done, and a request at each line."""
+    return ["h=NewHandle 8"] + lines + handles(20000, 8) + request * LINES
+
+
+def locked_by_turns():
+    """A gap with 10,000 free blocks is cut in two by a lock, and is one again, and each time a request fails."""
+    lines = [line for it in range(10000) for line in ("h=NewHandle 8" if it == 5000 else "NewHandle 8", f"q{it:X}=NewHandle 8")]
+    lines += [f"DisposeHandle q{it:X}" for it in range(10000)]
+    return lines + ["HLock h", "NewHandle 900000", "HUnlock h", "NewHandle 900000"] * LINES
 
 
 def answers():
-    """Each request asks 16 times, and each answer has eight calls."""
-    lines = named(16000, 8)
-    while len("\n".join(lines)) < BYTES - 3000:
-        lines += ["gz 1 " + ";".join(["HPurge h1"] * 8)] * 16 + ["NewHandle 900000"]
+    """Each request asks 16 times, and each answer disposes of eight handles."""
+    lines, number = named(16000, 8), 0
+    while len("\n".join(lines)) < BYTES - 3500:
+        for _ in range(16):
+            lines.append("gz 1 " + ";".join(f"DisposeHandle h{it % 16000:X}" for it in range(number, number + 8)))
+            number += 8
+        lines.append("NewHandle 900000")
     return lines
 
 
-def few_answers():
-    lines = named(16000, 8)
-    return lines + (["gz 1"] * 16 + ["NewHandle 900000"]) * 2900
+def few_answers(request):
+    return ["h=NewHandle 8"] + handles(16000, 8) + (["gz 1"] * 16 + [request]) * LINES
+
+
+def everything_kept():
+    """Eight files are open, answers are kept for later, and the last line writes 4 MB."""
+    lines = ["h=GetResource 'TEXT' 3999", "ChangedResource h"] + [f"OpenResFile {it}" for it in range(2, 9)]
+    return lines + ["gz 1"] * (LINES - len(lines) - 1) + ["UpdateResFile 1"]
 
 
 # name, the forks and the script
@@ -116,7 +144,17 @@ RUNS = [
     ("7,000 small gaps between pointers", [], fixed_between()),
     ("all handles purged, again and again", [], purged_each_time()),
     ("20,000 purgeable handles, PurgeMem and MaxMem", [], purged_by_turns()),
-    ("2,000 blocks that all move at each line", [], slides()),
+    ("1 MB that moves at two lines of three", [], slides()),
+    ("7,000 small gaps, and a pointer above them", [], above_gaps(7000)),
+    ("10,000 small gaps, and a pointer above them", [], above_gaps(10000)),
+    ("a locked purgeable handle among 20,000", [], below_others(["HPurge h", "HLock h"], ["NewHandle 900000"])),
+    ("the lowest handle, purgeable, is to grow", [], below_others(["HPurge h"], ["SetHandleSize h 900000"])),
+    ("the lowest handle is to grow", [], below_others([], ["SetHandleSize h 900000"])),
+    ("the lowest handle is to be reallocated", [], below_others([], ["ReallocateHandle h 900000"])),
+    ("bytes are to be added to the lowest handle", [], below_others(["b=NewHandle 500000"], ["HandAndHand b h"])),
+    ("the lowest handle, purged and filled again", [], below_others([], ["HPurge h", "NewHandle 900000", "ReallocateHandle h 8"])),
+    ("HLockHi among 20,000 blocks", [], below_others([], ["HLockHi h", "HUnlock h"])),
+    ("10,000 free blocks in a gap that a lock cuts in two", [], locked_by_turns()),
     ("MaxBlock and PurgeSpace among 20,000 blocks", [], handles(20000, 8) + ["MaxBlock", "PurgeSpace"] * LINES),
     ("CompactMem among 20,000 blocks", [], handles(20000, 8) + ["CompactMem 1000000"] * LINES),
     ("RecoverHandle among 20,000 blocks", [], named(20000, 8) + ["a=Deref h4E1F"] + ["RecoverHandle a"] * LINES),
@@ -124,15 +162,26 @@ RUNS = [
     ("the first handle reallocated", [], named(20000, 8) + ["ReallocateHandle h1 300", "ReallocateHandle h1 8"] * LINES),
     ("MoveHHi among 20,000 blocks", [], named(20000, 8) + [f"MoveHHi h{it:X}" for it in range(20000)] * 3),
     ("16 answers of eight calls at each request", [], answers()),
-    ("16 answers without calls at each request", [], few_answers()),
+    ("16 answers without calls at each request", [], few_answers("NewHandle 900000")),
+    ("16 answers, and the lowest handle is to grow", [], few_answers("SetHandleSize h 900000")),
     ("65,000 types without resources", [TYPES], ["CountTypes", "GetIndType 64999", "UniqueID 'TEXT'", "GetResource 'TEXT' 1"] * LINES),
     ("8,192 references to one datum, listed", [SHARED], ["SetResLoad 0"] + ["GetIndResource 'TEXT' 8192", "GetResource 'TEXT' 5000", "CountResources 'TEXT'", "CountTypes"] * LINES),
     ("8,192 references, ids looked for", [SHARED], ["UniqueID 'TEXT'"] * LINES),
     ("8,192 references, loaded and purged", [SHARED], [f"h=GetIndResource 'TEXT' {it % 8192 + 1}\nHPurge h" for it in range(32000)]),
     ("eight files of 8,192 resources", [SHARED] * 8, [f"OpenResFile {it}" for it in range(2, 9)] + ["GetResource 'TEXT' 5000"] * LINES),
+    ("eight files of 8,192 resources, and a handle of none", [SHARED] * 8, [f"OpenResFile {it}" for it in range(2, 9)] + ["h=NewHandle 4"] + ["GetResInfo h"] * LINES),
+    ("eight files of 8,192 resources, and handles that come and go", [SHARED] * 8, [f"OpenResFile {it}" for it in range(2, 9)] + ["h=NewHandle 4", "DisposeHandle h"] * LINES),
+    ("a fork of 8,192 resources that is refused at each of 200 lines", [b"", LATE], ["OpenResFile 2"] * 200),
     ("3,000 types of one resource", [ONE_EACH], ["CountTypes", "GetIndType 3000", "GetResource '2999' 1", "CountResources '2999'"] * LINES),
     ("updates of 4 MB", [WIDE], ["h=GetResource 'TEXT' 3999"] + ["ChangedResource h", "UpdateResFile"] * 20),
     ("resources added and removed", [b""], named(5458, 8) + [f"AddResource h{it:X} 'TEXT' {it}" for it in range(5458)] + [f"RemoveResource h{it:X}" for it in range(5458)] + [f"AddResource h{it:X} 'TEXT' {it}" for it in range(5458)] + ["DisposeHandle h%X" % it for it in range(5458)]),
+    ("a resource that is one too many for its file", [FULL], ["h=NewHandle 8"] + ["AddResource h 'TEXT' 1"] * LINES),
+    ("a resource that is added and removed among 5,457", [ALMOST], ["h=NewHandle 8"] + ["AddResource h 'TEXT' 1", "RemoveResource h"] * LINES),
+    ("1 MB of zeros at each line", [], ["h=NewHandle 1000000"] + ["ReallocateHandle h 1000000"] * LINES),
+    ("1 MB that is copied at each line", [], ["h=NewHandle 1000000"] + ["BlockMove h 0 h 8 999992"] * LINES),
+    ("65,000 answers, eight files, and an update of 4 MB", [WIDE] + [SHARED] * 7, everything_kept()),
+    ("65,536 answers", [], ["gz 1"] * LINES),
+    ("8,000 answers of eight calls", [], ["gz 1 " + ";".join(["DisposePtr 1"] * 8)] * LINES),
     ("65,536 names", [], [f"v{it:X}=NewHandle 4" for it in range(LINES)]),
     ("bytes printed", [], ["h=NewHandle 100000"] + ["Peek h 0 4000"] * LINES),
 ]
@@ -148,7 +197,7 @@ def peak(pid):
 
 
 def limited():
-    resource.setrlimit(resource.RLIMIT_CPU, (60, 60))
+    resource.setrlimit(resource.RLIMIT_CPU, (120, 120))
 
 
 def run(program, folder, forks, script):
@@ -165,7 +214,7 @@ def run(program, folder, forks, script):
         most, status = 0, None
         while status is None:
             most = max(most, peak(child.pid))
-            time.sleep(0.01)
+            time.sleep(0.001)
             pid, ended, used = os.wait4(child.pid, os.WNOHANG)
             status = ended if pid else None
         size = output.seek(0, 2)
