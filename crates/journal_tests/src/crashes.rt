@@ -1,8 +1,8 @@
 //! Crashes at each moment: what a start then finds is the fork before the update or the one after it.
 
-use crate::forks::{front, journal_of, one_row, started, two_rows};
+use crate::forks::{front, is_replaced, journal_of, one_row, started, two_rows};
 use fork_disk::store::ForkStore;
-use fork_journal::{Call, Choice, CrashPair, Fate, Journal, MemPair};
+use fork_journal::{Call, Choice, CrashPair, Fate, MemPair};
 use std::alloc::{AllocError, Global};
 use std::process::Abort;
 use std::test::Fail;
@@ -106,6 +106,25 @@ fn recovered(rt: &impl Abort, alloc: Global, found: &MemPair) -> Result<Vec<u8>,
     Ok(store.pair().pair().fork().to_vec(alloc)?)
 }
 
+/// Recovers each outcome of a recovery that was stopped behind so many calls: always the same fork. How many there are.
+fn check_recoveries(
+    rt: &impl Abort,
+    alloc: Global,
+    pair: &CrashPair,
+    calls: u64,
+    want: &[u8],
+) -> Result<u64, Fail> {
+    let count = count_outcomes(pair.pair().calls());
+    for n in 0..count {
+        let left = outcome(alloc, pair, n)?;
+        assert!(rt;
+            recovered(rt, alloc, &left)?.as_slice() == want,
+            "recovery call {calls}, outcome {n}"
+        );
+    }
+    Ok(count)
+}
+
 /// Stops a recovery behind each of its calls, and recovers each outcome of that: always the same fork. How many were seen.
 fn stop_recovery(
     rt: &impl Abort,
@@ -117,14 +136,8 @@ fn stop_recovery(
     for calls in 0..MANY {
         let mut store = started(alloc, found.fork(), found.journal(), calls)?;
         let is_done = store.recover().is_ok();
-        for n in 0..count_outcomes(store.pair().pair().calls()) {
-            let left = outcome(alloc, store.pair(), n)?;
-            assert!(rt;
-                recovered(rt, alloc, &left)?.as_slice() == want,
-                "recovery call {calls}, outcome {n}"
-            );
-            seen = seen.saturating_add(1);
-        }
+        let count = check_recoveries(rt, alloc, store.pair(), calls, want)?;
+        seen = seen.saturating_add(count);
         if is_done {
             break;
         }
@@ -132,12 +145,39 @@ fn stop_recovery(
     Ok(seen)
 }
 
-/// Whether an update was answered as done.
-fn is_replaced(store: &mut Journal<CrashPair>, new: &[u8]) -> bool {
-    match store.recover() {
-        Ok(()) => store.replace(new).is_ok(),
-        Err(_) => false,
+/// Recovers the n-th outcome of an update that was stopped behind so many calls: one of both forks. Then it stops that recovery. How
+/// many outcomes of that were seen.
+fn check_outcome(
+    rt: &impl Abort,
+    alloc: Global,
+    left: &MemPair,
+    (calls, n): (u64, u64),
+    either: (&[u8], &[u8]),
+) -> Result<u64, Fail> {
+    let found = recovered(rt, alloc, left)?;
+    let fork = found.as_slice();
+    assert!(rt;
+        fork == either.0 || fork == either.1,
+        "call {calls}, outcome {n}"
+    );
+    stop_recovery(rt, alloc, left, fork)
+}
+
+/// The same for each outcome.
+fn check_outcomes(
+    rt: &impl Abort,
+    alloc: Global,
+    pair: &CrashPair,
+    calls: u64,
+    either: (&[u8], &[u8]),
+) -> Result<u64, Fail> {
+    let mut seen: u64 = 0;
+    for n in 0..count_outcomes(pair.pair().calls()) {
+        let left = outcome(alloc, pair, n)?;
+        let count = check_outcome(rt, alloc, &left, (calls, n), either)?;
+        seen = seen.saturating_add(count);
     }
+    Ok(seen)
 }
 
 /// Stops an update behind each of its calls, and each recovery of each outcome. How many outcomes were seen.
@@ -152,21 +192,26 @@ fn stop_update(
     for calls in 0..MANY {
         let mut store = started(alloc, old, journal, calls)?;
         let is_done = is_replaced(&mut store, new);
-        for n in 0..count_outcomes(store.pair().pair().calls()) {
-            let left = outcome(alloc, store.pair(), n)?;
-            let found = recovered(rt, alloc, &left)?;
-            let fork = found.as_slice();
-            assert!(rt;
-                fork == new || (!is_done && fork == old),
-                "call {calls}, outcome {n}"
-            );
-            seen = seen.saturating_add(stop_recovery(rt, alloc, &left, fork)?);
-        }
+        let before = if is_done { new } else { old };
+        let count = check_outcomes(rt, alloc, store.pair(), calls, (new, before))?;
+        seen = seen.saturating_add(count);
         if is_done {
             break;
         }
     }
     Ok(seen)
+}
+
+/// The same behind a journal of this gate, with these bytes.
+fn stop_behind(
+    rt: &impl Abort,
+    alloc: Global,
+    old: &[u8],
+    (gate, bytes): (u8, &[u8]),
+    new: &[u8],
+) -> Result<u64, Fail> {
+    let journal = journal_of(alloc, gate, bytes)?;
+    stop_update(rt, alloc, old, &journal, new)
 }
 
 /// An update where there is no journal yet, one behind a gate that is open over too short a text, one back with the journal of the
@@ -175,18 +220,10 @@ fn stop_update(
 fn leaves_the_fork_before_or_after(rt: HostRuntime) -> Result<(), Fail> {
     let alloc = rt.alloc();
     let (first, second) = (two_rows(alloc)?, one_row(alloc)?);
-    let cut_short = journal_of(alloc, 1, front(&second, 311))?;
-    let written = journal_of(alloc, 0, &second)?;
-    let long = journal_of(alloc, 2, &[1; 400])?;
-    let mut seen: u64 = 0;
-    for (old, journal, new) in [
-        (&first, &[] as &[u8], &second),
-        (&first, &cut_short, &second),
-        (&second, &written, &first),
-        (&second, &long, &first),
-    ] {
-        seen = seen.saturating_add(stop_update(&rt, alloc, old, journal, new)?);
-    }
+    let seen = stop_update(&rt, alloc, &first, &[], &second)?
+        .saturating_add(stop_behind(&rt, alloc, &first, (1, front(&second, 311)), &second)?)
+        .saturating_add(stop_behind(&rt, alloc, &second, (0, &second), &first)?)
+        .saturating_add(stop_behind(&rt, alloc, &second, (2, &[1; 400]), &first)?);
     assert!(rt; seen >= 5000, "{seen} outcomes");
     Ok(())
 }

@@ -1,6 +1,6 @@
 //! A fork and its journal that are two files.
 
-use crate::forks::{front, journal_of, one_row, two_rows};
+use crate::forks::{assert_left, front, is_replaced, journal_of, one_row, two_rows};
 use fork_disk::FileDisk;
 use fork_disk::disk::DiskFault;
 use fork_disk::store::ForkStore;
@@ -61,15 +61,13 @@ impl Places {
 #[test]
 fn replaces_a_file(rt: HostRuntime) -> Result<(), Fail> {
     let (old, new) = (two_rows(rt.alloc())?, one_row(rt.alloc())?);
+    let journal = journal_of(rt.alloc(), 0, &new)?;
     let places = Places::written(&rt, "replaces", &old, &[])?;
     let mut store = places.started(&rt)?;
-    assert_eq!(rt; store.recover(), Ok(()));
-    assert_eq!(rt; store.replace(&new), Ok(()));
+    assert!(rt; is_replaced(&mut store, &new));
     assert_eq!(rt; store.len(), Ok(312));
-    let journal = journal_of(rt.alloc(), 0, &new)?;
-    let (fork_left, journal_left) = places.ended(&rt)?;
-    assert_eq!(rt; fork_left.as_slice(), new.as_slice());
-    assert_eq!(rt; journal_left.as_slice(), journal.as_slice());
+    let left = places.ended(&rt)?;
+    assert_left(&rt, (&left.0, &left.1), (&new, &journal));
     Ok(())
 }
 
@@ -77,17 +75,18 @@ fn replaces_a_file(rt: HostRuntime) -> Result<(), Fail> {
 #[test]
 fn recovers_a_file(rt: HostRuntime) -> Result<(), Fail> {
     let fork = one_row(rt.alloc())?;
-    let journal = journal_of(rt.alloc(), 1, &fork)?;
-    let places = Places::written(&rt, "recovers", front(&fork, 100), &journal)?;
+    let (open, shut) = (
+        journal_of(rt.alloc(), 1, &fork)?,
+        journal_of(rt.alloc(), 0, &fork)?,
+    );
+    let places = Places::written(&rt, "recovers", front(&fork, 100), &open)?;
     let mut store = places.started(&rt)?;
-    assert_eq!(rt; store.recover(), Ok(()));
+    assert!(rt; store.recover().is_ok());
     let mut bytes = [0; 4];
-    assert_eq!(rt; store.read_at(260, &mut bytes), Ok(()));
-    assert_eq!(rt; bytes.as_slice(), b"Hi\0\0".as_slice());
-    let shut = journal_of(rt.alloc(), 0, &fork)?;
-    let (fork_left, journal_left) = places.ended(&rt)?;
-    assert_eq!(rt; fork_left.as_slice(), fork.as_slice());
-    assert_eq!(rt; journal_left.as_slice(), shut.as_slice());
+    assert!(rt; store.read_at(260, &mut bytes).is_ok());
+    assert_eq!(rt; bytes, *b"Hi\0\0");
+    let left = places.ended(&rt)?;
+    assert_left(&rt, (&left.0, &left.1), (&fork, &shut));
     Ok(())
 }
 
@@ -95,15 +94,30 @@ fn recovers_a_file(rt: HostRuntime) -> Result<(), Fail> {
 #[test]
 fn leaves_a_file(rt: HostRuntime) -> Result<(), Fail> {
     let fork = one_row(rt.alloc())?;
+    let cut = front(&fork, 100);
     let journal = journal_of(rt.alloc(), 1, front(&fork, 311))?;
-    let places = Places::written(&rt, "leaves", front(&fork, 100), &journal)?;
+    let places = Places::written(&rt, "leaves", cut, &journal)?;
     let mut store = places.started(&rt)?;
-    assert_eq!(rt; store.recover(), Ok(()));
+    assert!(rt; store.recover().is_ok());
     assert_eq!(rt; store.len(), Ok(100));
-    let (fork_left, journal_left) = places.ended(&rt)?;
-    assert_eq!(rt; fork_left.as_slice(), front(&fork, 100));
-    assert_eq!(rt; journal_left.as_slice(), journal.as_slice());
+    let left = places.ended(&rt)?;
+    assert_left(&rt, (&left.0, &left.1), (cut, &journal));
     Ok(())
+}
+
+/// Three bytes of a side.
+fn three(pair: &mut FilePair, side: Side, at: u64) -> Result<[u8; 3], DiskFault> {
+    let mut bytes = [0; 3];
+    pair.read_at(side, at, &mut bytes)?;
+    Ok(bytes)
+}
+
+/// Writes to one side, and cuts the other.
+fn change(pair: &mut FilePair) -> Result<(), DiskFault> {
+    pair.write_at(Side::Fork, 2, b"und")?;
+    pair.cut(Side::Journal, 3)?;
+    pair.sync(Side::Fork)?;
+    pair.sync(Side::Journal)
 }
 
 /// Each call goes to the file of its side. A read past the end of either fails, and the pair goes on.
@@ -115,17 +129,11 @@ fn keeps_its_sides_apart(rt: HostRuntime) -> Result<(), Fail> {
         (pair.len(Side::Fork), pair.len(Side::Journal)),
         (Ok(4), Ok(7))
     );
-    let mut bytes = [0; 3];
-    assert_eq!(rt; pair.read_at(Side::Fork, 2, &mut bytes), Err(DiskFault));
-    assert_eq!(rt; pair.read_at(Side::Journal, 5, &mut bytes), Err(DiskFault));
-    assert_eq!(rt; pair.read_at(Side::Journal, 4, &mut bytes), Ok(()));
-    assert_eq!(rt; bytes.as_slice(), b"nal".as_slice());
-    pair.write_at(Side::Fork, 2, b"und")?;
-    pair.cut(Side::Journal, 3)?;
-    pair.sync(Side::Fork)?;
-    pair.sync(Side::Journal)?;
-    let (fork_left, journal_left) = places.ended(&rt)?;
-    assert_eq!(rt; fork_left.as_slice(), b"found".as_slice());
-    assert_eq!(rt; journal_left.as_slice(), b"jou".as_slice());
+    assert_eq!(rt; three(&mut pair, Side::Fork, 2), Err(DiskFault));
+    assert_eq!(rt; three(&mut pair, Side::Journal, 5), Err(DiskFault));
+    assert_eq!(rt; three(&mut pair, Side::Journal, 4), Ok(*b"nal"));
+    assert_eq!(rt; change(&mut pair), Ok(()));
+    let left = places.ended(&rt)?;
+    assert_left(&rt, (&left.0, &left.1), (b"found", b"jou"));
     Ok(())
 }

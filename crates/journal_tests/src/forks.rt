@@ -1,7 +1,9 @@
 //! The forks of the tests, and pairs that have them.
 
-use fork_journal::{CrashPair, Journal, MemPair};
+use fork_disk::store::ForkStore;
+use fork_journal::{CrashPair, Journal, MemPair, PairDisk};
 use std::alloc::{AllocError, Global};
+use std::process::Abort;
 
 /// A header, 240 bytes of zeros, and what follows.
 fn fork_of(alloc: Global, header: &[u8; 16], rest: &[u8]) -> Result<Vec<u8>, AllocError> {
@@ -59,4 +61,18 @@ pub fn started(
 /// The first bytes of some, so many as there are.
 pub fn front(bytes: &[u8], count: usize) -> &[u8] {
     bytes.get(..count).unwrap_or(bytes)
+}
+
+/// Whether a recovery and then an update were answered as done.
+pub fn is_replaced<P: PairDisk>(store: &mut Journal<P>, new: &[u8]) -> bool {
+    match store.recover() {
+        Ok(()) => store.replace(new).is_ok(),
+        Err(_) => false,
+    }
+}
+
+/// A fork and its journal have these bytes.
+pub fn assert_left(rt: &impl Abort, left: (&[u8], &[u8]), want: (&[u8], &[u8])) {
+    assert_eq!(rt; left.0, want.0, "the fork");
+    assert_eq!(rt; left.1, want.1, "the journal");
 }

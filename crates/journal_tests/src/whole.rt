@@ -1,6 +1,6 @@
 //! Updates and recoveries that nothing stops.
 
-use crate::forks::{front, one_row, started, two_rows};
+use crate::forks::{assert_left, front, is_replaced, journal_of, one_row, started, two_rows};
 use fork_disk::store::ForkStore;
 use std::alloc::Global;
 use std::process::Abort;
@@ -11,31 +11,27 @@ use std::test::Fail;
 fn replaces(rt: HostRuntime) -> Result<(), Fail> {
     let (old, new) = (two_rows(rt.alloc())?, one_row(rt.alloc())?);
     assert_eq!(rt; (old.len(), new.len()), (328, 312));
+    let journal = journal_of(rt.alloc(), 0, &new)?;
     let mut store = started(rt.alloc(), &old, &[], u64::MAX)?;
-    let recovered = store.recover();
-    assert!(rt; recovered.is_ok());
-    if recovered.is_ok() {
-        assert_eq!(rt; store.replace(&new), Ok(()));
-    }
+    assert!(rt; is_replaced(&mut store, &new));
     let pair = store.pair().pair();
-    assert_eq!(rt; pair.fork(), new.as_slice());
-    assert_eq!(rt; pair.journal().len(), 317);
-    assert_eq!(rt; &pair.journal()[..5], [0, 0, 0, 1, 0x38].as_slice());
-    assert_eq!(rt; &pair.journal()[5..], new.as_slice());
+    assert_left(&rt, (pair.fork(), pair.journal()), (&new, &journal));
     Ok(())
 }
 
-/// The fork and the journal behind a recovery that nothing stops.
-fn recovered(
+/// A recovery that nothing stops, of a fork of 100 bytes and a journal, leaves these.
+fn check_recovery(
     rt: &impl Abort,
     alloc: Global,
     fork: &[u8],
     journal: &[u8],
-) -> Result<(Vec<u8>, Vec<u8>), Fail> {
-    let mut store = started(alloc, fork, journal, u64::MAX)?;
+    want: (&[u8], &[u8]),
+) -> Result<(), Fail> {
+    let mut store = started(alloc, front(fork, 100), journal, u64::MAX)?;
     assert!(rt; store.recover().is_ok());
     let pair = store.pair().pair();
-    Ok((pair.fork().to_vec(alloc)?, pair.journal().to_vec(alloc)?))
+    assert_left(rt, (pair.fork(), pair.journal()), want);
+    Ok(())
 }
 
 /// An open journal is put over a fork of 100 bytes, and shut. One with another gate, or one that lacks its last byte, is left, and the
@@ -45,23 +41,10 @@ fn recovers(rt: HostRuntime) -> Result<(), Fail> {
     let alloc = rt.alloc();
     let fork = one_row(alloc)?;
     let cut = front(&fork, 100);
-    let mut journal = vec![in alloc; 1, 0, 0, 1, 0x38]?;
-    journal.extend_from_slice(&fork)?;
-    let (found, shut) = recovered(&rt, alloc, cut, &journal)?;
-    assert_eq!(rt; found.as_slice(), fork.as_slice());
-    assert_eq!(rt; shut.len(), 317);
-    assert_eq!(rt; shut.first(), Some(&0));
-    assert_eq!(rt; &shut[1..], &journal[1..]);
-    let (found, left) = recovered(&rt, alloc, cut, front(&journal, 316))?;
-    assert_eq!(rt;
-        (found.as_slice(), left.as_slice()),
-        (cut, front(&journal, 316))
-    );
-    journal[0] = 2;
-    let (found, left) = recovered(&rt, alloc, cut, &journal)?;
-    assert_eq!(rt;
-        (found.as_slice(), left.as_slice()),
-        (cut, journal.as_slice())
-    );
-    Ok(())
+    let (open, shut) = (journal_of(alloc, 1, &fork)?, journal_of(alloc, 0, &fork)?);
+    check_recovery(&rt, alloc, &fork, &open, (&fork, &shut))?;
+    let short = front(&open, 316);
+    check_recovery(&rt, alloc, &fork, short, (cut, short))?;
+    let other = journal_of(alloc, 2, &fork)?;
+    check_recovery(&rt, alloc, &fork, &other, (cut, &other))
 }
