@@ -1,8 +1,8 @@
 #!/bin/sh
 # check_c.sh PROGRAM LIBRARY: runs the C programs of c/ over the static library that `build_c.sh LIBRARY` builds: the calls, whose
 # answers are compared with what stands there, plainly and with the sanitizers over the C side; 100,000 random calls, of which
-# PROGRAM, a macheap, prints the same; a zone that the host has no memory for; and the example, as C and, where there is a
-# compiler, as C++. It needs a C compiler and the kit's C code for the heap (RATTLE_KIT: the kit's folder).
+# PROGRAM, a macheap, prints the same; a zone that the host has no memory for; and the example, in C and, where there is a
+# compiler, in C++ and in Rust. It needs a C compiler and the kit's C code for the heap (RATTLE_KIT: the kit's folder).
 set -e
 program=$(realpath "$1")
 library=$(realpath "$2")
@@ -32,5 +32,9 @@ built emulator -O2
 if command -v c++ > /dev/null; then
     c++ -x c++ -std=c++17 -Wall -Wextra -Werror -I"$top/include" -c "$top/c/emulator.c" -o "$room/emulator.o"
     c++ "$room/emulator.o" "$library" "$kit/c/liblibc_c.a" -o "$room/emulator"
+    "$room/emulator" | cmp - "$top/c/emulator.output"
+fi
+if command -v rustc > /dev/null; then
+    rustc --edition 2024 -O "$top/c/emulator.rs" -o "$room/emulator" -C link-arg="$library" -C link-arg="$kit/c/liblibc_c.a"
     "$room/emulator" | cmp - "$top/c/emulator.output"
 fi
