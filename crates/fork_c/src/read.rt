@@ -3,9 +3,8 @@
 ghost use Rattle.std.specs.Prelude.{length};
 ghost use Rattle.fork_c.specs.Told.{IsShown, count_in, data_in, name_in, shown_in};
 
-use crate::rows::{MfRow, name_of, shown_at};
-use crate::told::{copied, read, shown};
-use mac_base::error::OsErr;
+use crate::rows::{MfRow, data_at, name_at, shown_at};
+use crate::told::{read, shown};
 use std::alloc::Global;
 
 /// How many resources a fork has.
@@ -30,36 +29,24 @@ pub extern "C" fn mf_row(alloc: Global, fork: &[u8], index: usize, row: &mut MfR
     }
 }
 
-/// The name of one of its resources, no bytes where it has none. paramErr where `name` has more bytes than that or fewer.
+/// The name of one of its resources, no bytes where it has none. paramErr where there are more bytes than that or fewer.
 #[unsafe(no_mangle)]
-pub extern "C" fn mf_name(alloc: Global, fork: &[u8], index: usize, name: &mut [u8]) -> i16
-    ensures { IsShown (name_in index (length name.old)) fork.now result name.old name.new }
+pub extern "C" fn mf_name(alloc: Global, fork: &[u8], index: usize, bytes: &mut [u8]) -> i16
+    ensures { IsShown (name_in index (length bytes.old)) fork.now result bytes.old bytes.new }
 {
-    let table = match read(alloc, fork) {
-        Ok(table) => table,
-        Err(code) => return code,
-    };
-    let rows = table.rows.as_slice();
-    if index < rows.len() {
-        copied(name_of(&rows[index]), name)
-    } else {
-        OsErr::ResNotFound.code()
+    match read(alloc, fork) {
+        Ok(table) => name_at(table.rows.as_slice(), index, bytes),
+        Err(code) => code,
     }
 }
 
-/// The data of one of its resources. paramErr where `data` has more bytes than these or fewer.
+/// The data of one of its resources. paramErr where there are more bytes than these or fewer.
 #[unsafe(no_mangle)]
-pub extern "C" fn mf_data(alloc: Global, fork: &[u8], index: usize, data: &mut [u8]) -> i16
-    ensures { IsShown (data_in index (length data.old)) fork.now result data.old data.new }
+pub extern "C" fn mf_data(alloc: Global, fork: &[u8], index: usize, bytes: &mut [u8]) -> i16
+    ensures { IsShown (data_in index (length bytes.old)) fork.now result bytes.old bytes.new }
 {
-    let table = match read(alloc, fork) {
-        Ok(table) => table,
-        Err(code) => return code,
-    };
-    let rows = table.rows.as_slice();
-    if index < rows.len() {
-        copied(rows[index].datum.as_slice(), data)
-    } else {
-        OsErr::ResNotFound.code()
+    match read(alloc, fork) {
+        Ok(table) => data_at(table.rows.as_slice(), index, bytes),
+        Err(code) => code,
     }
 }

@@ -1,8 +1,9 @@
 //! A resource as C is shown it.
 
 ghost use Rattle.std.specs.Prelude.{◌≡◌, length};
-ghost use Rattle.fork_c.specs.Told.{name_of, shown_in, shown_row, shown_type};
+ghost use Rattle.fork_c.specs.Told.{Shows, data_in, name_in, name_of, shown_in, shown_row, shown_type};
 
+use crate::told::copied;
 use bitflags::Flags;
 use fork_bytes::table::Row;
 use mac_base::error::OsErr;
@@ -68,8 +69,30 @@ fn shown_type(kind: ResType) -> MfType
     }
 }
 
+/// Copies the name of the resource at a place.
+pub(crate) fn name_at(rows: &[Row], index: usize, bytes: &mut [u8]) -> i16
+    ensures { Shows (name_in index (length bytes.old) rows.now) result bytes.old bytes.new }
+{
+    if index < rows.len() {
+        copied(name_of(&rows[index]), bytes)
+    } else {
+        OsErr::ResNotFound.code()
+    }
+}
+
+/// Copies the data of the resource at a place.
+pub(crate) fn data_at(rows: &[Row], index: usize, bytes: &mut [u8]) -> i16
+    ensures { Shows (data_in index (length bytes.old) rows.now) result bytes.old bytes.new }
+{
+    if index < rows.len() {
+        copied(rows[index].datum.as_slice(), bytes)
+    } else {
+        OsErr::ResNotFound.code()
+    }
+}
+
 /// The bytes of a resource's name: none where it has no name.
-pub(crate) fn name_of(row: &Row) -> &[u8]
+fn name_of(row: &Row) -> &[u8]
     ensures { result.now ≡ name_of row.now }
 {
     match &row.name {

@@ -1,7 +1,6 @@
 //! What C is told.
 
-ghost use Rattle.std.specs.Prelude.{◌≡◌, length};
-ghost use Rattle.std.specs.Prelude.{IfOk, IfErr};
+ghost use Rattle.std.specs.Prelude.{◌≡◌, length, IfOk, IfErr};
 ghost use Rattle.fork_bytes.specs.Fork.{StandsFor};
 ghost use Rattle.fork_c.specs.Told.{IsRefused, Shows, code_of_fault, sized};
 
