@@ -1,36 +1,46 @@
 #!/bin/sh
-# check_c.sh PROGRAM LIBRARY: runs the C programs of c/ over the static library that `build_c.sh LIBRARY` builds: the calls, whose
+# check_c.sh PROGRAM LISTER FOLDER: runs the C programs of c/ over the static libraries that `build_c.sh FOLDER` builds: the calls, whose
 # answers are compared with what stands there, plainly and with the sanitizers over the C side; 100,000 random calls, of which
-# PROGRAM, a macheap, prints the same; a zone that the host has no memory for; and the example, as C and, where there is a
-# compiler, as C++. It needs a C compiler and the kit's C code for the heap (RATTLE_KIT: the kit's folder).
+# PROGRAM, a macheap, prints the same; a zone that the host has no memory for; the example, in C and, where there is a
+# compiler, in C++ and in Rust; and a fork, of which LISTER, a forklist, prints the same. It needs a C compiler and the kit's C
+# code for the heap (RATTLE_KIT: the kit's folder).
 set -e
 program=$(realpath "$1")
-library=$(realpath "$2")
+lister=$(realpath "$2")
+folder=$(realpath "$3")
 top=$(cd "$(dirname "$0")/.." && pwd)
 kit=${RATTLE_KIT:-/opt/rattle}
 room=$(mktemp -d)
 trap 'rm -rf "$room"' EXIT
-# built NAME FLAG..: the program of c/NAME.c
+# built LIBRARY NAME FLAG..: the program of c/NAME.c
 built() {
-    name=$1
-    shift
+    library=$folder/lib$1.a
+    name=$2
+    shift 2
     ${CC:-cc} -std=c11 -Wall -Wextra -Werror "$@" -I"$top/include" "$top/c/$name.c" "$library" "$kit/c/liblibc_c.a" -o "$room/$name"
 }
-built calls -O2
+built macheap_c calls -O2
 "$room/calls"
-built calls -O1 -fsanitize=address,undefined
+built macheap_c calls -O1 -fsanitize=address,undefined
 "$room/calls"
-built random -O1 -fsanitize=address,undefined
+built macheap_c random -O1 -fsanitize=address,undefined
 for seed in 1 2 3 4; do
     "$room/random" "$room/script" "$room/replies" $seed 25000
     "$program" --limit 8192 < "$room/script" | cmp - "$room/replies"
 done
-built no_memory -O1 -fsanitize=address,undefined -Wl,--wrap=malloc
+built macheap_c no_memory -O1 -fsanitize=address,undefined -Wl,--wrap=malloc
 "$room/no_memory"
-built emulator -O2
+built macheap_c emulator -O2
 "$room/emulator" | cmp - "$top/c/emulator.output"
 if command -v c++ > /dev/null; then
     c++ -x c++ -std=c++17 -Wall -Wextra -Werror -I"$top/include" -c "$top/c/emulator.c" -o "$room/emulator.o"
     c++ "$room/emulator.o" "$library" "$kit/c/liblibc_c.a" -o "$room/emulator"
     "$room/emulator" | cmp - "$top/c/emulator.output"
 fi
+if command -v rustc > /dev/null; then
+    rustc --edition 2024 -O "$top/c/emulator.rs" -o "$room/emulator" -C link-arg="$library" -C link-arg="$kit/c/liblibc_c.a"
+    "$room/emulator" | cmp - "$top/c/emulator.output"
+fi
+built fork_c forks -O1 -fsanitize=address,undefined
+"$room/forks" "$top/crates/forklist/data/sample.rsrc" > "$room/list"
+"$lister" "$top/crates/forklist/data/sample.rsrc" | cmp - "$room/list"

@@ -12,8 +12,8 @@ use Rattle.macheap_c.specs.declared.growing.MhAnswer.{MhAnswer}
 use Rattle.macheap_c.specs.declared.growing.MhAsk.{MhAsk}
 use Rattle.macheap_c.specs.declared.growing.MhCarried.{MhCarried}
 use Rattle.macheap_c.specs.declared.growing.MhRelease.{MhRelease}
-use Rattle.macheap_c.specs.State.{State}
-use Rattle.macheap_c.specs.Told.{no_zone}
+use Rattle.held_zone.specs.State.{State, queue_refusal}
+use Rattle.held_zone.specs.Told.{no_zone}
 
 -- whether a place of an answer is of a known kind: no call is 0, and there are three kinds of calls
 abbrev pub is_known : MhRelease → Bool
@@ -33,10 +33,6 @@ places_of a = a.first ∷ a.second ∷ a.third ∷ a.fourth ∷ a.fifth ∷ a.si
 -- the answer that C gives, if all its places are of known kinds
 abbrev pub answer_of : MhAnswer → Option Answer
 answer_of a = if list_all is_known (places_of a) then Some (record { calls = flat_map option_to_list (map release_of (places_of a)); value = a.value }) else None
-
--- sixteen answers may wait, and the next is refused by paramErr
-abbrev pub queue_refusal : State → Option OsErr
-queue_refusal s = if nat_lt (length s.left) 16 then None else Some ParamErr
 
 -- the answer waits behind the others, and nothing was asked, unless it is refused
 abbrev pub QueuedUnless : Option OsErr → State → Answer → ℤ → Option State → Type 0

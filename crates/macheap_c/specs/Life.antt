@@ -6,8 +6,8 @@ use Rattle.mac_base.specs.declared.block.HeadKind.TheVariants.{Bits24, Bits32}
 use Rattle.mac_base.specs.declared.zone_spec.BadSpec.{BadSpec}
 use Rattle.mac_base.specs.Heap.{new_heap}
 use Rattle.mac_base.specs.ZoneSizes.{ZoneSizes, first_fault, shape_of}
-use Rattle.macheap_c.specs.State.{State}
-use Rattle.macheap_c.specs.Told.{no_zone}
+use Rattle.held_zone.specs.State.{State, IsNew}
+use Rattle.held_zone.specs.Told.{no_zone}
 
 -- the blocks of a mode: it is 24 or 32
 abbrev pub heads_of : ℕ → Option HeadKind
@@ -21,10 +21,6 @@ faultless _ _ base size limit = None
 -- the sizes that C asks for, where a zone may have them
 abbrev pub sizes_of : ℕ → ℕ → ℕ → ℕ → Option ZoneSizes
 sizes_of mode base size limit = faultless (heads_of mode) (first_fault base size limit) base size limit
-
--- a new zone of these sizes: nothing is lent, no answer waits, and nothing was asked
-abbrev pub IsNew : ZoneSizes → State → Type 0
-IsNew sizes new = (new.zone.shape ≡ shape_of sizes) × (new.zone.heap ≡ new_heap (shape_of sizes) sizes.size) × (new.loans ≡ []) × (new.left ≡ []) × (new.asks ≡ [])
 
 -- There is a new zone of these sizes; or none, since there are no such zones (paramErr), or the host has no memory (memFullErr).
 abbrev pub Begins : Option ZoneSizes → ℤ → Option State → Type 0

@@ -8,8 +8,8 @@ use Rattle.mac_base.specs.declared.block.Kind.TheVariants.{Free, Master, Ptr, Re
 use Rattle.mac_base.specs.FlagState.{state_of}
 use Rattle.mac_base.specs.ZoneMap.{address_behind}
 use Rattle.macheap_c.specs.declared.walk.MhBlock.{MhBlock}
-use Rattle.macheap_c.specs.State.{State}
-use Rattle.macheap_c.specs.Told.{no_zone}
+use Rattle.held_zone.specs.State.{State}
+use Rattle.held_zone.specs.Told.{no_zone}
 
 -- the number of a kind of block
 abbrev pub kind_number : Kind → ℕ

@@ -2,10 +2,9 @@
 
 ghost use Rattle.std.specs.Prelude.{◌≡◌};
 ghost use Rattle.mac_calls.specs.declared.memory_call.MemoryCall.TheVariants as call;
-ghost use Rattle.macheap_c.specs.Told.{Told, ToldNumber};
+ghost use Rattle.held_zone.specs.Told.{Told, ToldNumber};
 
-use crate::told;
-use crate::zone::MhZone;
+use held_zone::zone::MhZone;
 use mac_base::handle::{Handle, Ptr};
 use mac_calls::MemoryCall;
 use std::alloc::Global;
@@ -20,7 +19,7 @@ pub extern "C" fn mh_new_handle(
 ) -> i16
     ensures { ToldNumber zone.old.held.session (call.NewHandle size) result handle.old handle.new zone.new.held.session }
 {
-    told::number(&zone.call(alloc, &MemoryCall::NewHandle(size)), handle)
+    zone.number(alloc, &MemoryCall::NewHandle(size), handle)
 }
 
 /// NewEmptyHandle: a new handle without a block.
@@ -28,7 +27,7 @@ pub extern "C" fn mh_new_handle(
 pub extern "C" fn mh_new_empty_handle(alloc: Global, zone: &mut MhZone, handle: &mut u32) -> i16
     ensures { ToldNumber zone.old.held.session call.NewEmptyHandle result handle.old handle.new zone.new.held.session }
 {
-    told::number(&zone.call(alloc, &MemoryCall::NewEmptyHandle), handle)
+    zone.number(alloc, &MemoryCall::NewEmptyHandle, handle)
 }
 
 /// NewPtr: a new nonrelocatable block of `size` zero bytes.
@@ -36,7 +35,7 @@ pub extern "C" fn mh_new_empty_handle(alloc: Global, zone: &mut MhZone, handle: 
 pub extern "C" fn mh_new_ptr(alloc: Global, zone: &mut MhZone, size: u32, pointer: &mut u32) -> i16
     ensures { ToldNumber zone.old.held.session (call.NewPtr size) result pointer.old pointer.new zone.new.held.session }
 {
-    told::number(&zone.call(alloc, &MemoryCall::NewPtr(size)), pointer)
+    zone.number(alloc, &MemoryCall::NewPtr(size), pointer)
 }
 
 /// DisposeHandle: the handle is gone, and its block is free.
@@ -44,7 +43,7 @@ pub extern "C" fn mh_new_ptr(alloc: Global, zone: &mut MhZone, size: u32, pointe
 pub extern "C" fn mh_dispose_handle(alloc: Global, zone: &mut MhZone, handle: u32) -> i16
     ensures { Told zone.old.held.session (call.DisposeHandle handle) result zone.new.held.session }
 {
-    told::code(&zone.call(alloc, &MemoryCall::DisposeHandle(Handle::new(handle))))
+    zone.code(alloc, &MemoryCall::DisposeHandle(Handle::new(handle)))
 }
 
 /// DisposePtr: the pointer's block is free.
@@ -52,7 +51,7 @@ pub extern "C" fn mh_dispose_handle(alloc: Global, zone: &mut MhZone, handle: u3
 pub extern "C" fn mh_dispose_ptr(alloc: Global, zone: &mut MhZone, pointer: u32) -> i16
     ensures { Told zone.old.held.session (call.DisposePtr pointer) result zone.new.held.session }
 {
-    told::code(&zone.call(alloc, &MemoryCall::DisposePtr(Ptr::new(pointer))))
+    zone.code(alloc, &MemoryCall::DisposePtr(Ptr::new(pointer)))
 }
 
 /// EmptyHandle: the handle's block is free, and the handle stays.
@@ -60,5 +59,5 @@ pub extern "C" fn mh_dispose_ptr(alloc: Global, zone: &mut MhZone, pointer: u32)
 pub extern "C" fn mh_empty_handle(alloc: Global, zone: &mut MhZone, handle: u32) -> i16
     ensures { Told zone.old.held.session (call.EmptyHandle handle) result zone.new.held.session }
 {
-    told::code(&zone.call(alloc, &MemoryCall::EmptyHandle(Handle::new(handle))))
+    zone.code(alloc, &MemoryCall::EmptyHandle(Handle::new(handle)))
 }

@@ -2,10 +2,9 @@
 
 ghost use Rattle.std.specs.Prelude.{◌≡◌};
 ghost use Rattle.mac_calls.specs.declared.memory_call.MemoryCall.TheVariants as call;
-ghost use Rattle.macheap_c.specs.Told.{Told, ToldNumber};
+ghost use Rattle.held_zone.specs.Told.{Told, ToldNumber};
 
-use crate::told;
-use crate::zone::MhZone;
+use held_zone::zone::MhZone;
 use mac_base::handle::{Handle, Ptr};
 use mac_calls::MemoryCall;
 use std::alloc::Global;
@@ -20,8 +19,9 @@ pub extern "C" fn mh_hand_to_hand(
 ) -> i16
     ensures { ToldNumber zone.old.held.session (call.HandToHand handle) result new_handle.old new_handle.new zone.new.held.session }
 {
-    told::number(
-        &zone.call(alloc, &MemoryCall::HandToHand(Handle::new(handle))),
+    zone.number(
+        alloc,
+        &MemoryCall::HandToHand(Handle::new(handle)),
         new_handle,
     )
 }
@@ -37,8 +37,9 @@ pub extern "C" fn mh_ptr_to_hand(
 ) -> i16
     ensures { ToldNumber zone.old.held.session (call.PtrToHand pointer count) result handle.old handle.new zone.new.held.session }
 {
-    told::number(
-        &zone.call(alloc, &MemoryCall::PtrToHand(Ptr::new(pointer), count)),
+    zone.number(
+        alloc,
+        &MemoryCall::PtrToHand(Ptr::new(pointer), count),
         handle,
     )
 }
@@ -54,10 +55,10 @@ pub extern "C" fn mh_ptr_to_xhand(
 ) -> i16
     ensures { Told zone.old.held.session (call.PtrToXHand pointer handle count) result zone.new.held.session }
 {
-    told::code(&zone.call(
+    zone.code(
         alloc,
         &MemoryCall::PtrToXHand(Ptr::new(pointer), Handle::new(handle), count),
-    ))
+    )
 }
 
 /// PtrAndHand: appends the first `count` bytes of the pointer's block to the handle's.
@@ -71,10 +72,10 @@ pub extern "C" fn mh_ptr_and_hand(
 ) -> i16
     ensures { Told zone.old.held.session (call.PtrAndHand pointer handle count) result zone.new.held.session }
 {
-    told::code(&zone.call(
+    zone.code(
         alloc,
         &MemoryCall::PtrAndHand(Ptr::new(pointer), Handle::new(handle), count),
-    ))
+    )
 }
 
 /// HandAndHand: appends the bytes of the first handle's block to the second's.
@@ -82,10 +83,10 @@ pub extern "C" fn mh_ptr_and_hand(
 pub extern "C" fn mh_hand_and_hand(alloc: Global, zone: &mut MhZone, one: u32, other: u32) -> i16
     ensures { Told zone.old.held.session (call.HandAndHand one other) result zone.new.held.session }
 {
-    told::code(&zone.call(
+    zone.code(
         alloc,
         &MemoryCall::HandAndHand(Handle::new(one), Handle::new(other)),
-    ))
+    )
 }
 
 /// BlockMove: `count` bytes of a block over those of another, or of its own.
@@ -101,7 +102,7 @@ pub extern "C" fn mh_block_move(
 ) -> i16
     ensures { Told zone.old.held.session (call.BlockMove from start to offset count) result zone.new.held.session }
 {
-    told::code(&zone.call(
+    zone.code(
         alloc,
         &MemoryCall::BlockMove {
             from,
@@ -110,5 +111,5 @@ pub extern "C" fn mh_block_move(
             offset,
             count,
         },
-    ))
+    )
 }

@@ -5,9 +5,9 @@ ghost use Rattle.std.specs.List.{list_all, slice_get};
 ghost use Rattle.mac_calls.specs.GrowZone.{Ask};
 ghost use Rattle.macheap_c.specs.Growing.{AnswerTold, IsShown, answer_of, ask_at, asks_made, carried_at, carried_for, is_known, release_of, shown_ask, shown_carried};
 
-use crate::answers::{Carried, MadeAsk, Queued};
-use crate::told::{self, NO_ZONE};
-use crate::zone::MhZone;
+use held_zone::answers::{Carried, MadeAsk, Queued};
+use held_zone::told::{self, NO_ZONE};
+use held_zone::zone::MhZone;
 use mac_base::error::{NO_ERR, OsErr};
 use mac_base::handle::{Handle, Ptr};
 use mac_base::releasing::ReleasingCall;

@@ -1,17 +1,11 @@
 //! The calls on blocks that are lent. C has their bytes by copies.
 
-ghost use Rattle.std.specs.Prelude.{◌≡◌, length, OnErr};
-ghost use Rattle.held_loans.specs.Holding.{Holds, loans_of};
+ghost use Rattle.std.specs.Prelude.{◌≡◌, length};
 ghost use Rattle.mac_calls.specs.declared.loan_call.LoanCall.TheVariants as loan_call;
-ghost use Rattle.mac_calls.specs.Loans.{LoanStep};
-ghost use Rattle.macheap_c.specs.Told.{LoanTold, LoanToldBytes, shown_outcome};
+ghost use Rattle.held_zone.specs.Told.{LoanTold, LoanToldBytes};
 
-use crate::told::{self, NO_ZONE};
-use crate::zone::MhZone;
-use held_loans::lending;
-use held_loans::loans::Loans;
-use mac_base::error::OsErr;
-use mem_calls::MemoryManager;
+use held_zone::told::{self, NO_ZONE};
+use held_zone::zone::MhZone;
 use std::alloc::Global;
 
 /// Lend: C has the bytes of a pointer's or a locked handle's block, until it gives them back. The block stays where it is,
@@ -77,23 +71,4 @@ pub extern "C" fn mh_lent_poke(
     let outcome = session.lent_poke(block, offset, bytes);
     zone.put(session);
     told::code(&Some(outcome))
-}
-
-/// Copies bytes of a loan.
-pub(crate) fn peek(
-    memory: &MemoryManager,
-    loans: &Loans,
-    block: u32,
-    offset: u32,
-    bytes: &mut [u8],
-) -> Result<(), OsErr>
-    requires { Holds memory.now loans.now }
-    ensures step { LoanStep memory.now.shape (loans_of loans.now) memory.now.heap (loan_call.LentPeek block offset (length bytes.old)) (shown_outcome result bytes.new) (loans_of loans.now) memory.now.heap }
-    ensures kept { OnErr result (bytes.new ≡ bytes.old) }
-{
-    let count = bytes.len();
-    let lent = lending::lent_bytes(memory, loans, block, offset, count)?;
-    let start = offset as usize;
-    bytes.copy_from_slice(&lent[start..start + count]);
-    Ok(())
 }

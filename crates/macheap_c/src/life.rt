@@ -3,9 +3,9 @@
 ghost use Rattle.std.specs.Prelude.{◌≡◌};
 ghost use Rattle.macheap_c.specs.Life.{Ends, IsMade, sizes_of};
 
-use crate::session::Session;
-use crate::told::NO_ZONE;
-use crate::zone::MhZone;
+use held_zone::session::Session;
+use held_zone::told::NO_ZONE;
+use held_zone::zone::MhZone;
 use mac_base::block::HeadKind;
 use mac_base::error::{NO_ERR, OsErr};
 use mac_base::zone_spec::ZoneSpec;

@@ -2,10 +2,9 @@
 
 ghost use Rattle.std.specs.Prelude.{◌≡◌};
 ghost use Rattle.mac_calls.specs.declared.memory_call.MemoryCall.TheVariants as call;
-ghost use Rattle.macheap_c.specs.Told.{Told, ToldNumber};
+ghost use Rattle.held_zone.specs.Told.{Told, ToldNumber};
 
-use crate::told;
-use crate::zone::MhZone;
+use held_zone::zone::MhZone;
 use mac_base::handle::Handle;
 use mac_calls::MemoryCall;
 use std::alloc::Global;
@@ -15,10 +14,7 @@ use std::alloc::Global;
 pub extern "C" fn mh_deref(alloc: Global, zone: &mut MhZone, handle: u32, address: &mut u32) -> i16
     ensures { ToldNumber zone.old.held.session (call.Deref handle) result address.old address.new zone.new.held.session }
 {
-    told::number(
-        &zone.call(alloc, &MemoryCall::Deref(Handle::new(handle))),
-        address,
-    )
+    zone.number(alloc, &MemoryCall::Deref(Handle::new(handle)), address)
 }
 
 /// MoveHHi: the handle's block moves up as far as it goes.
@@ -26,7 +22,7 @@ pub extern "C" fn mh_deref(alloc: Global, zone: &mut MhZone, handle: u32, addres
 pub extern "C" fn mh_move_hhi(alloc: Global, zone: &mut MhZone, handle: u32) -> i16
     ensures { Told zone.old.held.session (call.MoveHHi handle) result zone.new.held.session }
 {
-    told::code(&zone.call(alloc, &MemoryCall::MoveHHi(Handle::new(handle))))
+    zone.code(alloc, &MemoryCall::MoveHHi(Handle::new(handle)))
 }
 
 /// HLockHi: MoveHHi, and then HLock.
@@ -34,7 +30,7 @@ pub extern "C" fn mh_move_hhi(alloc: Global, zone: &mut MhZone, handle: u32) -> 
 pub extern "C" fn mh_hlock_hi(alloc: Global, zone: &mut MhZone, handle: u32) -> i16
     ensures { Told zone.old.held.session (call.HLockHi handle) result zone.new.held.session }
 {
-    told::code(&zone.call(alloc, &MemoryCall::HLockHi(Handle::new(handle))))
+    zone.code(alloc, &MemoryCall::HLockHi(Handle::new(handle)))
 }
 
 /// RecoverHandle: the handle whose block's contents begin at an address.
@@ -47,8 +43,5 @@ pub extern "C" fn mh_recover_handle(
 ) -> i16
     ensures { ToldNumber zone.old.held.session (call.RecoverHandle address) result handle.old handle.new zone.new.held.session }
 {
-    told::number(
-        &zone.call(alloc, &MemoryCall::RecoverHandle(address)),
-        handle,
-    )
+    zone.number(alloc, &MemoryCall::RecoverHandle(address), handle)
 }

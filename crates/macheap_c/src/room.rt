@@ -2,10 +2,9 @@
 
 ghost use Rattle.std.specs.Prelude.{◌≡◌};
 ghost use Rattle.mac_calls.specs.declared.memory_call.MemoryCall.TheVariants as call;
-ghost use Rattle.macheap_c.specs.Told.{Told, ToldNumber, ToldNumbers};
+ghost use Rattle.held_zone.specs.Told.{Told, ToldNumber, ToldNumbers};
 
-use crate::told;
-use crate::zone::MhZone;
+use held_zone::zone::MhZone;
 use mac_calls::MemoryCall;
 use std::alloc::Global;
 
@@ -14,7 +13,7 @@ use std::alloc::Global;
 pub extern "C" fn mh_reserve_mem(alloc: Global, zone: &mut MhZone, size: u32) -> i16
     ensures { Told zone.old.held.session (call.ReserveMem size) result zone.new.held.session }
 {
-    told::code(&zone.call(alloc, &MemoryCall::ReserveMem(size)))
+    zone.code(alloc, &MemoryCall::ReserveMem(size))
 }
 
 /// MoreMasters: a new master block.
@@ -22,7 +21,7 @@ pub extern "C" fn mh_reserve_mem(alloc: Global, zone: &mut MhZone, size: u32) ->
 pub extern "C" fn mh_more_masters(alloc: Global, zone: &mut MhZone) -> i16
     ensures { Told zone.old.held.session call.MoreMasters result zone.new.held.session }
 {
-    told::code(&zone.call(alloc, &MemoryCall::MoreMasters))
+    zone.code(alloc, &MemoryCall::MoreMasters)
 }
 
 /// CompactMem: compacts the zone for `size` bytes. Gives the largest free block.
@@ -35,7 +34,7 @@ pub extern "C" fn mh_compact_mem(
 ) -> i16
     ensures { ToldNumber zone.old.held.session (call.CompactMem size) result number.old number.new zone.new.held.session }
 {
-    told::number(&zone.call(alloc, &MemoryCall::CompactMem(size)), number)
+    zone.number(alloc, &MemoryCall::CompactMem(size), number)
 }
 
 /// PurgeMem: purges blocks until `size` bytes are free in one block.
@@ -43,7 +42,7 @@ pub extern "C" fn mh_compact_mem(
 pub extern "C" fn mh_purge_mem(alloc: Global, zone: &mut MhZone, size: u32) -> i16
     ensures { Told zone.old.held.session (call.PurgeMem size) result zone.new.held.session }
 {
-    told::code(&zone.call(alloc, &MemoryCall::PurgeMem(size)))
+    zone.code(alloc, &MemoryCall::PurgeMem(size))
 }
 
 /// MaxMem: purges and compacts all of the zone. Gives its largest free block, and the bytes by which it may still grow.
@@ -56,7 +55,7 @@ pub extern "C" fn mh_max_mem(
 ) -> i16
     ensures { ToldNumbers zone.old.held.session call.MaxMem result (largest.old, growth.old) (largest.new, growth.new) zone.new.held.session }
 {
-    told::numbers(&zone.call(alloc, &MemoryCall::MaxMem), largest, growth)
+    zone.numbers(alloc, &MemoryCall::MaxMem, largest, growth)
 }
 
 /// PurgeSpace: the bytes that purging would free, in all and in one block.
@@ -69,11 +68,7 @@ pub extern "C" fn mh_purge_space(
 ) -> i16
     ensures { ToldNumbers zone.old.held.session call.PurgeSpace result (total.old, contiguous.old) (total.new, contiguous.new) zone.new.held.session }
 {
-    told::numbers(
-        &zone.call(alloc, &MemoryCall::PurgeSpace),
-        total,
-        contiguous,
-    )
+    zone.numbers(alloc, &MemoryCall::PurgeSpace, total, contiguous)
 }
 
 /// MaxBlock: the most free bytes that moving blocks would bring together.
@@ -81,7 +76,7 @@ pub extern "C" fn mh_purge_space(
 pub extern "C" fn mh_max_block(alloc: Global, zone: &mut MhZone, number: &mut u32) -> i16
     ensures { ToldNumber zone.old.held.session call.MaxBlock result number.old number.new zone.new.held.session }
 {
-    told::number(&zone.call(alloc, &MemoryCall::MaxBlock), number)
+    zone.number(alloc, &MemoryCall::MaxBlock, number)
 }
 
 /// FreeMem: the free bytes.
@@ -89,7 +84,7 @@ pub extern "C" fn mh_max_block(alloc: Global, zone: &mut MhZone, number: &mut u3
 pub extern "C" fn mh_free_mem(alloc: Global, zone: &mut MhZone, number: &mut u32) -> i16
     ensures { ToldNumber zone.old.held.session call.FreeMem result number.old number.new zone.new.held.session }
 {
-    told::number(&zone.call(alloc, &MemoryCall::FreeMem), number)
+    zone.number(alloc, &MemoryCall::FreeMem, number)
 }
 
 /// MaxApplZone: grows the zone to its limit.
@@ -97,5 +92,5 @@ pub extern "C" fn mh_free_mem(alloc: Global, zone: &mut MhZone, number: &mut u32
 pub extern "C" fn mh_max_appl_zone(alloc: Global, zone: &mut MhZone) -> i16
     ensures { Told zone.old.held.session call.MaxApplZone result zone.new.held.session }
 {
-    told::code(&zone.call(alloc, &MemoryCall::MaxApplZone))
+    zone.code(alloc, &MemoryCall::MaxApplZone)
 }

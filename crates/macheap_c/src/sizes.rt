@@ -2,10 +2,9 @@
 
 ghost use Rattle.std.specs.Prelude.{◌≡◌};
 ghost use Rattle.mac_calls.specs.declared.memory_call.MemoryCall.TheVariants as call;
-ghost use Rattle.macheap_c.specs.Told.{Told, ToldNumber};
+ghost use Rattle.held_zone.specs.Told.{Told, ToldNumber};
 
-use crate::told;
-use crate::zone::MhZone;
+use held_zone::zone::MhZone;
 use mac_base::handle::{Handle, Ptr};
 use mac_calls::MemoryCall;
 use std::alloc::Global;
@@ -20,7 +19,7 @@ pub extern "C" fn mh_set_handle_size(
 ) -> i16
     ensures { Told zone.old.held.session (call.SetHandleSize handle size) result zone.new.held.session }
 {
-    told::code(&zone.call(alloc, &MemoryCall::SetHandleSize(Handle::new(handle), size)))
+    zone.code(alloc, &MemoryCall::SetHandleSize(Handle::new(handle), size))
 }
 
 /// GetHandleSize: the bytes of the handle's block.
@@ -33,8 +32,9 @@ pub extern "C" fn mh_get_handle_size(
 ) -> i16
     ensures { ToldNumber zone.old.held.session (call.GetHandleSize handle) result number.old number.new zone.new.held.session }
 {
-    told::number(
-        &zone.call(alloc, &MemoryCall::GetHandleSize(Handle::new(handle))),
+    zone.number(
+        alloc,
+        &MemoryCall::GetHandleSize(Handle::new(handle)),
         number,
     )
 }
@@ -44,7 +44,7 @@ pub extern "C" fn mh_get_handle_size(
 pub extern "C" fn mh_set_ptr_size(alloc: Global, zone: &mut MhZone, pointer: u32, size: u32) -> i16
     ensures { Told zone.old.held.session (call.SetPtrSize pointer size) result zone.new.held.session }
 {
-    told::code(&zone.call(alloc, &MemoryCall::SetPtrSize(Ptr::new(pointer), size)))
+    zone.code(alloc, &MemoryCall::SetPtrSize(Ptr::new(pointer), size))
 }
 
 /// GetPtrSize: the bytes of the pointer's block.
@@ -57,10 +57,7 @@ pub extern "C" fn mh_get_ptr_size(
 ) -> i16
     ensures { ToldNumber zone.old.held.session (call.GetPtrSize pointer) result number.old number.new zone.new.held.session }
 {
-    told::number(
-        &zone.call(alloc, &MemoryCall::GetPtrSize(Ptr::new(pointer))),
-        number,
-    )
+    zone.number(alloc, &MemoryCall::GetPtrSize(Ptr::new(pointer)), number)
 }
 
 /// ReallocateHandle: a new block of `size` zero bytes for the handle.
@@ -73,8 +70,8 @@ pub extern "C" fn mh_reallocate_handle(
 ) -> i16
     ensures { Told zone.old.held.session (call.ReallocateHandle handle size) result zone.new.held.session }
 {
-    told::code(&zone.call(
+    zone.code(
         alloc,
         &MemoryCall::ReallocateHandle(Handle::new(handle), size),
-    ))
+    )
 }

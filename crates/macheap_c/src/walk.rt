@@ -4,8 +4,8 @@ ghost use Rattle.std.specs.Prelude.{◌≡◌};
 ghost use Rattle.mac_base.specs.FlagState.{state_of};
 ghost use Rattle.macheap_c.specs.Walk.{BlockTold, FirstTold, kind_number, owner_number, shown_block};
 
-use crate::told::NO_ZONE;
-use crate::zone::MhZone;
+use held_zone::told::NO_ZONE;
+use held_zone::zone::MhZone;
 use mac_base::block::{Block, Entry, Flags, Kind};
 use mac_base::error::{NO_ERR, OsErr};
 use std::alloc::Global;

@@ -1,6 +1,6 @@
 use Rattle.std.proofs.Common.{rules, ◌∙◌, Some}
-use Rattle.macheap_c.specs.Told.{shown_outcome}
-use Rattle.macheap_c.proofs.Shown.{bytes-shown, code-shown}
+use Rattle.held_zone.specs.Told.{shown_outcome}
+use Rattle.held_zone.proofs.Shown.{bytes-shown, code-shown}
 use Rattle.macheap_c.proofs.bytes.mh_peek.Goals as goal
 
 pub returns : goal.returns

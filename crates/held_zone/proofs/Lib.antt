@@ -1,0 +1,5 @@
+mod Queued
+pub mod Shown
+mod Steps
+mod Words
+mod Written

@@ -1,0 +1,138 @@
+-- What C is told of a call.
+use Rattle.std.specs.Prelude.{◌≡◌, ℕ, ℤ, pos, List, [], Result, Bool, true, false, Option, Some, None, Ok, Err, unwrap_or}
+use Rattle.mac_base.specs.Codes.{code_of, minus}
+use Rattle.mac_base.specs.declared.error.OsErr.{OsErr}
+use Rattle.mac_calls.specs.declared.loan_call.LoanCall.{LoanCall}
+use Rattle.mac_calls.specs.declared.memory_call.MemoryCall.{MemoryCall}
+use Rattle.mac_calls.specs.declared.memory_call.MemoryCall.TheVariants as memory_call
+use Rattle.mac_calls.specs.declared.reply.Results.{Results}
+use Rattle.mac_calls.specs.declared.reply.Results.TheVariants.{Handle, Pointer, Address, Number, TwoNumbers, Bytes}
+use Rattle.mac_calls.specs.ExactStep.{exact_step}
+use Rattle.mac_calls.specs.Loans.{LoanStep}
+use Rattle.mac_calls.specs.Outcomes.{Outcome}
+use Rattle.held_zone.specs.State.{State}
+
+-- whether a call neither shows nor is given bytes or blocks
+abbrev pub is_plain : MemoryCall → Bool
+is_plain (memory_call.Peek block offset count) = false
+is_plain (memory_call.Poke block offset bytes) = false
+is_plain memory_call.ZoneMap = false
+is_plain _ = true
+
+-- whether such a call needs no more room in the zone
+abbrev pub is_quiet : MemoryCall → Bool
+is_quiet (memory_call.NewHandle size) = false
+is_quiet memory_call.NewEmptyHandle = false
+is_quiet (memory_call.NewPtr size) = false
+is_quiet (memory_call.SetHandleSize handle size) = false
+is_quiet (memory_call.SetPtrSize pointer size) = false
+is_quiet (memory_call.ReallocateHandle handle size) = false
+is_quiet (memory_call.ReserveMem size) = false
+is_quiet memory_call.MoreMasters = false
+is_quiet (memory_call.HandToHand handle) = false
+is_quiet (memory_call.PtrToHand pointer count) = false
+is_quiet (memory_call.PtrToXHand pointer handle count) = false
+is_quiet (memory_call.PtrAndHand pointer handle count) = false
+is_quiet (memory_call.HandAndHand one other) = false
+is_quiet call = is_plain call
+
+-- whether a call changes nothing, and shows no bytes or blocks
+abbrev pub only_looks : MemoryCall → Bool
+only_looks (memory_call.GetHandleSize handle) = true
+only_looks (memory_call.GetPtrSize pointer) = true
+only_looks (memory_call.HGetState handle) = true
+only_looks memory_call.PurgeSpace = true
+only_looks memory_call.MaxBlock = true
+only_looks memory_call.FreeMem = true
+only_looks (memory_call.RecoverHandle address) = true
+only_looks (memory_call.Deref handle) = true
+only_looks _ = false
+
+-- the code by which C is told that there is no zone: paramErr
+abbrev pub no_zone : ℤ
+no_zone = minus 50
+
+-- the code of an outcome, if there is a zone
+abbrev pub code_told : Option Outcome → ℤ
+code_told None = no_zone
+code_told (Some (Ok results)) = pos 0
+code_told (Some (Err code)) = code_of code
+
+-- the number that results are
+abbrev pub number_in : Results → Option ℕ
+number_in (Handle handle) = Some handle
+number_in (Pointer pointer) = Some pointer
+number_in (Address address) = Some address
+number_in (Number n) = Some n
+number_in _ = None
+
+-- the two numbers that results are
+abbrev pub numbers_in : Results → Option (ℕ × ℕ)
+numbers_in (TwoNumbers first second) = Some (first, second)
+numbers_in _ = None
+
+-- the number that an outcome gives, written over the one that was there, which stays where it gives none
+abbrev pub number_told : ℕ → Option Outcome → ℕ
+number_told before (Some (Ok results)) = unwrap_or (number_in results) before
+number_told before _ = before
+
+-- the same of two numbers
+abbrev pub numbers_told : ℕ × ℕ → Option Outcome → ℕ × ℕ
+numbers_told before (Some (Ok results)) = unwrap_or (numbers_in results) before
+numbers_told before _ = before
+
+-- the bytes that an outcome shows, written over as many others, which stay where it shows none
+abbrev pub bytes_told : List ℕ → Option Outcome → List ℕ
+bytes_told before (Some (Ok (Bytes bytes))) = bytes
+bytes_told before _ = before
+
+-- the outcome of a call that shows bytes
+abbrev pub shown_outcome : Result (Unit {0}) OsErr → List ℕ → Outcome
+shown_outcome (Ok u) bytes = Ok (Bytes bytes)
+shown_outcome (Err code) bytes = Err code
+
+-- From a state, the call ends so and leaves this one: just as the Memory Manager makes it, where the procedure gives the answers that are left, first in, first out.
+abbrev pub Makes : State → MemoryCall → Outcome → State → Type 0
+Makes old call outcome new = (exact_step old.zone.shape old.left old.zone.heap call ≡ record { outcome = outcome; heap = new.zone.heap; asks = new.asks; left = new.left })
+    × (new.zone.shape ≡ old.zone.shape) × (new.loans ≡ old.loans)
+
+-- The same for a call on a block that is lent or is to be lent, which asks nothing.
+abbrev pub MakesLoan : State → LoanCall → Outcome → State → Type 0
+MakesLoan old call outcome new = LoanStep old.zone.shape old.loans old.zone.heap call outcome new.loans new.zone.heap
+    × (new.zone.shape ≡ old.zone.shape) × (new.left ≡ old.left) × (new.asks ≡ [])
+
+-- The same where there may be no zone: then there is no outcome.
+abbrev pub Called : Option State → MemoryCall → Option Outcome → Option State → Type 0
+Called None call None None = Unit {0}
+Called (Some old) call (Some outcome) (Some new) = Makes old call outcome new
+Called _ call _ _ = ⊥
+
+-- the same for a call on a block that is lent
+abbrev pub LoanCalled : Option State → LoanCall → Option Outcome → Option State → Type 0
+LoanCalled None call None None = Unit {0}
+LoanCalled (Some old) call (Some outcome) (Some new) = MakesLoan old call outcome new
+LoanCalled _ call _ _ = ⊥
+
+-- The call is made, and C is told this code.
+abbrev pub Told : Option State → MemoryCall → ℤ → Option State → Type 0
+Told old call code new = (outcome : Option Outcome) × (code ≡ code_told outcome) × Called old call outcome new
+
+-- The call is made, and C is told this code and this number, where another one was.
+abbrev pub ToldNumber : Option State → MemoryCall → ℤ → ℕ → ℕ → Option State → Type 0
+ToldNumber old call code before number new = (outcome : Option Outcome) × (code ≡ code_told outcome) × (number ≡ number_told before outcome) × Called old call outcome new
+
+-- The same for two numbers.
+abbrev pub ToldNumbers : Option State → MemoryCall → ℤ → ℕ × ℕ → ℕ × ℕ → Option State → Type 0
+ToldNumbers old call code before numbers new = (outcome : Option Outcome) × (code ≡ code_told outcome) × (numbers ≡ numbers_told before outcome) × Called old call outcome new
+
+-- The same for bytes.
+abbrev pub ToldBytes : Option State → MemoryCall → ℤ → List ℕ → List ℕ → Option State → Type 0
+ToldBytes old call code before bytes new = (outcome : Option Outcome) × (code ≡ code_told outcome) × (bytes ≡ bytes_told before outcome) × Called old call outcome new
+
+-- A call on a block that is lent is made, and C is told this code.
+abbrev pub LoanTold : Option State → LoanCall → ℤ → Option State → Type 0
+LoanTold old call code new = (outcome : Option Outcome) × (code ≡ code_told outcome) × LoanCalled old call outcome new
+
+-- The same for bytes.
+abbrev pub LoanToldBytes : Option State → LoanCall → ℤ → List ℕ → List ℕ → Option State → Type 0
+LoanToldBytes old call code before bytes new = (outcome : Option Outcome) × (code ≡ code_told outcome) × (bytes ≡ bytes_told before outcome) × LoanCalled old call outcome new

@@ -1,0 +1,170 @@
+//! What is behind a zone that C holds.
+
+ghost use Rattle.std.specs.Prelude.{◌≡◌, [], IsTrue};
+
+use crate::answers::{Answers, MadeAsk, Queued};
+use crate::{bytes, calls, lent};
+use held_loans::lending;
+use held_loans::loans::Loans;
+use mac_base::block::Block;
+use mac_base::error::{HostFull, OsErr};
+use mac_base::zone_spec::ZoneSpec;
+use mac_calls::{MemoryCall, Outcome};
+use mem_calls::MemoryManager;
+use std::alloc::Global;
+use std::marker::Model;
+
+/// The Memory Manager with its zone, the loans that C has of it, and the answers of its grow-zone procedure.
+pub struct Session {
+    memory: MemoryManager,
+    loans: Loans,
+    answers: Answers,
+}
+
+impl Model for Session {
+    ghost use Rattle.held_loans.specs.Holding.{Holds, loans_of};
+    ghost use Rattle.held_zone.specs.State.{State};
+
+    ghost Value = { State };
+
+    ghost view = { λ s. record { zone = s.memory; loans = loans_of s.loans; left = s.answers.left; asks = s.answers.asks } };
+
+    ghost invariant = { λ s. Holds s.memory s.loans };
+}
+
+impl Drop for Session {
+    /// What is lent comes back, and the zone ends.
+    fn drop(self) {
+        let Session {
+            memory,
+            loans,
+            answers,
+        } = self;
+        drop(lending::finish(memory, loans));
+        drop(answers);
+    }
+}
+
+impl Session {
+    ghost use Rattle.std.specs.Prelude.{◌++◌, ◌∷◌, length, IfOk, OnOk, OnErr};
+    ghost use Rattle.std.specs.Result.{result_err};
+    ghost use Rattle.mac_base.specs.BlockReport.{report_at};
+    ghost use Rattle.mac_base.specs.ZoneMap.{address_behind};
+    ghost use Rattle.mac_calls.specs.declared.loan_call.LoanCall.TheVariants as loan_call;
+    ghost use Rattle.mac_calls.specs.declared.memory_call.MemoryCall.TheVariants as call;
+    ghost use Rattle.mac_calls.specs.Outcomes.{done_outcome};
+    ghost use Rattle.held_zone.specs.State.{IsNew, queue_refusal};
+    ghost use Rattle.held_zone.specs.Told.{Makes, MakesLoan, is_plain, shown_outcome};
+
+    /// A new zone. Nothing is lent, no answer waits, and nothing was asked.
+    pub fn create(alloc: Global, spec: ZoneSpec) -> Result<Box<Session>, HostFull>
+        ensures { IfOk result (λ session. IsNew spec session.value) }
+    {
+        let memory = MemoryManager::create(alloc, spec)?;
+        let answers = Answers::none();
+        let session = Session {
+            memory,
+            loans: Loans::new(),
+            answers,
+        };
+        Ok(Box::new(alloc, session)?)
+    }
+
+    /// Makes a call; one that finds no room takes the answers that are left.
+    pub fn make(&mut self, call: &MemoryCall<'_>) -> Outcome
+        requires { IsTrue (is_plain call.now) }
+        ensures { Makes self.old call.now result self.new }
+    {
+        self.answers.begin();
+        let outcome = calls::make(&mut self.memory, call, &mut self.answers);
+        self.answers.end();
+        outcome
+    }
+
+    /// Peek: copies bytes of a block, from an offset on, over as many others.
+    pub fn peek(&mut self, block: u32, offset: u32, bytes: &mut [u8]) -> Result<(), OsErr>
+        ensures makes { Makes self.old (call.Peek block offset (length bytes.old)) (shown_outcome result bytes.new) self.new }
+        ensures kept { OnErr result (bytes.new ≡ bytes.old) }
+    {
+        self.answers.begin();
+        bytes::peek(&self.memory, block, offset, bytes)
+    }
+
+    /// Poke: copies bytes over those of a block, from an offset on.
+    pub fn poke(&mut self, block: u32, offset: u32, bytes: &[u8]) -> Result<(), OsErr>
+        ensures { Makes self.old (call.Poke block offset bytes.now) (done_outcome result) self.new }
+    {
+        self.answers.begin();
+        bytes::poke(&mut self.memory, block, offset, bytes)
+    }
+
+    /// Lend: C has the bytes of a pointer's or a locked handle's block, until it gives them back.
+    pub fn lend(&mut self, block: u32) -> Outcome
+        ensures { MakesLoan self.old (loan_call.Lend block) result self.new }
+    {
+        self.answers.begin();
+        lending::lend(&mut self.memory, &mut self.loans, block)
+    }
+
+    /// Return: C gives them back.
+    pub fn take_back(&mut self, block: u32) -> Outcome
+        ensures { MakesLoan self.old (loan_call.Return block) result self.new }
+    {
+        self.answers.begin();
+        lending::take_back(&mut self.memory, &mut self.loans, block)
+    }
+
+    /// LentPeek: copies bytes that C has of a block, from an offset on, over as many others.
+    pub fn lent_peek(&mut self, block: u32, offset: u32, bytes: &mut [u8]) -> Result<(), OsErr>
+        ensures makes { MakesLoan self.old (loan_call.LentPeek block offset (length bytes.old)) (shown_outcome result bytes.new) self.new }
+        ensures kept { OnErr result (bytes.new ≡ bytes.old) }
+    {
+        self.answers.begin();
+        lent::peek(&self.memory, &self.loans, block, offset, bytes)
+    }
+
+    /// LentPoke: copies bytes over those that C has of a block, from an offset on.
+    pub fn lent_poke(&mut self, block: u32, offset: u32, bytes: &[u8]) -> Outcome
+        ensures { MakesLoan self.old (loan_call.LentPoke block offset bytes.now) result self.new }
+    {
+        self.answers.begin();
+        lending::lent_poke(&self.memory, &mut self.loans, block, offset, bytes)
+    }
+
+    /// The address of the zone's first block header.
+    pub fn first_block(&self) -> u32
+        ensures { result ≡ address_behind self.now.zone.shape [] }
+    {
+        self.memory.first_block()
+    }
+
+    /// The block whose header stands at this address, if one does.
+    pub fn block(&self, at: u32) -> Option<Block>
+        ensures { result ≡ report_at self.now.zone.shape self.now.zone.heap at }
+    {
+        self.memory.entry(at)
+    }
+
+    /// Queues an answer behind the others: nothing is asked then. Sixteen may wait.
+    pub fn queue(&mut self, answer: Queued) -> Result<(), OsErr>
+        ensures queued { OnOk result (self.new ≡ record { zone = self.old.zone; loans = self.old.loans; left = self.old.left ++ answer ∷ []; asks = [] }) }
+        ensures refusal { result_err result ≡ queue_refusal self.old }
+        ensures unchanged { OnErr result (self.new ≡ self.old) }
+    {
+        self.answers.push(answer)
+    }
+
+    /// How often the last call asked.
+    pub fn asks_made(&self) -> u32
+        ensures { result ≡ length self.now.asks }
+    {
+        self.answers.asks().len() as u32
+    }
+
+    /// What the last call asked, in order.
+    pub fn asks(&self) -> &[MadeAsk]
+        ensures { result.now ≡ self.now.asks }
+    {
+        self.answers.asks()
+    }
+}

@@ -1,0 +1,175 @@
+//! A zone that C holds.
+
+ghost use Rattle.std.specs.Prelude.{◌≡◌, Option, Some, None, IsTrue};
+ghost use Rattle.std.specs.Option.{option_map};
+ghost use Rattle.held_zone.specs.Held.{is_there};
+ghost use Rattle.held_zone.specs.State.{State};
+
+use crate::parked::Parked;
+use crate::session::Session;
+use crate::told;
+use mac_calls::{MemoryCall, Outcome};
+use std::alloc::Global;
+use std::marker::Model;
+use std::{mem, ptr};
+
+/// A session behind a pointer, or none.
+#[repr(C)]
+#[derive(Drop)]
+pub struct Held {
+    at: *mut u8,
+    pub ghost session: { Option State },
+}
+
+impl Model for Held {
+    ghost use Rattle.held_zone.specs.Held.{held};
+
+    ghost also_owns = { λ h. held h.session h.at };
+}
+
+impl Held {
+    /// No session.
+    fn none(at: *mut u8) -> Held
+        ensures { result.session ≡ None }
+    {
+        Held { at }
+    }
+
+    /// This session.
+    fn of(parked: Parked<Session, Global>) -> Held
+        ensures { result.session ≡ Some parked.value }
+    {
+        let Parked { at, alloc: _ } = parked;
+        Held { at: at as *mut u8 }
+    }
+
+    /// The session.
+    fn into_parked(self, alloc: Global) -> Parked<Session, Global>
+        requires { IsTrue (is_there self.session) }
+        ensures { self.session ≡ Some result.value }
+    {
+        let Held { at } = self;
+        Parked {
+            at: at as *mut Session,
+            alloc,
+        }
+    }
+
+    /// The session in its box.
+    fn into_box(self, alloc: Global) -> Box<Session>
+        requires { IsTrue (is_there self.session) }
+        ensures { self.session ≡ Some result.value }
+    {
+        let parked = self.into_parked(alloc);
+        parked.into_box()
+    }
+}
+
+/// A zone that C holds: live, or none.
+#[repr(C)]
+#[derive(Drop)]
+pub struct MhZone {
+    live: bool,
+    pub held: Held,
+    ghost agrees: { live ≡ is_there held.session },
+}
+
+impl MhZone {
+    /// No zone.
+    fn none() -> MhZone
+        ensures { result.held.session ≡ None }
+    {
+        let at = null();
+        MhZone::without(at)
+    }
+
+    /// No zone, behind this pointer.
+    fn without(at: *mut u8) -> MhZone
+        ensures { result.held.session ≡ None }
+    {
+        let held = Held::none(at);
+        MhZone { live: false, held }
+    }
+
+    /// The session, where there is one.
+    fn opened(self, alloc: Global) -> Option<Box<Session>>
+        ensures { self.held.session ≡ option_map (λ session. session.value) result }
+    {
+        let MhZone { live, held } = self;
+        if !live {
+            return None;
+        }
+        let session = held.into_box(alloc);
+        Some(session)
+    }
+
+    /// Takes the session out, where there is one.
+    pub fn take(&mut self, alloc: Global) -> Option<Box<Session>>
+        ensures given { self.old.held.session ≡ option_map (λ session. session.value) result }
+        ensures none { self.new.held.session ≡ None }
+    {
+        let before = mem::replace(self, MhZone::none());
+        before.opened(alloc)
+    }
+
+    /// Puts a session in, where there is none.
+    pub fn put(&mut self, session: Box<Session>)
+        requires none { self.old.held.session ≡ None }
+        ensures { self.new.held.session ≡ Some session.value }
+    {
+        *self = MhZone {
+            live: true,
+            held: Held::of(Parked::of(session)),
+        };
+    }
+}
+
+impl MhZone {
+    ghost use Rattle.held_zone.specs.Told.{Called, Told, ToldNumber, ToldNumbers, is_plain};
+
+    /// Makes a call of the Memory Manager, where there is a zone.
+    pub fn call(&mut self, alloc: Global, call: &MemoryCall<'_>) -> Option<Outcome>
+        requires { IsTrue (is_plain call.now) }
+        ensures { Called self.old.held.session call.now result self.new.held.session }
+    {
+        let mut session = self.take(alloc)?;
+        let outcome = session.make(call);
+        self.put(session);
+        Some(outcome)
+    }
+
+    /// Makes a call, and tells its code.
+    pub fn code(&mut self, alloc: Global, call: &MemoryCall<'_>) -> i16
+        requires { IsTrue (is_plain call.now) }
+        ensures { Told self.old.held.session call.now result self.new.held.session }
+    {
+        told::code(&self.call(alloc, call))
+    }
+
+    /// Makes a call, tells its code, and writes its number, where it gives one.
+    pub fn number(&mut self, alloc: Global, call: &MemoryCall<'_>, number: &mut u32) -> i16
+        requires { IsTrue (is_plain call.now) }
+        ensures { ToldNumber self.old.held.session call.now result number.old number.new self.new.held.session }
+    {
+        told::number(&self.call(alloc, call), number)
+    }
+
+    /// Makes a call, tells its code, and writes its two numbers, where it gives them.
+    pub fn numbers(
+        &mut self,
+        alloc: Global,
+        call: &MemoryCall<'_>,
+        first: &mut u32,
+        second: &mut u32,
+    ) -> i16
+        requires { IsTrue (is_plain call.now) }
+        ensures { ToldNumbers self.old.held.session call.now result (first.old, second.old) (first.new, second.new) self.new.held.session }
+    {
+        told::numbers(&self.call(alloc, call), first, second)
+    }
+}
+
+/// The null pointer.
+fn null() -> *mut u8 {
+    ptr::null_mut()
+}

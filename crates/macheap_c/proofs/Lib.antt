@@ -1,5 +1,0 @@
-mod Queued
-mod Shown
-mod Steps
-mod Words
-mod Written
