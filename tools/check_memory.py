@@ -4,7 +4,8 @@
     tools/check_memory.py PROGRAM
 
 Wanted of each: whole replies from the front of what the run prints and then the line `no memory`, with status 1, or all replies with
-status 0; and a resource file as it was before the last call, or after it. A run that isn't refused anything ends the check of its
+status 0; and a resource file as it was before the last call, or after it. Each script over a file runs with a journal, too, which is as before or
+after that call then. A run that isn't refused anything ends the check of its
 row: it has to print what stands beside it, where `..` stands for lines that aren't compared. Needs a C compiler: `cc`, or $CC.
 """
 import os
@@ -14,6 +15,7 @@ import sys
 import tempfile
 
 from check_files import HI
+from check_resources import journal_of
 from check_runs import are_wanted
 
 TOOLS = os.path.dirname(os.path.abspath(__file__))
@@ -79,18 +81,21 @@ ROWS = [
 ]
 
 
-def run(program, folder, data, lines, **more):
-    """A run of the program in a folder: what it printed, its status, and the bytes of its file."""
+def run(program, folder, files, lines, **more):
+    """A run of the program in a folder, over a file and its journal, if there are: what it printed, its status, and the bytes of these files."""
     script = "".join(line + "\n" for line in lines).encode()
-    options = []
-    path = os.path.join(folder, "file.rsrc")
-    if data is not None:
-        with open(path, "wb") as file:
+    words, paths = [], []
+    for option, data in zip(("fork", "journal"), files):
+        paths.append(os.path.join(folder, option))
+        words += [f"--{option}", paths[-1]]
+        with open(paths[-1], "wb") as file:
             file.write(data)
-        options = ["--fork", path]
     environment = {**os.environ, **more}
-    done = subprocess.run([program, *options], input=script, capture_output=True, env=environment, timeout=60)
-    after = open(path, "rb").read() if data is not None else None
+    done = subprocess.run([program, *words], input=script, capture_output=True, env=environment, timeout=60)
+    after = []
+    for path in paths:
+        with open(path, "rb") as file:
+            after.append(file.read())
     return done.stdout.decode(), done.returncode, after
 
 
@@ -100,30 +105,29 @@ def replies_of(text):
 
 
 def fault(said, status, after, replies, files):
-    """What is wrong with a run that was refused memory, where these are all replies and the bytes of the file behind each of them."""
+    """What is wrong with a run that was refused memory, where these are all replies, and the bytes of the files before the start, behind it and behind each of them."""
     count = len(replies_of(said))
     if said == "".join(replies) and status == 0:
         return None if after == files[-1] else "all was printed, but the file is another"
     if status != 1 or said != "".join(replies[:count]) + "no memory\n":
         return f"status {status}, and {said!r} was printed"
-    if after not in files[count : count + 2]:
+    if after not in files[count + (count > 0) : count + 3]:
         return f"the file is neither as before nor as after line {count + 1}"
     return None
 
 
-def try_row(program, shim, folder, row):
-    """Tries a row: how many requests were refused, and what was wrong."""
-    data, script, wanted = row
+def try_row(program, shim, folder, start, script, wanted):
+    """Tries a script over these files: how many requests were refused, and what was wrong."""
     lines = script.split(" / ")
-    whole, status, _ = run(program, folder, data, lines)
+    whole, status, _ = run(program, folder, start, lines)
     if status != 0 or not are_wanted(whole, wanted.split(" / ")):
         return 0, [f"unrefused, status {status}, it prints {whole!r}"]
-    files = [run(program, folder, data, lines[:k])[2] for k in range(len(lines) + 1)]
+    files = [start, *(run(program, folder, start, lines[:k])[2] for k in range(len(lines) + 1))]
     wrong = []
     tell = os.path.join(folder, "refused")
     for at in range(1, 100000):
         more = {"LD_PRELOAD": shim, "REFUSE_AT": str(at), "REFUSE_TELL": tell}
-        said, status, after = run(program, folder, data, lines, **more)
+        said, status, after = run(program, folder, start, lines, **more)
         if not os.path.exists(tell):
             return at - 1, wrong
         os.remove(tell)
@@ -133,21 +137,32 @@ def try_row(program, shim, folder, row):
     return at, wrong
 
 
+def rows():
+    """The files of each run, its script, and what it prints."""
+    for data, script, wanted in ROWS:
+        yield [] if data is None else [data], script, wanted
+        if data is not None:
+            yield [data, b""], script, wanted
+    # a start that recovers the file
+    yield [HI[:100], journal_of(1, HI)], "CountTypes / UpdateResFile", "1 CountTypes 1 0 / 2 UpdateResFile 0"
+
+
 def main(program):
-    refused = 0
+    count = refused = 0
     failures = []
     with tempfile.TemporaryDirectory() as folder:
         shim = os.path.join(folder, "refuse.so")
         subprocess.run([os.environ.get("CC", "cc"), "-O1", "-shared", "-fPIC", "-o", shim, SHIM, "-ldl"], check=True)
-        for row in ROWS:
-            count, wrong = try_row(program, shim, folder, row)
-            if count == 0 and not wrong:
+        for start, script, wanted in rows():
+            requests, wrong = try_row(program, shim, folder, start, script, wanted)
+            if requests == 0 and not wrong:
                 wrong = ["no request was refused: the program doesn't ask the C library for memory"]
-            refused += count
-            failures += [f"{row[1]}\n  {it}" for it in wrong]
+            count += 1
+            refused += requests
+            failures += [f"{script}, {len(start)} files\n  {it}" for it in wrong]
     for it in failures:
         print(it)
-    print(f"host memory: {len(ROWS)} scripts, {refused} requests refused in turn, {len(failures)} ended as they should not")
+    print(f"host memory: {count} runs of {len(ROWS) + 1} scripts, {refused} requests refused in turn, {len(failures)} ended as they should not")
     return 1 if failures else 0
 
 
