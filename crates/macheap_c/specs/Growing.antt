@@ -1,10 +1,9 @@
 -- The answers that C queues for the grow-zone procedure, and what it is shown of its asks.
-use Rattle.std.specs.Prelude.{◌≡◌, ℕ, ℤ, pos, ◌==◌, ◌++◌, if◌then◌else◌, nat_le, nat_lt, Bool, List, [], ◌∷◌, length, map, Option, Some, None, option_map}
+use Rattle.std.specs.Prelude.{◌≡◌, ℕ, ℤ, pos, ◌==◌, ◌++◌, if◌then◌else◌, nat_le, Bool, List, [], ◌∷◌, length, map, Option, Some, None, option_map}
 use Rattle.std.specs.List.{flat_map, list_all, slice_get}
 use Rattle.std.specs.Option.{option_map_or, option_to_list}
 use Rattle.mac_base.specs.Codes.{code_of, minus}
 use Rattle.mac_base.specs.declared.error.OsErr.{OsErr}
-use Rattle.mac_base.specs.declared.error.OsErr.TheVariants.{ParamErr}
 use Rattle.mac_base.specs.declared.releasing.ReleasingCall.{ReleasingCall}
 use Rattle.mac_base.specs.declared.releasing.ReleasingCall.TheVariants.{DisposesHandle, DisposesPtr, Empties}
 use Rattle.mac_calls.specs.GrowZone.{Answer, Ask}

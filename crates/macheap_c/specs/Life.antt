@@ -1,11 +1,10 @@
 -- How a zone of C begins and ends.
-use Rattle.std.specs.Prelude.{◌≡◌, ℕ, ℤ, pos, ◌==◌, if◌then◌else◌, [], Option, Some, None}
+use Rattle.std.specs.Prelude.{◌≡◌, ℕ, ℤ, pos, ◌==◌, if◌then◌else◌, Option, Some, None}
 use Rattle.mac_base.specs.Codes.{minus}
 use Rattle.mac_base.specs.declared.block.HeadKind.{HeadKind}
 use Rattle.mac_base.specs.declared.block.HeadKind.TheVariants.{Bits24, Bits32}
 use Rattle.mac_base.specs.declared.zone_spec.BadSpec.{BadSpec}
-use Rattle.mac_base.specs.Heap.{new_heap}
-use Rattle.mac_base.specs.ZoneSizes.{ZoneSizes, first_fault, shape_of}
+use Rattle.mac_base.specs.ZoneSizes.{ZoneSizes, first_fault}
 use Rattle.held_zone.specs.State.{State, IsNew}
 use Rattle.held_zone.specs.Told.{no_zone}
 
