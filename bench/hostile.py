@@ -104,16 +104,22 @@ def above_gaps(count):
     return small_gaps(count) + ["a=NewPtr 100", "DisposePtr a"] * LINES
 
 
+def two_halves(lines, request):
+    """20,000 blocks in two gaps of 300,000 free bytes or more, in which no request for 400,000 bytes fits though as many are free."""
+    low = ["MoreMasters"] * 313 + ["h=NewHandle 8"] + handles(10000, 8) + ["s=NewHandle 300000", "k=NewHandle 8", "HLock k"]
+    return low + handles(9990, 8) + ["DisposeHandle s"] + lines + request * LINES
+
+
 def below_others(lines, request):
     """The lowest of 20,000 handles, with which something was done, and a request at each line."""
     return ["h=NewHandle 8"] + lines + handles(20000, 8) + request * LINES
 
 
 def locked_by_turns():
-    """A gap with 10,000 free blocks is cut in two by a lock, and is one again, and each time a request fails."""
+    """A lock cuts a gap with 10,000 free blocks in two, a request fails, and the gap is one again."""
     lines = [line for it in range(10000) for line in ("h=NewHandle 8" if it == 5000 else "NewHandle 8", f"q{it:X}=NewHandle 8")]
     lines += [f"DisposeHandle q{it:X}" for it in range(10000)]
-    return lines + ["HLock h", "NewHandle 900000", "HUnlock h", "NewHandle 900000"] * LINES
+    return lines + ["HLock h", "NewHandle 760000", "HUnlock h"] * LINES
 
 
 def answers():
@@ -140,6 +146,11 @@ def everything_kept():
 # name, the forks and the script
 RUNS = [
     ("20,000 blocks, and requests that fail", [], handles(20000, 8) + ["NewHandle 900000"] * LINES),
+    ("20,000 blocks in two gaps, and requests that fail", [], two_halves([], ["NewHandle 400000"])),
+    ("20,000 blocks in two gaps, and pointers that fail", [], two_halves([], ["NewPtr 400000"])),
+    ("20,000 blocks in two gaps, one purgeable and locked", [], two_halves(["HPurge h", "HLock h"], ["NewHandle 400000"])),
+    ("20,000 blocks in two gaps, a purgeable one is to grow", [], two_halves(["HPurge h"], ["SetHandleSize h 400000"])),
+    ("20,000 blocks in two gaps, a purgeable one is to be reallocated", [], two_halves(["HPurge h"], ["ReallocateHandle h 400000"])),
     ("20,000 blocks, and holes that don't fit together", [], named(18000, 8) + [f"HLock h{it:X}" for it in range(0, 18000, 2)] + [f"DisposeHandle h{it:X}" for it in range(1, 18000, 2)] + ["NewHandle 900000"] * LINES),
     ("7,000 small gaps between pointers", [], fixed_between()),
     ("all handles purged, again and again", [], purged_each_time()),
