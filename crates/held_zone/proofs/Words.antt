@@ -26,9 +26,8 @@ use Rattle.std_alloc.specs.Box.Ownership.{box_owns}
 use Rattle.std_alloc.proofs.ResultValues.{and_tt}
 use Rattle.held_zone.specs.contracts.parked.Parked as parked
 use Rattle.held_zone.specs.contracts.zone.Held as zone
-use Rattle.held_zone.specs.Held.{held, is_there}
+use Rattle.held_zone.specs.Held.{chunk, held, is_there}
 use Rattle.held_zone.specs.State.{State}
-use Rattle.libc.specs.Heap.{chunk}
 use Rattle.held_zone.specs.contracts.session.Session as session
 use Rattle.std.specs.Prelude.{Option, Some, None, IsTrue}
 use Rattle.std_heap.specs.contracts.Global as heap
