@@ -20,6 +20,7 @@ ghost use Rattle.std.specs.Prelude.{◌≡◌, ◌≤◌, ◌&&◌, not, IsTrue,
 ghost use Rattle.mac_base.specs.HandleTable.{has_block, is_full, is_handle, is_lent, is_locked, is_pointer};
 ghost use Rattle.mac_base.specs.HeadKind.{max_size};
 
+use crate::zone::assert_nothing_lent;
 use mac_base::block::{Block, Entry, Flags, HeadKind, Kind};
 use mac_base::handle::{Handle, Ptr};
 use mac_base::size::MAX_SIZE;
@@ -68,13 +69,6 @@ fn named(rt: &impl Abort, made: &Made, word: &str) -> u32 {
         .expect(rt, "so many blocks were made")
 }
 
-/// Nothing of a zone is lent.
-fn assert_nothing_lent(rt: &impl Abort, zone: &Zone)
-    ensures { zone.now.heap.table.lent ≡ [] }
-{
-    assert_eq!(rt; zone.lent_count(), 0);
-}
-
 /// A block has a number and isn't lent.
 fn assert_here(rt: &impl Abort, zone: &Zone, block: u32)
     ensures block { IsTrue (has_block zone.now.heap.table block) }
@@ -102,7 +96,7 @@ fn make(rt: &impl Abort, zone: &mut Zone, word: &str) -> Option<u32> {
 }
 
 /// Sets the flags of a handle's block.
-fn set_flags(rt: &impl Abort, zone: &mut Zone, block: u32, lock: bool, purge: bool) {
+pub(crate) fn set_flags(rt: &impl Abort, zone: &mut Zone, block: u32, lock: bool, purge: bool) {
     let handle = Handle::new(block);
     assert!(rt; zone.is_live(handle), "it is a handle");
     assert_here(rt, zone, block);
@@ -115,7 +109,7 @@ fn set_flags(rt: &impl Abort, zone: &mut Zone, block: u32, lock: bool, purge: bo
 }
 
 /// Disposes of a block.
-fn dispose(rt: &impl Abort, zone: &mut Zone, block: u32) {
+pub(crate) fn dispose(rt: &impl Abort, zone: &mut Zone, block: u32) {
     assert_here(rt, zone, block);
     if zone.is_pointer(Ptr::new(block)) {
         zone.release_pointer(Ptr::new(block));
@@ -134,6 +128,14 @@ fn raise(rt: &impl Abort, zone: &mut Zone, block: u32) {
     zone.move_high(handle);
 }
 
+/// Gives a block another size.
+fn resize(rt: &impl Abort, zone: &mut Zone, block: u32, size: &str) {
+    let length = length_of(rt, size);
+    assert_here(rt, zone, block);
+    let sized = zone.resize_block(block, length);
+    assert!(rt; sized.is_ok(), "there is room");
+}
+
 /// Does a step to the block that a word names behind its first letter.
 fn change(rt: &impl Abort, zone: &mut Zone, made: &Made, word: &str) {
     let (name, size) = word.split_once(':').unwrap_or((word, "0"));
@@ -147,11 +149,30 @@ fn change(rt: &impl Abort, zone: &mut Zone, made: &Made, word: &str) {
         "H" => raise(rt, zone, block),
         _ => {
             assert_eq!(rt; what, "S", "there is such a step");
-            let length = length_of(rt, size);
-            assert_here(rt, zone, block);
-            let sized = zone.resize_block(block, length);
-            assert!(rt; sized.is_ok(), "there is room");
+            resize(rt, zone, block, size);
         }
+    }
+}
+
+/// Does a step that makes a block.
+fn make_next(rt: &impl Abort, zone: &mut Zone, made: &mut Made, word: &str) {
+    let number = make(rt, zone, word).expect(rt, "there is room");
+    if let Some(place) = made.numbers.get_mut(made.count) {
+        *place = number;
+    }
+    made.count = made.count.saturating_add(1);
+}
+
+/// Does a step to the zone, or to one block.
+fn change_zone(rt: &impl Abort, zone: &mut Zone, made: &Made, word: &str) {
+    if let Some(size) = word.strip_prefix('C') {
+        zone.compact(number_of(rt, size));
+    } else if let Some(size) = word.strip_prefix('Q') {
+        zone.purge_to(number_of(rt, size));
+    } else if word.starts_with('R') {
+        make(rt, zone, word).expect(rt, "there is room");
+    } else {
+        change(rt, zone, made, word);
     }
 }
 
@@ -162,28 +183,14 @@ fn step(rt: &impl Abort, zone: &mut Zone, made: &mut Made, word: &str) {
         return;
     }
     if word.starts_with('+') || word.starts_with('*') || word.starts_with('M') {
-        let number = make(rt, zone, word).expect(rt, "there is room");
-        if let Some(place) = made.numbers.get_mut(made.count) {
-            *place = number;
-        }
-        made.count = made.count.saturating_add(1);
+        make_next(rt, zone, made, word);
         return;
     }
     match word {
         "A" => zone.compact_all(),
         "G" => zone.extend(),
         "X" => zone.purge_all(),
-        _ => {
-            if let Some(size) = word.strip_prefix('C') {
-                zone.compact(number_of(rt, size));
-            } else if let Some(size) = word.strip_prefix('Q') {
-                zone.purge_to(number_of(rt, size));
-            } else if word.starts_with('R') {
-                make(rt, zone, word).expect(rt, "there is room");
-            } else {
-                change(rt, zone, made, word);
-            }
-        }
+        _ => change_zone(rt, zone, made, word),
     }
 }
 
@@ -218,6 +225,21 @@ fn is_said(rt: &impl Abort, made: &Made, word: &str, kind: Kind) -> bool {
     }
 }
 
+/// The block at an address is what a word says. Where the next one is.
+fn check_block(
+    rt: &impl Abort,
+    zone: &Zone,
+    made: &Made,
+    at: u32,
+    (steps, word): (&str, &str),
+) -> u32 {
+    let (size, kind) = word.split_once(':').expect(rt, "a size and a kind");
+    let Block { entry, .. } = zone.entry(at).expect(rt, "a block stands there");
+    assert_eq!(rt; entry.size, number_of(rt, size), "{steps}");
+    assert!(rt; is_said(rt, made, kind, entry.kind), "{steps}");
+    at.wrapping_add(entry.size)
+}
+
 /// After the steps the zone has these blocks behind its first master block.
 fn check_steps(rt: &impl Abort, zone: &mut Zone, steps: &str, blocks: &str) {
     let mut made = Made {
@@ -230,18 +252,19 @@ fn check_steps(rt: &impl Abort, zone: &mut Zone, steps: &str, blocks: &str) {
     }
     let mut at = zone.first_block().wrapping_add(264);
     for word in blocks.split(' ') {
-        let (size, kind) = word.split_once(':').expect(rt, "a size and a kind");
-        let block = zone.entry(at).expect(rt, "a block stands there");
-        let Block { entry, .. } = block;
-        let Entry {
-            size: stands,
-            kind: is,
-        } = entry;
-        assert_eq!(rt; stands, number_of(rt, size), "{steps}");
-        assert!(rt; is_said(rt, &made, kind, is), "{steps}");
-        at = at.wrapping_add(stands);
+        at = check_block(rt, zone, &made, at, (steps, word));
     }
     assert!(rt; zone.entry(at).is_none(), "no further block stands there");
+}
+
+/// The same of each row, in a zone of this size that may grow to 4096 bytes.
+fn check_rows(rt: &impl Abort, alloc: Global, size: u32, rows: &str) {
+    for row in rows.lines() {
+        let (steps, blocks) = row.split_once(" | ").expect(rt, "steps and blocks");
+        let mut zone = new_zone(rt, alloc, size, 4096);
+        check_steps(rt, &mut zone, steps, blocks);
+        assert_nothing_lent(rt, &zone);
+    }
 }
 
 /// Steps in a zone of 4096 bytes, and the blocks that stand then, one test a line.
@@ -290,15 +313,10 @@ const STEPS: &str = "\
 
 #[test]
 fn steps_leave_their_blocks(rt: HostRuntime) {
-    for row in STEPS.lines() {
-        let (steps, blocks) = row.split_once(" | ").expect(&rt, "steps and blocks");
-        let mut zone = new_zone(&rt, rt.alloc(), 4096, 4096);
-        check_steps(&rt, &mut zone, steps, blocks);
-        assert_nothing_lent(&rt, &zone);
-    }
+    check_rows(&rt, rt.alloc(), 4096, STEPS);
 }
 
-/// The same in a zone of 1024 bytes that may grow to 4096.
+/// Steps in a zone of 1024 bytes that may grow to 4096.
 const GROWING: &str = "\
 +500 G | 508:0 3272:.
 +500 !+1000 G +1000 | 508:0 1008:1 2264:.
@@ -314,10 +332,5 @@ const GROWING: &str = "\
 
 #[test]
 fn zones_grow_and_handles_are_purged(rt: HostRuntime) {
-    for row in GROWING.lines() {
-        let (steps, blocks) = row.split_once(" | ").expect(&rt, "steps and blocks");
-        let mut zone = new_zone(&rt, rt.alloc(), 1024, 4096);
-        check_steps(&rt, &mut zone, steps, blocks);
-        assert_nothing_lent(&rt, &zone);
-    }
+    check_rows(&rt, rt.alloc(), 1024, GROWING);
 }

@@ -12,12 +12,17 @@ pub(crate) fn small_zone(rt: &impl Abort, alloc: Global) -> Zone {
     Zone::create(alloc, spec).expect(rt, "the host has memory")
 }
 
+/// Makes as many handles without a block.
+fn make_empty(rt: &impl Abort, zone: &mut Zone, count: u32) {
+    for _ in 0..count {
+        zone.new_empty().expect(rt, "a slot is free");
+    }
+}
+
 #[test]
 fn a_handle_lacks_a_slot_where_all_are_live(rt: HostRuntime) {
     let mut zone = small_zone(&rt, rt.alloc());
-    for _ in 0..64 {
-        zone.new_empty().expect(&rt, "a slot is free");
-    }
+    make_empty(&rt, &mut zone, 64);
     assert_eq!(rt; zone.new_empty(), Err(Shortage::NoSlot));
     assert_eq!(rt; zone.new_block(9000), Err(Shortage::NoSlot));
     assert_nothing_lent(&rt, &zone);

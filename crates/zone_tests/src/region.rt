@@ -14,6 +14,16 @@ const START: [u8; 20] = [
     1, 2, 3, 4, 5, 6, 7, 8, 9, 10, 11, 12, 13, 14, 15, 16, 17, 18, 19, 20,
 ];
 
+/// A number of a region is the one that is wanted.
+fn same(rt: &impl Abort, found: u32, wanted: u32) {
+    assert_eq!(rt; found, wanted);
+}
+
+/// Bytes of a region are those that are wanted.
+fn same_bytes(rt: &impl Abort, found: &[u8], wanted: &[u8]) {
+    assert_eq!(rt; found, wanted);
+}
+
 /// A region of as many bytes, all zero.
 fn region_of_twenty(rt: &impl Abort, alloc: Global) -> Region
     ensures len { length result.bytes ≡ 20 }
@@ -38,7 +48,7 @@ fn check_bytes(rt: &impl Abort, region: &Region, wanted: &[u8])
     requires len { length region.now.bytes ≡ 20 }
     requires lent { region.now.lent ≡ [] }
 {
-    assert_eq!(rt; region.bytes(0, 20), wanted);
+    same_bytes(rt, region.bytes(0, 20), wanted);
 }
 
 /// `n` bytes slide from `from` to `to`.
@@ -99,8 +109,8 @@ fn check_put32(rt: &impl Abort, alloc: Global, at: usize)
 {
     let mut region = region_of_twenty(rt, alloc);
     region.put32(at, 0xfedc_ba98);
-    assert_eq!(rt; region.get32(at), 0xfedc_ba98);
-    assert_eq!(rt; region.bytes(at, 4), [0xfe, 0xdc, 0xba, 0x98].as_slice());
+    same(rt, region.get32(at), 0xfedc_ba98);
+    same_bytes(rt, region.bytes(at, 4), &[0xfe, 0xdc, 0xba, 0x98]);
 }
 
 /// A number of 16 bits is read as it was written, and its bytes are these.
@@ -110,8 +120,8 @@ fn check_put16(rt: &impl Abort, alloc: Global, at: usize)
 {
     let mut region = region_of_twenty(rt, alloc);
     region.put16(at, 0xabcd);
-    assert_eq!(rt; region.get16(at), 0xabcd);
-    assert_eq!(rt; region.bytes(at, 2), [0xab, 0xcd].as_slice());
+    same(rt, u32::from(region.get16(at)), 0xabcd);
+    same_bytes(rt, region.bytes(at, 2), &[0xab, 0xcd]);
 }
 
 /// A byte is read as it was written.
@@ -121,7 +131,7 @@ fn check_put8(rt: &impl Abort, alloc: Global, at: usize)
 {
     let mut region = region_of_twenty(rt, alloc);
     region.put8(at, 0x80);
-    assert_eq!(rt; region.get8(at), 0x80);
+    same(rt, u32::from(region.get8(at)), 0x80);
 }
 
 #[test]
@@ -144,7 +154,7 @@ fn fills_between_two_bytes(rt: HostRuntime) {
     region.put8(0, 0x80);
     region.put8(19, 0x80);
     region.fill(1, 18, 7);
-    assert_eq!(rt; region.get32(0), 0x8007_0707);
-    assert_eq!(rt; region.get16(18), 0x0780);
+    same(&rt, region.get32(0), 0x8007_0707);
+    same(&rt, u32::from(region.get16(18)), 0x0780);
     assert_eq!(rt; region.len(), 20);
 }

@@ -2,7 +2,9 @@
 
 ghost use Rattle.std.specs.Prelude.{◌≡◌, []};
 
-use mac_base::block::{Flags, HeadKind};
+use crate::gaps::{dispose, set_flags};
+use crate::place::small_zone;
+use mac_base::block::HeadKind;
 use mac_base::zone_spec::ZoneSpec;
 use std::alloc::Global;
 use std::process::Abort;
@@ -98,18 +100,25 @@ fn new_handle_32() -> [u8; 4096] {
     image_of(&NEW_HANDLE_32, (0x44, 0x13c), 0x0010_0005, 1)
 }
 
-/// The flags of a handle that is locked.
-const LOCKED: Flags = Flags {
-    lock: true,
-    purge: false,
-    resource: false,
-};
-
 /// Nothing of a zone is lent.
 pub(crate) fn assert_nothing_lent(rt: &impl Abort, zone: &Zone)
     ensures { zone.now.heap.table.lent ≡ [] }
 {
     assert_eq!(rt; zone.lent_count(), 0);
+}
+
+/// The bytes of a zone of which nothing is lent are these.
+fn assert_image(rt: &impl Abort, zone: &Zone, image: &[u8; 4096])
+    ensures { zone.now.heap.table.lent ≡ [] }
+{
+    assert_nothing_lent(rt, zone);
+    assert_eq!(rt; zone.image(), image.as_slice());
+}
+
+/// A zone of 4096 bytes at $00100000 with blocks of this kind.
+fn zone_of(rt: &impl Abort, alloc: Global, heads: HeadKind) -> Zone {
+    let spec = ZoneSpec::with_kind(0x10_0000, 4096, 4096, heads).expect(rt, "there is such a zone");
+    Zone::create(alloc, spec).expect(rt, "the host has memory")
 }
 
 /// Compares the bytes of a zone of these blocks after NewHandle 100, and after the handle was locked.
@@ -121,20 +130,13 @@ fn compare(
     mut image: [u8; 4096],
     locked: Word,
 ) {
-    let spec = ZoneSpec::with_kind(0x10_0000, 4096, 4096, heads).expect(rt, "there is such a zone");
-    let mut zone = Zone::create(alloc, spec).expect(rt, "the host has memory");
+    let mut zone = zone_of(rt, alloc, heads);
     let handle = zone.new_block(100).expect(rt, "the zone has room");
     assert_eq!(rt; handle.number(), number);
-    assert_nothing_lent(rt, &zone);
-    assert_eq!(rt; zone.image(), &image[..]);
-    assert!(rt;
-        zone.is_live(handle) && zone.has_block(handle.number()),
-        "it has a block"
-    );
-    zone.set_flags(handle, LOCKED);
+    assert_image(rt, &zone, &image);
+    set_flags(rt, &mut zone, number, true, false);
     put(&mut image, locked.0, locked.1);
-    assert_nothing_lent(rt, &zone);
-    assert_eq!(rt; zone.image(), &image[..]);
+    assert_image(rt, &zone, &image);
 }
 
 #[test]
@@ -166,42 +168,58 @@ pub(crate) fn write_front(zone: &mut Zone, block: u32) {
     }
 }
 
+/// A new handle of 1000 bytes: its number.
+fn new_thousand(rt: &impl Abort, zone: &mut Zone) -> u32 {
+    zone.new_block(1000)
+        .expect(rt, "the zone has room")
+        .number()
+}
+
 #[test]
 fn a_handle_that_is_disposed_of_leaves_the_lowest_free_block(rt: HostRuntime) {
-    let spec = ZoneSpec::new(0x10_0000, 4096, 4096).expect(&rt, "there is such a zone");
-    let mut zone = Zone::create(rt.alloc(), spec).expect(&rt, "the host has memory");
-    let first = zone.new_block(1000).expect(&rt, "the zone has room");
-    let second = zone.new_block(1000).expect(&rt, "the zone has room");
-    zone.new_block(1000).expect(&rt, "the zone has room");
-    write_front(&mut zone, second.number());
-    assert!(rt; zone.is_live(first), "it is live");
-    assert_nothing_lent(&rt, &zone);
-    zone.release(first);
+    let mut zone = small_zone(&rt, rt.alloc());
+    let first = new_thousand(&rt, &mut zone);
+    let second = new_thousand(&rt, &mut zone);
+    new_thousand(&rt, &mut zone);
+    write_front(&mut zone, second);
+    dispose(&rt, &mut zone, first);
     let mut image = image_of(&DISPOSED_24, (0x48, 0x138), 0x0110_0004, 0x0100_0000);
     put(&mut image, 0xd0c, 0x0000_02f4);
-    assert_eq!(rt; zone.image(), &image[..]);
+    assert_image(&rt, &zone, &image);
+}
+
+/// The bytes are those of a zone, and with one of these sizes of the last block they are not.
+fn check_sizes(
+    rt: &impl Abort,
+    heads: HeadKind,
+    mut image: [u8; 4096],
+    at: usize,
+    wrong: [u32; 5],
+) {
+    assert!(rt; check(heads, &image), "as it is");
+    for size in wrong {
+        put(&mut image, at, size);
+        assert!(rt; !check(heads, &image), "with a last block of {size} bytes");
+    }
 }
 
 #[test]
 fn a_zone_is_told_from_other_bytes(rt: HostRuntime) {
-    let mut image = new_handle_24();
-    assert!(rt; check(HeadKind::Bits24, &image), "as it is");
-    for size in [0, 0xe54, 0xe5c, 0xe5a, 8] {
-        put(&mut image, 0x1a8, size);
-        assert!(rt;
-            !check(HeadKind::Bits24, &image),
-            "with a last block of {size} bytes"
-        );
-    }
-    let mut image = new_handle_32();
-    assert!(rt; check(HeadKind::Bits32, &image), "as it is");
-    for size in [0, 0xe4c, 0xe54, 0xe52, 12] {
-        put(&mut image, 0x1b4, size);
-        assert!(rt;
-            !check(HeadKind::Bits32, &image),
-            "with a last block of {size} bytes"
-        );
-    }
-    assert!(rt; check(HeadKind::Bits24, &[0; 52]), "without a block");
-    assert!(rt; !check(HeadKind::Bits24, &[0; 51]), "under 52 bytes");
+    let (bits24, bits32) = (HeadKind::Bits24, HeadKind::Bits32);
+    check_sizes(
+        &rt,
+        bits24,
+        new_handle_24(),
+        0x1a8,
+        [0, 0xe54, 0xe5c, 0xe5a, 8],
+    );
+    check_sizes(
+        &rt,
+        bits32,
+        new_handle_32(),
+        0x1b4,
+        [0, 0xe4c, 0xe54, 0xe52, 12],
+    );
+    assert!(rt; check(bits24, &[0; 52]), "without a block");
+    assert!(rt; !check(bits24, &[0; 51]), "under 52 bytes");
 }

@@ -4,7 +4,7 @@ ghost use Rattle.std.specs.Prelude.{◌≡◌, ℕ, ◌+◌, ◌-◌, ◌≤◌,
 ghost use Rattle.byteorder.specs.Endian.{big_number};
 ghost use Rattle.raw_region.specs.Bytes.{part};
 
-use super::region_of_twenty;
+use super::{region_of_twenty, same};
 use raw_region::Region;
 
 /// Writes the header of the block at `at`.
@@ -47,6 +47,6 @@ fn slides_a_block(rt: HostRuntime) {
     write_header(&mut region, 8, 3, 12);
     region.fill(16, 4, 9);
     slide_block(&mut region, 8, 5, 12);
-    assert_eq!(rt; region.get32(7), 12);
-    assert_eq!(rt; region.get32(11), 0x0909_0909);
+    same(&rt, region.get32(7), 12);
+    same(&rt, region.get32(11), 0x0909_0909);
 }
