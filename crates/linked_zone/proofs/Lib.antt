@@ -1,7 +1,7 @@
 mod Bare
 mod ChangeBlock
 mod ChangeCut
-pub mod ChangeEmptied
+mod ChangeEmptied
 mod ChangeExchanged
 pub mod ChangeExtended
 mod ChangeFixed

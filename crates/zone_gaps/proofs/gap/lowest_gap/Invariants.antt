@@ -1,0 +1,12 @@
+use Rattle.std.proofs.Common.{◌-◌}
+use Rattle.mac_base.specs.ZoneMap.{address_behind}
+use Rattle.zone_gaps.proofs.Searching.{Searched}
+use Rattle.zone_gaps.proofs.gap.lowest_gap.Given as goal
+
+-- the zone is searched so far
+abbrev pub invariant-loop-at : goal.invariant-loop-at
+invariant-loop-at l = Searched l.zone l.needed l.from
+
+-- the bytes that are left
+abbrev pub decreases-loop-at : goal.decreases-loop-at
+decreases-loop-at l = address_behind l.zone.shape l.zone.heap.map - l.from
