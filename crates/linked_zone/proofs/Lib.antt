@@ -1,7 +1,7 @@
 mod Bare
 mod ChangeBlock
 mod ChangeCut
-mod ChangeEmptied
+pub mod ChangeEmptied
 mod ChangeExchanged
 pub mod ChangeExtended
 mod ChangeFixed

@@ -56,6 +56,7 @@ impl LinkedZone {
     ghost use Rattle.mac_base.specs.BlockReport.{report_at, block_flags};
     ghost use Rattle.mac_base.specs.ZoneMap.{address_behind, free_bytes, has_free, contents_of};
     ghost use Rattle.linked_zone.specs.Changes.{bare_zone, taken, given_back, pointed, without_block, fixed, unfixed, held_there, enlarged, cut_in_two, joined_pair, with_master, flagged};
+    ghost use Rattle.linked_zone.specs.Fit.{Fits, HasSizes};
     ghost use Rattle.linked_zone.specs.WritingBack.{WritesBackBytes};
     ghost use Rattle.linked_zone.specs.Places.{EntryAt, HasOwner, FreeAt, BlockOf, NamedAt, LowestAt, RoomFor, CanCut, CanHold, CanGrow, FreePair, SplitAt, FirstFree, LastFree, none_free};
     ghost use Rattle.linked_zone.specs.Purgeable.{NonePurgeable};
@@ -75,10 +76,13 @@ impl LinkedZone {
         })
     }
 
-    /// Where the zone lies, how large it is now and how far it may grow. What is lent has blocks, and is few.
+    /// Where the zone lies, how large it is now and how far it may grow. Handles, pointers, blocks, slots and loans fit each
+    /// other, and all sizes are possible.
     pub fn spec(&self) -> ZoneSpec
         ensures sizes { result ≡ sizes_of self.now }
         ensures loans { LoansFit self.now.heap }
+        ensures fits { Fits self.now }
+        ensures possible { HasSizes self.now }
     {
         self.records.spec()
     }

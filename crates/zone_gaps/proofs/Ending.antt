@@ -9,7 +9,7 @@ use Rattle.linked_zone.specs.Fit.{HasSizes}
 use Rattle.linked_zone.specs.Places as places
 use Rattle.linked_zone.specs.Places.{EntryAt, SplitAt, none_free}
 use Rattle.zone_gaps.specs.Runs.{RunAt, UsedFrom, LastFree}
-use Rattle.zone_gaps.proofs.Entries.{entry_size, entry_within}
+use Rattle.zone_gaps.proofs.Entries.{entry_size}
 use Rattle.zone_gaps.proofs.Lasts.{no_last, same_last}
 use Rattle.zone_gaps.proofs.Sizes.{all_parts}
 

@@ -1,4 +1,4 @@
--- The first block of a list, and the last.
+-- The last block of a list.
 use Rattle.std.proofs.Common.{◌≡◌, ◌<◌, [], ◌∷◌, ◌++◌, refl, ap, arith}
 use Rattle.mac_base.specs.declared.block.Entry.{Entry}
 use Rattle.mac_base.specs.ZoneMap.{ZoneMap, total_size}
@@ -34,19 +34,3 @@ last_of e (f ∷ es) = let rest = last_of f es in record { front = e ∷ rest.fr
 pub some_last : (m : ZoneMap) → 0 < total_size m → Last m
 some_last [] some = absurd (omega arith)
 some_last (e ∷ es) some = last_of e es
-
--- the first block of a list, and those behind it
-pub record First (m : ZoneMap) : Type 0 where
-  pub here : Entry
-  pub rest : ZoneMap
-  pub is : m ≡ here ∷ rest
-
--- blocks that have bytes in all have a first one
-pub some_first : (m : ZoneMap) → 0 < total_size m → First m
-some_first [] some = absurd (omega arith)
-some_first (e ∷ es) some = record { here = e; rest = es; is = refl }
-
--- the front of a list that is empty is empty
-pub none_behind : (a b : ZoneMap) → a ++ b ≡ [] → b ≡ []
-none_behind [] b h = h
-none_behind (e ∷ a) b h = absurd (cc h)

@@ -13,8 +13,9 @@ use Rattle.zone_laws.proofs.GapApart.{sizes_possible, free_bytes-possible}
 use Rattle.linked_zone.specs.Changes.{with_map, joined_pair, sunk}
 use Rattle.linked_zone.specs.Fit.{HasSizes}
 use Rattle.linked_zone.specs.Places.{EntryAt, FreePair, ParcelUpTo, all_can_move, none_free}
+use Rattle.fixed_index.specs.Runs.{none_fixed}
 use Rattle.zone_gaps.specs.Runs.{RunAt, UsedFrom, LastFree, arranged}
-use Rattle.zone_gaps.proofs.Backing.{previous_block}
+use Rattle.zone_gaps.proofs.Between.{parcel_up_loose, previous_block}
 use Rattle.zone_gaps.proofs.Lasts.{Last, some_last}
 use Rattle.zone_gaps.proofs.Pressing.{free_entry, some_free, used-front, free-front, run_sizes}
 use Rattle.zone_gaps.proofs.Sizes.{all_parts, all_both, first_bytes, no_bytes}
@@ -102,9 +103,12 @@ module _ {start end : ℕ} (z : ZoneState) (run : RunAt z start end) where
     pub moves_low : IsTrue (all_can_move new.heap.table l.rest)
     moves_low = ap (λ (w : ZoneState). all_can_move w.heap.table l.rest) l.zone ∙ (all_parts _ l.rest l.done (subst (λ m. all_can_move z.heap.table m ≡ true) l.parts run.moves)).0
 
+    pub loose_low : IsTrue (none_fixed new.heap.table l.rest)
+    loose_low = ap (λ (w : ZoneState). none_fixed w.heap.table l.rest) l.zone ∙ (all_parts _ l.rest l.done (subst (λ m. none_fixed z.heap.table m ≡ true) l.parts run.loose)).0
+
     -- what is to come is a run
     abbrev pub run_low : RunAt new start low
-    run_low = record { before = run.before; blocks = l.rest; behind = up l.done ++ run.behind; map = map_low; place = place_start; long = l.low_is; moves = moves_low }
+    run_low = record { before = run.before; blocks = l.rest; behind = up l.done ++ run.behind; map = map_low; place = place_start; long = l.low_is; moves = moves_low; loose = loose_low }
 
     run_parts : HasSizes z → (sizes_possible z.shape run.before ≡ true) × (sizes_possible z.shape run.blocks ≡ true) × (sizes_possible z.shape run.behind ≡ true)
     run_parts sizes =
@@ -162,6 +166,12 @@ module _ {start end : ℕ} (z : ZoneState) (run : RunAt z start end) where
         long = (let low = l.low_is in let here = u.place in let all = ap total_size u.parts ∙ total_size-append u.rest u.used in omega arith);
         moves = all_both _ u.used (block Free bytes ∷ []) (all_parts _ u.rest u.used (ap (all_can_move new.heap.table) (sym u.parts) ∙ moves_low)).1 refl;
       }
+
+      -- none of them is fixed
+      pub loose_parcel : HasSizes z → (parcel : ParcelUpTo new at low) → IsTrue (none_fixed new.heap.table (parcel.blocks ++ parcel.here ∷ []))
+      unfolding parcel_low
+      loose_parcel sizes parcel =
+          parcel_up_loose new at low (sizes_low sizes) parcel_low (all_both _ u.used (block Free bytes ∷ []) (all_parts _ u.rest u.used (ap (none_fixed new.heap.table) (sym u.parts) ∙ loose_low)).1 refl) parcel
 
       -- the free block sinks below them
       pub sunk_low : (after : ZoneState) → ((parcel : ParcelUpTo new at low) → after ≡ sunk new parcel) → Lifting z run after at

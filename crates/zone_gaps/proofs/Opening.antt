@@ -1,12 +1,12 @@
 -- A gap opened at the block of a handle, in two runs.
-use Rattle.std.proofs.Common.{◌≡◌, ℕ, ◌+◌, Bool, true, false, cond, [], ◌∷◌, ◌++◌, refl, ap, sym, ◌∙◌, subst, append_assoc, arith, inr}
+use Rattle.std.proofs.Common.{◌≡◌, ℕ, ◌+◌, Bool, true, false, not, cond, [], ◌∷◌, ◌++◌, refl, ap, sym, ◌∙◌, subst, append_assoc, arith, inr}
 use Rattle.std.specs.Option.{option_map_or}
 use Rattle.std.specs.List.{list_all}
 use Rattle.std.proofs.lemmas.Bool.{and_from, and_parts}
 use Rattle.std.proofs.lemmas.List.Elements.{filter-append}
 use Rattle.mac_base.specs.declared.block.Entry.{Entry}
 use Rattle.mac_base.specs.Arrangement.{used_blocks, down, up, open_at}
-use Rattle.mac_base.specs.Gap.{Gap, filled}
+use Rattle.mac_base.specs.Gap.{Gap, filled, is_fixed}
 use Rattle.mac_base.specs.Suits.{is_block_size}
 use Rattle.mac_base.specs.ZoneMap.{ZoneMap, free_block, free_bytes, is_free, total_size, address_behind}
 use Rattle.mac_base.specs.ZoneState.{ZoneState}
@@ -18,8 +18,9 @@ use Rattle.linked_zone.specs.Changes.{with_map}
 use Rattle.linked_zone.specs.Fit.{HasSizes}
 use Rattle.zone_gaps.specs.Gaps.{Settled, opened_after}
 use Rattle.linked_zone.specs.Places.{all_can_move, can_move}
+use Rattle.fixed_index.specs.Runs.{none_fixed}
 use Rattle.zone_gaps.specs.Runs.{RunAt, arranged}
-use Rattle.zone_gaps.proofs.Owning.{Owned, here_owned, map_front, parts_owned, can_move_owned}
+use Rattle.zone_gaps.proofs.Owning.{Owned, here_owned, map_front, moves_owned, parts_owned, can_move_owned}
 use Rattle.zone_gaps.proofs.Sizes.{all_both}
 
 regroup : (a u f r b : ZoneMap) → a ++ ((u ++ f) ++ (r ++ b)) ≡ (a ++ u) ++ ((f ++ r) ++ b)
@@ -49,6 +50,12 @@ module _ (z : ZoneState) (h at : ℕ) (settled : Settled z) (o : Owned z h at) w
       let here = and_parts (can_move z.heap.table (o.place).kind) (all_can_move z.heap.table (o.place).back) moves.1 in
       (all_both _ (o.place).front (here_owned z h at o ∷ []) moves.0 (and_from _ _ here.0 refl), here.1)
 
+  loose_lower : (none_fixed z.heap.table lower ≡ true) × (none_fixed z.heap.table (o.place).back ≡ true)
+  loose_lower =
+      let loose = moves_owned z h at o in
+      let here = and_parts (not (is_fixed z.heap.table (o.place).kind)) (none_fixed z.heap.table (o.place).back) loose.1 in
+      (all_both _ (o.place).front (here_owned z h at o ∷ []) loose.0 (and_from _ _ here.0 refl), here.1)
+
   module _ (start middle end : ℕ) (start_is : start + total_size (o.place).front ≡ at) (middle_is : middle ≡ at + o.size) (end_is : end ≡ at + (o.size + total_size (o.place).back)) where
     place_lower : start ≡ address_behind z.shape (o.gap).before
     place_lower = let here = o.at_is in let all = total_size-append (o.gap).before (o.place).front in omega arith
@@ -58,7 +65,7 @@ module _ (z : ZoneState) (h at : ℕ) (settled : Settled z) (o : Owned z h at) w
 
     -- they are a run
     pub run_lower : RunAt z start middle
-    run_lower = record { before = (o.gap).before; blocks = lower; behind = (o.place).back ++ (o.gap).behind; map = map_lower; place = place_lower; long = long_lower; moves = moves_lower.0 }
+    run_lower = record { before = (o.gap).before; blocks = lower; behind = (o.place).back ++ (o.gap).behind; map = map_lower; place = place_lower; long = long_lower; moves = moves_lower.0; loose = loose_lower.0 }
 
     module _ (new : ZoneState) (free : ℕ) (pressed : (run : RunAt z start middle) → new ≡ arranged z run (down run.blocks)) (free_is : (run : RunAt z start middle) → free ≡ start + total_size (used_blocks run.blocks)) where
       zone_lower : new ≡ with_map ((o.gap).before ++ (down lower ++ ((o.place).back ++ (o.gap).behind))) z
@@ -107,9 +114,14 @@ module _ (z : ZoneState) (h at : ℕ) (settled : Settled z) (o : Owned z h at) w
           let p : Entry → Bool = λ e. can_move z.heap.table e.kind in
           ap (λ (w : ZoneState). all_can_move w.heap.table upper) zone_lower ∙ all_both p (free_block (free_bytes lower)) (o.place).back (list_all-free_block p (free_bytes lower) (inr refl)) moves_lower.1
 
+      loose_upper : none_fixed new.heap.table upper ≡ true
+      loose_upper =
+          let p : Entry → Bool = λ e. not (is_fixed z.heap.table e.kind) in
+          ap (λ (w : ZoneState). none_fixed w.heap.table upper) zone_lower ∙ all_both p (free_block (free_bytes lower)) (o.place).back (list_all-free_block p (free_bytes lower) (inr refl)) loose_lower.1
+
       -- they are a run
       pub run_upper : RunAt new free end
-      run_upper = record { before = (o.gap).before ++ used_blocks lower; blocks = upper; behind = (o.gap).behind; map = map_upper; place = place_upper; long = long_upper; moves = moves_upper }
+      run_upper = record { before = (o.gap).before ++ used_blocks lower; blocks = upper; behind = (o.gap).behind; map = map_upper; place = place_upper; long = long_upper; moves = moves_upper; loose = loose_upper }
 
       -- the gap is opened
       opened_blocks : ((o.gap).before ++ used_blocks lower) ++ (up upper ++ (o.gap).behind) ≡ filled o.gap (open_at h (o.gap).blocks)

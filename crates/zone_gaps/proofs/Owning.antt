@@ -23,7 +23,8 @@ use Rattle.zone_laws.proofs.SuitsNamed.{full-no_pointer}
 use Rattle.gap_laws.proofs.FittingResize.{own_gap-found, one_size}
 use Rattle.linked_zone.specs.Places.{BlockOf, EntryAt, all_can_move}
 use Rattle.zone_gaps.specs.Gaps.{Settled}
-use Rattle.zone_gaps.specs.Runs.{FrontAt, RestAt, none_fixed, has_owner}
+use Rattle.fixed_index.specs.Runs.{FrontAt, RestAt, none_fixed}
+use Rattle.zone_gaps.specs.Runs.{has_owner}
 use Rattle.zone_gaps.proofs.Settling.{owners-settled, all_move-unfixed}
 use Rattle.zone_gaps.proofs.Sizes.{all_parts}
 
@@ -120,7 +121,7 @@ module _ (z : ZoneState) (h at : ℕ) (o : Owned z h at) where
 
   -- the blocks before it
   abbrev pub front_owned : FrontAt z at
-  front_owned = record { before = (o.gap).before; blocks = (o.place).front; here = here_owned; behind = (o.place).back ++ (o.gap).behind; map = map_front; place = o.at_is; moves = moves_owned.0; below = (o.is).below }
+  front_owned = record { before = (o.gap).before; blocks = (o.place).front; behind = here_owned ∷ ((o.place).back ++ (o.gap).behind); map = map_front; place = o.at_is; moves = moves_owned.0; below = (o.is).below }
 
   -- those from it on
   abbrev pub rest_owned : RestAt z at

@@ -1,6 +1,7 @@
 -- A run pressed down, run of used blocks by run of used blocks.
 use Rattle.std.proofs.Common.{◌≡◌, ℕ, ◌+◌, ◌-◌, ◌<◌, ◌≤◌, true, false, not, cond, [], ◌∷◌, ◌++◌, refl, ap, sym, ◌∙◌, subst, append_assoc, append-nil, arith, IsTrue}
-use Rattle.std.specs.Prelude.{◌==◌}
+use Rattle.std.specs.Prelude.{Bool, ◌==◌}
+use Rattle.std.specs.List.{list_all}
 use Rattle.std.proofs.lemmas.Bool.Decides.{nat_tests}
 use Rattle.std.proofs.lemmas.List.Elements.{filter-append}
 use Rattle.mac_base.specs.declared.block.Entry.{Entry}
@@ -9,13 +10,17 @@ use Rattle.mac_base.specs.declared.block.Kind.TheVariants.{Free}
 use Rattle.mac_base.specs.ZoneMap.{ZoneMap, block, free_block, is_free, total_size, free_bytes, address_behind}
 use Rattle.mac_base.specs.ZoneState.{ZoneState}
 use Rattle.mac_base.specs.Arrangement.{used_blocks, down}
+use Rattle.mac_base.specs.Suits.{is_block_size}
 use Rattle.zone_laws.proofs.GapAppend.{total_size-append, free_bytes-append}
 use Rattle.zone_laws.proofs.Arranging.{free_is, free_bytes-all_used, total_size-used, used_blocks-same, down-IsArrangement}
-use Rattle.zone_laws.proofs.GapApart.{sizes_possible}
+use Rattle.zone_laws.proofs.GapApart.{sizes_possible, free_bytes-possible}
 use Rattle.linked_zone.specs.Changes.{with_map, joined_pair, carried_up}
+use Rattle.linked_zone.specs.Fit.{HasSizes}
 use Rattle.linked_zone.specs.Places.{none_free, EntryAt, FreePair, ParcelAt, all_can_move}
+use Rattle.fixed_index.specs.Runs.{none_fixed}
 use Rattle.zone_gaps.specs.Runs.{RunAt, UsedUpTo, begins_unused}
-use Rattle.zone_gaps.proofs.Sizes.{all_parts, first_bytes, no_bytes}
+use Rattle.zone_gaps.proofs.Between.{parcel_loose}
+use Rattle.zone_gaps.proofs.Sizes.{all_both, all_parts, first_bytes, no_bytes}
 
 -- a free block is one of its size
 pub free_entry : (e : Entry) → is_free e.kind ≡ true → e ≡ block Free e.size
@@ -151,9 +156,22 @@ module _ {start end : ℕ} (z : ZoneState) (run : RunAt z start end) where
       pub moves_next : IsTrue (all_can_move new.heap.table p.rest)
       moves_next = ap (λ t. all_can_move t p.rest) table_next ∙ (all_parts _ p.done p.rest (subst (λ m. all_can_move z.heap.table m ≡ true) (p.is).parts run.moves)).1
 
+      pub loose_next : IsTrue (none_fixed new.heap.table p.rest)
+      loose_next = ap (λ t. none_fixed t p.rest) table_next ∙ (all_parts _ p.done p.rest (subst (λ m. none_fixed z.heap.table m ≡ true) (p.is).parts run.loose)).1
+
       -- what is to come is a run
       abbrev pub run_next : RunAt new next end
-      run_next = record { before = run.before ++ down p.done; blocks = p.rest; behind = run.behind; map = map_next; place = place_next; long = total-rest p.done p.rest p.is; moves = moves_next }
+      run_next = record { before = run.before ++ down p.done; blocks = p.rest; behind = run.behind; map = map_next; place = place_next; long = total-rest p.done p.rest p.is; moves = moves_next; loose = loose_next }
+
+      -- sizes are possible
+      pub sizes_next : HasSizes z → HasSizes new
+      sizes_next sizes =
+          let p' : Entry → Bool = λ e. is_block_size z.shape e.size in
+          let outer = all_parts p' run.before (run.blocks ++ run.behind) (ap (sizes_possible z.shape) (sym run.map) ∙ sizes) in
+          let inner = all_parts p' run.blocks run.behind outer.1 in
+          let parts = all_parts p' p.done p.rest (ap (sizes_possible z.shape) (sym (p.is).parts) ∙ inner.0) in
+          let middle : list_all p' (down p.done) ≡ true = (down-IsArrangement p.done).kept p' parts.0 (free_bytes-possible z.shape p.done parts.0) in
+          subst HasSizes (sym (p.is).zone) (all_both p' run.before (down p.done ++ tail) outer.0 (all_both p' (down p.done) tail middle (all_both p' p.rest run.behind parts.1 inner.1)))
 
       rest_sizes : sizes_possible z.shape z.heap.map ≡ true → sizes_possible z.shape p.rest ≡ true
       rest_sizes sizes = (all_parts _ p.done p.rest (subst (λ m. sizes_possible z.shape m ≡ true) (p.is).parts (run_sizes sizes))).1
@@ -229,6 +247,11 @@ module _ {start end : ℕ} (z : ZoneState) (run : RunAt z start end) where
           long = (let here = u.place in let n = next_is_behind in omega arith);
           moves = (all_parts _ u.used u.rest (ap (all_can_move new.heap.table) (sym u.parts) ∙ moves_next)).0;
         }
+
+        -- none of them is fixed
+        pub loose_parcel : HasSizes z → (less : free < next) → (parcel : ParcelAt new free at) → IsTrue (none_fixed new.heap.table (parcel.here ∷ parcel.blocks))
+        unfolding parcel_next
+        loose_parcel sizes less parcel = parcel_loose new free at (sizes_next sizes) (parcel_next less) (all_parts _ u.used u.rest (ap (none_fixed new.heap.table) (sym u.parts) ∙ loose_next)).0 parcel
 
         low_used : free + (at - next) ≡ start + total_size (used_blocks (p.done ++ u.used))
         low_used =

@@ -1,5 +1,5 @@
 -- The block of a handle raised to the high end of its gap.
-use Rattle.std.proofs.Common.{◌≡◌, ℕ, ◌+◌, Bool, true, false, not, cond, [], ◌∷◌, ◌++◌, refl, ap, sym, ◌∙◌, subst, append_assoc, arith}
+use Rattle.std.proofs.Common.{◌≡◌, ℕ, ◌+◌, Bool, true, false, not, cond, [], ◌∷◌, ◌++◌, refl, ap, sym, ◌∙◌, subst, append_assoc, arith, IsTrue}
 use Rattle.std.specs.Prelude.{filter}
 use Rattle.std.specs.Option.{option_map_or}
 use Rattle.std.proofs.lemmas.Bool.{and_from, and_parts}
@@ -8,7 +8,7 @@ use Rattle.mac_base.specs.declared.block.Entry.{Entry}
 use Rattle.mac_base.specs.declared.block.Kind.{Kind}
 use Rattle.mac_base.specs.Arrangement.{used_blocks, down, high}
 use Rattle.mac_base.specs.Compaction.{moved_high}
-use Rattle.mac_base.specs.Gap.{Gap, filled}
+use Rattle.mac_base.specs.Gap.{Gap, filled, is_fixed}
 use Rattle.mac_base.specs.Suits.{is_block_size}
 use Rattle.mac_base.specs.ZoneMap.{ZoneMap, block, free_block, free_bytes, is_free, is_named, sizes, total_size, address_behind}
 use Rattle.mac_base.specs.ZoneState.{ZoneState}
@@ -20,8 +20,10 @@ use Rattle.linked_zone.specs.Changes.{with_map, carried_up}
 use Rattle.linked_zone.specs.Fit.{HasSizes}
 use Rattle.zone_gaps.specs.Gaps.{Settled}
 use Rattle.linked_zone.specs.Places.{ParcelAt, all_can_move, can_move}
+use Rattle.fixed_index.specs.Runs.{none_fixed}
 use Rattle.zone_gaps.specs.Runs.{RunAt, arranged}
-use Rattle.zone_gaps.proofs.Owning.{Owned, here_owned, map_owned, parts_owned, can_move_owned}
+use Rattle.zone_gaps.proofs.Owning.{Owned, here_owned, map_owned, moves_owned, parts_owned, can_move_owned}
+use Rattle.zone_gaps.proofs.Between.{parcel_loose}
 use Rattle.zone_gaps.proofs.Sizes.{all_both}
 
 -- of blocks that x doesn't name none is left by one filter
@@ -78,6 +80,11 @@ module _ (z : ZoneState) (h at : ℕ) (settled : Settled z) (o : Owned z h at) (
     moves = (can_move_owned z h at o settled).1;
   }
 
+  -- none of them is fixed
+  pub loose_parcel : (parcel : ParcelAt z at end) → IsTrue (none_fixed z.heap.table (parcel.here ∷ parcel.blocks))
+  unfolding parcel_owned
+  loose_parcel parcel = parcel_loose z at end settled.sizes parcel_owned (moves_owned z h at o).1 parcel
+
   module _ (new : ZoneState) (top : ℕ) (carried : (parcel : ParcelAt z at end) → new ≡ carried_up z parcel) (top_is : (parcel : ParcelAt z at end) → top + (parcel.here).size ≡ end) where
     -- the others
     abbrev others : ZoneMap
@@ -107,6 +114,12 @@ module _ (z : ZoneState) (h at : ℕ) (settled : Settled z) (o : Owned z h at) (
         let back = and_parts (can_move z.heap.table (o.place).kind) (all_can_move z.heap.table (o.place).back) moves.1 in
         ap (λ (w : ZoneState). all_can_move w.heap.table others) zone_raised ∙ all_both _ (o.place).front (o.place).back moves.0 back.1
 
+    loose_others : none_fixed new.heap.table others ≡ true
+    loose_others =
+        let loose = moves_owned z h at o in
+        let back = and_parts (not (is_fixed z.heap.table (o.place).kind)) (none_fixed z.heap.table (o.place).back) loose.1 in
+        ap (λ (w : ZoneState). none_fixed w.heap.table others) zone_raised ∙ all_both _ (o.place).front (o.place).back loose.0 back.1
+
     -- they are a run
     pub run_others : RunAt new start top
     run_others = record {
@@ -117,6 +130,7 @@ module _ (z : ZoneState) (h at : ℕ) (settled : Settled z) (o : Owned z h at) (
       place = place_others;
       long = long_others;
       moves = moves_others;
+      loose = loose_others;
     }
 
     -- sizes stay possible

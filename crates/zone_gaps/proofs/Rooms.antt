@@ -1,5 +1,5 @@
 -- The gap in which a block can grow, by its addresses.
-use Rattle.std.proofs.Common.{◌≡◌, ℕ, ◌+◌, ◌<◌, ◌≤◌, Bool, true, false, cond, [], ◌∷◌, ◌++◌, length, refl, ap, sym, ◌∙◌, inl, inr, subst, append_assoc, append-nil, arith, Option, Some, None}
+use Rattle.std.proofs.Common.{◌≡◌, ℕ, ◌+◌, ◌<◌, ◌≤◌, Bool, true, cond, [], ◌∷◌, ◌++◌, length, refl, ap, sym, ◌∙◌, inl, inr, subst, append_assoc, append-nil, arith, IsTrue, Option, Some, None}
 use Rattle.std.specs.Prelude.{◌⊎◌, find, is_some}
 use Rattle.std.proofs.lemmas.Bool.{or_cases, eqb-true}
 use Rattle.std.proofs.lemmas.List.{length-map}
@@ -13,23 +13,24 @@ use Rattle.mac_base.specs.Request.{stays}
 use Rattle.mac_base.specs.Suits.{Coherent, is_handle_block, is_pointer_block}
 use Rattle.mac_base.specs.ZoneMap.{ZoneMap, block, addresses, address_behind, free_bytes, is_free, is_named, sizes, total_size}
 use Rattle.mac_base.specs.ZoneState.{ZoneState}
-use Rattle.zone_laws.proofs.Arranging.{total_size-used}
+use Rattle.zone_laws.proofs.Arranging.{free_bytes-all_used, total_size-used}
 use Rattle.zone_laws.proofs.GapApart.{sizes_possible}
-use Rattle.zone_laws.proofs.GapAppend.{length-addresses_from, sizes-append, total_size-append}
+use Rattle.zone_laws.proofs.GapAppend.{free_bytes-append, length-addresses_from, sizes-append, total_size-append}
 use Rattle.zone_laws.proofs.GapParts.{gap_behind-is}
 use Rattle.zone_laws.proofs.GapRoom.{gap_behind-found}
 use Rattle.zone_laws.proofs.NamedPlace.{At-from, BeforeGap, gap_behind-parts, nil-append}
 use Rattle.gap_laws.proofs.FittingResize.{one_size}
 use Rattle.linked_zone.specs.Fit.{HasSizes}
-use Rattle.linked_zone.specs.Places.{EntryAt, NamedAt}
+use Rattle.linked_zone.specs.Places.{EntryAt, NamedAt, all_can_move}
 use Rattle.zone_gaps.specs.Gaps.{Settled, GapAt, IsGapOf}
-use Rattle.zone_gaps.specs.Runs.{RestAt, RunAt}
+use Rattle.fixed_index.specs.Runs.{RestAt, none_fixed}
+use Rattle.zone_gaps.specs.Runs.{RunAt, UsedUpTo, begins_unused}
 use Rattle.zone_gaps.proofs.Laws.{find-contains}
 use Rattle.zone_gaps.proofs.LoansKept.{no_handle, pointer-no_full, locked-full}
 use Rattle.zone_gaps.proofs.Owning.{Owned, length-named, named_alone, same_named}
 use Rattle.zone_gaps.proofs.Settling.{rest_of_gap, run_of_rest}
 use Rattle.zone_gaps.proofs.Sizes.{all_parts, no_bytes, total_size-push}
-use Rattle.zone_gaps.proofs.Pressing.{run_sizes, free-push_used, free-push_free}
+use Rattle.zone_gaps.proofs.Pressing.{run_sizes, free-push_free}
 
 -- a gap that a search finds, between its addresses
 module _ (z : ZoneState) (test : Gap → Bool) (g : Gap) (found : find test (gaps z.heap.table z.heap.map) ≡ Some g) (start end : ℕ) (place : start ≡ address_behind z.shape g.before) (long : end ≡ start + total_size g.blocks) where
@@ -138,20 +139,24 @@ pub record Counted {start end : ℕ} (z : ZoneState) (run : RunAt z start end) (
   pub next_is : next ≡ start + total_size done
   pub free_is : free ≡ free_bytes done
 
--- a block of it that is passed next
-pub record Next {start end : ℕ} (z : ZoneState) (run : RunAt z start end) (free next : ℕ) : Type 0 where
+-- and a free one comes next, if there is one
+pub record Unused {start end : ℕ} (z : ZoneState) (run : RunAt z start end) (free next : ℕ) : Type 0 where
   pub so_far : Counted z run free next
+  pub begins : IsTrue (begins_unused so_far.more)
+
+-- a block of it that is passed next
+pub record Next {start end : ℕ} {free next : ℕ} (z : ZoneState) (run : RunAt z start end) (s : Counted z run free next) : Type 0 where
   pub here : Entry
   pub rest : ZoneMap
-  pub is : so_far.more ≡ here ∷ rest
+  pub is : s.more ≡ here ∷ rest
 
 module _ {start end : ℕ} (z : ZoneState) (run : RunAt z start end) where
   -- at first none is passed
-  pub none_counted : Counted z run 0 start
+  abbrev pub none_counted : Counted z run 0 start
   none_counted = record { done = []; more = run.blocks; parts = refl; next_is = (let e : start ≡ start + 0 = omega arith in e); free_is = refl }
 
   module _ (free next : ℕ) where
-    end_counted : (s : Counted z run free next) → end ≡ next + total_size s.more
+    pub end_counted : (s : Counted z run free next) → end ≡ next + total_size s.more
     end_counted s =
         let long = run.long in
         let here = s.next_is in
@@ -159,12 +164,12 @@ module _ {start end : ℕ} (z : ZoneState) (run : RunAt z start end) where
         omega arith
 
     -- below the end one more block stands
-    pub next_counted : Counted z run free next → next < end → Next z run free next
+    pub next_counted : (s : Counted z run free next) → next < end → Next z run s
     next_counted s below = by_more s.more refl
       where
-        by_more : (m : ZoneMap) → s.more ≡ m → Next z run free next
+        by_more : (m : ZoneMap) → s.more ≡ m → Next z run s
         by_more [] none = let bytes = ap total_size none in let all = end_counted s in absurd (omega arith)
-        by_more (e ∷ es) some = record { so_far = s; here = e; rest = es; is = some }
+        by_more (e ∷ es) some = record { here = e; rest = es; is = some }
 
     -- at the end all are passed
     pub all_counted : HasSizes z → (s : Counted z run free next) → end ≤ next → free ≡ free_bytes run.blocks
@@ -179,37 +184,66 @@ module _ {start end : ℕ} (z : ZoneState) (run : RunAt z start end) where
     free_counted s = let all = total_size-used s.done in let a = s.next_is in let f = s.free_is in omega arith
 
     -- the block is the one that is read there
-    abbrev pub next_read : (f : Next z run free next) (e : Entry) → e ≡ f.here → Next z run free next
-    next_read f e is = record { so_far = f.so_far; here = e; rest = f.rest; is = f.is ∙ ap (λ e. e ∷ f.rest) (sym is) }
+    abbrev pub next_read : (s : Counted z run free next) (f : Next z run s) (e : Entry) → e ≡ f.here → Next z run s
+    next_read s f e is = record { here = e; rest = f.rest; is = f.is ∙ ap (λ e. e ∷ f.rest) (sym is) }
 
-    module _ (f : Next z run free next) where
-      pub map_next : z.heap.map ≡ (run.before ++ (f.so_far).done) ++ f.here ∷ (f.rest ++ run.behind)
+    module _ (s : Counted z run free next) (f : Next z run s) where
+      pub map_next : z.heap.map ≡ (run.before ++ s.done) ++ f.here ∷ (f.rest ++ run.behind)
       map_next =
-          run.map ∙ ap (λ b. run.before ++ (b ++ run.behind)) ((f.so_far).parts ∙ ap (λ m. (f.so_far).done ++ m) f.is) ∙ ap (λ m. run.before ++ m) (append_assoc (f.so_far).done (f.here ∷ f.rest) run.behind)
-          ∙ sym (append_assoc run.before (f.so_far).done (f.here ∷ (f.rest ++ run.behind)))
+          run.map ∙ ap (λ b. run.before ++ (b ++ run.behind)) (s.parts ∙ ap (λ m. s.done ++ m) f.is) ∙ ap (λ m. run.before ++ m) (append_assoc s.done (f.here ∷ f.rest) run.behind)
+          ∙ sym (append_assoc run.before s.done (f.here ∷ (f.rest ++ run.behind)))
 
-      pub place_next : next ≡ address_behind z.shape (run.before ++ (f.so_far).done)
-      place_next = let first = run.place in let here = (f.so_far).next_is in let all = total_size-append run.before (f.so_far).done in omega arith
+      pub place_next : next ≡ address_behind z.shape (run.before ++ s.done)
+      place_next = let first = run.place in let here = s.next_is in let all = total_size-append run.before s.done in omega arith
 
       abbrev pub entry_next : EntryAt z next
-      entry_next = record { before = run.before ++ (f.so_far).done; here = f.here; behind = f.rest ++ run.behind; map = map_next; place = place_next }
+      entry_next = record { before = run.before ++ s.done; here = f.here; behind = f.rest ++ run.behind; map = map_next; place = place_next }
 
       -- it ends at the end or below
       pub within_next : next + (f.here).size ≤ end
-      within_next = let all = end_counted f.so_far in let bytes = ap total_size f.is in omega arith
+      within_next = let all = end_counted s in let bytes = ap total_size f.is in omega arith
 
-      -- it is passed
-      pub counted_on : (more : ℕ) → more ≡ free_bytes ((f.so_far).done ++ f.here ∷ []) → Counted z run more (next + (f.here).size)
-      counted_on more is = record {
-        done = (f.so_far).done ++ f.here ∷ [];
+      -- a free one is passed
+      pub counted_free : is_free (f.here).kind ≡ true → Counted z run (free + (f.here).size) (next + (f.here).size)
+      counted_free unused = record {
+        done = s.done ++ f.here ∷ [];
         more = f.rest;
-        parts = (f.so_far).parts ∙ ap (λ m. (f.so_far).done ++ m) f.is ∙ sym (append_assoc (f.so_far).done (f.here ∷ []) f.rest);
-        next_is = (let n = (f.so_far).next_is in let all = total_size-push (f.so_far).done f.here in omega arith);
-        free_is = is;
+        parts = s.parts ∙ ap (λ m. s.done ++ m) f.is ∙ sym (append_assoc s.done (f.here ∷ []) f.rest);
+        next_is = (let n = s.next_is in let all = total_size-push s.done f.here in omega arith);
+        free_is = ap (λ n. n + (f.here).size) s.free_is ∙ sym (free-push_free s.done f.here unused);
       }
 
-      pub counted_free : is_free (f.here).kind ≡ true → Counted z run (free + (f.here).size) (next + (f.here).size)
-      counted_free unused = counted_on _ (ap (λ n. n + (f.here).size) (f.so_far).free_is ∙ sym (free-push_free (f.so_far).done f.here unused))
+    module _ (s : Counted z run free next) where
+      pub map_left : z.heap.map ≡ (run.before ++ s.done) ++ (s.more ++ run.behind)
+      map_left =
+          run.map ∙ ap (λ b. run.before ++ (b ++ run.behind)) s.parts ∙ ap (λ m. run.before ++ m) (append_assoc s.done s.more run.behind)
+          ∙ sym (append_assoc run.before s.done (s.more ++ run.behind))
 
-      pub counted_used : is_free (f.here).kind ≡ false → Counted z run free (next + (f.here).size)
-      counted_used used = counted_on _ ((f.so_far).free_is ∙ sym (free-push_used (f.so_far).done f.here used))
+      pub place_left : next ≡ address_behind z.shape (run.before ++ s.done)
+      place_left = let first = run.place in let here = s.next_is in let all = total_size-append run.before s.done in omega arith
+
+      -- the blocks that are left are a run
+      abbrev pub run_left : RunAt z next end
+      run_left = record {
+        before = run.before ++ s.done;
+        blocks = s.more;
+        behind = run.behind;
+        map = map_left;
+        place = place_left;
+        long = end_counted s;
+        moves = (all_parts _ s.done s.more (ap (all_can_move z.heap.table) (sym s.parts) ∙ run.moves)).1;
+        loose = (all_parts _ s.done s.more (ap (none_fixed z.heap.table) (sym s.parts) ∙ run.loose)).1;
+      }
+
+      -- those in use with which it begins are passed
+      pub counted_used : (at : ℕ) → UsedUpTo s.more next at → Unused z run free at
+      counted_used at u = record {
+        so_far = record {
+          done = s.done ++ u.used;
+          more = u.rest;
+          parts = s.parts ∙ ap (λ m. s.done ++ m) u.parts ∙ sym (append_assoc s.done u.used u.rest);
+          next_is = (let n = s.next_is in let there = u.place in let all = total_size-append s.done u.used in omega arith);
+          free_is = (let n = s.free_is in let none = free_bytes-all_used u.used u.none in let all = free_bytes-append s.done u.used in omega arith);
+        };
+        begins = u.begins;
+      }

@@ -19,7 +19,8 @@ use Rattle.zone_laws.proofs.GapAppend.{sizes-append, length-addresses_from}
 use Rattle.zone_laws.proofs.GapParts.{IsGap, gap-IsGap}
 use Rattle.zone_gaps.specs.Gaps.{Settled, GapAt}
 use Rattle.linked_zone.specs.Places.{can_move, all_can_move}
-use Rattle.zone_gaps.specs.Runs.{HasOwners, RestAt, RunAt, has_owner, none_fixed}
+use Rattle.fixed_index.specs.Runs.{RestAt, none_fixed}
+use Rattle.zone_gaps.specs.Runs.{HasOwners, RunAt, has_owner}
 use Rattle.zone_gaps.proofs.Sizes.{all_parts}
 
 -- a sound heap in which what is lent is fixed is settled
@@ -118,4 +119,5 @@ run_of_rest z start end s rest long = record {
   long = long;
   moves = all_move-unfixed z.heap rest.blocks s.loans
       (all_parts _ rest.blocks rest.behind (all_parts _ rest.before (rest.blocks ++ rest.behind) (ap (list_all (λ (e : Entry). has_owner z.heap.table e.kind)) (sym rest.map) ∙ owners-settled z s)).1).0 rest.moves;
+  loose = rest.moves;
 }

@@ -13,7 +13,8 @@ use Rattle.zone_laws.proofs.GapApart.{sizes_possible}
 use Rattle.linked_zone.specs.Changes.{with_map}
 use Rattle.linked_zone.specs.Fit.{HasSizes}
 use Rattle.zone_gaps.specs.Gaps.{Settled, GapFrom, with_gap}
-use Rattle.zone_gaps.specs.Runs.{FrontAt, RestAt, arranged, none_fixed}
+use Rattle.fixed_index.specs.Runs.{FrontAt, RestAt, none_fixed}
+use Rattle.zone_gaps.specs.Runs.{arranged}
 use Rattle.zone_gaps.proofs.Pressing.{used-front, down-front}
 use Rattle.zone_gaps.proofs.Settling.{run_of_rest}
 use Rattle.zone_gaps.proofs.Sizes.{all_parts, no_bytes}
@@ -65,8 +66,7 @@ module _ (z : ZoneState) (at : ℕ) (from : GapFrom z at) where
   front_from = record {
     before = g.before;
     blocks = used;
-    here = block Free (from.first).size;
-    behind = (from.first).rest ++ g.behind;
+    behind = block Free (from.first).size ∷ ((from.first).rest ++ g.behind);
     map = map_front;
     place = (from.first).place;
     moves = (all_parts _ used blocks (ap (none_fixed z.heap.table) (sym (from.first).blocks) ∙ gap_is.moves)).0;

@@ -18,7 +18,8 @@ use Rattle.linked_zone.specs.Changes.{with_map}
 use Rattle.linked_zone.specs.Fit.{HasSizes}
 use Rattle.linked_zone.specs.Places.{EntryAt, all_can_move}
 use Rattle.zone_gaps.specs.Gaps.{Settled}
-use Rattle.zone_gaps.specs.Runs.{HasOwners, RestAt, RunAt, has_owner, none_fixed, begins_fixed, arranged}
+use Rattle.fixed_index.specs.Runs.{RestAt, none_fixed, begins_fixed}
+use Rattle.zone_gaps.specs.Runs.{RunAt, has_owner, arranged}
 use Rattle.zone_gaps.proofs.Settling.{owners-settled, all_move-unfixed}
 use Rattle.zone_gaps.proofs.Sizes.{all_parts, all_both, first_bytes, no_bytes}
 
@@ -66,10 +67,6 @@ module _ (z new : ZoneState) (at : ℕ) (settled : Settled z) (s : Swept z new a
   pub sizes_swept : HasSizes new
   sizes_swept = subst HasSizes (sym s.zone) s.sizes
 
-  -- and owners live
-  pub owners_swept : HasOwners new
-  owners_swept = subst HasOwners (sym s.zone) s.owners
-
   -- the gap at the address
   abbrev pub gap_swept : Gap
   gap_swept = first_gap z.heap.table s.rest
@@ -107,7 +104,7 @@ module _ (z new : ZoneState) (at : ℕ) (settled : Settled z) (s : Swept z new a
   can_move_swept = ap (λ t. all_can_move t gap_swept.blocks) table_swept ∙ all_move-unfixed z.heap gap_swept.blocks settled.loans (both_swept _ s.owners).1 (is_gap).moves
 
   abbrev pub run_swept : (end : ℕ) → end ≡ at + total_size gap_swept.blocks → RunAt new at end
-  run_swept end long = record { before = s.lower; blocks = gap_swept.blocks; behind = gap_swept.behind; map = map_swept; place = place_swept; long = long; moves = can_move_swept }
+  run_swept end long = record { before = s.lower; blocks = gap_swept.blocks; behind = gap_swept.behind; map = map_swept; place = place_swept; long = long; moves = can_move_swept; loose = moves_swept }
 
   -- the zone's end
   end_swept : address_behind z.shape z.heap.map ≡ at + (total_size gap_swept.blocks + total_size gap_swept.behind)

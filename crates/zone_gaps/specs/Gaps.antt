@@ -1,17 +1,16 @@
 -- Gaps by their addresses.
-use Rattle.std.specs.Prelude.{◌≡◌, ℕ, ◌+◌, ◌∷◌, ◌++◌, Contains, IsTrue, Option, Some}
+use Rattle.std.specs.Prelude.{◌≡◌, ℕ, ◌+◌, Contains, Option, Some}
 use Rattle.std.specs.Option.{option_map_or}
 use Rattle.mac_base.specs.Arrangement.{open_at}
-use Rattle.mac_base.specs.Gap.{Gap, gaps, filled, lowest_gap, own_gap, room}
+use Rattle.mac_base.specs.Gap.{Gap, gaps, filled, own_gap, room}
 use Rattle.mac_base.specs.HandleTable.{HandleTable}
 use Rattle.mac_base.specs.Loans.{LoansAreFixed}
 use Rattle.mac_base.specs.Suits.{Coherent}
-use Rattle.mac_base.specs.declared.block.Kind.TheVariants.{Free}
-use Rattle.mac_base.specs.ZoneMap.{ZoneMap, block, address_behind, total_size}
+use Rattle.mac_base.specs.ZoneMap.{ZoneMap, address_behind, total_size}
 use Rattle.mac_base.specs.ZoneState.{ZoneState}
 use Rattle.linked_zone.specs.Changes.{with_map}
 use Rattle.linked_zone.specs.Fit.{HasSizes}
-use Rattle.linked_zone.specs.Places.{none_free}
+use Rattle.gap_index.specs.Gaps.{FirstFreeOf}
 use Rattle.zone_gaps.specs.declared.gap.FoundGap.{FoundGap}
 
 -- blocks may be moved: they and their owners find each other, sizes are possible, and what is lent is fixed
@@ -31,25 +30,10 @@ pub record GapBetween (z : ZoneState) (start end : ℕ) : Type 0 where
   pub at : GapAt z start
   pub long : end ≡ start + total_size at.gap.blocks
 
--- the first free block of a gap stands at an address
-pub record FirstFreeOf (z : ZoneState) (g : Gap) (at : ℕ) : Type 0 where
-  pub used : ZoneMap
-  pub size : ℕ
-  pub rest : ZoneMap
-  pub blocks : g.blocks ≡ used ++ block Free size ∷ rest
-  pub none : IsTrue (none_free used)
-  pub place : at ≡ address_behind z.shape (g.before ++ used)
-
--- that of some gap
+-- the first free block of some gap stands at an address
 pub record GapFrom (z : ZoneState) (at : ℕ) : Type 0 where
   pub gap : Gap
   pub among : Contains (gaps z.heap.table z.heap.map) gap
-  pub first : FirstFreeOf z gap at
-
--- that of the lowest gap with room for k bytes
-pub record IsLowestGap (z : ZoneState) (k at : ℕ) : Type 0 where
-  pub gap : Gap
-  pub lowest : lowest_gap k (gaps z.heap.table z.heap.map) ≡ Some gap
   pub first : FirstFreeOf z gap at
 
 -- the gap that a search gives is found

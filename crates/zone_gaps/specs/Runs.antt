@@ -1,15 +1,15 @@
 -- Runs of neighbouring blocks by their addresses.
-use Rattle.std.specs.Prelude.{◌≡◌, ℕ, ◌+◌, Bool, true, not, IsTrue, [], ◌∷◌, ◌++◌}
+use Rattle.std.specs.Prelude.{◌≡◌, ℕ, ◌+◌, Bool, true, IsTrue, [], ◌∷◌, ◌++◌}
 use Rattle.std.specs.List.{list_all}
 use Rattle.mac_base.specs.declared.block.Entry.{Entry}
 use Rattle.mac_base.specs.declared.block.Kind.{Kind}
 use Rattle.mac_base.specs.declared.block.Kind.TheVariants.{Free, Master, Ptr, Rel}
-use Rattle.mac_base.specs.Gap.{is_fixed}
 use Rattle.mac_base.specs.HandleTable.{HandleTable, is_handle}
 use Rattle.mac_base.specs.ZoneMap.{ZoneMap, block, is_free, address_behind, total_size}
 use Rattle.mac_base.specs.ZoneState.{ZoneState}
 use Rattle.linked_zone.specs.Changes.{with_map}
 use Rattle.linked_zone.specs.Places.{all_can_move, none_free}
+use Rattle.fixed_index.specs.Runs.{none_fixed}
 
 -- whether the handle whose block a block of this kind is is live
 abbrev pub has_owner : HandleTable → Kind → Bool
@@ -22,22 +22,7 @@ has_owner t (Ptr p) = true
 abbrev pub HasOwners : ZoneState → Type 0
 HasOwners z = IsTrue (list_all (λ (e : Entry). has_owner z.heap.table e.kind) z.heap.map)
 
--- whether none is fixed
-abbrev pub none_fixed : HandleTable → ZoneMap → Bool
-none_fixed t blocks = list_all (λ (e : Entry). not (is_fixed t e.kind)) blocks
-
--- whether the first is fixed, if there is one
-abbrev pub begins_fixed : HandleTable → ZoneMap → Bool
-begins_fixed t [] = true
-begins_fixed t (e ∷ es) = is_fixed t e.kind
-
--- whether the last is fixed, if there is one
-abbrev pub ends_fixed : HandleTable → ZoneMap → Bool
-ends_fixed t [] = true
-ends_fixed t (e ∷ []) = is_fixed t e.kind
-ends_fixed t (e ∷ f ∷ es) = ends_fixed t (f ∷ es)
-
--- a run of blocks that can be moved stands between two addresses
+-- a run of blocks that can be moved, none of them fixed, stands between two addresses
 pub record RunAt (z : ZoneState) (start end : ℕ) : Type 0 where
   pub before : ZoneMap
   pub blocks : ZoneMap
@@ -46,6 +31,7 @@ pub record RunAt (z : ZoneState) (start end : ℕ) : Type 0 where
   pub place : start ≡ address_behind z.shape before
   pub long : end ≡ start + total_size blocks
   pub moves : IsTrue (all_can_move z.heap.table blocks)
+  pub loose : IsTrue (none_fixed z.heap.table blocks)
 
 -- the zone with other blocks in place of a run
 abbrev pub arranged : {start end : ℕ} → (z : ZoneState) → RunAt z start end → ZoneMap → ZoneState
@@ -82,24 +68,3 @@ pub record LastFree (blocks : ZoneMap) (start at : ℕ) : Type 0 where
   pub parts : blocks ≡ front ++ block Free size ∷ used
   pub none : IsTrue (none_free used)
   pub place : at ≡ start + total_size front
-
--- the blocks from an address on up to the next fixed one, or to the zone's end
-pub record RestAt (z : ZoneState) (start : ℕ) : Type 0 where
-  pub before : ZoneMap
-  pub blocks : ZoneMap
-  pub behind : ZoneMap
-  pub map : z.heap.map ≡ before ++ (blocks ++ behind)
-  pub place : start ≡ address_behind z.shape before
-  pub moves : IsTrue (none_fixed z.heap.table blocks)
-  pub above : IsTrue (begins_fixed z.heap.table behind)
-
--- the blocks behind the last fixed one below a block, or from the zone's start on
-pub record FrontAt (z : ZoneState) (end : ℕ) : Type 0 where
-  pub before : ZoneMap
-  pub blocks : ZoneMap
-  pub here : Entry
-  pub behind : ZoneMap
-  pub map : z.heap.map ≡ before ++ (blocks ++ here ∷ behind)
-  pub place : end ≡ address_behind z.shape (before ++ blocks)
-  pub moves : IsTrue (none_fixed z.heap.table blocks)
-  pub below : IsTrue (ends_fixed z.heap.table before)

@@ -8,5 +8,5 @@ mod room;
 mod run;
 
 pub use arrange::{open_after, raise, squeeze_all_down, squeeze_down, squeeze_up};
-pub use gap::{FoundGap, gap_end, gap_start, is_fixed, lowest_gap, zone_end};
+pub use gap::{FoundGap, is_fixed, zone_end};
 pub use room::{gap_behind, own_gap};

@@ -1,18 +1,20 @@
 //! Arrangements of runs: neighbouring blocks that may move.
 
-ghost use Rattle.std.specs.Prelude.{◌≡◌, ◌+◌, IsTrue, MatchOption};
+ghost use Rattle.std.specs.Prelude.{◌≡◌, ◌+◌, ◌∷◌, IsTrue, MatchOption};
 ghost use Rattle.mac_base.specs.Arrangement.{down, up, used_blocks};
 ghost use Rattle.mac_base.specs.ZoneMap.{total_size};
 ghost use Rattle.linked_zone.specs.Fit.{HasSizes};
 ghost use Rattle.linked_zone.specs.Changes.{carried_up};
 ghost use Rattle.linked_zone.specs.Places.{ParcelAt, none_free};
+ghost use Rattle.fixed_index.specs.Runs.{none_fixed};
 ghost use Rattle.zone_gaps.specs.Runs.{RunAt, UsedUpTo, UsedFrom, LastFree, arranged};
 
+use gap_index::GapZone;
 use linked_zone::LinkedZone;
 
 /// Moves the blocks of a run down, so that its free bytes are above them in one block. Blocks in use that are neighbours are
 /// moved together, and the bytes of each once. Gives the address at which the free bytes begin.
-pub(crate) fn press_down(zone: &mut LinkedZone, start: u32, end: u32) -> u32
+pub(crate) fn press_down(zone: &mut GapZone, start: u32, end: u32) -> u32
     requires run { RunAt zone.old start end }
     requires sizes { HasSizes zone.old }
     ensures zone { (run : RunAt zone.old start end) → zone.new ≡ arranged zone.old run (down run.blocks) }
@@ -21,7 +23,7 @@ pub(crate) fn press_down(zone: &mut LinkedZone, start: u32, end: u32) -> u32
     let mut free = start;
     let mut next = start;
     while next < end {
-        let behind = used_end(zone, next, end);
+        let behind = used_end(zone.linked(), next, end);
         if next < behind {
             if free < next {
                 zone.carry(free, behind);
@@ -29,7 +31,7 @@ pub(crate) fn press_down(zone: &mut LinkedZone, start: u32, end: u32) -> u32
             free += behind - next;
             next = behind;
         } else {
-            let size = zone.entry_at(next).size;
+            let size = zone.linked().entry_at(next).size;
             if free < next {
                 zone.merge(free);
             }
@@ -40,7 +42,7 @@ pub(crate) fn press_down(zone: &mut LinkedZone, start: u32, end: u32) -> u32
 }
 
 /// The address behind the blocks in use with which a run begins. No header is read.
-fn used_end(zone: &LinkedZone, start: u32, end: u32) -> u32
+pub(crate) fn used_end(zone: &LinkedZone, start: u32, end: u32) -> u32
     requires { RunAt zone.now start end }
     ensures { (run : RunAt zone.now start end) → UsedUpTo run.blocks start result }
 {
@@ -52,21 +54,21 @@ fn used_end(zone: &LinkedZone, start: u32, end: u32) -> u32
 
 /// Moves the blocks of a run up, so that its free bytes are below them in one block. Blocks in use that are neighbours are
 /// moved together, and the bytes of each once.
-pub(crate) fn press_up(zone: &mut LinkedZone, start: u32, end: u32)
+pub(crate) fn press_up(zone: &mut GapZone, start: u32, end: u32)
     requires run { RunAt zone.old start end }
     requires sizes { HasSizes zone.old }
     ensures { (run : RunAt zone.old start end) → zone.new ≡ arranged zone.old run (up run.blocks) }
 {
-    let Some(mut low) = last_free(zone, start, end) else {
+    let Some(mut low) = last_free(zone.linked(), start, end) else {
         return;
     };
     while start < low {
-        let bottom = used_start(zone, start, low);
+        let bottom = used_start(zone.linked(), start, low);
         if bottom < low {
             zone.sink(bottom, low);
             low = bottom;
         } else {
-            let Some(below) = zone.before(low) else {
+            let Some(below) = zone.linked().before(low) else {
                 unreachable!();
             };
             zone.merge(below);
@@ -99,13 +101,14 @@ fn used_start(zone: &LinkedZone, start: u32, end: u32) -> u32
 
 /// Moves a block up past the blocks between it and an address. Gives the address at which it stands then. The
 /// bytes turn in one rotation.
-pub(crate) fn carry_up(zone: &mut LinkedZone, start: u32, end: u32) -> u32
+pub(crate) fn carry_up(zone: &mut GapZone, start: u32, end: u32) -> u32
     requires parcel { ParcelAt zone.old start end }
+    requires loose { (parcel : ParcelAt zone.old start end) → IsTrue (none_fixed zone.old.heap.table (parcel.here ∷ parcel.blocks)) }
     requires sizes { HasSizes zone.old }
     ensures zone { (parcel : ParcelAt zone.old start end) → zone.new ≡ carried_up zone.old parcel }
     ensures address { (parcel : ParcelAt zone.old start end) → result + parcel.here.size ≡ end }
 {
-    let size = zone.entry_at(start).size;
+    let size = zone.linked().entry_at(start).size;
     zone.carry(start, end);
     end - size
 }

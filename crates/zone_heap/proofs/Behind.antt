@@ -1,22 +1,20 @@
 -- The gap right behind a block that stays.
-use Rattle.std.proofs.Common.{◌≡◌, ℕ, ◌+◌, ◌-◌, ◌≤◌, ◌<◌, Bool, true, false, List, [], ◌∷◌, ◌++◌, refl, ap, sym, ◌∙◌, arith, append_assoc, subst}
+use Rattle.std.proofs.Common.{◌≡◌, ℕ, ◌+◌, ◌-◌, ◌≤◌, Bool, true, false, List, [], ◌∷◌, ◌++◌, refl, ap, sym, ◌∙◌, arith, append_assoc, subst}
 use Rattle.std.specs.Prelude.{◌||◌, ◌&&◌, not, nat_le, None}
 use Rattle.std.proofs.lemmas.Bool.{or_parts}
 use Rattle.std.proofs.lemmas.Bool.Decides.{nat_tests}
-use Rattle.mac_base.specs.declared.block.Entry.{Entry}
-use Rattle.mac_base.specs.Gap.{Gap, gap_behind, gaps, is_fixed, some_gap_has}
-use Rattle.mac_base.specs.HandleTable.{has_block}
+use Rattle.mac_base.specs.Gap.{Gap, gaps, is_fixed, some_gap_has}
 use Rattle.mac_base.specs.Request.{can_grow, candidates_in, gap_to_grow, purged_until, room_of, size_of, stays}
-use Rattle.mac_base.specs.ZoneMap.{ZoneMap, address_behind, is_named, sizes, total_size}
+use Rattle.mac_base.specs.ZoneMap.{ZoneMap, address_behind, total_size}
 use Rattle.mac_base.specs.ZoneState.{ZoneState}
-use Rattle.zone_laws.proofs.GapParts.{IsGap, all_move, first_gap, first_gap-IsGap, first_gap-before, starts_fixed}
+use Rattle.zone_laws.proofs.GapParts.{IsGap, first_gap, first_gap-IsGap, first_gap-before}
 use Rattle.zone_laws.proofs.NamedPlace.{At, size_of-At}
 use Rattle.zone_laws.proofs.SuitsNamed.{stays-fixed}
 use Rattle.linked_zone.specs.Places.{NamedAt}
-use Rattle.zone_gaps.specs.Runs.{RestAt}
+use Rattle.fixed_index.specs.Runs.{RestAt}
 use Rattle.zone_gaps.proofs.Sizes.{total_size-push}
 use Rattle.zone_heap.specs.Attempts.{SoundZone}
-use Rattle.zone_heap.specs.Purge.{BlocksAt, IsLimit, Purges, ShortGaps, all_released, blocks_behind, bounds_gap, counts, freed_where, may_purge, run_has}
+use Rattle.zone_heap.specs.Purge.{BlocksAt, IsLimit, Purges, all_released, blocks_behind, bounds_gap, counts, freed_where, may_purge, run_has}
 use Rattle.zone_heap.specs.declared.purge.Limit.{Limit}
 use Rattle.zone_heap.proofs.FreedBlocks.{Once, once-suits, once-At, sizes-At}
 use Rattle.zone_heap.proofs.Grows.{blocks-behind, grows-staying}

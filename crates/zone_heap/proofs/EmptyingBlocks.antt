@@ -1,23 +1,23 @@
 -- A walk over blocks by which those that may be purged become free, and their handles empty.
-use Rattle.std.proofs.Common.{◌≡◌, ℕ, ◌+◌, ◌<◌, ◌≤◌, Bool, true, false, not, cond, eqb, List, [], ◌∷◌, ◌++◌, length, refl, ap, sym, ◌∙◌, arith, append_assoc, append-nil, subst, Some, None, Option}
+use Rattle.std.proofs.Common.{◌≡◌, ℕ, ◌+◌, ◌<◌, ◌≤◌, Bool, true, false, not, cond, List, [], ◌∷◌, ◌++◌, refl, ap, sym, ◌∙◌, arith, append_assoc, append-nil, subst, Some, None}
 use Rattle.std.specs.Prelude.{◌&&◌, ◌||◌, ◌==◌}
 use Rattle.std.specs.List.{list_all}
-use Rattle.std.proofs.lemmas.Bool.{or_parts, true≢false}
+use Rattle.std.proofs.lemmas.Bool.{or_parts}
 use Rattle.std.proofs.lemmas.List.{map-append}
 use Rattle.mac_base.specs.declared.block.Entry.{Entry}
 use Rattle.mac_base.specs.declared.block.Kind.{Kind}
 use Rattle.mac_base.specs.declared.block.Kind.TheVariants.{Free, Master, Ptr, Rel}
-use Rattle.mac_base.specs.HandleTable.{HandleTable, EmptyHandle, emptied, is_handle, is_lent, is_purgeable, live_at, live_flags, live_full, live_handle, with_live}
+use Rattle.mac_base.specs.HandleTable.{HandleTable, EmptyHandle, emptied, is_handle, is_lent, is_purgeable, live_at, live_flags, live_full, live_handle}
 use Rattle.mac_base.specs.HeadKind.{Shape}
 use Rattle.mac_base.specs.Heap.{with_all_emptied}
 use Rattle.mac_base.specs.Suits.{is_block_size}
 use Rattle.mac_base.specs.Request.{candidates_in, is_among}
-use Rattle.mac_base.specs.ZoneMap.{ZoneMap, block, handle_of, is_named, address_behind, sizes, total_size}
+use Rattle.mac_base.specs.ZoneMap.{ZoneMap, block, is_named, address_behind, sizes, total_size}
 use Rattle.mac_base.specs.ZoneState.{ZoneState, with_heap}
 use Rattle.zone_laws.proofs.GapAppend.{total_size-append}
 use Rattle.zone_laws.proofs.GapApart.{sizes_possible}
 use Rattle.zone_laws.proofs.Maps.{both_true, true_both}
-use Rattle.zone_laws.proofs.NamedPlace.{At, nil-append}
+use Rattle.zone_laws.proofs.NamedPlace.{nil-append}
 use Rattle.zone_laws.proofs.GapAppend.{sizes-append}
 use Rattle.zone_laws.proofs.Owners.{nothing_passes}
 use Rattle.zone_laws.proofs.Tables.{by_number, eqb_same, eqb_swap, live_at-with_live_same, with_live_agrees}

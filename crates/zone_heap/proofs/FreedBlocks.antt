@@ -1,6 +1,6 @@
 -- Blocks that become free one after the other, and are joined at the end.
 use Rattle.std.proofs.Common.{◌≡◌, ℕ, ◌+◌, ◌≤◌, Bool, true, false, not, cond, List, [], ◌∷◌, ◌++◌, length, refl, ap, sym, ◌∙◌, arith, append_assoc, subst}
-use Rattle.std.specs.Prelude.{◌&&◌, fold, filter, filter_map}
+use Rattle.std.specs.Prelude.{◌&&◌, fold}
 use Rattle.mac_base.specs.declared.block.Entry.{Entry}
 use Rattle.mac_base.specs.declared.block.Kind.{Kind}
 use Rattle.mac_base.specs.declared.block.Kind.TheVariants.{Free, Master, Ptr, Rel}
@@ -9,7 +9,7 @@ use Rattle.mac_base.specs.HeadKind.{Shape}
 use Rattle.mac_base.specs.Heap.{Heap, with_emptied, with_all_emptied}
 use Rattle.mac_base.specs.Request.{candidates_in, is_among}
 use Rattle.mac_base.specs.Suits.{Suits, free_apart}
-use Rattle.mac_base.specs.ZoneMap.{ZoneMap, block, handle_of, is_named, joined, joined_to, released, sizes, total_size}
+use Rattle.mac_base.specs.ZoneMap.{ZoneMap, block, is_named, joined, joined_to, sizes, total_size}
 use Rattle.zone_laws.proofs.GapAppend.{sizes-append}
 use Rattle.zone_laws.proofs.JoinedBlocks.{joined-apart, joined-two, join_cases}
 use Rattle.zone_laws.proofs.NamedPlace.{At}

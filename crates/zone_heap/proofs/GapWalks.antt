@@ -1,20 +1,18 @@
 -- Walks by which the room of gaps is counted.
-use Rattle.std.proofs.Common.{◌≡◌, ℕ, ◌+◌, ◌<◌, ◌≤◌, Bool, true, false, not, cond, eqb, List, [], ◌∷◌, ◌++◌, refl, ap, sym, ◌∙◌, arith, subst, IsTrue, Some, None, Option}
+use Rattle.std.proofs.Common.{◌≡◌, ℕ, ◌+◌, ◌<◌, ◌≤◌, Bool, true, false, not, cond, eqb, List, ◌∷◌, ◌++◌, refl, ap, sym, ◌∙◌, arith, subst, Some, None, Option}
 use Rattle.std.specs.Prelude.{◌&&◌, ◌||◌, is_some, nat_le}
 use Rattle.std.proofs.lemmas.Bool.Decides.{nat_tests}
-use Rattle.mac_base.specs.declared.block.Entry.{Entry}
 use Rattle.mac_base.specs.declared.block.Kind.{Kind}
 use Rattle.mac_base.specs.declared.block.Kind.TheVariants.{Free, Master, Ptr, Rel}
 use Rattle.mac_base.specs.Gap.{is_fixed}
 use Rattle.mac_base.specs.HandleTable.{HandleTable, is_purgeable}
 use Rattle.mac_base.specs.Request.{is_among}
-use Rattle.mac_base.specs.ZoneMap.{ZoneMap, total_size}
+use Rattle.mac_base.specs.ZoneMap.{total_size}
 use Rattle.mac_base.specs.ZoneState.{ZoneState}
 use Rattle.zone_laws.proofs.Tables.{eqb-true-is}
 use Rattle.zone_gaps.proofs.Sizes.{total_size-push}
 use Rattle.zone_heap.specs.Attempts.{SoundZone}
 use Rattle.zone_heap.specs.Purge.{BlocksAt, IsLimit, bounds_gap, bytes_before, counts, handle_to_purge, is_kept, may_purge, run_has, size_if}
-use Rattle.zone_heap.specs.declared.purge.Limit.{Limit}
 use Rattle.zone_heap.proofs.Purging.{may_purge-parts}
 use Rattle.zone_heap.proofs.Runs.{Swept, bytes-within, bound_swept, limit_here, limit_last, more-run, none_behind, none_swept, pass_swept, purge_swept}
 use Rattle.zone_heap.proofs.Walks.{Walked, Facing, none_walked, end_walked, walked_end, walked_on, within_facing}

@@ -1,9 +1,7 @@
 -- What is purged for a request, where a walk says how far.
-use Rattle.std.proofs.Common.{◌≡◌, ℕ, ◌+◌, ◌-◌, ◌≤◌, Bool, true, false, not, cond, eqb, List, [], ◌∷◌, ◌++◌, length, refl, ap, sym, ◌∙◌, arith, append_assoc, append-nil, subst, Contains}
-use Rattle.std.specs.Prelude.{◌&&◌, ◌||◌, nat_le, Option, Some, None}
+use Rattle.std.proofs.Common.{◌≡◌, ℕ, ◌+◌, Bool, true, false, not, cond, eqb, List, [], ◌∷◌, ◌++◌, refl, ap, sym, ◌∙◌, subst, Contains}
+use Rattle.std.specs.Prelude.{◌&&◌, ◌||◌, nat_le, Some, None}
 use Rattle.std.specs.Option.{option_map_or}
-use Rattle.std.proofs.lemmas.Bool.Decides.{nat_tests}
-use Rattle.mac_base.specs.declared.block.Entry.{Entry}
 use Rattle.mac_base.specs.declared.block.Kind.{Kind}
 use Rattle.mac_base.specs.declared.block.Kind.TheVariants.{Free, Master, Ptr, Rel}
 use Rattle.mac_base.specs.declared.request.Request.{Request}
@@ -12,23 +10,20 @@ use Rattle.mac_base.specs.Gap.{Gap, gap_behind, gaps, gaps_with, is_fixed, own_g
 use Rattle.mac_base.specs.HandleTable.{HandleTable, EmptyHandle, emptied, has_block, is_lent, is_locked, is_pointer, is_purgeable, live_flags, live_full, live_pointer}
 use Rattle.mac_base.specs.HeadKind.{Shape}
 use Rattle.mac_base.specs.Heap.{Heap, with_all_emptied}
-use Rattle.mac_base.specs.Request.{can_grow, candidates, candidates_in, fits, fits_size, is_among, purged_until, room_of, searched, size_needed, size_of, stays}
+use Rattle.mac_base.specs.Request.{can_grow, candidates, candidates_in, fits, is_among, purged_until, room_of, size_needed, size_of, stays}
 use Rattle.mac_base.specs.Sound.{Sound}
-use Rattle.mac_base.specs.Suits.{Suits, free_apart, is_block_size}
-use Rattle.zone_laws.proofs.GapAppend.{total_size-append}
-use Rattle.zone_laws.proofs.GapApart.{sizes_possible}
+use Rattle.mac_base.specs.Suits.{Suits}
 use Rattle.zone_laws.proofs.Maps.{both_true}
-use Rattle.zone_gaps.proofs.Sizes.{all_parts, no_bytes}
 use Rattle.mac_base.specs.ZoneMap.{ZoneMap, address_behind, is_named, released, sizes, total_size}
 use Rattle.mac_base.specs.ZoneState.{ZoneState}
 use Rattle.gap_laws.proofs.FittingResize.{one_size, some_named}
 use Rattle.gap_laws.proofs.SoundPurged.{candidate-handle, sound-all_emptied}
-use Rattle.zone_laws.proofs.NamedPlace.{At, At-from, first_named}
+use Rattle.zone_laws.proofs.NamedPlace.{At-from, first_named}
 use Rattle.zone_laws.proofs.SlotPlaces.{Contains-here, Contains-later}
 use Rattle.zone_laws.proofs.SuitsNamed.{full-no_pointer, named_once, stays-fixed}
 use Rattle.zone_laws.proofs.Tables.{by_number, eqb-true-is, live_at-with_live_same, with_live_agrees}
 use Rattle.zone_heap.specs.Attempts.{SoundZone, is_ready}
-use Rattle.zone_heap.specs.Purge.{BlocksAt, IsLimit, Purges, PurgesFor, all_emptied, HasBlockIf, all_released, blocks_behind, bounds_gap, counts, freed_where, is_kept, is_protected, may_purge, operand, released_if, resized, run_has, staying}
+use Rattle.zone_heap.specs.Purge.{IsLimit, Purges, PurgesFor, all_emptied, HasBlockIf, all_released, blocks_behind, bounds_gap, counts, freed_where, is_kept, is_protected, may_purge, operand, resized, run_has, staying}
 use Rattle.zone_heap.specs.declared.purge.Limit.{Limit}
 use Rattle.zone_heap.proofs.FreedBlocks.{Once, candidate_here, candidates-cons, emptied-parts, once-suits}
 use Rattle.zone_heap.proofs.EmptyingBlocks.{same-live}

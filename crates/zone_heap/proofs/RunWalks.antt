@@ -19,16 +19,15 @@ use Rattle.linked_zone.specs.Places.{LowestAt}
 use Rattle.zone_laws.proofs.Joined.{free_apart-joined}
 use Rattle.zone_laws.proofs.GapApart.{free_apart-back, free_apart-front}
 use Rattle.zone_laws.proofs.Maps.{both_true, not_true, true_not}
-use Rattle.zone_gaps.proofs.Sizes.{total_size-push}
 use Rattle.zone_heap.specs.Attempts.{SoundZone}
-use Rattle.zone_heap.specs.Purge.{BlocksAt, IsLimit, Purges, PurgesTo, all_released, bounds_free, bytes_before, counts, freed_where, may_purge, run_has, size_if}
+use Rattle.zone_heap.specs.Purge.{BlocksAt, IsLimit, PurgesTo, all_released, bounds_free, bytes_before, counts, freed_where, may_purge, run_has}
 use Rattle.zone_heap.specs.declared.purge.Limit.{Limit}
 use Rattle.zone_heap.proofs.FreedBlocks.{Once, once-suits, released-candidates}
 use Rattle.zone_heap.proofs.GapWalks.{too-many}
 use Rattle.zone_heap.proofs.Grows.{absorb}
 use Rattle.zone_heap.proofs.Runs.{Swept, bound_swept, bytes-within, limit_here, limit_last, more-run, none_behind, none_swept, pass_swept, purge_swept}
 use Rattle.zone_heap.proofs.Until.{run-joined, until-enough, until-limit, until-enough_then}
-use Rattle.zone_heap.proofs.Walks.{Walked, Facing, end_walked, none_walked, walked_end, walked_on, within_facing}
+use Rattle.zone_heap.proofs.Walks.{Walked, Facing, end_walked, none_walked, walked_end, walked_on}
 
 run_apart : (k r : ℕ) (m : ZoneMap) → starts_free m ≡ false → run_has bounds_free (counts None) k r m ≡ (nat_le k r || run_has bounds_free (counts None) k 0 m)
 run_apart k r [] used = more (nat_le k r) (nat_le k 0) (λ fits. let le = leb-true k 0 fits in le-leb k r (omega arith))

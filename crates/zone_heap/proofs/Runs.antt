@@ -1,15 +1,14 @@
 -- Bytes that count between blocks that bound them, and how they grow where blocks become free.
-use Rattle.std.proofs.Common.{◌≡◌, ℕ, ◌+◌, ◌≤◌, Bool, true, false, not, cond, List, [], ◌∷◌, ◌++◌, refl, ap, sym, ◌∙◌, arith, append_assoc, append-nil, subst, IsTrue, inl, inr, length}
-use Rattle.std.specs.Prelude.{◌&&◌, ◌||◌, ◌⊎◌, nat_le, Option, Some, None}
+use Rattle.std.proofs.Common.{◌≡◌, ℕ, ◌+◌, ◌≤◌, Bool, true, false, cond, [], ◌∷◌, ◌++◌, refl, ap, sym, ◌∙◌, arith, append_assoc, subst, inl, inr}
+use Rattle.std.specs.Prelude.{◌||◌, nat_le}
 use Rattle.std.proofs.lemmas.Bool.{or_parts}
 use Rattle.std.proofs.lemmas.List.{map-append}
 use Rattle.mac_base.specs.declared.block.Entry.{Entry}
 use Rattle.mac_base.specs.declared.block.Kind.{Kind}
-use Rattle.mac_base.specs.declared.block.Kind.TheVariants.{Free, Master, Ptr, Rel}
+use Rattle.mac_base.specs.declared.block.Kind.TheVariants.{Free}
 use Rattle.mac_base.specs.ZoneMap.{ZoneMap, block, total_size}
 use Rattle.zone_gaps.proofs.Sizes.{total_size-push}
 use Rattle.zone_heap.specs.Purge.{IsLimit, bytes_before, freed_where, run_has, size_if}
-use Rattle.zone_heap.specs.declared.purge.Limit.{Limit}
 
 -- a list that ends with an element, in two parts: what holds where the second begins with it, and where it begins before, holds
 split_push : (P : ZoneMap → Entry → ZoneMap → Type 0) (done : ZoneMap) (e : Entry) (a : ZoneMap) (f : Entry) (b : ZoneMap) → done ++ e ∷ [] ≡ a ++ f ∷ b

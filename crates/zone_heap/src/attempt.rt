@@ -15,7 +15,7 @@ impl Zone {
     pub fn has_slot(&self) -> bool
         ensures { result ≡ not (has_none self.now.heap.free_slots) }
     {
-        self.pointers.has_slot()
+        self.pointers.linked().has_slot()
     }
 
     /// Makes one attempt to serve a request in the zone as it is: blocks move where they must. Gives the number of the new

@@ -1,11 +1,12 @@
 //! Blocks moved on a program's own demand, and the handle of a block by its address.
 
 use crate::zone::Zone;
+use gap_index::GapZone;
 use linked_zone::LinkedZone;
 use mac_base::block::Kind;
 use mac_base::handle::Handle;
 use mac_base::zone_spec::ADDRESS_END;
-use zone_gaps::{lowest_gap, raise, squeeze_all_down, squeeze_down, zone_end};
+use zone_gaps::{raise, squeeze_all_down, squeeze_down, zone_end};
 
 impl Zone {
     ghost use Rattle.std.specs.Prelude.{◌≡◌, IsTrue, IsFalse};
@@ -21,7 +22,7 @@ impl Zone {
     pub fn largest_free(&self) -> u32
         ensures { result ≡ largest_free self.now.heap.map }
     {
-        largest_free(&self.pointers)
+        largest_free(self.pointers.linked())
     }
 
     /// CompactMem: where no free block has `needed` bytes, its header among them, the blocks of the lowest gap that has
@@ -32,12 +33,12 @@ impl Zone {
         ensures largest { result ≡ largest_free self.new.heap.map }
         ensures loans { KeepsLoans self.old self.new }
     {
-        let largest = largest_free(&self.pointers);
+        let largest = largest_free(self.pointers.linked());
         if needed <= largest {
             return largest;
         }
         squeeze(&mut self.pointers, needed);
-        largest_free(&self.pointers)
+        largest_free(self.pointers.linked())
     }
 
     /// Moves the blocks of all gaps down, which is how MaxMem compacts the zone (Inside Macintosh: Memory, "Freeing
@@ -65,11 +66,12 @@ impl Zone {
     pub fn recover(&self, address: u32) -> Option<Handle>
         ensures { result ≡ handle_at self.now.shape address self.now.heap.map }
     {
-        let head_size = self.pointers.spec().heads().head_size();
+        let linked = self.pointers.linked();
+        let head_size = linked.spec().heads().head_size();
         if address < head_size {
             return None;
         }
-        let Some(block) = self.pointers.entry(address - head_size) else {
+        let Some(block) = linked.entry(address - head_size) else {
             return None;
         };
         handle_of(block.entry.kind)
@@ -97,14 +99,14 @@ fn largest_free(pointers: &LinkedZone) -> u32
 }
 
 /// Moves the blocks of the lowest gap with at least `needed` free bytes down, or those of all gaps where none has so many.
-fn squeeze(pointers: &mut LinkedZone, needed: u32)
+fn squeeze(pointers: &mut GapZone, needed: u32)
     requires some { 0 < needed }
     requires settled { Settled pointers.old }
     ensures zone { pointers.new ≡ zone_with_map (squeezed pointers.old.heap.table needed pointers.old.heap.map) pointers.old }
     ensures loans { KeepsLoans pointers.old pointers.new }
     ensures settled { Settled pointers.new }
 {
-    match lowest_gap(pointers, needed) {
+    match pointers.lowest_gap(needed) {
         Some(at) => {
             squeeze_down(pointers, at);
         }

@@ -14,7 +14,7 @@ impl Zone {
     pub fn growth_left(&self) -> u32
         ensures { result ≡ self.now.shape.limit - (zone_header + total_size self.now.heap.map) }
     {
-        let spec = self.pointers.spec();
+        let spec = self.pointers.linked().spec();
         spec.limit() - spec.size()
     }
 
@@ -25,7 +25,7 @@ impl Zone {
         ensures zone { self.new ≡ with_heap (grown self.old.shape self.old.heap) self.old }
         ensures loans { KeepsLoans self.old self.new }
     {
-        let spec = self.pointers.spec();
+        let spec = self.pointers.linked().spec();
         let end = spec.base() + spec.size();
         self.pointers.extend();
         if spec.size() < spec.limit() {

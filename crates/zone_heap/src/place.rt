@@ -2,11 +2,11 @@
 
 use crate::shortage::Shortage;
 use crate::zone::{Zone, cut};
-use linked_zone::LinkedZone;
+use gap_index::GapZone;
 use mac_base::handle::{Handle, Ptr};
 use mac_base::size::{MASTER_LENGTH, need_for};
 use mac_base::zone_spec::ADDRESS_END;
-use zone_gaps::{gap_end, gap_start, lowest_gap, squeeze_down, squeeze_up};
+use zone_gaps::{squeeze_down, squeeze_up};
 
 impl Zone {
     ghost use Rattle.std.specs.Prelude.{◌≤◌, MatchResult};
@@ -78,17 +78,18 @@ ghost use Rattle.zone_heap.specs.Room.{IsCleared, IsOpened, LacksRoom};
 
 /// A new handle with `length` bytes of zero: in the lowest free block that has room, or else in the lowest gap with room,
 /// arranged down.
-pub(crate) fn new_block(zone: &mut LinkedZone, length: u32) -> Result<Handle, Shortage>
+pub(crate) fn new_block(zone: &mut GapZone, length: u32) -> Result<Handle, Shortage>
     requires size { length ≤ max_size }
     requires sound { SoundZone zone.old }
     ensures attempt { Attempts (NewBlock length) zone.old result zone.new }
     ensures loans { KeepsLoans zone.old zone.new }
     ensures sound { SoundZone zone.new }
 {
-    if !zone.has_slot() {
+    let linked = zone.linked();
+    if !linked.has_slot() {
         return Err(Shortage::NoSlot);
     }
-    let needed = need_for(zone.spec().heads(), length);
+    let needed = need_for(linked.spec().heads(), length);
     let Some(at) = open_lowest(zone, needed) else {
         return Err(Shortage::NoRoom);
     };
@@ -101,7 +102,7 @@ pub(crate) fn new_block(zone: &mut LinkedZone, length: u32) -> Result<Handle, Sh
 }
 
 /// A new empty handle. There is none exactly where no slot is free.
-pub(crate) fn new_empty(zone: &mut LinkedZone) -> Result<Handle, Shortage>
+pub(crate) fn new_empty(zone: &mut GapZone) -> Result<Handle, Shortage>
     requires sound { SoundZone zone.old }
     ensures attempt { Attempts NewEmpty zone.old result zone.new }
     ensures loans { KeepsLoans zone.old zone.new }
@@ -111,14 +112,14 @@ pub(crate) fn new_empty(zone: &mut LinkedZone) -> Result<Handle, Shortage>
 }
 
 /// A new pointer to `length` bytes of zero, at the start of the lowest gap with room.
-pub(crate) fn new_pointer(zone: &mut LinkedZone, length: u32) -> Result<Ptr, Shortage>
+pub(crate) fn new_pointer(zone: &mut GapZone, length: u32) -> Result<Ptr, Shortage>
     requires size { length ≤ max_size }
     requires sound { SoundZone zone.old }
     ensures attempt { Attempts (NewPointer length) zone.old result zone.new }
     ensures loans { KeepsLoans zone.old zone.new }
     ensures sound { SoundZone zone.new }
 {
-    let needed = need_for(zone.spec().heads(), length);
+    let needed = need_for(zone.linked().spec().heads(), length);
     let Some(at) = clear_lowest(zone, needed) else {
         return Err(Shortage::NoRoom);
     };
@@ -127,13 +128,13 @@ pub(crate) fn new_pointer(zone: &mut LinkedZone, length: u32) -> Result<Ptr, Sho
 }
 
 /// A new master block, at the start of the lowest gap with room. Gives the address of its first slot.
-pub(crate) fn new_master(zone: &mut LinkedZone) -> Result<u32, Shortage>
+pub(crate) fn new_master(zone: &mut GapZone) -> Result<u32, Shortage>
     requires sound { SoundZone zone.old }
     ensures attempt { Attempts NewMaster zone.old result zone.new }
     ensures loans { KeepsLoans zone.old zone.new }
     ensures sound { SoundZone zone.new }
 {
-    let spec = zone.spec();
+    let spec = zone.linked().spec();
     prove!(spec.base() + spec.limit() <= ADDRESS_END);
     let heads = spec.heads();
     let needed = need_for(heads, MASTER_LENGTH);
@@ -146,14 +147,14 @@ pub(crate) fn new_master(zone: &mut LinkedZone) -> Result<u32, Shortage>
 }
 
 /// Room for a pointer to `length` bytes, at the start of the lowest gap with room. It stays free.
-pub(crate) fn reserve(zone: &mut LinkedZone, length: u32) -> Result<(), Shortage>
+pub(crate) fn reserve(zone: &mut GapZone, length: u32) -> Result<(), Shortage>
     requires size { length ≤ max_size }
     requires sound { SoundZone zone.old }
     ensures attempt { MatchResult result (λ _. IsServed (Reserve length) zone.old 0 zone.new) (λ why. IsRefused (Reserve length) zone.old why zone.new) }
     ensures loans { KeepsLoans zone.old zone.new }
     ensures sound { SoundZone zone.new }
 {
-    let needed = need_for(zone.spec().heads(), length);
+    let needed = need_for(zone.linked().spec().heads(), length);
     match clear_lowest(zone, needed) {
         Some(_) => Ok(()),
         None => Err(Shortage::NoRoom),
@@ -162,33 +163,33 @@ pub(crate) fn reserve(zone: &mut LinkedZone, length: u32) -> Result<(), Shortage
 
 /// The address of a free block of at least `needed` bytes for a relocatable block: the lowest, or where there is none that
 /// of the lowest gap with room, arranged down.
-pub(crate) fn open_lowest(zone: &mut LinkedZone, needed: u32) -> Option<u32>
+pub(crate) fn open_lowest(zone: &mut GapZone, needed: u32) -> Option<u32>
     requires some { 0 < needed }
     requires sound { SoundZone zone.old }
     ensures room { MatchOption result (LacksRoom needed zone.old zone.new) (λ at. IsOpened zone.old needed at zone.new) }
     ensures loans { KeepsLoans zone.old zone.new }
     ensures sound { SoundZone zone.new }
 {
-    if let Some(at) = zone.lowest_free(needed) {
+    if let Some(at) = zone.linked().lowest_free(needed) {
         return Some(at);
     }
-    let at = lowest_gap(zone, needed)?;
+    let at = zone.lowest_gap(needed)?;
     Some(squeeze_down(zone, at))
 }
 
 /// The start of the lowest gap with room for `needed` bytes. The gap begins with so many free bytes: it is arranged up
 /// where it doesn't yet.
-fn clear_lowest(zone: &mut LinkedZone, needed: u32) -> Option<u32>
+fn clear_lowest(zone: &mut GapZone, needed: u32) -> Option<u32>
     requires some { 0 < needed }
     requires sound { SoundZone zone.old }
     ensures room { MatchOption result (LacksRoom needed zone.old zone.new) (λ at. IsCleared zone.old needed at zone.new) }
     ensures loans { KeepsLoans zone.old zone.new }
     ensures sound { SoundZone zone.new }
 {
-    let at = lowest_gap(zone, needed)?;
-    let start = gap_start(zone, at);
-    if start < at || zone.entry_at(at).size < needed {
-        let end = gap_end(zone, at);
+    let at = zone.lowest_gap(needed)?;
+    let start = zone.gap_start(at);
+    if start < at || zone.linked().entry_at(at).size < needed {
+        let end = zone.gap_end(at);
         squeeze_up(zone, start, end);
     }
     Some(start)

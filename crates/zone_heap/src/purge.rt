@@ -66,13 +66,14 @@ ghost use Rattle.zone_heap.specs.Joins.{all_joined};
 ghost use Rattle.zone_heap.specs.Purge.{BlocksAt, IsLimit, ShortBlocks, ShortGaps, Purges, PurgesFor, PurgesTo, blocks_behind, bounds_gap, bounds_free, bytes_before, counts, handle_to_purge, is_kept, is_protected, may_purge, purged_between, released_if, staying_block, CanCount, HasBlockIf};
 
 use crate::zone::Zone;
+use gap_index::GapZone;
 use linked_zone::LinkedZone;
 use mac_base::block::Kind;
 use mac_base::handle::{Handle, Ptr};
 use mac_base::request::Request;
 use mac_base::size::{MASTER_LENGTH, ZONE_HEADER, need_for};
 use mac_base::zone_spec::ADDRESS_END;
-use zone_gaps::{gap_end, is_fixed, zone_end};
+use zone_gaps::{is_fixed, zone_end};
 
 /// Which blocks are purged: those between two addresses that may be.
 #[derive(Clone, Copy, Debug, PartialEq, Eq)]
@@ -110,15 +111,16 @@ fn counts(counted: Option<u32>, kind: Kind) -> bool
 }
 
 /// Empties the handles that may be purged and have their blocks between two addresses. The blocks are free, and not joined.
-fn empty_between(zone: &mut LinkedZone, start: u32, end: u32, protected: &[u32])
+fn empty_between(zone: &mut GapZone, start: u32, end: u32, protected: &[u32])
     requires blocks { BlocksAt zone.old start end }
     requires sound { SoundZone zone.old }
     ensures { (blocks : BlocksAt zone.old start end) → zone.new ≡ purged_between zone.old blocks protected.now }
 {
     let mut at = start;
     while at < end {
-        let here = zone.entry_at(at);
-        if let Some(handle) = handle_to_purge(zone, here.kind, protected) {
+        let linked = zone.linked();
+        let here = linked.entry_at(at);
+        if let Some(handle) = handle_to_purge(linked, here.kind, protected) {
             zone.empty(handle);
         }
         at += here.size;
@@ -127,18 +129,19 @@ fn empty_between(zone: &mut LinkedZone, start: u32, end: u32, protected: &[u32])
 
 /// Joins all free neighbours. From each free block the walk goes on to the next one: of the blocks in use only those right
 /// behind a free one are read.
-fn join_all(zone: &mut LinkedZone)
+fn join_all(zone: &mut GapZone)
     requires { HasSizes zone.old }
     ensures { zone.new ≡ all_joined zone.old }
 {
-    prove!(zone_end(zone) <= ADDRESS_END);
-    let mut at = zone.spec().base() + ZONE_HEADER;
-    while let Some(free) = zone.next_free(at) {
+    prove!(zone_end(zone.linked()) <= ADDRESS_END);
+    let mut at = zone.linked().spec().base() + ZONE_HEADER;
+    while let Some(free) = zone.linked().next_free(at) {
         at = free;
-        if is_free_pair(zone, free) {
+        let linked = zone.linked();
+        if is_free_pair(linked, free) {
             zone.merge(free);
         } else {
-            at += zone.entry_at(free).size;
+            at += linked.entry_at(free).size;
         }
     }
 }
@@ -156,7 +159,7 @@ fn is_free_pair(zone: &LinkedZone, at: u32) -> bool
 }
 
 /// Purges the blocks between two addresses that may be purged: their handles become empty, and free neighbours are joined.
-fn purge_between(zone: &mut LinkedZone, start: u32, end: u32, protected: &[u32])
+fn purge_between(zone: &mut GapZone, start: u32, end: u32, protected: &[u32])
     requires blocks { BlocksAt zone.old start end }
     requires sound { SoundZone zone.old }
     ensures zone { (blocks : BlocksAt zone.old start end) → zone.new ≡ with_heap (with_all_emptied (candidates_in zone.old.heap.table protected.now blocks.blocks) zone.old.heap) zone.old }
@@ -271,17 +274,18 @@ fn some_gap_has(zone: &LinkedZone, needed: u32, counted: Option<u32>) -> bool
 }
 
 /// Purges all blocks that may be purged.
-pub(crate) fn purge_all(zone: &mut LinkedZone)
+pub(crate) fn purge_all(zone: &mut GapZone)
     requires sound { SoundZone zone.old }
     ensures zone { zone.new ≡ with_heap (all_purged zone.old.heap) zone.old }
     ensures loans { KeepsLoans zone.old zone.new }
     ensures sound { SoundZone zone.new }
 {
-    if !zone.has_purgeable() {
+    let linked = zone.linked();
+    if !linked.has_purgeable() {
         return;
     }
-    let start = zone.spec().base() + ZONE_HEADER;
-    let end = zone_end(zone);
+    let start = linked.spec().base() + ZONE_HEADER;
+    let end = zone_end(linked);
     purge_between(zone, start, end, &[]);
 }
 
@@ -346,7 +350,7 @@ fn staying(zone: &LinkedZone, block: Option<u32>) -> Option<u32>
 
 /// How far to purge for a request: as few blocks as serve, and all where none do. A block that stays can use only the gap
 /// right behind it.
-fn limit_for(zone: &LinkedZone, request: Request, protected: &[u32]) -> Limit
+fn limit_for(zone: &GapZone, request: Request, protected: &[u32]) -> Limit
     requires sound { SoundZone zone.now }
     requires ready { CanAsk zone.now request }
     requires protects { IsTrue (is_protected protected.now request) }
@@ -354,35 +358,37 @@ fn limit_for(zone: &LinkedZone, request: Request, protected: &[u32]) -> Limit
     ensures { PurgesFor zone.now protected.now request result }
 {
     let asked = Asked::of(request);
-    let needed = need_for(zone.spec().heads(), asked.length);
-    if let Some(block) = staying(zone, asked.resized) {
+    let linked = zone.linked();
+    let needed = need_for(linked.spec().heads(), asked.length);
+    if let Some(block) = staying(linked, asked.resized) {
         return limit_behind(zone, block, needed, protected);
     }
-    let start = zone_start(zone);
-    let end = zone_end(zone);
-    gap_limit(zone, start, end, needed, asked.counted, protected)
+    let start = zone_start(linked);
+    let end = zone_end(linked);
+    gap_limit(linked, start, end, needed, asked.counted, protected)
 }
 
 /// How far to purge in the gap right behind a block that stays, so that the block can be made `needed` bytes long.
-fn limit_behind(zone: &LinkedZone, block: u32, needed: u32, protected: &[u32]) -> Limit
+fn limit_behind(zone: &GapZone, block: u32, needed: u32, protected: &[u32]) -> Limit
     requires sound { SoundZone zone.now }
     requires block { IsTrue (has_block zone.now.heap.table block) }
     requires stays { IsTrue (stays zone.now.heap.table block) }
     requires no_room { IsFalse (can_grow zone.now.heap.table block needed zone.now.heap.map) }
     ensures { Purges zone.now protected.now (can_grow zone.now.heap.table block needed) (candidates_in zone.now.heap.table protected.now (blocks_behind zone.now.heap.table block zone.now.heap.map)) result }
 {
-    let top = zone_end(zone);
+    let linked = zone.linked();
+    let top = zone_end(linked);
     prove!(top <= ADDRESS_END);
-    let at = zone.place_of(block);
-    let size = zone.entry_at(at).size;
+    let at = linked.place_of(block);
+    let size = linked.entry_at(at).size;
     let start = at + size;
-    let end = gap_end(zone, start);
-    gap_limit(zone, start, end, needed - size, None, protected)
+    let end = zone.gap_end(start);
+    gap_limit(linked, start, end, needed - size, None, protected)
 }
 
 /// Empties as few handles that may be purged as serve a request, in order of address, and all where none do. Gives whether
 /// the request fits then.
-pub(crate) fn purge_for(zone: &mut LinkedZone, request: Request, protected: &[u32]) -> bool
+pub(crate) fn purge_for(zone: &mut GapZone, request: Request, protected: &[u32]) -> bool
     requires sound { SoundZone zone.old }
     requires ready { CanAsk zone.old request }
     requires protects { IsTrue (is_protected protected.now request) }
@@ -392,7 +398,7 @@ pub(crate) fn purge_for(zone: &mut LinkedZone, request: Request, protected: &[u3
     ensures loans { KeepsLoans zone.old zone.new }
     ensures sound { SoundZone zone.new }
 {
-    if !zone.has_purgeable() {
+    if !zone.linked().has_purgeable() {
         return false;
     }
     let limit = limit_for(zone, request, protected);
@@ -451,22 +457,23 @@ fn block_limit(zone: &LinkedZone, start: u32, end: u32, needed: u32, protected: 
 
 /// Empties as few handles that may be purged as leave `needed` free bytes in one block, in order of address, and all where
 /// none do. Gives whether there is such a block then.
-pub(crate) fn purge_to(zone: &mut LinkedZone, needed: u32) -> bool
+pub(crate) fn purge_to(zone: &mut GapZone, needed: u32) -> bool
     requires sound { SoundZone zone.old }
     ensures zone { zone.new ≡ with_heap (purged_for needed zone.old.heap) zone.old }
     ensures enough { result ≡ nat_le needed (largest_free zone.new.heap.map) }
     ensures loans { KeepsLoans zone.old zone.new }
     ensures sound { SoundZone zone.new }
 {
-    if has_free(zone, needed) {
+    let linked = zone.linked();
+    if has_free(linked, needed) {
         return true;
     }
-    if !zone.has_purgeable() {
+    if !linked.has_purgeable() {
         return false;
     }
-    let start = zone_start(zone);
-    let end = zone_end(zone);
-    let limit = block_limit(zone, start, end, needed, &[]);
+    let start = zone_start(linked);
+    let end = zone_end(linked);
+    let limit = block_limit(linked, start, end, needed, &[]);
     purge_between(zone, limit.start, limit.end, &[]);
     limit.enough
 }

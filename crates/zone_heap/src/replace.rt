@@ -9,21 +9,22 @@ use crate::place::open_lowest;
 use crate::purge::has_room;
 use crate::shortage::Shortage;
 use crate::zone::{Zone, cut, empty};
-use linked_zone::LinkedZone;
+use gap_index::GapZone;
 use mac_base::handle::Handle;
 use mac_base::size::need_for;
 
 /// Gives a handle a new block of `length` bytes, all of them zero. The old block, if there is one, counts as free while
 /// room is looked for. Where there is none, nothing has changed: so the old block is released only once room is sure.
-pub(crate) fn replace(zone: &mut LinkedZone, handle: Handle, length: u32) -> Result<(), Shortage>
+pub(crate) fn replace(zone: &mut GapZone, handle: Handle, length: u32) -> Result<(), Shortage>
     requires ready { CanAsk zone.old (Replace handle length) }
     requires sound { SoundZone zone.old }
     ensures attempt { MatchResult result (λ _. IsServed (Replace handle length) zone.old handle zone.new) (λ why. IsRefused (Replace handle length) zone.old why zone.new) }
     ensures loans { KeepsLoans zone.old zone.new }
     ensures sound { SoundZone zone.new }
 {
-    let needed = need_for(zone.spec().heads(), length);
-    if !has_room(zone, needed, Some(handle)) {
+    let linked = zone.linked();
+    let needed = need_for(linked.spec().heads(), length);
+    if !has_room(linked, needed, Some(handle)) {
         return Err(Shortage::NoRoom);
     }
     empty(zone, handle);

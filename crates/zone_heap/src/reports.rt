@@ -13,7 +13,7 @@ impl Zone {
     pub fn free_bytes(&self) -> u32
         ensures { result ≡ free_bytes self.now.heap.map }
     {
-        self.pointers.free_bytes()
+        self.pointers.linked().free_bytes()
     }
 
     /// MaxBlock: the most free bytes that moving blocks would bring together, in one gap (Inside Macintosh: Memory, "Assessing Memory
@@ -21,7 +21,7 @@ impl Zone {
     pub fn largest_room(&self) -> u32
         ensures { result ≡ largest_room self.now.heap.table self.now.heap.map }
     {
-        largest_room(&self.pointers)
+        largest_room(self.pointers.linked())
     }
 
     /// PurgeSpace: the bytes that would be free if all blocks that may be purged were (Inside Macintosh: Memory, "Assessing
@@ -30,6 +30,6 @@ impl Zone {
         ensures total { result.total ≡ purge_space self.now.heap.table self.now.heap.map }
         ensures contiguous { result.contiguous ≡ largest_purge_space self.now.heap.table self.now.heap.map }
     {
-        purge_space(&self.pointers)
+        purge_space(self.pointers.linked())
     }
 }

@@ -17,6 +17,7 @@ ghost use Rattle.zone_heap.specs.declared.shortage.Shortage.TheVariants.{NoRoom}
 use crate::place::open_lowest;
 use crate::shortage::Shortage;
 use crate::zone::{Zone, cut, free_behind, front, join, shrink};
+use gap_index::GapZone;
 use linked_zone::LinkedZone;
 use mac_base::handle::{Handle, Ptr};
 use mac_base::size::need_for;
@@ -26,18 +27,18 @@ use zone_gaps::{FoundGap, gap_behind, open_after, own_gap, squeeze_up};
 /// Gives the block of a handle or a pointer `length` bytes: where it is; or else once the other blocks of the gap in which
 /// it can grow have made way for it; or else, if it may move, in a new place. Bytes that were in it stay, as far as they
 /// go, and those that are added are zero. Where it doesn't fit, nothing has changed.
-pub(crate) fn resize_block(zone: &mut LinkedZone, block: u32, length: u32) -> Result<(), Shortage>
+pub(crate) fn resize_block(zone: &mut GapZone, block: u32, length: u32) -> Result<(), Shortage>
     requires ready { CanAsk zone.old (Resize block length) }
     requires sound { SoundZone zone.old }
     ensures attempt { MatchResult result (λ _. IsServed (Resize block length) zone.old block zone.new) (λ why. IsRefused (Resize block length) zone.old why zone.new) }
     ensures loans { KeepsLoans zone.old zone.new }
     ensures sound { SoundZone zone.new }
 {
-    if fits_there(zone, block, length) || make_way(zone, block, length) {
+    if fits_there(zone.linked(), block, length) || make_way(zone, block, length) {
         resize_there(zone, block, length);
         return Ok(());
     }
-    if stays(zone, block) {
+    if stays(zone.linked(), block) {
         return Err(Shortage::NoRoom);
     }
     resize_elsewhere(zone, Handle::new(block), length)
@@ -66,7 +67,7 @@ fn fits_there(zone: &LinkedZone, block: u32, length: u32) -> bool
 
 /// Gives a block `length` bytes where it is: its own, or with them those of the free block right behind it. What is over
 /// is free where it makes a block. Bytes that were in it stay, as far as they go, and those that are added are zero.
-fn resize_there(zone: &mut LinkedZone, block: u32, length: u32)
+fn resize_there(zone: &mut GapZone, block: u32, length: u32)
     requires sound { SoundZone zone.old }
     requires block { IsTrue (has_block zone.old.heap.table block) }
     requires here { IsFalse (is_lent zone.old.heap.table block) }
@@ -77,27 +78,28 @@ fn resize_there(zone: &mut LinkedZone, block: u32, length: u32)
     ensures loans { KeepsLoans zone.old zone.new }
     ensures sound { SoundZone zone.new }
 {
-    let needed = need_for(zone.spec().heads(), length);
-    let at = zone.place_of(block);
-    let size = zone.entry_at(at).size;
+    let linked = zone.linked();
+    let needed = need_for(linked.spec().heads(), length);
+    let at = linked.place_of(block);
+    let size = linked.entry_at(at).size;
     if needed <= size {
         shrink(zone, block, needed, length);
     } else {
-        let spec = zone.spec();
+        let spec = linked.spec();
         prove!(spec.limit() <= LARGEST_LIMIT);
-        let whole = size + free_behind(zone, at);
-        let taken = front(zone, whole, needed);
+        let whole = size + free_behind(linked, at);
+        let taken = front(linked, whole, needed);
         zone.grow(block, taken, length);
     }
 }
 
 /// The gap in which a block can grow without a new place.
-fn gap_to_grow(zone: &LinkedZone, block: u32) -> FoundGap
+fn gap_to_grow(zone: &GapZone, block: u32) -> FoundGap
     requires sound { SoundZone zone.now }
     requires block { IsTrue (has_block zone.now.heap.table block) }
     ensures { IsGapOf zone.now (gap_to_grow zone.now.heap.table block zone.now.heap.map) result }
 {
-    if stays(zone, block) {
+    if stays(zone.linked(), block) {
         gap_behind(zone, block)
     } else {
         own_gap(zone, Handle::new(block))
@@ -106,7 +108,7 @@ fn gap_to_grow(zone: &LinkedZone, block: u32) -> FoundGap
 
 /// Lets the other blocks of its gap make way for a block, so that the free bytes of the gap stand right behind it, where
 /// it can then have `length` bytes. Else nothing has changed.
-fn make_way(zone: &mut LinkedZone, block: u32, length: u32) -> bool
+fn make_way(zone: &mut GapZone, block: u32, length: u32) -> bool
     requires sound { SoundZone zone.old }
     requires block { IsTrue (has_block zone.old.heap.table block) }
     requires size { length ≤ max_size }
@@ -115,14 +117,15 @@ fn make_way(zone: &mut LinkedZone, block: u32, length: u32) -> bool
     ensures loans { KeepsLoans zone.old zone.new }
     ensures sound { SoundZone zone.new }
 {
-    let spec = zone.spec();
+    let linked = zone.linked();
+    let spec = linked.spec();
     prove!(spec.base() + spec.limit() <= ADDRESS_END);
     let gap = gap_to_grow(zone, block);
-    let size = zone.entry_at(zone.place_of(block)).size;
+    let size = linked.entry_at(linked.place_of(block)).size;
     if size + gap.room < need_for(spec.heads(), length) {
         return false;
     }
-    if stays(zone, block) {
+    if stays(linked, block) {
         squeeze_up(zone, gap.start, gap.end);
     } else {
         open_after(zone, Handle::new(block));
@@ -132,7 +135,7 @@ fn make_way(zone: &mut LinkedZone, block: u32, length: u32) -> bool
 
 /// Gives an unlocked handle's block `length` bytes in a new place. The old block is free then, and joined to its free
 /// neighbours. Where there is no place, nothing has changed.
-fn resize_elsewhere(zone: &mut LinkedZone, handle: Handle, length: u32) -> Result<(), Shortage>
+fn resize_elsewhere(zone: &mut GapZone, handle: Handle, length: u32) -> Result<(), Shortage>
     requires sound { SoundZone zone.old }
     requires full { IsTrue (is_full zone.old.heap.table handle) }
     requires unlocked { IsFalse (is_locked zone.old.heap.table handle) }
@@ -144,12 +147,12 @@ fn resize_elsewhere(zone: &mut LinkedZone, handle: Handle, length: u32) -> Resul
     ensures loans { KeepsLoans zone.old zone.new }
     ensures sound { SoundZone zone.new }
 {
-    let needed = need_for(zone.spec().heads(), length);
+    let needed = need_for(zone.linked().spec().heads(), length);
     let Some(at) = open_lowest(zone, needed) else {
         return Err(Shortage::NoRoom);
     };
     cut(zone, at, needed);
-    let old = zone.block_of(handle);
+    let old = zone.linked().block_of(handle);
     zone.relocate(handle, at, length);
     join(zone, old);
     Ok(())

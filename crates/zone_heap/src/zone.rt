@@ -1,5 +1,6 @@
 //! The zone.
 
+use gap_index::GapZone;
 use linked_zone::LinkedZone;
 use mac_base::block::{Block, Flags, HeadKind, Status};
 use mac_base::error::HostFull;
@@ -13,7 +14,7 @@ use std::marker::Model;
 /// A heap zone in raw bytes. Contracts see its shape and its heap: the handle table, the zone map and the free slots.
 /// All host memory is taken by `create`.
 pub struct Zone {
-    pub(crate) pointers: LinkedZone,
+    pub(crate) pointers: GapZone,
 }
 
 impl Model for Zone {
@@ -65,7 +66,7 @@ impl Zone {
     pub fn create(alloc: Global, spec: ZoneSpec) -> Result<Zone, HostFull>
         ensures { IfOk result (λ zone. zone ≡ record { memory = zone.memory; shape = shape_of spec; heap = new_heap (shape_of spec) spec.size }) }
     {
-        let mut pointers = LinkedZone::create(alloc, spec)?;
+        let mut pointers = GapZone::create(alloc, spec)?;
         let first = spec.base() + ZONE_HEADER;
         pointers.split(first, need_for(spec.heads(), MASTER_LENGTH));
         pointers.build_master(first);
@@ -76,21 +77,21 @@ impl Zone {
     pub fn is_live(&self, handle: Handle) -> bool
         ensures { result ≡ is_handle self.now.heap.table handle }
     {
-        self.pointers.is_live(handle)
+        self.pointers.linked().is_live(handle)
     }
 
     /// Whether a pointer is live: a nonrelocatable block's contents begin there.
     pub fn is_pointer(&self, pointer: Ptr) -> bool
         ensures { result ≡ is_pointer self.now.heap.table pointer }
     {
-        self.pointers.is_pointer(pointer)
+        self.pointers.linked().is_pointer(pointer)
     }
 
     /// Whether a number has a block: it is a handle that isn't empty, or a pointer.
     pub fn has_block(&self, block: u32) -> bool
         ensures { result ≡ has_block self.now.heap.table block }
     {
-        self.pointers.has_block(block)
+        self.pointers.linked().has_block(block)
     }
 
     /// Whether a handle or a pointer that has a block is lent.
@@ -98,7 +99,7 @@ impl Zone {
         requires { IsTrue (has_block self.now.heap.table block) }
         ensures { result ≡ is_lent self.now.heap.table block }
     {
-        self.pointers.is_lent(block)
+        self.pointers.linked().is_lent(block)
     }
 
     /// How many blocks are lent: 8 at most, each of them a pointer's or a locked handle's.
@@ -107,8 +108,9 @@ impl Zone {
         ensures loans { LoansFit self.now.heap }
         ensures fixed { LoansAreFixed self.now.heap }
     {
-        let _spec = self.pointers.spec();
-        self.pointers.lent_count()
+        let linked = self.pointers.linked();
+        let _spec = linked.spec();
+        linked.lent_count()
     }
 
     /// Lends the bytes of a pointer or a locked handle: who has the loan reads and writes them, until it comes back. Till then
@@ -154,7 +156,7 @@ impl Zone {
         ensures shape { self.new.shape ≡ self.old.shape }
         ensures loans { KeepsLoans self.old self.new }
     {
-        let at = self.pointers.place_of(pointer.number());
+        let at = self.pointers.linked().place_of(pointer.number());
         self.pointers.unfix(pointer);
         join(&mut self.pointers, at);
     }
@@ -176,7 +178,7 @@ impl Zone {
         requires { IsTrue (is_handle self.now.heap.table handle) }
         ensures { result ≡ flags_of self.now.heap.table handle }
     {
-        self.pointers.flags(handle)
+        self.pointers.linked().flags(handle)
     }
 
     /// Sets the flags of a handle that has a block. One that is lent stays locked.
@@ -195,8 +197,9 @@ impl Zone {
         requires { IsTrue (is_full self.now.heap.table handle) }
         ensures { result ≡ contents_of self.now.shape handle self.now.heap.map }
     {
-        let spec = self.pointers.spec();
-        let at = self.pointers.block_of(handle);
+        let linked = self.pointers.linked();
+        let spec = linked.spec();
+        let at = linked.block_of(handle);
         prove!(at < spec.base() + spec.limit());
         at + spec.heads().head_size()
     }
@@ -206,7 +209,7 @@ impl Zone {
         requires { IsTrue (has_block self.now.heap.table block) }
         ensures { result ≡ length (bytes_of self.now.heap.table block) }
     {
-        self.pointers.length(block)
+        self.pointers.linked().length(block)
     }
 
     /// The bytes of a handle or a pointer that has a block.
@@ -214,7 +217,7 @@ impl Zone {
         requires { status_of self.now.heap.table block ≡ Status.Full }
         ensures { result.now ≡ bytes_of self.now.heap.table block }
     {
-        self.pointers.contents(block)
+        self.pointers.linked().contents(block)
     }
 
     /// The bytes of a handle or a pointer that has a block, to be written.
@@ -233,21 +236,21 @@ impl Zone {
         ensures sound { Sound self.now.shape self.now.heap }
         ensures reach { self.now.shape.base + self.now.shape.limit ≤ 0x100_0000 }
     {
-        self.pointers.spec().base() + ZONE_HEADER
+        self.pointers.linked().spec().base() + ZONE_HEADER
     }
 
     /// How the zone's blocks are headed.
     pub fn heads(&self) -> HeadKind
         ensures { result ≡ self.now.shape.heads }
     {
-        self.pointers.spec().heads()
+        self.pointers.linked().spec().heads()
     }
 
     /// The block whose header stands at this address, if one does.
     pub fn entry(&self, at: u32) -> Option<Block>
         ensures { result ≡ report_at self.now.shape self.now.heap at }
     {
-        self.pointers.entry(at)
+        self.pointers.linked().entry(at)
     }
 
     /// The bytes of the zone, from its start to the end of its last block: its header, and its blocks with their
@@ -257,7 +260,7 @@ impl Zone {
         ensures form { IsImage self.now result.now }
         ensures walks { Walks self.now.shape.heads result.now }
     {
-        self.pointers.image()
+        self.pointers.linked().image()
     }
 }
 
@@ -276,36 +279,39 @@ ghost use Rattle.zone_heap.specs.Placed.{resized_there};
 ghost use Rattle.zone_heap.specs.Joins.{CanTake, NewlyFree, with_front, all_joined};
 
 /// Cuts a free block to its first `size` bytes, unless fewer bytes than a block has would be left.
-pub(crate) fn cut(pointers: &mut LinkedZone, at: u32, size: u32)
+pub(crate) fn cut(pointers: &mut GapZone, at: u32, size: u32)
     requires { CanTake pointers.old at size }
     ensures { (take : CanTake pointers.old at size) → pointers.new ≡ with_front pointers.old take }
 {
-    let heads = pointers.spec().heads();
-    let whole = pointers.entry_at(at).size;
+    let linked = pointers.linked();
+    let heads = linked.spec().heads();
+    let whole = linked.entry_at(at).size;
     if whole - size >= heads.smallest_block() {
         pointers.split(at, size);
     }
 }
 
 /// Joins a free block to its free neighbours, where no two other free blocks are neighbours.
-pub(crate) fn join(pointers: &mut LinkedZone, at: u32)
+pub(crate) fn join(pointers: &mut GapZone, at: u32)
     requires { NewlyFree pointers.old at }
     ensures { pointers.new ≡ all_joined pointers.old }
 {
-    if let Some(next) = pointers.behind(at) {
-        if pointers.entry_at(next).kind.is_free() {
+    let linked = pointers.linked();
+    if let Some(next) = linked.behind(at) {
+        if linked.entry_at(next).kind.is_free() {
             pointers.merge(at);
         }
     }
-    if let Some(last) = pointers.before(at) {
-        if pointers.entry_at(last).kind.is_free() {
+    let joined = pointers.linked();
+    if let Some(last) = joined.before(at) {
+        if joined.entry_at(last).kind.is_free() {
             pointers.merge(last);
         }
     }
 }
 
 /// Empties a live handle: its block, if it has one, is free and joined to its free neighbours, and its slot stays its own.
-pub(crate) fn empty(pointers: &mut LinkedZone, handle: Handle)
+pub(crate) fn empty(pointers: &mut GapZone, handle: Handle)
     requires sound { SoundZone pointers.old }
     requires live { IsTrue (is_handle pointers.old.heap.table handle) }
     requires here { IsFalse (is_lent pointers.old.heap.table handle) }
@@ -313,8 +319,9 @@ pub(crate) fn empty(pointers: &mut LinkedZone, handle: Handle)
     ensures loans { KeepsLoans pointers.old pointers.new }
     ensures sound { SoundZone pointers.new }
 {
-    if pointers.has_block(handle.number()) {
-        let at = pointers.block_of(handle);
+    let linked = pointers.linked();
+    if linked.has_block(handle.number()) {
+        let at = linked.block_of(handle);
         pointers.empty(handle);
         join(pointers, at);
     }
@@ -350,7 +357,7 @@ pub(crate) fn front(pointers: &LinkedZone, whole: u32, needed: u32) -> u32
 
 /// Gives the owner of a block `length` bytes, which need `needed` bytes of the block. What is over is free where it makes
 /// a block, and joined to the free block behind it.
-pub(crate) fn shrink(pointers: &mut LinkedZone, block: u32, needed: u32, length: u32)
+pub(crate) fn shrink(pointers: &mut GapZone, block: u32, needed: u32, length: u32)
     requires sound { Sound pointers.old.shape pointers.old.heap }
     requires block { IsTrue (has_block pointers.old.heap.table block) }
     requires here { IsFalse (is_lent pointers.old.heap.table block) }
@@ -360,11 +367,12 @@ pub(crate) fn shrink(pointers: &mut LinkedZone, block: u32, needed: u32, length:
     ensures shape { pointers.new.shape ≡ pointers.old.shape }
     ensures memory { pointers.new.memory ≡ pointers.old.memory }
 {
-    let spec = pointers.spec();
+    let linked = pointers.linked();
+    let spec = linked.spec();
     prove!(spec.base() + spec.limit() <= ADDRESS_END);
-    let at = pointers.place_of(block);
-    let whole = pointers.entry_at(at).size;
-    let taken = front(pointers, whole, needed);
+    let at = linked.place_of(block);
+    let whole = linked.entry_at(at).size;
+    let taken = front(linked, whole, needed);
     pointers.hold(block, taken, length);
     if taken < whole {
         join(pointers, at + taken);

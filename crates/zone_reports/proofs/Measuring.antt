@@ -12,7 +12,7 @@ use Rattle.zone_laws.proofs.Arranging.{total_size-used}
 use Rattle.zone_laws.proofs.GapAppend.{total_size-append}
 use Rattle.linked_zone.specs.Fit.{HasSizes}
 use Rattle.linked_zone.specs.Places.{EntryAt, SplitAt, FirstFree, none_free}
-use Rattle.zone_gaps.specs.Runs.{begins_fixed}
+use Rattle.fixed_index.specs.Runs.{begins_fixed}
 use Rattle.zone_gaps.proofs.Entries.{entry_size}
 use Rattle.zone_gaps.proofs.Pressing.{free-push_free, free-push_used}
 use Rattle.zone_gaps.proofs.Sizes.{all_both, total_size-push}

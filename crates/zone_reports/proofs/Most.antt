@@ -9,7 +9,7 @@ use Rattle.mac_base.specs.Reports.{largest}
 use Rattle.mac_base.specs.ZoneMap.{ZoneMap, free_size, is_free}
 use Rattle.zone_laws.proofs.GapParts.{first_gap, later_gaps, gaps-first}
 use Rattle.linked_zone.specs.Places.{none_free}
-use Rattle.zone_gaps.specs.Runs.{none_fixed, begins_fixed}
+use Rattle.fixed_index.specs.Runs.{none_fixed, begins_fixed}
 
 -- the most that the blocks between two fixed ones weigh, where those before the first block weigh r
 abbrev pub most : HandleTable → (Entry → ℕ) → ℕ → ZoneMap → ℕ

@@ -4,7 +4,7 @@ use Rattle.mac_base.specs.declared.block.Kind.{Kind}
 use Rattle.mac_base.specs.declared.block.Kind.TheVariants.{Free, Master, Ptr, Rel}
 use Rattle.mac_base.specs.HandleTable.{HandleTable, is_purgeable}
 use Rattle.mac_base.specs.ZoneMap.{ZoneMap, free_bytes, total_size}
-use Rattle.zone_gaps.specs.Runs.{none_fixed, begins_fixed}
+use Rattle.fixed_index.specs.Runs.{none_fixed, begins_fixed}
 use Rattle.zone_reports.specs.declared.rooms.GapRest.{GapRest}
 
 -- whether a block is free, or that of a handle that may be purged

@@ -3,7 +3,6 @@ use Rattle.mac_base.specs.declared.block.Entry.{Entry}
 use Rattle.mac_base.specs.ZoneMap.{total_size}
 use Rattle.zone_gaps.proofs.Opening.{run_lower, sizes_lower, run_upper, opened}
 use Rattle.zone_gaps.proofs.Owning.{Owned, owned, entry_owned, front_owned, rest_owned}
-use Rattle.zone_gaps.proofs.Settling.{owners-settled}
 use Rattle.linked_zone.specs.Loans.{KeepsLoans}
 use Rattle.zone_gaps.specs.Gaps.{Settled}
 use Rattle.zone_gaps.proofs.Laws.{settled-opened_after}
@@ -13,7 +12,7 @@ use Rattle.zone_gaps.proofs.arrange.open_after.Goals.{After-block_of-at, After-g
 
 -- the block's gap
 own : (c : After-block_of-at) → Owned c.args.zone.now c.args.handle c.block_of-at.result
-own c = owned c.args.zone.now c.args.handle c.block_of-at.result c.requires.settled c.requires.full c.requires.unlocked c.block_of-at.ensures
+own c = owned c.args.zone.now c.args.handle c.block_of-at.result c.requires.settled c.requires.full c.requires.unlocked (rw c.linked.ensures at c.block_of-at.ensures)
 
 -- where it begins
 start_is : (c : After-gap_start-start) → let o = own (goal.at.After-gap_start-start c).After-block_of-at in c.gap_start-start.result + total_size (o.place).front ≡ c.block_of-at.result
@@ -27,20 +26,20 @@ end_is c = let o = own (goal.at.After-gap_end-end c).After-block_of-at in c.gap_
 middle_is : (c : After-entry_at) → let o = own (goal.at.After-entry_at c).After-block_of-at in c.block_of-at.result + c.entry_at.result.size ≡ c.block_of-at.result + o.size
 middle_is c =
     let o = own (goal.at.After-entry_at c).After-block_of-at in
-    ap (λ (e : Entry). c.block_of-at.result + e.size) (c.entry_at.ensures (entry_owned c.args.zone.now c.args.handle c.block_of-at.result o))
+    ap (λ (e : Entry). c.block_of-at.result + e.size) ((rw c.linked-2.ensures at c.entry_at.ensures) (entry_owned c.args.zone.now c.args.handle c.block_of-at.result o))
 
 pub gap_start-start-requires : goal.gap_start-start-requires
 gap_start-start-requires c =
     let o = own (goal.at.gap_start-start-requires c).After-block_of-at in
-    record { front = front_owned c.args.zone.now c.args.handle c.block_of-at.result o; owners = owners-settled c.args.zone.now c.requires.settled; sizes = c.requires.settled.sizes }
+    record { front = front_owned c.args.zone.now c.args.handle c.block_of-at.result o }
 
 pub gap_end-end-requires : goal.gap_end-end-requires
 gap_end-end-requires c =
     let o = own (goal.at.gap_end-end-requires c).After-block_of-at in
-    record { rest = rest_owned c.args.zone.now c.args.handle c.block_of-at.result o; owners = owners-settled c.args.zone.now c.requires.settled; sizes = c.requires.settled.sizes }
+    record { rest = rest_owned c.args.zone.now c.args.handle c.block_of-at.result o }
 
 pub entry_at-requires : goal.entry_at-requires
-entry_at-requires c = entry_owned c.args.zone.now c.args.handle c.block_of-at.result (own (goal.at.entry_at-requires c).After-block_of-at)
+entry_at-requires c = rw c.linked-2.ensures (entry_owned c.args.zone.now c.args.handle c.block_of-at.result (own (goal.at.entry_at-requires c).After-block_of-at))
 
 pub overflow_add-middle : goal.overflow_add-middle
 overflow_add-middle c =

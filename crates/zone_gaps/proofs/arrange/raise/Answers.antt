@@ -1,8 +1,7 @@
 use Rattle.std.proofs.Common.{◌≡◌, ◌+◌, sym, subst}
 use Rattle.mac_base.specs.ZoneMap.{total_size}
 use Rattle.zone_gaps.proofs.Owning.{Owned, owned, front_owned, rest_owned}
-use Rattle.zone_gaps.proofs.Raising.{parcel_owned, run_others, sizes_others, raised}
-use Rattle.zone_gaps.proofs.Settling.{owners-settled}
+use Rattle.zone_gaps.proofs.Raising.{parcel_owned, loose_parcel, run_others, sizes_others, raised}
 use Rattle.linked_zone.specs.Loans.{KeepsLoans}
 use Rattle.zone_gaps.specs.Gaps.{Settled}
 use Rattle.zone_gaps.proofs.Laws.{settled-moved_high}
@@ -12,7 +11,7 @@ use Rattle.zone_gaps.proofs.arrange.raise.Goals.{After-block_of-at, After-gap_st
 
 -- the block's gap
 own : (c : After-block_of-at) → Owned c.args.zone.now c.args.handle c.block_of-at.result
-own c = owned c.args.zone.now c.args.handle c.block_of-at.result c.requires.settled c.requires.full c.requires.unlocked c.block_of-at.ensures
+own c = owned c.args.zone.now c.args.handle c.block_of-at.result c.requires.settled c.requires.full c.requires.unlocked (rw c.linked.ensures at c.block_of-at.ensures)
 
 -- where it begins
 start_is : (c : After-gap_start-start) → let o = own (goal.at.After-gap_start-start c).After-block_of-at in c.gap_start-start.result + total_size (o.place).front ≡ c.block_of-at.result
@@ -25,18 +24,19 @@ end_is c = let o = own (goal.at.After-gap_end-end c).After-block_of-at in c.gap_
 pub gap_start-start-requires : goal.gap_start-start-requires
 gap_start-start-requires c =
     let o = own (goal.at.gap_start-start-requires c).After-block_of-at in
-    record { front = front_owned c.args.zone.now c.args.handle c.block_of-at.result o; owners = owners-settled c.args.zone.now c.requires.settled; sizes = c.requires.settled.sizes }
+    record { front = front_owned c.args.zone.now c.args.handle c.block_of-at.result o }
 
 pub gap_end-end-requires : goal.gap_end-end-requires
 gap_end-end-requires c =
     let o = own (goal.at.gap_end-end-requires c).After-block_of-at in
-    record { rest = rest_owned c.args.zone.now c.args.handle c.block_of-at.result o; owners = owners-settled c.args.zone.now c.requires.settled; sizes = c.requires.settled.sizes }
+    record { rest = rest_owned c.args.zone.now c.args.handle c.block_of-at.result o }
 
 pub carry_up-high-requires : goal.carry_up-high-requires
 carry_up-high-requires c =
     let o = own (goal.at.carry_up-high-requires c).After-block_of-at in
     record {
       parcel = parcel_owned c.args.zone.now c.args.handle c.block_of-at.result c.requires.settled o c.gap_start-start.result c.gap_end-end.result (start_is (goal.at.carry_up-high-requires c).After-gap_start-start) (end_is (goal.at.carry_up-high-requires c).After-gap_end-end);
+      loose = loose_parcel c.args.zone.now c.args.handle c.block_of-at.result c.requires.settled o c.gap_start-start.result c.gap_end-end.result (start_is (goal.at.carry_up-high-requires c).After-gap_start-start) (end_is (goal.at.carry_up-high-requires c).After-gap_end-end);
       sizes = c.requires.settled.sizes;
     }
 

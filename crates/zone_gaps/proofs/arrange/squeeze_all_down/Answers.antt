@@ -4,7 +4,7 @@ use Rattle.mac_base.specs.Arrangement.{down}
 use Rattle.mac_base.specs.ZoneMap.{address_behind, total_size}
 use Rattle.mac_base.specs.ZoneSizes.{ZoneSizes}
 use Rattle.zone_gaps.specs.Runs.{arranged}
-use Rattle.zone_gaps.proofs.Sweeping.{Swept, Stop, none_swept, sizes_swept, owners_swept, rest_swept, run_swept, stop, swept_last, swept_on, all_swept, entry_stop, some_stop, within_stop, gap_swept}
+use Rattle.zone_gaps.proofs.Sweeping.{Swept, Stop, none_swept, sizes_swept, rest_swept, run_swept, stop, swept_last, swept_on, all_swept, entry_stop, some_stop, within_stop, gap_swept}
 use Rattle.linked_zone.specs.Loans.{KeepsLoans}
 use Rattle.zone_gaps.specs.Gaps.{Settled}
 use Rattle.zone_gaps.proofs.Laws.{settled-all_down}
@@ -24,14 +24,14 @@ done c = let g = (goal.at.After-press_down c).After-gap_end-end in
 
 pub loop-at-init : goal.loop-at-init
 loop-at-init c =
-    let base = c.base-at.ensures.value ∙ ap (λ (s : ZoneSizes). s.base) c.spec.ensures.sizes in
+    let base = c.base-at.ensures.value ∙ ap (λ (s : ZoneSizes). s.base) (rw c.linked-2.ensures at c.spec.ensures.sizes) in
     none_swept c.args.zone.now (c.base-at.result + 52) c.requires (let e : c.base-at.result + 52 ≡ address_behind c.args.zone.now.shape [] = omega (arith, base) in e)
 
 pub gap_end-end-requires : goal.gap_end-end-requires
 gap_end-end-requires c =
     let z = c.args.zone.now in
     let l = c.loop-at in
-    record { rest = rest_swept z l.zone l.at c.requires l.invariant; owners = owners_swept z l.zone l.at c.requires l.invariant; sizes = sizes_swept z l.zone l.at c.requires l.invariant }
+    record { rest = rest_swept z l.zone l.at c.requires l.invariant }
 
 pub press_down-requires : goal.press_down-requires
 press_down-requires c =
@@ -46,8 +46,9 @@ entry_at-at-requires c =
     let l = c.loop-at in
     let p = (goal.at.entry_at-at-requires c).After-press_down in
     let g = (goal.at.After-press_down p).After-gap_end-end in
-    entry_stop z l.zone l.at c.requires l.invariant c.gap_end-end.result (long g) c.press_down.new.zone (done p)
-    (stop z l.zone l.at c.requires l.invariant c.gap_end-end.result (long g) c.press_down.new.zone (done p) (subst (λ top. c.gap_end-end.result < top) c.zone_end-top.ensures.address c.if-end-top.true))
+    rw c.linked-then-end-top.ensures
+    (entry_stop z l.zone l.at c.requires l.invariant c.gap_end-end.result (long g) c.press_down.new.zone (done p)
+    (stop z l.zone l.at c.requires l.invariant c.gap_end-end.result (long g) c.press_down.new.zone (done p) (subst (λ top. c.gap_end-end.result < top) (rw c.linked.ensures at c.zone_end-top.ensures.address) c.if-end-top.true)))
 
 -- a fixed block stands behind it
 abbrev fixed : (c : After-entry_at-at) → let p = (goal.at.After-entry_at-at c).After-press_down in
@@ -56,7 +57,7 @@ fixed c =
     let z = c.args.zone.now in
     let l = c.loop-at in
     let p = (goal.at.After-entry_at-at c).After-press_down in
-    stop z l.zone l.at c.requires l.invariant c.gap_end-end.result (long (goal.at.After-press_down p).After-gap_end-end) c.press_down.new.zone (done p) (subst (λ top. c.gap_end-end.result < top) c.zone_end-top.ensures.address c.if-end-top.true)
+    stop z l.zone l.at c.requires l.invariant c.gap_end-end.result (long (goal.at.After-press_down p).After-gap_end-end) c.press_down.new.zone (done p) (subst (λ top. c.gap_end-end.result < top) (rw c.linked.ensures at c.zone_end-top.ensures.address) c.if-end-top.true)
 
 -- which is the one that is read
 size : (c : After-entry_at-at) → c.entry_at-at.result.size ≡ ((fixed c).here).size
@@ -64,7 +65,7 @@ size c =
     let z = c.args.zone.now in
     let l = c.loop-at in
     let p = (goal.at.After-entry_at-at c).After-press_down in
-    ap (λ (e : Entry). e.size) (c.entry_at-at.ensures (entry_stop z l.zone l.at c.requires l.invariant c.gap_end-end.result (long (goal.at.After-press_down p).After-gap_end-end) c.press_down.new.zone (done p) (fixed c)))
+    ap (λ (e : Entry). e.size) ((rw c.linked-then-end-top.ensures at c.entry_at-at.ensures) (entry_stop z l.zone l.at c.requires l.invariant c.gap_end-end.result (long (goal.at.After-press_down p).After-gap_end-end) c.press_down.new.zone (done p) (fixed c)))
 
 pub overflow_add-at-then-end-top : goal.overflow_add-at-then-end-top
 overflow_add-at-then-end-top c =
@@ -72,7 +73,7 @@ overflow_add-at-then-end-top c =
     let l = c.loop-at in
     let w = (goal.at.overflow_add-at-then-end-top c).After-entry_at-at in
     let p = (goal.at.After-entry_at-at w).After-press_down in
-    omega (arith, size w, within_stop z l.zone l.at c.requires l.invariant c.gap_end-end.result (long (goal.at.After-press_down p).After-gap_end-end) c.press_down.new.zone (done p) (fixed w), c.zone_end-top.ensures.address, c.zone_end-top.ensures.reach)
+    omega (arith, size w, within_stop z l.zone l.at c.requires l.invariant c.gap_end-end.result (long (goal.at.After-press_down p).After-gap_end-end) c.press_down.new.zone (done p) (fixed w), (rw c.linked.ensures at c.zone_end-top.ensures.address), c.zone_end-top.ensures.reach)
 
 pub loop-at-smaller-then-end-top : goal.loop-at-smaller-then-end-top
 loop-at-smaller-then-end-top c =
@@ -97,10 +98,10 @@ loop-at-preserved c =
     let z = c.args.zone.now in
     let l = c.loop-at in
     let p = (goal.at.loop-at-preserved c).After-press_down in
-    swept_last z l.zone l.at c.requires l.invariant c.gap_end-end.result (long (goal.at.After-press_down p).After-gap_end-end) c.press_down.new.zone (done p) (subst (λ top. top ≤ c.gap_end-end.result) c.zone_end-top.ensures.address c.if-end-top.false)
+    swept_last z l.zone l.at c.requires l.invariant c.gap_end-end.result (long (goal.at.After-press_down p).After-gap_end-end) c.press_down.new.zone (done p) (subst (λ top. top ≤ c.gap_end-end.result) (rw c.linked.ensures at c.zone_end-top.ensures.address) c.if-end-top.false)
 
 pub returns : goal.returns
 returns c =
     let z = c.args.zone.now in
-    let done = all_swept c.args.zone.now c.loop-at.zone c.loop-at.at c.requires c.loop-at.invariant (subst (λ top. top ≤ c.loop-at.at) c.zone_end-top.ensures.address c.loop-at-test.false) in
+    let done = all_swept c.args.zone.now c.loop-at.zone c.loop-at.at c.requires c.loop-at.invariant (subst (λ top. top ≤ c.loop-at.at) (rw c.linked.ensures at c.zone_end-top.ensures.address) c.loop-at-test.false) in
     record { zone = done; loans = subst (KeepsLoans z) (sym done) (keeps_loans-all_down z c.requires); settled = subst Settled (sym done) (settled-all_down z c.requires) }

@@ -7,7 +7,7 @@ use Rattle.zone_gaps.specs.Gaps.{Settled, GapFrom, with_gap}
 use Rattle.zone_gaps.specs.Runs.{RunAt}
 use Rattle.zone_gaps.proofs.Laws.{settled-gap}
 use Rattle.zone_gaps.proofs.LoansKept.{keeps_loans-gap}
-use Rattle.zone_gaps.proofs.Settling.{owners-settled, run_of_rest}
+use Rattle.zone_gaps.proofs.Settling.{run_of_rest}
 use Rattle.zone_gaps.proofs.Squeezing.{gap_is, rest_from, zone_from, free_from}
 use Rattle.zone_gaps.proofs.arrange.squeeze_down.Goals as goal
 use Rattle.zone_gaps.proofs.arrange.squeeze_down.Goals.{After-press_down}
@@ -24,7 +24,7 @@ zone_is c from =
 pub gap_end-end-requires : goal.gap_end-end-requires
 gap_end-end-requires c =
     let z = c.args.zone.now in
-    record { rest = rest_from z c.args.at c.requires.gap; owners = owners-settled z c.requires.settled; sizes = (c.requires.settled).sizes }
+    record { rest = rest_from z c.args.at c.requires.gap }
 
 pub press_down-requires : goal.press_down-requires
 press_down-requires c =

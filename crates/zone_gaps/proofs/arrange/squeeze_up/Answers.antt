@@ -6,7 +6,6 @@ use Rattle.linked_zone.specs.Loans.{KeepsLoans}
 use Rattle.zone_laws.proofs.Arranging.{up-IsArrangement}
 use Rattle.zone_laws.proofs.GapParts.{gap-IsGap}
 use Rattle.zone_gaps.specs.Gaps.{Settled, GapBetween, with_gap}
-use Rattle.zone_gaps.specs.Runs.{RunAt}
 use Rattle.zone_gaps.proofs.Laws.{settled-gap}
 use Rattle.zone_gaps.proofs.LoansKept.{keeps_loans-gap}
 use Rattle.zone_gaps.proofs.Settling.{rest_of_gap, run_of_rest}

@@ -3,46 +3,46 @@ use Rattle.mac_base.specs.declared.block.Entry.{Entry}
 use Rattle.mac_base.specs.Gap.{ends_with}
 use Rattle.zone_gaps.proofs.Entries.{entry_within}
 use Rattle.zone_gaps.proofs.Rooms.{Beside, beside, entry_beside, place-beside, rest_beside, run_found, gap_found}
-use Rattle.zone_gaps.proofs.Settling.{owners-settled}
 use Rattle.zone_gaps.proofs.room.gap_behind.Goals as goal
 use Rattle.zone_gaps.proofs.room.gap_behind.Goals.{After-place_of-at, After-entry_at}
 
 -- the gap behind the block
 own : (c : After-place_of-at) → Beside c.args.zone.now c.args.block c.place_of-at.result
-own c = beside c.args.zone.now c.args.block c.place_of-at.result c.requires.settled c.requires.stays c.place_of-at.ensures
+own c = beside c.args.zone.now c.args.block c.place_of-at.result c.requires.settled c.requires.stays (rw c.linked.ensures at c.place_of-at.ensures)
 
 pub entry_at-requires : goal.entry_at-requires
-entry_at-requires c = entry_beside c.args.zone.now c.args.block c.place_of-at.result (own (goal.at.entry_at-requires c).After-place_of-at)
+entry_at-requires c = rw c.linked-3.ensures (entry_beside c.args.zone.now c.args.block c.place_of-at.result (own (goal.at.entry_at-requires c).After-place_of-at))
 
 -- where it begins
 start_is : (c : After-entry_at) → let b = own (goal.at.After-entry_at c).After-place_of-at in c.place_of-at.result + c.entry_at.result.size ≡ c.place_of-at.result + b.size
 start_is c =
     let b = own (goal.at.After-entry_at c).After-place_of-at in
-    ap (λ (e : Entry). c.place_of-at.result + e.size) (c.entry_at.ensures (entry_beside c.args.zone.now c.args.block c.place_of-at.result b))
+    ap (λ (e : Entry). c.place_of-at.result + e.size) ((rw c.linked-3.ensures at c.entry_at.ensures) (entry_beside c.args.zone.now c.args.block c.place_of-at.result b))
 
 pub overflow_add-start : goal.overflow_add-start
 overflow_add-start c =
     let w = (goal.at.overflow_add-start c).After-entry_at in
     let b = own (goal.at.overflow_add-start c).After-place_of-at in
-    omega (arith, start_is w, entry_within c.args.zone.now c.place_of-at.result (entry_beside c.args.zone.now c.args.block c.place_of-at.result b), c.zone_end.ensures.address, c.zone_end.ensures.reach)
+    omega (arith, start_is w, entry_within c.args.zone.now c.place_of-at.result (entry_beside c.args.zone.now c.args.block c.place_of-at.result b), rw c.linked-2.ensures at c.zone_end.ensures.address, c.zone_end.ensures.reach)
 
 pub gap_end-end-requires : goal.gap_end-end-requires
 gap_end-end-requires c =
     let z = c.args.zone.now in
     let b = own (goal.at.gap_end-end-requires c).After-place_of-at in
-    record { rest = rest_beside z c.args.block c.place_of-at.result b (c.place_of-at.result + c.entry_at.result.size) (start_is (goal.at.gap_end-end-requires c).After-entry_at); owners = owners-settled z c.requires.settled; sizes = c.requires.settled.sizes }
+    record { rest = rest_beside z c.args.block c.place_of-at.result b (c.place_of-at.result + c.entry_at.result.size) (start_is (goal.at.gap_end-end-requires c).After-entry_at) }
 
-pub free_between-room-requires : goal.free_between-room-requires
-free_between-room-requires c =
+pub free_between-room-requires-clause-run : goal.free_between-room-requires-clause-run
+free_between-room-requires-clause-run c =
     let z = c.args.zone.now in
     let start = c.place_of-at.result + c.entry_at.result.size in
-    let b = own (goal.at.free_between-room-requires c).After-place_of-at in
-    let is = start_is (goal.at.free_between-room-requires c).After-entry_at in
-    record {
-      run = run_found z (λ g. ends_with c.args.block g.before) b.gap b.found start c.gap_end-end.result
-          (is ∙ place-beside z c.args.block c.place_of-at.result b) (c.gap_end-end.ensures (rest_beside z c.args.block c.place_of-at.result b start is)) c.requires.settled;
-      sizes = c.requires.settled.sizes;
-    }
+    let b = own (goal.at.free_between-room-requires-clause-run c).After-place_of-at in
+    let is = start_is (goal.at.free_between-room-requires-clause-run c).After-entry_at in
+    rw c.linked-4.ensures
+    (run_found z (λ g. ends_with c.args.block g.before) b.gap b.found start c.gap_end-end.result
+    (is ∙ place-beside z c.args.block c.place_of-at.result b) (c.gap_end-end.ensures (rest_beside z c.args.block c.place_of-at.result b start is)) c.requires.settled)
+
+pub free_between-room-requires-clause-sizes : goal.free_between-room-requires-clause-sizes
+free_between-room-requires-clause-sizes c = rw c.linked-4.ensures c.requires.settled.sizes
 
 pub returns : goal.returns
 returns c =
@@ -51,4 +51,4 @@ returns c =
     let b = own (goal.at.returns c).After-place_of-at in
     let is = start_is (goal.at.returns c).After-entry_at in
     gap_found z (λ g. ends_with c.args.block g.before) b.gap b.found start c.gap_end-end.result
-    (is ∙ place-beside z c.args.block c.place_of-at.result b) (c.gap_end-end.ensures (rest_beside z c.args.block c.place_of-at.result b start is)) c.requires.settled c.free_between-room.result c.free_between-room.ensures
+    (is ∙ place-beside z c.args.block c.place_of-at.result b) (c.gap_end-end.ensures (rest_beside z c.args.block c.place_of-at.result b start is)) c.requires.settled c.free_between-room.result (rw c.linked-4.ensures at c.free_between-room.ensures)

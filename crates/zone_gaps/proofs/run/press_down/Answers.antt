@@ -1,13 +1,13 @@
 use Rattle.std.proofs.Common.{◌≡◌, ◌+◌, ◌-◌, ◌∙◌, sym, ap, subst, arith}
 use Rattle.mac_base.specs.declared.block.Entry.{Entry}
 use Rattle.zone_gaps.specs.Runs.{RunAt, UsedUpTo}
-use Rattle.zone_gaps.proofs.Pressing.{Pressing, Ahead, none_pressed, all_pressed, run_next, within_used, next_is_behind, parcel_next, passed, stayed, ahead, entry_ahead, pair_ahead, merged, first_free, within_ahead, some_size}
+use Rattle.zone_gaps.proofs.Pressing.{Pressing, Ahead, none_pressed, all_pressed, run_next, within_used, next_is_behind, parcel_next, loose_parcel, passed, stayed, ahead, entry_ahead, pair_ahead, merged, first_free, within_ahead, some_size}
 use Rattle.zone_gaps.proofs.run.press_down.Goals as goal
 use Rattle.zone_gaps.proofs.run.press_down.Goals.{After-used_end-behind, After-entry_at-size, then-free-next, else-free-next, then-free-next-2, else-free-next-2}
 
 -- the blocks in use that come next
 abbrev coming : (c : After-used_end-behind) (run : RunAt c.args.zone.now c.args.start c.args.end) → UsedUpTo (c.loop-next.invariant run).rest c.loop-next.next c.used_end-behind.result
-coming c run = c.used_end-behind.ensures (run_next c.args.zone.now run c.loop-next.zone c.loop-next.free c.loop-next.next (c.loop-next.invariant run))
+coming c run = (rw c.linked.ensures at c.used_end-behind.ensures) (run_next c.args.zone.now run c.loop-next.zone c.loop-next.free c.loop-next.next (c.loop-next.invariant run))
 
 -- or a free block
 unused : (c : After-entry_at-size) (run : RunAt c.args.zone.now c.args.start c.args.end) → Ahead (c.loop-next.invariant run).rest
@@ -16,19 +16,23 @@ unused c run =
 
 -- of the size that is read
 size : (c : After-entry_at-size) (run : RunAt c.args.zone.now c.args.start c.args.end) → c.entry_at-size.result.size ≡ ((unused c run).here).size
-size c run = ap (λ (e : Entry). e.size) (c.entry_at-size.ensures (entry_ahead c.args.zone.now run c.loop-next.zone c.loop-next.free c.loop-next.next (c.loop-next.invariant run) (unused c run)))
+size c run = ap (λ (e : Entry). e.size) ((rw c.linked-else-next-behind.ensures at c.entry_at-size.ensures) (entry_ahead c.args.zone.now run c.loop-next.zone c.loop-next.free c.loop-next.next (c.loop-next.invariant run) (unused c run)))
 
 pub loop-next-init : goal.loop-next-init
 loop-next-init c run = none_pressed c.args.zone.now run
 
 pub used_end-behind-requires : goal.used_end-behind-requires
-used_end-behind-requires c = let run = c.requires.run in run_next c.args.zone.now run c.loop-next.zone c.loop-next.free c.loop-next.next (c.loop-next.invariant run)
+used_end-behind-requires c = let run = c.requires.run in rw c.linked.ensures (run_next c.args.zone.now run c.loop-next.zone c.loop-next.free c.loop-next.next (c.loop-next.invariant run))
 
 pub carry-requires : goal.carry-requires
 carry-requires c =
     let run = c.requires.run in
     let l = c.loop-next in
-    parcel_next c.args.zone.now run l.zone l.free l.next (l.invariant run) c.used_end-behind.result (coming (goal.at.carry-requires c).After-used_end-behind run) c.if-free-next.true
+    let u = coming (goal.at.carry-requires c).After-used_end-behind run in
+    record {
+      parcel = parcel_next c.args.zone.now run l.zone l.free l.next (l.invariant run) c.used_end-behind.result u c.if-free-next.true;
+      loose = loose_parcel c.args.zone.now run l.zone l.free l.next (l.invariant run) c.used_end-behind.result u c.requires.sizes c.if-free-next.true;
+    }
 
 pub overflow_add-free : goal.overflow_add-free
 overflow_add-free c =
@@ -56,7 +60,7 @@ entry_at-size-requires c =
     let l = c.loop-next in
     let p = l.invariant run in
     let u = coming (goal.at.entry_at-size-requires c).After-used_end-behind run in
-    entry_ahead z run l.zone l.free l.next p (ahead z run l.zone l.free l.next p c.used_end-behind.result u c.requires.sizes c.loop-next-test.true c.if-next-behind.false)
+    rw c.linked-else-next-behind.ensures (entry_ahead z run l.zone l.free l.next p (ahead z run l.zone l.free l.next p c.used_end-behind.result u c.requires.sizes c.loop-next-test.true c.if-next-behind.false))
 
 pub merge-requires : goal.merge-requires
 merge-requires c =

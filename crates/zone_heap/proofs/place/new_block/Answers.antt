@@ -11,14 +11,14 @@ use Rattle.zone_heap.proofs.place.new_block.Goals.{After-need_for-needed, In-Som
 
 -- how many bytes are needed
 size : (c : After-need_for-needed) → c.need_for-needed.result ≡ need c.args.zone.now.shape.heads c.args.length
-size c = c.need_for-needed.ensures ∙ ap (λ heads. need heads c.args.length) (c.heads.ensures ∙ ap (λ (s : ZoneSizes). s.heads) c.spec.ensures.sizes)
+size c = c.need_for-needed.ensures ∙ ap (λ heads. need heads c.args.length) (c.heads.ensures ∙ ap (λ (s : ZoneSizes). s.heads) (rw c.linked-linked.ensures at c.spec.ensures.sizes))
 
 -- the block and the slot
 chosen : (c : In-Some-take) → Chosen c.open_lowest.new.zone c.in-Some-take.handle c.args.length c.need_for-needed.result c.in-Some.at
 chosen c = record {
   sound = c.in-Some.ensures.sound.sound;
   low = c.in-Some.ensures.room.low;
-  size = c.need_for-needed.ensures ∙ ap (λ heads. need heads c.args.length) (c.heads.ensures ∙ ap (λ (s : ZoneSizes). s.heads) c.spec.ensures.sizes) ∙ ap (λ (w : ZoneState). need w.shape.heads c.args.length) (sym c.in-Some.ensures.room.zone);
+  size = c.need_for-needed.ensures ∙ ap (λ heads. need heads c.args.length) (c.heads.ensures ∙ ap (λ (s : ZoneSizes). s.heads) (rw c.linked-linked.ensures at c.spec.ensures.sizes)) ∙ ap (λ (w : ZoneState). need w.shape.heads c.args.length) (sym c.in-Some.ensures.room.zone);
   front = c.in-Some-take.ensures.0;
 }
 
@@ -29,7 +29,7 @@ after c p = placed-done c.open_lowest.new.zone c.take.new.self c.cut.new.pointer
 
 pub returns-in_default-clause-attempt : goal.returns-in_default-clause-attempt
 returns-in_default-clause-attempt c = block_refused c.args.zone.now c.open_lowest.new.zone c.need_for-needed.result c.args.length (size (goal.at.returns-in_default-clause-attempt c).After-need_for-needed) c.in_default.ensures.room
-    (slot_there _ _ c.has_slot.ensures c.if-not-has_slot.false)
+    (slot_there _ _ (rw c.linked-linked.ensures at c.has_slot.ensures) c.if-not-has_slot.false)
 
 pub cut-requires : goal.cut-requires
 cut-requires c = can-cut c.open_lowest.new.zone c.take.new.self c.in-Some-take.handle c.args.length c.need_for-needed.result c.in-Some.at (chosen (goal.at.cut-requires c).In-Some-take) c.in-Some-take.ensures.1
@@ -46,7 +46,7 @@ pub returns-clause-attempt : goal.returns-clause-attempt
 returns-clause-attempt c =
     let p = chosen (goal.at.returns-clause-attempt c).In-Some-take in
     block_served c.args.zone.now c.open_lowest.new.zone c.point.new.self c.in-Some-take.handle c.args.length c.need_for-needed.result c.in-Some.at c.in-Some.ensures.room p
-    (slot_there _ _ c.has_slot.ensures c.if-not-has_slot.false) (after (goal.at.returns-clause-attempt c).After-point p)
+    (slot_there _ _ (rw c.linked-linked.ensures at c.has_slot.ensures) c.if-not-has_slot.false) (after (goal.at.returns-clause-attempt c).After-point p)
 
 pub returns-clause-loans : goal.returns-clause-loans
 returns-clause-loans c =

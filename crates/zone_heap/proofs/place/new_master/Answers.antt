@@ -14,7 +14,7 @@ use Rattle.zone_heap.proofs.place.new_master.Goals.{In-Some, After-build_master}
 
 -- how many bytes are needed
 size : (c : In-Some) → c.need_for-needed.result ≡ need c.args.zone.now.shape.heads master_length
-size c = c.need_for-needed.ensures ∙ ap (λ heads. need heads master_length) (c.heads-heads.ensures ∙ ap (λ (s : ZoneSizes). s.heads) c.spec-spec.ensures.sizes)
+size c = c.need_for-needed.ensures ∙ ap (λ heads. need heads master_length) (c.heads-heads.ensures ∙ ap (λ (s : ZoneSizes). s.heads) (rw c.linked.ensures at c.spec-spec.ensures.sizes))
 
 -- the block
 chosen : (c : In-Some) → ChosenBlock c.clear_lowest.new.zone master_length c.need_for-needed.result c.in-Some.at
@@ -26,7 +26,7 @@ after c p = master-done c.clear_lowest.new.zone c.need_for-needed.result c.in-So
 
 pub returns-in_default-clause-attempt : goal.returns-in_default-clause-attempt
 returns-in_default-clause-attempt c = master_refused c.args.zone.now c.clear_lowest.new.zone c.need_for-needed.result
-    (c.need_for-needed.ensures ∙ ap (λ heads. need heads master_length) (c.heads-heads.ensures ∙ ap (λ (s : ZoneSizes). s.heads) c.spec-spec.ensures.sizes)) c.in_default.ensures.room
+    (c.need_for-needed.ensures ∙ ap (λ heads. need heads master_length) (c.heads-heads.ensures ∙ ap (λ (s : ZoneSizes). s.heads) (rw c.linked.ensures at c.spec-spec.ensures.sizes))) c.in_default.ensures.room
 
 pub cut-requires : goal.cut-requires
 cut-requires c = block_front c.clear_lowest.new.zone master_length c.need_for-needed.result c.in-Some.at (chosen (goal.at.cut-requires c).In-Some)
@@ -37,10 +37,10 @@ build_master-requires c = can-fix c.clear_lowest.new.zone master_length c.need_f
 pub overflow_add-result : goal.overflow_add-result
 overflow_add-result c =
     let z = c.clear_lowest.new.zone in
-    let base : c.base.result ≡ z.shape.base = c.base.ensures.value ∙ ap (λ (s : ZoneSizes). s.base) c.spec-spec.ensures.sizes ∙ ap (λ (w : ZoneState). w.shape.base) (sym c.in-Some.ensures.room.zone) in
-    let limit : c.limit.result ≡ z.shape.limit = c.limit.ensures.value ∙ ap (λ (s : ZoneSizes). s.limit) c.spec-spec.ensures.sizes ∙ ap (λ (w : ZoneState). w.shape.limit) (sym c.in-Some.ensures.room.zone) in
+    let base : c.base.result ≡ z.shape.base = c.base.ensures.value ∙ ap (λ (s : ZoneSizes). s.base) (rw c.linked.ensures at c.spec-spec.ensures.sizes) ∙ ap (λ (w : ZoneState). w.shape.base) (sym c.in-Some.ensures.room.zone) in
+    let limit : c.limit.result ≡ z.shape.limit = c.limit.ensures.value ∙ ap (λ (s : ZoneSizes). s.limit) (rw c.linked.ensures at c.spec-spec.ensures.sizes) ∙ ap (λ (w : ZoneState). w.shape.limit) (sym c.in-Some.ensures.room.zone) in
     let head : c.head_size.result ≡ head_size z.shape.heads =
-    c.head_size.ensures ∙ ap head_size (c.heads-heads.ensures ∙ ap (λ (s : ZoneSizes). s.heads) c.spec-spec.ensures.sizes) ∙ ap (λ (w : ZoneState). head_size w.shape.heads) (sym c.in-Some.ensures.room.zone) in
+    c.head_size.ensures ∙ ap head_size (c.heads-heads.ensures ∙ ap (λ (s : ZoneSizes). s.heads) (rw c.linked.ensures at c.spec-spec.ensures.sizes)) ∙ ap (λ (w : ZoneState). head_size w.shape.heads) (sym c.in-Some.ensures.room.zone) in
     let near = contents_near z c.in-Some.at c.in-Some.ensures.sound.sound (chosen (goal.at.overflow_add-result c).In-Some).low.free in
     omega (arith, c.if-prove.false)
 
@@ -50,7 +50,7 @@ returns-clause-attempt c =
     let k = c.need_for-needed.result in let at = c.in-Some.at in
     let p = chosen (goal.at.returns-clause-attempt c).In-Some in
     let number : at + c.head_size.result ≡ first_slot z k at p =
-    ap (λ n. at + n) (c.head_size.ensures ∙ ap head_size (c.heads-heads.ensures ∙ ap (λ (s : ZoneSizes). s.heads) c.spec-spec.ensures.sizes) ∙ ap (λ (w : ZoneState). head_size w.shape.heads) (sym c.in-Some.ensures.room.zone)) in
+    ap (λ n. at + n) (c.head_size.ensures ∙ ap head_size (c.heads-heads.ensures ∙ ap (λ (s : ZoneSizes). s.heads) (rw c.linked.ensures at c.spec-spec.ensures.sizes)) ∙ ap (λ (w : ZoneState). head_size w.shape.heads) (sym c.in-Some.ensures.room.zone)) in
     subst (λ x. IsServed NewMaster c.args.zone.now x c.build_master.new.self) (sym number)
     (master_served c.args.zone.now z k at (size (goal.at.returns-clause-attempt c).In-Some) c.in-Some.ensures.room c.build_master.new.self p (after (goal.at.returns-clause-attempt c).After-build_master p))
 

@@ -13,7 +13,7 @@ use Rattle.zone_heap.proofs.place.new_pointer.Goals.{In-Some, After-fix}
 
 -- how many bytes are needed
 size : (c : In-Some) → c.need_for-needed.result ≡ need c.args.zone.now.shape.heads c.args.length
-size c = c.need_for-needed.ensures ∙ ap (λ heads. need heads c.args.length) (c.heads.ensures ∙ ap (λ (s : ZoneSizes). s.heads) c.spec.ensures.sizes)
+size c = c.need_for-needed.ensures ∙ ap (λ heads. need heads c.args.length) (c.heads.ensures ∙ ap (λ (s : ZoneSizes). s.heads) (rw c.linked.ensures at c.spec.ensures.sizes))
 
 -- the block
 chosen : (c : In-Some) → ChosenBlock c.clear_lowest.new.zone c.args.length c.need_for-needed.result c.in-Some.at
@@ -25,7 +25,7 @@ after c p = fixed-done c.clear_lowest.new.zone c.args.length c.need_for-needed.r
 
 pub returns-in_default-clause-attempt : goal.returns-in_default-clause-attempt
 returns-in_default-clause-attempt c = pointer_refused c.args.zone.now c.clear_lowest.new.zone c.need_for-needed.result c.args.length
-    (c.need_for-needed.ensures ∙ ap (λ heads. need heads c.args.length) (c.heads.ensures ∙ ap (λ (s : ZoneSizes). s.heads) c.spec.ensures.sizes)) c.in_default.ensures.room
+    (c.need_for-needed.ensures ∙ ap (λ heads. need heads c.args.length) (c.heads.ensures ∙ ap (λ (s : ZoneSizes). s.heads) (rw c.linked.ensures at c.spec.ensures.sizes))) c.in_default.ensures.room
 
 pub cut-requires : goal.cut-requires
 cut-requires c = block_front c.clear_lowest.new.zone c.args.length c.need_for-needed.result c.in-Some.at (chosen (goal.at.cut-requires c).In-Some)

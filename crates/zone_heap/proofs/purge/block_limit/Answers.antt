@@ -1,8 +1,7 @@
-use Rattle.std.proofs.Common.{◌≡◌, ◌+◌, ◌≤◌, ◌<◌, ◌∙◌, sym, ap, subst, arith, true, false, None}
+use Rattle.std.proofs.Common.{◌+◌, ◌∙◌, sym, ap, arith}
 use Rattle.std.specs.Prelude.{is_some, nat_le}
 use Rattle.std.proofs.lemmas.Bool.{le-leb}
-use Rattle.mac_base.specs.ZoneMap.{is_free}
-use Rattle.zone_heap.specs.Purge.{BlocksAt, ShortBlocks, bounds_free, bytes_before, counts}
+use Rattle.zone_heap.specs.Purge.{BlocksAt, ShortBlocks}
 use Rattle.zone_heap.proofs.GapWalks.{some-purged, too-many}
 use Rattle.zone_heap.proofs.RunWalks.{none_measured, measured_all, measured_free, measured_used, measured_more, measured_found, within_measured}
 use Rattle.zone_heap.proofs.Walks.{Facing, bytes_facing, entry_facing, facing, facing_read, owner_facing, rest_walked, walked_on, within_facing}

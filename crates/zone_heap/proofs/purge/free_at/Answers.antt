@@ -1,6 +1,4 @@
-use Rattle.std.proofs.Common.{◌≡◌, ◌∙◌, sym, ap, true, false}
-use Rattle.mac_base.specs.declared.block.Entry.{Entry}
-use Rattle.mac_base.specs.ZoneMap.{is_free}
+use Rattle.std.proofs.Common.{◌∙◌, sym}
 use Rattle.zone_heap.specs.Purge.{BlocksAt}
 use Rattle.zone_heap.proofs.RunWalks.{front_free, front_none, front_used}
 use Rattle.zone_heap.proofs.Walks.{Facing, entry_facing, facing, facing_read, none_walked}

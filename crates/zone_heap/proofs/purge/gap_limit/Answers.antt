@@ -1,9 +1,9 @@
-use Rattle.std.proofs.Common.{◌≡◌, ◌+◌, ◌∙◌, sym, ap, subst, arith, true, false}
+use Rattle.std.proofs.Common.{◌+◌, ◌∙◌, sym, ap, arith}
 use Rattle.std.specs.Prelude.{is_some}
 use Rattle.std.proofs.lemmas.Bool.{le-leb}
-use Rattle.zone_heap.specs.Purge.{BlocksAt, ShortGaps, bounds_gap, counts}
-use Rattle.zone_heap.proofs.GapWalks.{Sought, none_sought, sought_all, sought_bound, sought_on, sought_more, sought_found, within_sought, bounds-counts, bounds-other, some-purged, too-many}
-use Rattle.zone_heap.proofs.Walks.{Walked, Facing, bytes_facing, entry_facing, facing, facing_read, owner_facing, rest_walked, walked_on, within_facing}
+use Rattle.zone_heap.specs.Purge.{ShortGaps}
+use Rattle.zone_heap.proofs.GapWalks.{none_sought, sought_all, sought_bound, sought_on, sought_more, sought_found, within_sought, bounds-counts, bounds-other, some-purged, too-many}
+use Rattle.zone_heap.proofs.Walks.{Facing, bytes_facing, entry_facing, facing, facing_read, owner_facing, rest_walked, walked_on, within_facing}
 use Rattle.zone_heap.proofs.purge.gap_limit.Goals as goal
 use Rattle.zone_heap.proofs.purge.gap_limit.Goals.{After-entry_at-here, else-not-counts-via-then-not-counts+else-is_fixed, else-not-counts-via-else-not-counts}
 

@@ -1,8 +1,7 @@
-use Rattle.std.proofs.Common.{◌≡◌, ◌+◌, ◌∙◌, sym, ap, subst, arith, true, false}
-use Rattle.mac_base.specs.declared.block.Entry.{Entry}
-use Rattle.zone_heap.specs.Purge.{BlocksAt, bounds_gap, counts}
+use Rattle.std.proofs.Common.{◌+◌, ◌∙◌, sym, subst, arith}
+use Rattle.zone_heap.specs.Purge.{BlocksAt}
 use Rattle.zone_heap.proofs.GapWalks.{Counted, none_counted, counted_all, counted_bound, counted_more, counted_on, within_counted, bounds-other}
-use Rattle.zone_heap.proofs.Walks.{Walked, Facing, bytes_facing, entry_facing, facing, facing_read, owner_facing, within_facing}
+use Rattle.zone_heap.proofs.Walks.{Facing, bytes_facing, entry_facing, facing, facing_read, owner_facing, within_facing}
 use Rattle.zone_heap.proofs.purge.gap_room.Goals as goal
 use Rattle.zone_heap.proofs.purge.gap_room.Goals.{After-entry_at-here, then-counts, else-counts+else-is_fixed}
 

@@ -1,4 +1,4 @@
-use Rattle.std.proofs.Common.{◌≡◌, ◌<◌, ◌∙◌, sym, ap, arith, refl, true, false}
+use Rattle.std.proofs.Common.{◌≡◌, ◌<◌, ◌∙◌, sym, arith, refl, true, false}
 use Rattle.std.specs.Prelude.{is_some, nat_le}
 use Rattle.mac_base.specs.ZoneMap.{largest_free}
 use Rattle.zone_heap.proofs.RunWalks.{large-found, large-none, none-needed}

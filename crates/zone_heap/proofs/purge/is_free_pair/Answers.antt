@@ -1,9 +1,8 @@
-use Rattle.std.proofs.Common.{◌≡◌, ◌∙◌, sym, ap, true, false, Bool}
+use Rattle.std.proofs.Common.{◌∙◌, sym, ap}
 use Rattle.std.specs.Prelude.{◌&&◌}
 use Rattle.mac_base.specs.declared.block.Entry.{Entry}
 use Rattle.mac_base.specs.Suits.{starts_free}
 use Rattle.mac_base.specs.ZoneMap.{is_free}
-use Rattle.zone_laws.proofs.Maps.{true_both}
 use Rattle.zone_heap.proofs.JoiningAll.{next-block, none_free, used_first}
 use Rattle.zone_heap.proofs.purge.is_free_pair.Goals as goal
 

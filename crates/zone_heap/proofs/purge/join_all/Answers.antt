@@ -1,4 +1,4 @@
-use Rattle.std.proofs.Common.{◌≡◌, ◌+◌, ◌≤◌, ◌∙◌, refl, sym, ap, subst, arith, [], true, false, length}
+use Rattle.std.proofs.Common.{◌≡◌, ◌+◌, ◌≤◌, ◌∙◌, refl, sym, ap, subst, arith, [], length}
 use Rattle.mac_base.specs.declared.block.Entry.{Entry}
 use Rattle.mac_base.specs.ZoneMap.{address_behind}
 use Rattle.mac_base.specs.ZoneSizes.{ZoneSizes}
@@ -11,29 +11,29 @@ use Rattle.zone_heap.proofs.purge.join_all.Goals.{In-Some}
 coming : (c : In-Some) → JoinedTo c.args.zone.now c.loop-free.zone c.in-Some.free
 coming c =
     let l = c.loop-free in
-    let f = c.in-Some.ensures.next (split_joined c.args.zone.now l.zone l.at l.invariant) in
+    let f = (rw c.linked-in-loop-free.ensures at c.in-Some.ensures.next) (split_joined c.args.zone.now l.zone l.at l.invariant) in
     passed_to c.args.zone.now l.zone f.passed f.size f.behind l.at c.in-Some.free l.invariant f.splits f.used f.place
 
 -- not below the last
 higher : (c : In-Some) → c.loop-free.at ≤ c.in-Some.free
 higher c =
     let l = c.loop-free in
-    let f = c.in-Some.ensures.next (split_joined c.args.zone.now l.zone l.at l.invariant) in
+    let f = (rw c.linked-in-loop-free.ensures at c.in-Some.ensures.next) (split_joined c.args.zone.now l.zone l.at l.invariant) in
     let there = f.place in omega arith
 
 pub loop-free-init : goal.loop-free-init
 loop-free-init c =
-    let base = c.base-at.ensures.value ∙ ap (λ (s : ZoneSizes). s.base) c.spec.ensures.sizes in
+    let base = c.base-at.ensures.value ∙ ap (λ (s : ZoneSizes). s.base) (rw c.linked-2.ensures at c.spec.ensures.sizes) in
     none_joined c.args.zone.now (c.base-at.result + 52) (let e : c.base-at.result + 52 ≡ address_behind c.args.zone.now.shape [] = omega (arith, base) in e) c.requires
 
 pub next_free-requires : goal.next_free-requires
-next_free-requires c = split_joined c.args.zone.now c.loop-free.zone c.loop-free.at c.loop-free.invariant
+next_free-requires c = rw c.linked-in-loop-free.ensures (split_joined c.args.zone.now c.loop-free.zone c.loop-free.at c.loop-free.invariant)
 
 pub is_free_pair-requires-clause-there : goal.is_free_pair-requires-clause-there
-is_free_pair-requires-clause-there c = entry_joined_to c.args.zone.now c.loop-free.zone c.in-Some.free (coming (goal.at.is_free_pair-requires-clause-there c).In-Some)
+is_free_pair-requires-clause-there c = rw c.linked-linked.ensures (entry_joined_to c.args.zone.now c.loop-free.zone c.in-Some.free (coming (goal.at.is_free_pair-requires-clause-there c).In-Some))
 
 pub is_free_pair-requires-clause-sizes : goal.is_free_pair-requires-clause-sizes
-is_free_pair-requires-clause-sizes c = sizes_joined c.args.zone.now c.loop-free.zone c.in-Some.free (coming (goal.at.is_free_pair-requires-clause-sizes c).In-Some)
+is_free_pair-requires-clause-sizes c = rw c.linked-linked.ensures (sizes_joined c.args.zone.now c.loop-free.zone c.in-Some.free (coming (goal.at.is_free_pair-requires-clause-sizes c).In-Some))
 
 pub merge-requires : goal.merge-requires
 merge-requires c =
@@ -41,7 +41,7 @@ merge-requires c =
     let new = c.loop-free.zone in
     let free = c.in-Some.free in
     let t = coming (goal.at.merge-requires c).In-Some in
-    pair_joined z new free t (two_joined z new free t (sym (c.is_free_pair.ensures (entry_joined_to z new free t)) ∙ c.if-is_free_pair.true))
+    pair_joined z new free t (two_joined z new free t (sym ((rw c.linked-linked.ensures at c.is_free_pair.ensures) (entry_joined_to z new free t)) ∙ c.if-is_free_pair.true))
 
 pub loop-free-smaller-then-is_free_pair : goal.loop-free-smaller-then-is_free_pair
 loop-free-smaller-then-is_free_pair c =
@@ -50,7 +50,7 @@ loop-free-smaller-then-is_free_pair c =
     let free = c.in-Some.free in
     let w = (goal.at.loop-free-smaller-then-is_free_pair c).In-Some in
     let t = coming w in
-    let two = two_joined z new free t (sym (c.is_free_pair.ensures (entry_joined_to z new free t)) ∙ c.if-is_free_pair.true) in
+    let two = two_joined z new free t (sym ((rw c.linked-linked.ensures at c.is_free_pair.ensures) (entry_joined_to z new free t)) ∙ c.if-is_free_pair.true) in
     let fewer = fewer_joined z new free t two in
     let above = higher w in
     let is = ap (λ (w : ZoneState). length w.heap.map) (c.merge.ensures (pair_joined z new free t two)) in
@@ -62,11 +62,11 @@ loop-free-preserved-then-is_free_pair c =
     let new = c.loop-free.zone in
     let free = c.in-Some.free in
     let t = coming (goal.at.loop-free-preserved-then-is_free_pair c).In-Some in
-    let two = two_joined z new free t (sym (c.is_free_pair.ensures (entry_joined_to z new free t)) ∙ c.if-is_free_pair.true) in
+    let two = two_joined z new free t (sym ((rw c.linked-linked.ensures at c.is_free_pair.ensures) (entry_joined_to z new free t)) ∙ c.if-is_free_pair.true) in
     subst (λ w. JoinedBelow z w free) (sym (c.merge.ensures (pair_joined z new free t two))) (joined_more z new free t two)
 
 pub entry_at-at-requires : goal.entry_at-at-requires
-entry_at-at-requires c = entry_joined_to c.args.zone.now c.loop-free.zone c.in-Some.free (coming (goal.at.entry_at-at-requires c).In-Some)
+entry_at-at-requires c = rw c.linked-linked.ensures (entry_joined_to c.args.zone.now c.loop-free.zone c.in-Some.free (coming (goal.at.entry_at-at-requires c).In-Some))
 
 pub overflow_add-at-else-is_free_pair : goal.overflow_add-at-else-is_free_pair
 overflow_add-at-else-is_free_pair c =
@@ -74,8 +74,8 @@ overflow_add-at-else-is_free_pair c =
     let new = c.loop-free.zone in
     let free = c.in-Some.free in
     let t = coming (goal.at.overflow_add-at-else-is_free_pair c).In-Some in
-    let size = ap (λ (e : Entry). e.size) (c.entry_at-at.ensures (entry_joined_to z new free t)) in
-    omega (arith, size, within_joined z new free t, c.zone_end.ensures.address, c.zone_end.ensures.reach)
+    let size = ap (λ (e : Entry). e.size) ((rw c.linked-linked.ensures at c.entry_at-at.ensures) (entry_joined_to z new free t)) in
+    omega (arith, size, within_joined z new free t, (rw c.linked.ensures at c.zone_end.ensures.address), c.zone_end.ensures.reach)
 
 pub loop-free-smaller : goal.loop-free-smaller
 loop-free-smaller c =
@@ -84,7 +84,7 @@ loop-free-smaller c =
     let free = c.in-Some.free in
     let w = (goal.at.loop-free-smaller c).In-Some in
     let t = coming w in
-    let size = ap (λ (e : Entry). e.size) (c.entry_at-at.ensures (entry_joined_to z new free t)) in
+    let size = ap (λ (e : Entry). e.size) ((rw c.linked-linked.ensures at c.entry_at-at.ensures) (entry_joined_to z new free t)) in
     let above = higher w in
     omega (arith, size, bytes_joined z new free t, within_joined z new free t)
 
@@ -95,11 +95,11 @@ loop-free-preserved c =
     let free = c.in-Some.free in
     let t = coming (goal.at.loop-free-preserved c).In-Some in
     let e = entry_joined_to z new free t in
-    let size : c.entry_at-at.result.size ≡ (t.here).size = ap (λ (e : Entry). e.size) (c.entry_at-at.ensures e) in
-    subst (λ n. JoinedBelow z new (free + n)) (sym size) (joined_on z new free t (sym (c.is_free_pair.ensures e) ∙ c.if-is_free_pair.false))
+    let size : c.entry_at-at.result.size ≡ (t.here).size = ap (λ (e : Entry). e.size) ((rw c.linked-linked.ensures at c.entry_at-at.ensures) e) in
+    subst (λ n. JoinedBelow z new (free + n)) (sym size) (joined_on z new free t (sym ((rw c.linked-linked.ensures at c.is_free_pair.ensures) e) ∙ c.if-is_free_pair.false))
 
 pub returns : goal.returns
 returns c =
     let z = c.args.zone.now in
     let l = c.loop-free in
-    passed_all z l.zone (l.invariant).more l.at l.invariant refl (c.in_default.ensures.none (split_joined z l.zone l.at l.invariant))
+    passed_all z l.zone (l.invariant).more l.at l.invariant refl ((rw c.linked-in-loop-free.ensures at c.in_default.ensures.none) (split_joined z l.zone l.at l.invariant))

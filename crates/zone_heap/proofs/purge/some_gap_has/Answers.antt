@@ -1,8 +1,6 @@
-use Rattle.std.proofs.Common.{◌≡◌, ◌+◌, ◌∙◌, sym, ap, subst, arith, true, false}
-use Rattle.std.specs.Prelude.{nat_le}
+use Rattle.std.proofs.Common.{◌+◌, ◌∙◌, sym, subst, arith}
 use Rattle.std.proofs.lemmas.Bool.{le-leb}
-use Rattle.mac_base.specs.Gap.{gaps, some_gap_has}
-use Rattle.zone_heap.specs.Purge.{BlocksAt, bounds_gap, counts, released_if, run_has}
+use Rattle.zone_heap.specs.Purge.{BlocksAt}
 use Rattle.zone_heap.proofs.EmptyingBlocks.{whole-zone}
 use Rattle.zone_heap.proofs.GapWalks.{Through, none_through, through_all, through_more, through_found, through_next, through_on, within_through, bounds-other, too-many}
 use Rattle.zone_heap.proofs.Until.{gap-now}

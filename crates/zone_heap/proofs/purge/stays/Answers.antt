@@ -1,5 +1,4 @@
-use Rattle.std.proofs.Common.{◌≡◌, ◌∙◌, sym, ap, subst, false, true}
-use Rattle.std.specs.Prelude.{◌||◌}
+use Rattle.std.proofs.Common.{◌∙◌, sym, ap}
 use Rattle.mac_base.specs.HandleTable.{is_full, is_handle, is_pointer}
 use Rattle.zone_laws.proofs.Tables.{full_handle}
 use Rattle.zone_heap.proofs.Grows.{other_full}

@@ -8,7 +8,7 @@ use Rattle.zone_heap.proofs.replace.replace.Goals.{After-need_for-needed, After-
 
 -- how many bytes are needed
 size : (c : After-need_for-needed) → c.need_for-needed.result ≡ need c.args.zone.now.shape.heads c.args.length
-size c = c.need_for-needed.ensures ∙ ap (λ heads. need heads c.args.length) (c.heads.ensures ∙ ap (λ (s : ZoneSizes). s.heads) c.spec.ensures.sizes)
+size c = c.need_for-needed.ensures ∙ ap (λ heads. need heads c.args.length) (c.heads.ensures ∙ ap (λ (s : ZoneSizes). s.heads) (rw c.linked-linked.ensures at c.spec.ensures.sizes))
 
 -- a free block is opened for them in the zone without the old block
 opened : (c : In-Some) → IsOpened (emptied_zone c.args.handle c.args.zone.now) c.need_for-needed.result c.in-Some.at c.open_lowest.new.zone
@@ -23,11 +23,11 @@ after c =
 
 pub returns-then-not-has_room-clause-attempt : goal.returns-then-not-has_room-clause-attempt
 returns-then-not-has_room-clause-attempt c =
-    replace-refused c.args.zone.now c.args.handle c.args.length c.requires.ready c.need_for-needed.result (size (goal.at.returns-then-not-has_room-clause-attempt c).After-need_for-needed) (sym c.has_room.ensures ∙ c.if-not-has_room.true)
+    replace-refused c.args.zone.now c.args.handle c.args.length c.requires.ready c.need_for-needed.result (size (goal.at.returns-then-not-has_room-clause-attempt c).After-need_for-needed) (sym (rw c.linked-linked.ensures at c.has_room.ensures) ∙ c.if-not-has_room.true)
 
 pub unreachable-requires : goal.unreachable-requires
 unreachable-requires c =
-    replace-room c.args.zone.now c.args.handle c.args.length c.requires.ready c.need_for-needed.result (size (goal.at.unreachable-requires c).After-need_for-needed) (sym c.has_room.ensures ∙ c.if-not-has_room.false)
+    replace-room c.args.zone.now c.args.handle c.args.length c.requires.ready c.need_for-needed.result (size (goal.at.unreachable-requires c).After-need_for-needed) (sym (rw c.linked-linked.ensures at c.has_room.ensures) ∙ c.if-not-has_room.false)
     c.empty.new.pointers c.open_lowest.new.zone c.empty.ensures.zone c.in_default.ensures.room
 
 pub cut-requires : goal.cut-requires

@@ -14,22 +14,22 @@ use Rattle.zone_heap.proofs.size.make_way.Goals as goal
 use Rattle.zone_heap.proofs.size.make_way.Goals.{After-entry_at-size, After-need_for, After-squeeze_up}
 
 -- its bytes with those of the gap
-both : (c : After-entry_at-size) → c.entry_at-size.result.size + c.gap_to_grow-gap.result.room ≡ c.place_of.ensures.here.size + c.gap_to_grow-gap.result.room
-both c = ap (λ (e : Entry). e.size + c.gap_to_grow-gap.result.room) (c.entry_at-size.ensures (entry_named c.place_of.ensures))
+both : (c : After-entry_at-size) → c.entry_at-size.result.size + c.gap_to_grow-gap.result.room ≡ (rw c.linked-linked.ensures at c.place_of.ensures).here.size + c.gap_to_grow-gap.result.room
+both c = ap (λ (e : Entry). e.size + c.gap_to_grow-gap.result.room) ((rw c.linked-linked.ensures at c.entry_at-size.ensures) (entry_named (rw c.linked-linked.ensures at c.place_of.ensures)))
 
 pub overflow_add-size : goal.overflow_add-size
 overflow_add-size c =
-    let base = c.base.ensures.value ∙ ap (λ (s : ZoneSizes). s.base) c.spec-spec.ensures.sizes in
-    let limit = c.limit.ensures.value ∙ ap (λ (s : ZoneSizes). s.limit) c.spec-spec.ensures.sizes in
-    omega (arith, both (goal.at.overflow_add-size c).After-entry_at-size, room-within c.args.zone.now c.args.block c.requires.sound c.gap_to_grow-gap.result c.gap_to_grow-gap.ensures, here-within c.args.zone.now c.place_of.result (entry_named c.place_of.ensures) c.requires.sound.sound, base, limit, c.if-prove.false)
+    let base = c.base.ensures.value ∙ ap (λ (s : ZoneSizes). s.base) (rw c.linked-linked.ensures at c.spec-spec.ensures.sizes) in
+    let limit = c.limit.ensures.value ∙ ap (λ (s : ZoneSizes). s.limit) (rw c.linked-linked.ensures at c.spec-spec.ensures.sizes) in
+    omega (arith, both (goal.at.overflow_add-size c).After-entry_at-size, room-within c.args.zone.now c.args.block c.requires.sound c.gap_to_grow-gap.result c.gap_to_grow-gap.ensures, here-within c.args.zone.now c.place_of.result (entry_named (rw c.linked-linked.ensures at c.place_of.ensures)) c.requires.sound.sound, base, limit, c.if-prove.false)
 
 -- the block
 abbrev standing : (c : After-need_for) → Standing c.args.zone.now c.args.block c.args.length c.need_for.result c.place_of.result
 standing c = record {
   sound = c.requires.sound.sound;
   block = c.requires.block;
-  named = c.place_of.ensures;
-  size = c.need_for.ensures ∙ ap (λ heads. need heads c.args.length) (c.heads.ensures ∙ ap (λ (s : ZoneSizes). s.heads) c.spec-spec.ensures.sizes);
+  named = (rw c.linked-linked.ensures at c.place_of.ensures);
+  size = c.need_for.ensures ∙ ap (λ heads. need heads c.args.length) (c.heads.ensures ∙ ap (λ (s : ZoneSizes). s.heads) (rw c.linked-linked.ensures at c.spec-spec.ensures.sizes));
 }
 
 -- whether it fits in its gap
@@ -45,7 +45,7 @@ returns-then-size-gap-clause-fits c =
     sym (fits w ∙ false_from_ne_true _ (λ h. let le = leb-true _ _ h in let few = c.if-size-gap.true in omega arith))
 
 pub squeeze_up-requires-clause-gap : goal.squeeze_up-requires-clause-gap
-squeeze_up-requires-clause-gap c = gap-behind-at c.args.zone.now c.args.block c.gap_to_grow-gap.result (sym c.stays.ensures ∙ c.if-stays.true) c.gap_to_grow-gap.ensures
+squeeze_up-requires-clause-gap c = gap-behind-at c.args.zone.now c.args.block c.gap_to_grow-gap.result (sym (rw c.linked-linked.ensures at c.stays.ensures) ∙ c.if-stays.true) c.gap_to_grow-gap.ensures
 
 pub returns-then-stays-clause-fits : goal.returns-then-stays-clause-fits
 returns-then-stays-clause-fits c =
@@ -55,7 +55,7 @@ returns-then-stays-clause-fits c =
 -- the other blocks have made way above a block that stays
 way : (c : After-squeeze_up) → c.squeeze_up.new.zone ≡ with_map (way_made c.args.zone.now.heap.table c.args.block c.args.zone.now.heap.map) c.args.zone.now
 way c =
-    let fixed = sym c.stays.ensures ∙ c.if-stays.true in
+    let fixed = sym (rw c.linked-linked.ensures at c.stays.ensures) ∙ c.if-stays.true in
     c.squeeze_up.ensures.zone (gap-behind-at c.args.zone.now c.args.block c.gap_to_grow-gap.result fixed c.gap_to_grow-gap.ensures)
     ∙ ap (λ m. with_map m c.args.zone.now) (way-behind c.args.zone.now c.args.block c.gap_to_grow-gap.result fixed c.gap_to_grow-gap.ensures)
 
@@ -74,4 +74,4 @@ pub returns-else-stays-clause-sound : goal.returns-else-stays-clause-sound
 returns-else-stays-clause-sound c =
     let z = c.args.zone.now in
     way-sound z c.open_after.new.zone c.args.block c.requires.sound
-    (c.open_after.ensures.zone ∙ ap (λ h. with_map (opened_after z.heap.table h z.heap.map) z) c.new.ensures ∙ ap (λ m. with_map m z) (way-own z.heap.table c.args.block z.heap.map (sym c.stays.ensures ∙ c.if-stays.false)))
+    (c.open_after.ensures.zone ∙ ap (λ h. with_map (opened_after z.heap.table h z.heap.map) z) c.new.ensures ∙ ap (λ m. with_map m z) (way-own z.heap.table c.args.block z.heap.map (sym (rw c.linked-linked.ensures at c.stays.ensures) ∙ c.if-stays.false)))

@@ -1,5 +1,5 @@
 use Rattle.std.proofs.Common.{◌≡◌, ◌∙◌, true, false, refl, ap, sym, subst}
-use Rattle.mac_base.specs.HandleTable.{is_full, is_lent}
+use Rattle.mac_base.specs.HandleTable.{is_full, is_lent, is_locked}
 use Rattle.mac_base.specs.HeadKind.{need}
 use Rattle.mac_base.specs.ZoneSizes.{ZoneSizes}
 use Rattle.mac_base.specs.ZoneState.{ZoneState}
@@ -11,7 +11,7 @@ use Rattle.zone_heap.proofs.size.resize_elsewhere.Goals.{After-need_for-needed, 
 
 -- the size that is needed
 size : (c : After-need_for-needed) → c.need_for-needed.result ≡ need c.args.zone.now.shape.heads c.args.length
-size c = c.need_for-needed.ensures ∙ ap (λ heads. need heads c.args.length) (c.heads.ensures ∙ ap (λ (s : ZoneSizes). s.heads) c.spec.ensures.sizes)
+size c = c.need_for-needed.ensures ∙ ap (λ heads. need heads c.args.length) (c.heads.ensures ∙ ap (λ (s : ZoneSizes). s.heads) (rw c.linked.ensures at c.spec.ensures.sizes))
 
 -- in the zone with the place as well
 size_there : (c : In-Some) → c.need_for-needed.result ≡ need c.open_lowest.new.zone.shape.heads c.args.length
@@ -23,7 +23,13 @@ full_there c =
     ap (λ t. is_full t c.args.handle) (table-found c.args.zone.now c.open_lowest.new.zone c.args.handle c.args.length c.need_for-needed.result c.in-Some.at c.in-Some.ensures.room (size (goal.at.In-Some c).After-need_for-needed) c.requires.full c.requires.unlocked)
     ∙ c.requires.full
 
--- that is not lent
+-- that is not locked
+unlocked_there : (c : In-Some) → is_locked c.open_lowest.new.zone.heap.table c.args.handle ≡ false
+unlocked_there c =
+    ap (λ t. is_locked t c.args.handle) (table-found c.args.zone.now c.open_lowest.new.zone c.args.handle c.args.length c.need_for-needed.result c.in-Some.at c.in-Some.ensures.room (size (goal.at.In-Some c).After-need_for-needed) c.requires.full c.requires.unlocked)
+    ∙ c.requires.unlocked
+
+-- and not lent
 here_there : (c : In-Some) → is_lent c.open_lowest.new.zone.heap.table c.args.handle ≡ false
 here_there c =
     ap (λ t. is_lent t c.args.handle) (table-found c.args.zone.now c.open_lowest.new.zone c.args.handle c.args.length c.need_for-needed.result c.in-Some.at c.in-Some.ensures.room (size (goal.at.In-Some c).After-need_for-needed) c.requires.full c.requires.unlocked)
@@ -46,10 +52,13 @@ cut_is c =
     cut-done c.open_lowest.new.zone c.args.handle c.args.length c.need_for-needed.result c.in-Some.at c.in-Some.ensures.sound.sound p.low.free p.low.large (size_there (goal.at.After-cut c).In-Some) c.cut.new.pointers c.cut.ensures
 
 pub block_of-old-requires : goal.block_of-old-requires
-block_of-old-requires c = ap (λ (z : ZoneState). is_full z.heap.table c.args.handle) (cut_is (goal.at.block_of-old-requires c).After-cut) ∙ full_there (goal.at.block_of-old-requires c).In-Some
+block_of-old-requires c = rw c.linked-2.ensures (ap (λ (z : ZoneState). is_full z.heap.table c.args.handle) (cut_is (goal.at.block_of-old-requires c).After-cut) ∙ full_there (goal.at.block_of-old-requires c).In-Some)
 
 pub relocate-requires-clause-full : goal.relocate-requires-clause-full
 relocate-requires-clause-full c = ap (λ (z : ZoneState). is_full z.heap.table c.args.handle) (cut_is (goal.at.relocate-requires-clause-full c).After-cut) ∙ full_there (goal.at.relocate-requires-clause-full c).In-Some
+
+pub relocate-requires-clause-unlocked : goal.relocate-requires-clause-unlocked
+relocate-requires-clause-unlocked c = ap (λ (z : ZoneState). is_locked z.heap.table c.args.handle) (cut_is (goal.at.relocate-requires-clause-unlocked c).After-cut) ∙ unlocked_there (goal.at.relocate-requires-clause-unlocked c).In-Some
 
 pub relocate-requires-clause-here : goal.relocate-requires-clause-here
 relocate-requires-clause-here c = ap (λ (z : ZoneState). is_lent z.heap.table c.args.handle) (cut_is (goal.at.relocate-requires-clause-here c).After-cut) ∙ here_there (goal.at.relocate-requires-clause-here c).In-Some
@@ -70,7 +79,7 @@ pub join-requires : goal.join-requires
 join-requires c =
     let p = c.in-Some.ensures.room in
     let w = (goal.at.join-requires c).In-Some in
-    let b = subst (λ v. BlockOf v c.args.handle c.block_of-old.result) (cut_is (goal.at.join-requires c).After-cut) c.block_of-old.ensures in
+    let b = subst (λ v. BlockOf v c.args.handle c.block_of-old.result) (cut_is (goal.at.join-requires c).After-cut) (rw c.linked-2.ensures at c.block_of-old.ensures) in
     newly c.open_lowest.new.zone c.args.handle c.args.length c.need_for-needed.result c.in-Some.at c.in-Some.ensures.sound.sound p.low.free p.low.large (size_there w) (full_there w) c.block_of-old.result b c.relocate.new.self
     (relocated_is (goal.at.join-requires c).After-relocate)
 

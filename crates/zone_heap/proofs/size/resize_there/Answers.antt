@@ -19,13 +19,13 @@ abbrev standing : (c : After-entry_at-size) → Standing c.args.zone.now c.args.
 standing c = record {
   sound = c.requires.sound.sound;
   block = c.requires.block;
-  named = c.place_of-at.ensures;
-  size = c.need_for-needed.ensures ∙ ap (λ heads. need heads c.args.length) (c.heads.ensures ∙ ap (λ (s : ZoneSizes). s.heads) c.spec.ensures.sizes);
+  named = (rw c.linked-linked.ensures at c.place_of-at.ensures);
+  size = c.need_for-needed.ensures ∙ ap (λ heads. need heads c.args.length) (c.heads.ensures ∙ ap (λ (s : ZoneSizes). s.heads) (rw c.linked-linked.ensures at c.spec.ensures.sizes));
 }
 
 -- is the one that was read
-read : (c : After-entry_at-size) → c.entry_at-size.result ≡ c.place_of-at.ensures.here
-read c = c.entry_at-size.ensures (entry_named c.place_of-at.ensures)
+read : (c : After-entry_at-size) → c.entry_at-size.result ≡ (rw c.linked-linked.ensures at c.place_of-at.ensures).here
+read c = (rw c.linked-linked.ensures at c.entry_at-size.ensures) (entry_named (rw c.linked-linked.ensures at c.place_of-at.ensures))
 
 pub shrink-requires-clause-fits : goal.shrink-requires-clause-fits
 shrink-requires-clause-fits c =
@@ -39,23 +39,23 @@ pub returns-then-needed-size-clause-sound : goal.returns-then-needed-size-clause
 returns-then-needed-size-clause-sound c = there-sound c.args.zone.now c.shrink.new.pointers c.args.block c.args.length c.requires.sound c.requires.block c.requires.here c.shrink.ensures.heap c.shrink.ensures.shape
 
 -- it is smaller than needed
-more : (c : After-free_behind) → c.place_of-at.ensures.here.size < c.need_for-needed.result
+more : (c : After-free_behind) → (rw c.linked-linked.ensures at c.place_of-at.ensures).here.size < c.need_for-needed.result
 more c = subst (λ (e : Entry). e.size < c.need_for-needed.result) (read (goal.at.After-free_behind c).After-entry_at-size) c.if-needed-size.false
 
 -- with these free bytes behind it
-free : (c : After-free_behind) → c.free_behind.result ≡ free_in_front c.place_of-at.ensures.behind
-free c = c.free_behind.ensures (entry_named c.place_of-at.ensures)
+free : (c : After-free_behind) → c.free_behind.result ≡ free_in_front (rw c.linked-linked.ensures at c.place_of-at.ensures).behind
+free c = (rw c.linked-linked.ensures at c.free_behind.ensures) (entry_named (rw c.linked-linked.ensures at c.place_of-at.ensures))
 
 -- which are so many in all
 both : (c : After-free_behind) → c.entry_at-size.result.size + c.free_behind.result ≡ whole c.args.zone.now c.args.block c.args.length c.need_for-needed.result c.place_of-at.result (standing (goal.at.After-free_behind c).After-entry_at-size) (more c)
-both c = ap (λ (e : Entry). e.size + c.free_behind.result) (read (goal.at.After-free_behind c).After-entry_at-size) ∙ ap (λ m. c.place_of-at.ensures.here.size + m) (free c)
+both c = ap (λ (e : Entry). e.size + c.free_behind.result) (read (goal.at.After-free_behind c).After-entry_at-size) ∙ ap (λ m. (rw c.linked-linked.ensures at c.place_of-at.ensures).here.size + m) (free c)
 
 pub overflow_add-whole : goal.overflow_add-whole
 overflow_add-whole c =
     let w = (goal.at.overflow_add-whole c).After-entry_at-size in
     let b = (goal.at.overflow_add-whole c).After-free_behind in
-    let limit = c.limit.ensures.value ∙ ap (λ (s : ZoneSizes). s.limit) c.spec-spec.ensures.sizes in
-    omega (arith, both b, free-within c.place_of-at.ensures.behind, end-there c.args.zone.now c.args.block c.args.length c.need_for-needed.result c.place_of-at.result (standing w), c.place_of-at.ensures.place, c.if-prove.false)
+    let limit = c.limit.ensures.value ∙ ap (λ (s : ZoneSizes). s.limit) (rw c.linked-linked.ensures at c.spec-spec.ensures.sizes) in
+    omega (arith, both b, free-within (rw c.linked-linked.ensures at c.place_of-at.ensures).behind, end-there c.args.zone.now c.args.block c.args.length c.need_for-needed.result c.place_of-at.result (standing w), (rw c.linked-linked.ensures at c.place_of-at.ensures).place, c.if-prove.false)
 
 -- they are enough
 enough : (c : After-free_behind) → let w = (goal.at.After-free_behind c).After-entry_at-size in
@@ -70,8 +70,8 @@ front-taken-requires c =
     subst (λ m. c.need_for-needed.result ≤ m) (sym (both b)) (enough b)
 
 -- and so many are taken
-taken : (c : After-front-taken) → c.front-taken.result ≡ front_size c.args.zone.now.shape c.need_for-needed.result (c.place_of-at.ensures.here.size + free_in_front c.place_of-at.ensures.behind)
-taken c = c.front-taken.ensures ∙ ap (front_size c.args.zone.now.shape c.need_for-needed.result) (both (goal.at.After-front-taken c).After-free_behind)
+taken : (c : After-front-taken) → c.front-taken.result ≡ front_size c.args.zone.now.shape c.need_for-needed.result ((rw c.linked-linked.ensures at c.place_of-at.ensures).here.size + free_in_front (rw c.linked-linked.ensures at c.place_of-at.ensures).behind)
+taken c = (rw c.linked-linked.ensures at c.front-taken.ensures) ∙ ap (front_size c.args.zone.now.shape c.need_for-needed.result) (both (goal.at.After-front-taken c).After-free_behind)
 
 pub grow-requires-clause-room : goal.grow-requires-clause-room
 grow-requires-clause-room c =

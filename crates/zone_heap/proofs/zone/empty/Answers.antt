@@ -17,9 +17,9 @@ use Rattle.zone_heap.proofs.zone.empty.Goals.{After-join}
 pub join-requires : goal.join-requires
 join-requires c =
     let z = c.args.pointers.now in
-    let has : has_block z.heap.table c.args.handle ≡ true = ap (has_block z.heap.table) (sym c.number.ensures) ∙ sym c.has_block.ensures ∙ c.if-has_block.true in
+    let has : has_block z.heap.table c.args.handle ≡ true = ap (has_block z.heap.table) (sym c.number.ensures) ∙ sym (rw c.linked-linked.ensures at c.has_block.ensures) ∙ c.if-has_block.true in
     subst (λ w. NewlyFree w c.block_of-at.result) (sym c.empty.ensures)
-    (newly-free z c.args.handle c.block_of-at.result (emptied c.args.handle z.heap.table) c.requires.sound.sound has (block_named z c.args.handle c.block_of-at.result c.block_of-at.ensures))
+    (newly-free z c.args.handle c.block_of-at.result (emptied c.args.handle z.heap.table) c.requires.sound.sound has (block_named z c.args.handle c.block_of-at.result (rw c.linked-linked.ensures at c.block_of-at.ensures)))
 
 -- the zone then
 abbrev after_zone : After-join → ZoneState
@@ -51,5 +51,5 @@ returns-then-has_block-clause-sound c =
 pub returns-else-has_block-clause-zone : goal.returns-else-has_block-clause-zone
 returns-else-has_block-clause-zone c =
     let z = c.args.pointers.now in
-    let none : has_block z.heap.table c.args.handle ≡ false = ap (has_block z.heap.table) (sym c.number.ensures) ∙ sym c.has_block.ensures ∙ c.if-has_block.false in
+    let none : has_block z.heap.table c.args.handle ≡ false = ap (has_block z.heap.table) (sym c.number.ensures) ∙ sym (rw c.linked-linked.ensures at c.has_block.ensures) ∙ c.if-has_block.false in
     ap (λ heap. with_heap heap z) (emptied-again z.shape z.heap c.args.handle c.requires.sound.sound c.requires.live none)

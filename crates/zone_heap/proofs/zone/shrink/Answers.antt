@@ -13,22 +13,22 @@ use Rattle.zone_heap.proofs.zone.shrink.Goals.{After-entry_at-whole, After-front
 
 -- the block
 abbrev standing : (c : After-entry_at-whole) → Standing c.args.pointers.now c.args.block c.args.length c.args.needed c.place_of-at.result
-standing c = record { sound = c.requires.sound; block = c.requires.block; named = c.place_of-at.ensures; size = c.requires.needed }
+standing c = record { sound = c.requires.sound; block = c.requires.block; named = (rw c.linked-linked.ensures at c.place_of-at.ensures); size = c.requires.needed }
 
 -- is as large as needed
-fits : (c : After-entry_at-whole) → c.args.needed ≤ c.place_of-at.ensures.here.size
+fits : (c : After-entry_at-whole) → c.args.needed ≤ (rw c.linked-linked.ensures at c.place_of-at.ensures).here.size
 fits c = subst (λ m. c.args.needed ≤ m) (sym (size-there c.args.pointers.now c.args.block c.args.length c.args.needed c.place_of-at.result (standing c))) c.requires.fits
 
 -- and the one that was read
-read : (c : After-entry_at-whole) → c.entry_at-whole.result ≡ c.place_of-at.ensures.here
-read c = c.entry_at-whole.ensures (entry_named c.place_of-at.ensures)
+read : (c : After-entry_at-whole) → c.entry_at-whole.result ≡ (rw c.linked-linked.ensures at c.place_of-at.ensures).here
+read c = (rw c.linked-linked.ensures at c.entry_at-whole.ensures) (entry_named (rw c.linked-linked.ensures at c.place_of-at.ensures))
 
 pub front-taken-requires : goal.front-taken-requires
 front-taken-requires c = subst (λ (e : Entry). c.args.needed ≤ e.size) (sym (read c)) (fits c)
 
 -- so many bytes of it stay
-taken : (c : After-front-taken) → c.front-taken.result ≡ front_size c.args.pointers.now.shape c.args.needed c.place_of-at.ensures.here.size
-taken c = c.front-taken.ensures ∙ ap (λ (e : Entry). front_size c.args.pointers.now.shape c.args.needed e.size) (c.entry_at-whole.ensures (entry_named c.place_of-at.ensures))
+taken : (c : After-front-taken) → c.front-taken.result ≡ front_size c.args.pointers.now.shape c.args.needed (rw c.linked-linked.ensures at c.place_of-at.ensures).here.size
+taken c = (rw c.linked-linked.ensures at c.front-taken.ensures) ∙ ap (λ (e : Entry). front_size c.args.pointers.now.shape c.args.needed e.size) ((rw c.linked-linked.ensures at c.entry_at-whole.ensures) (entry_named (rw c.linked-linked.ensures at c.place_of-at.ensures)))
 
 pub hold-requires-clause-room : goal.hold-requires-clause-room
 hold-requires-clause-room c =
@@ -40,8 +40,8 @@ pub overflow_add-at : goal.overflow_add-at
 overflow_add-at c =
     let w = (goal.at.overflow_add-at c).After-entry_at-whole in
     let less = subst (λ (e : Entry). c.front-taken.result < e.size) (read w) c.if-taken-whole.true in
-    let base = c.base.ensures.value ∙ ap (λ (s : ZoneSizes). s.base) c.spec-spec.ensures.sizes in
-    let limit = c.limit.ensures.value ∙ ap (λ (s : ZoneSizes). s.limit) c.spec-spec.ensures.sizes in
+    let base = c.base.ensures.value ∙ ap (λ (s : ZoneSizes). s.base) (rw c.linked-linked.ensures at c.spec-spec.ensures.sizes) in
+    let limit = c.limit.ensures.value ∙ ap (λ (s : ZoneSizes). s.limit) (rw c.linked-linked.ensures at c.spec-spec.ensures.sizes) in
     omega (arith, end-there c.args.pointers.now c.args.block c.args.length c.args.needed c.place_of-at.result (standing w), c.if-prove.false)
 
 -- the zone in which the front is held
@@ -52,7 +52,7 @@ front_zone c = let z = c.args.pointers.now in let x = c.args.block in let n = c.
 -- and the one in which what is over is joined too
 abbrev cut_zone : (c : After-entry_at-whole) → ZoneState
 cut_zone c = let z = c.args.pointers.now in
-    resized_zone z c.args.block c.args.length c.args.needed c.place_of-at.result (standing c) (cut z.shape c.args.needed c.place_of-at.ensures.here c.place_of-at.ensures.behind)
+    resized_zone z c.args.block c.args.length c.args.needed c.place_of-at.result (standing c) (cut z.shape c.args.needed (rw c.linked-linked.ensures at c.place_of-at.ensures).here (rw c.linked-linked.ensures at c.place_of-at.ensures).behind)
 
 -- hold makes it the first
 held : (c : After-hold) → c.hold.new.self ≡ front_zone (goal.at.After-hold c).After-entry_at-whole
@@ -67,7 +67,7 @@ join-requires c =
     let less = subst (λ (e : Entry). c.front-taken.result < e.size) (read w) c.if-taken-whole.true in
     subst (λ z. NewlyFree z (c.place_of-at.result + c.front-taken.result)) (sym (held (goal.at.join-requires c).After-hold))
     (subst (λ size. NewlyFree (front_zone w) (c.place_of-at.result + size)) (sym size)
-    (rest-free c.args.pointers.now c.args.block c.args.length c.args.needed c.place_of-at.result (standing w) (fits w) (subst (λ size. size < c.place_of-at.ensures.here.size) size less)))
+    (rest-free c.args.pointers.now c.args.block c.args.length c.args.needed c.place_of-at.result (standing w) (fits w) (subst (λ size. size < (rw c.linked-linked.ensures at c.place_of-at.ensures).here.size) size less)))
 
 -- the zone once what is over is joined
 joined : (c : After-join) → c.join.new.pointers ≡ cut_zone (goal.at.After-join c).After-entry_at-whole
@@ -92,7 +92,7 @@ whole c =
     let w = (goal.at.Else-taken-whole c).After-entry_at-whole in
     let most = subst (λ (e : Entry). e.size ≤ c.front-taken.result) (read w) c.if-taken-whole.false in
     held (goal.at.Else-taken-whole c).After-hold
-    ∙ all-kept c.args.pointers.now c.args.block c.args.length c.args.needed c.place_of-at.result (standing w) (fits w) (subst (λ size. c.place_of-at.ensures.here.size ≤ size) (taken (goal.at.Else-taken-whole c).After-front-taken) most)
+    ∙ all-kept c.args.pointers.now c.args.block c.args.length c.args.needed c.place_of-at.result (standing w) (fits w) (subst (λ size. (rw c.linked-linked.ensures at c.place_of-at.ensures).here.size ≤ size) (taken (goal.at.Else-taken-whole c).After-front-taken) most)
 
 pub returns-else-taken-whole-clause-heap : goal.returns-else-taken-whole-clause-heap
 returns-else-taken-whole-clause-heap c =

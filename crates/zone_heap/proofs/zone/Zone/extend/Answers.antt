@@ -13,10 +13,10 @@ use Rattle.zone_heap.proofs.zone.Zone.extend.Goals.{After-join}
 pub join-requires : goal.join-requires
 join-requires c =
     let z = c.self.inside.pointers in
-    let base = c.base.ensures.value ∙ ap (λ (s : ZoneSizes). s.base) c.spec-spec.ensures.sizes in
-    let size = c.size.ensures.value ∙ ap (λ (s : ZoneSizes). s.size) c.spec-spec.ensures.sizes in
-    let below = c.size-2.ensures.value ∙ ap (λ (s : ZoneSizes). s.size) c.spec-spec.ensures.sizes in
-    let limit = c.limit.ensures.value ∙ ap (λ (s : ZoneSizes). s.limit) c.spec-spec.ensures.sizes in
+    let base = c.base.ensures.value ∙ ap (λ (s : ZoneSizes). s.base) (rw c.linked.ensures at c.spec-spec.ensures.sizes) in
+    let size = c.size.ensures.value ∙ ap (λ (s : ZoneSizes). s.size) (rw c.linked.ensures at c.spec-spec.ensures.sizes) in
+    let below = c.size-2.ensures.value ∙ ap (λ (s : ZoneSizes). s.size) (rw c.linked.ensures at c.spec-spec.ensures.sizes) in
+    let limit = c.limit.ensures.value ∙ ap (λ (s : ZoneSizes). s.limit) (rw c.linked.ensures at c.spec-spec.ensures.sizes) in
     subst (λ w. NewlyFree w (c.base.result + c.size.result)) (sym c.extend.ensures)
     (extended-newly z c.self.invariant.sound (c.base.result + c.size.result) (omega (arith, base, size)) (omega (arith, below, limit, c.if-size-limit.true)))
 
@@ -41,6 +41,6 @@ returns-then-size-limit-clause-loans c =
 pub returns-else-size-limit-clause-zone : goal.returns-else-size-limit-clause-zone
 returns-else-size-limit-clause-zone c =
     let z = c.self.inside.pointers in
-    let size = c.size-2.ensures.value ∙ ap (λ (s : ZoneSizes). s.size) c.spec-spec.ensures.sizes in
-    let limit = c.limit.ensures.value ∙ ap (λ (s : ZoneSizes). s.limit) c.spec-spec.ensures.sizes in
+    let size = c.size-2.ensures.value ∙ ap (λ (s : ZoneSizes). s.size) (rw c.linked.ensures at c.spec-spec.ensures.sizes) in
+    let limit = c.limit.ensures.value ∙ ap (λ (s : ZoneSizes). s.limit) (rw c.linked.ensures at c.spec-spec.ensures.sizes) in
     c.extend.ensures ∙ extended-full z c.self.invariant.sound (λ below. omega (arith, size, limit, c.if-size-limit.false, below)) ∙ ap (λ (z : ZoneState). with_heap (grown z.shape z.heap) z) c.self.view_is

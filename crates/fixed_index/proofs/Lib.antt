@@ -1,0 +1,13 @@
+pub mod Sizes
+pub mod Fixed
+pub mod Replaced
+pub mod Locks
+pub mod Kept
+pub mod Table
+pub mod Exchanged
+pub mod Freed
+pub mod Fresh
+pub mod Shown
+pub mod Placed
+pub mod Searching
+pub mod Ending

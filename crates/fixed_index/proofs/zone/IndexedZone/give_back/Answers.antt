@@ -1,0 +1,8 @@
+use Rattle.std.proofs.Common.{sym, subst}
+use Rattle.mac_base.specs.ZoneState.{ZoneState}
+use Rattle.fixed_index.specs.Index.{AreMarked}
+use Rattle.fixed_index.proofs.Table.{returned-marked}
+use Rattle.fixed_index.proofs.zone.IndexedZone.give_back.Goals as goal
+
+pub invariant_of-self : goal.invariant_of-self
+invariant_of-self c = subst (λ (z : ZoneState). AreMarked z c.self.inside.marks) (sym c.give_back.ensures) (returned-marked c.self.inside.zone c.self.inside.marks c.self.invariant c.args.block c.args.loan.bytes)

@@ -1,0 +1,105 @@
+//! The lowest gap with room.
+
+ghost use Rattle.std.specs.Prelude.{◌≡◌, ◌+◌, ◌<◌, ◌≤◌, ◌↔◌, IsTrue, MatchOption, None};
+ghost use Rattle.mac_base.specs.Gap.{gaps, lowest_gap};
+ghost use Rattle.mac_base.specs.ZoneMap.{free_bytes, total_size};
+ghost use Rattle.linked_zone.specs.Places.{SplitAt};
+ghost use Rattle.fixed_index.specs.Runs.{RestAt};
+ghost use Rattle.gap_index.specs.Gaps.{GapAt, GapWith, IsLowestGap};
+ghost use Rattle.gap_index.specs.Index.{AreBounds};
+
+use crate::zone::GapZone;
+use fixed_index::IndexedZone;
+use linked_zone::LinkedZone;
+use place_sizes::Sizes;
+
+impl GapZone {
+    /// The address of the first free block of the lowest gap with at least `needed` free bytes, if there is one. Of the gaps
+    /// below only those are looked at that had so much room once; their bounds become what they have.
+    pub fn lowest_gap(&mut self, needed: u32) -> Option<u32>
+        requires some { 0 < needed }
+        ensures zone { self.new ≡ self.old }
+        ensures found { MatchOption result (lowest_gap needed (gaps self.old.heap.table self.old.heap.map) ≡ None) (λ at. IsLowestGap self.old needed at) }
+    {
+        if self.zone.linked().free_bytes() < needed {
+            return None;
+        }
+        lowest_by_bounds(&self.zone, &mut self.bounds, needed)
+    }
+}
+
+/// The first free block of the lowest gap with room, found by bounds that are lowered on the way.
+fn lowest_by_bounds(zone: &IndexedZone, bounds: &mut Sizes, needed: u32) -> Option<u32>
+    requires some { 0 < needed }
+    requires bounds { AreBounds zone.now bounds.old }
+    ensures bounds { AreBounds zone.now bounds.new }
+    ensures found { MatchOption result (lowest_gap needed (gaps zone.now.heap.table zone.now.heap.map) ≡ None) (λ at. IsLowestGap zone.now needed at) }
+{
+    let linked = zone.linked();
+    let base = linked.spec().base();
+    let mut from = 0;
+    while let Some(place) = bounds.first_at_least(needed, from) {
+        let start = base + 4 * place as u32;
+        let room = room_at(zone, start, needed);
+        if needed <= room {
+            return linked.next_free(start);
+        }
+        bounds.set(place, room);
+        from = place + 1;
+    }
+    None
+}
+
+/// The free bytes of the gap that begins at an address, or `needed` of them at least; 0 where no gap begins there.
+fn room_at(zone: &IndexedZone, at: u32, needed: u32) -> u32
+    requires some { 0 < needed }
+    ensures few { result < needed → (gap : GapAt zone.now at) → free_bytes gap.rest.blocks ≤ result }
+    ensures enough { needed ≤ result → GapWith zone.now at needed }
+{
+    if begins_gap(zone, at) {
+        room_up_to(zone.linked(), at, zone.gap_end(at), needed)
+    } else {
+        0
+    }
+}
+
+/// Whether a gap begins at this address.
+fn begins_gap(zone: &IndexedZone, at: u32) -> bool
+    ensures { IsTrue result ↔ GapAt zone.now at }
+{
+    let linked = zone.linked();
+    let _spec = linked.spec();
+    is_between(linked, at) && zone.gap_start(at) == at
+}
+
+/// Whether a block or the zone ends, or begins, at this address.
+fn is_between(zone: &LinkedZone, at: u32) -> bool
+    ensures { IsTrue result ↔ SplitAt zone.now at }
+{
+    let spec = zone.spec();
+    at == spec.base() + spec.size() || zone.entry(at).is_some()
+}
+
+/// The free bytes of a gap that lies between two addresses, or `needed` of them at least.
+fn room_up_to(zone: &LinkedZone, start: u32, end: u32, needed: u32) -> u32
+    requires rest { RestAt zone.now start }
+    requires end { (rest : RestAt zone.now start) → end ≡ start + total_size rest.blocks }
+    ensures most { (rest : RestAt zone.now start) → result ≤ free_bytes rest.blocks }
+    ensures all { (rest : RestAt zone.now start) → result < needed → free_bytes rest.blocks ≤ result }
+{
+    let _spec = zone.spec();
+    let mut from = start;
+    let mut room = 0;
+    while room < needed {
+        let Some(at) = zone.next_free(from) else {
+            return room;
+        };
+        if end <= at {
+            return room;
+        }
+        let size = zone.entry_at(at).size;
+        room += size;
+        from = at + size;
+    }
+    room
+}
