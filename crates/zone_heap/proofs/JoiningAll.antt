@@ -1,4 +1,4 @@
--- A walk over the whole zone by which free neighbours are joined.
+-- A walk by which free neighbours are joined.
 use Rattle.std.proofs.Common.{◌≡◌, ℕ, ◌+◌, ◌<◌, ◌≤◌, Bool, true, false, not, [], ◌∷◌, ◌++◌, length, refl, ap, sym, ◌∙◌, arith, append_assoc, append-nil, subst, IsTrue, length-append}
 use Rattle.std.specs.Prelude.{◌&&◌, ◌==◌, ◌%◌, nat_le, nat_lt}
 use Rattle.std.proofs.lemmas.Bool.Decides.{nat_tests}
@@ -89,26 +89,9 @@ pub record TwoFree (z new : ZoneState) (at : ℕ) (t : JoinedTo z new at) : Type
   pub second_free : is_free next.kind ≡ true
 
 module _ (z : ZoneState) where
-  -- at first nothing is joined
-  pub none_joined : (at : ℕ) → at ≡ address_behind z.shape [] → HasSizes z → JoinedBelow z z at
-  none_joined at place sizes = record { front = []; more = z.heap.map; is = refl; at_is = place; apart = refl; bound = refl; same = refl; possible = sizes }
-
   module _ (new : ZoneState) (at : ℕ) where
     size_joined : (j : JoinedBelow z new at) → total_size (j.front ++ j.more) ≡ total_size z.heap.map
     size_joined j = sym (total_size-joined (j.front ++ j.more)) ∙ ap total_size j.same ∙ total_size-joined z.heap.map
-
-    -- below the zone's end a block stands
-    pub joined_to_here : (j : JoinedBelow z new at) → at < address_behind z.shape z.heap.map → JoinedTo z new at
-    joined_to_here j below = by_more j.more refl
-      where
-        by_more : (m : ZoneMap) → j.more ≡ m → JoinedTo z new at
-        by_more [] none =
-            let all = size_joined j in
-            let parts = total_size-append j.front j.more in
-            let bytes = ap total_size none in
-            let here = j.at_is in
-            absurd (omega arith)
-        by_more (e ∷ es) some = record { so_far = j; here = e; rest = es; some = some }
 
     -- at its end all is joined
     pub joined_whole : (j : JoinedBelow z new at) → address_behind z.shape z.heap.map ≤ at → new ≡ all_joined z

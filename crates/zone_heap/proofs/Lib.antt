@@ -29,6 +29,7 @@ pub mod FreedBlocks
 pub mod Purging
 pub mod EmptyingBlocks
 pub mod JoiningAll
+pub mod JoiningAround
 pub mod Walks
 pub mod Runs
 pub mod GapWalks

@@ -43,7 +43,7 @@ pub record SamePlace (before : ZoneMap) (here : Entry) (behind : ZoneMap) (other
   pub same_behind : behind ≡ rest
 
 -- the head and the tail of two lists that are one
-same_head : (e f : Entry) (es fs : ZoneMap) → e ∷ es ≡ f ∷ fs → (e ≡ f) × (es ≡ fs)
+pub same_head : (e f : Entry) (es fs : ZoneMap) → e ∷ es ≡ f ∷ fs → (e ≡ f) × (es ≡ fs)
 same_head e f es fs is = (cc is, cc is)
 
 -- as many bytes before them make it one way

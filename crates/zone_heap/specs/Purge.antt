@@ -9,6 +9,8 @@ use Rattle.mac_base.specs.Gap.{Gap, gap_behind, gaps, is_fixed}
 use Rattle.std.specs.Option.{option_map_or}
 use Rattle.mac_base.specs.HandleTable.{HandleTable, emptied, has_block, is_handle, is_locked, is_purgeable}
 use Rattle.mac_base.specs.Request.{candidates, candidates_in, fits, is_among, purged_until, stays}
+use Rattle.std.specs.List.{list_all}
+use Rattle.mac_base.specs.Suits.{free_apart, is_block_size}
 use Rattle.mac_base.specs.ZoneMap.{ZoneMap, block, handle_of, is_free, is_named, address_behind, largest_free, released, total_size}
 use Rattle.mac_base.specs.ZoneState.{ZoneState, with_heap}
 use Rattle.zone_heap.specs.declared.purge.Limit.{Limit}
@@ -121,6 +123,14 @@ pub record BlocksAt (z : ZoneState) (start end : ℕ) : Type 0 where
   pub map : z.heap.map ≡ before ++ (blocks ++ behind)
   pub place : start ≡ address_behind z.shape before
   pub long : end ≡ start + total_size blocks
+
+-- blocks stand between two addresses, and neither before nor behind them are free blocks neighbours
+pub record ApartBeside (z : ZoneState) (start end : ℕ) : Type 0 where
+  pub at : BlocksAt z start end
+  pub before : IsTrue (free_apart at.before)
+  pub behind : IsTrue (free_apart at.behind)
+  -- sizes are possible
+  pub sizes : IsTrue (list_all (λ (e : Entry). is_block_size z.shape e.size) z.heap.map)
 
 -- blocks stand between two addresses, and between those that bound gaps k bytes count nowhere
 pub record ShortGaps (z : ZoneState) (start end : ℕ) (counted : Option ℕ) (k : ℕ) : Type 0 where

@@ -63,7 +63,7 @@ ghost use Rattle.linked_zone.specs.Fit.{HasSizes};
 ghost use Rattle.linked_zone.specs.Places.{EntryAt, HasOwner};
 ghost use Rattle.zone_heap.specs.Attempts.{CanAsk, SoundZone};
 ghost use Rattle.zone_heap.specs.Joins.{all_joined};
-ghost use Rattle.zone_heap.specs.Purge.{BlocksAt, IsLimit, ShortBlocks, ShortGaps, Purges, PurgesFor, PurgesTo, blocks_behind, bounds_gap, bounds_free, bytes_before, counts, handle_to_purge, is_kept, is_protected, may_purge, purged_between, released_if, staying_block, CanCount, HasBlockIf};
+ghost use Rattle.zone_heap.specs.Purge.{ApartBeside, BlocksAt, IsLimit, ShortBlocks, ShortGaps, Purges, PurgesFor, PurgesTo, blocks_behind, bounds_gap, bounds_free, bytes_before, counts, handle_to_purge, is_kept, is_protected, may_purge, purged_between, released_if, staying_block, CanCount, HasBlockIf};
 
 use crate::zone::Zone;
 use gap_index::GapZone;
@@ -127,15 +127,18 @@ fn empty_between(zone: &mut GapZone, start: u32, end: u32, protected: &[u32])
     }
 }
 
-/// Joins all free neighbours. From each free block the walk goes on to the next one: of the blocks in use only those right
-/// behind a free one are read.
-fn join_all(zone: &mut GapZone)
-    requires { HasSizes zone.old }
+/// Joins the free neighbours around the blocks between two addresses, beside which there are none. From each free block the walk
+/// goes on to the next one: of the blocks in use only those right behind a free one are read.
+fn join_around(zone: &mut GapZone, start: u32, end: u32)
+    requires { ApartBeside zone.old start end }
     ensures { zone.new ≡ all_joined zone.old }
 {
     prove!(zone_end(zone.linked()) <= ADDRESS_END);
-    let mut at = zone.linked().spec().base() + ZONE_HEADER;
+    let mut at = zone.linked().last_free(start).unwrap_or(start);
     while let Some(free) = zone.linked().next_free(at) {
+        if end <= free {
+            return;
+        }
         at = free;
         let linked = zone.linked();
         if is_free_pair(linked, free) {
@@ -167,7 +170,7 @@ fn purge_between(zone: &mut GapZone, start: u32, end: u32, protected: &[u32])
     ensures sound { SoundZone zone.new }
 {
     empty_between(zone, start, end, protected);
-    join_all(zone);
+    join_around(zone, start, end);
 }
 
 /// The bytes that count between an address and the first block that stays where it is, or the end.
