@@ -115,6 +115,12 @@ def below_others(lines, request):
     return ["h=NewHandle 8"] + lines + handles(20000, 8) + request * LINES
 
 
+def below_free_blocks(lines, request):
+    """10,000 free blocks in the gap of the lowest handle, and a request for more bytes than its gap has, though as many are free."""
+    low = ["MoreMasters"] * 313 + ["h=NewHandle 8"] + [line for it in range(10000) for line in ("NewHandle 8", f"q{it:X}=NewHandle 8")] + ["s=NewHandle 300000", "k=NewHandle 8", "HLock k", "DisposeHandle s"]
+    return low + [f"DisposeHandle q{it:X}" for it in range(10000)] + lines + request * LINES
+
+
 def locked_by_turns():
     """A lock cuts a gap with 10,000 free blocks in two, a request fails, and the gap is one again."""
     lines = [line for it in range(10000) for line in ("h=NewHandle 8" if it == 5000 else "NewHandle 8", f"q{it:X}=NewHandle 8")]
@@ -161,8 +167,13 @@ RUNS = [
     ("a locked purgeable handle among 20,000", [], below_others(["HPurge h", "HLock h"], ["NewHandle 900000"])),
     ("the lowest handle, purgeable, is to grow", [], below_others(["HPurge h"], ["SetHandleSize h 900000"])),
     ("the lowest handle is to grow", [], below_others([], ["SetHandleSize h 900000"])),
+    ("a handle among 10,000 free blocks is to grow", [], below_free_blocks([], ["SetHandleSize h 600000"])),
+    ("a handle among 10,000 free blocks is to be reallocated", [], below_free_blocks([], ["ReallocateHandle h 600000"])),
+    ("a locked handle below 10,000 free blocks is to grow", [], below_free_blocks(["HLock h"], ["SetHandleSize h 600000"])),
+    ("a locked handle is to grow, and one below it is purgeable", [], ["MoreMasters"] * 313 + ["g=NewHandle 8", "HPurge g"] + below_others(["HLock h"], ["SetHandleSize h 900000"])),
     ("the lowest handle is to be reallocated", [], below_others([], ["ReallocateHandle h 900000"])),
     ("bytes are to be added to the lowest handle", [], below_others(["b=NewHandle 500000"], ["HandAndHand b h"])),
+    ("bytes of a purgeable handle are to be added to another", [], below_others(["b=NewHandle 500000", "HPurge b", "HPurge h"], ["HandAndHand b h"])),
     ("the lowest handle, purged and filled again", [], below_others([], ["HPurge h", "NewHandle 900000", "ReallocateHandle h 8"])),
     ("HLockHi among 20,000 blocks", [], below_others([], ["HLockHi h", "HUnlock h"])),
     ("10,000 free blocks in a gap that a lock cuts in two", [], locked_by_turns()),

@@ -81,6 +81,25 @@ lowest-begins t s k (b ∷ bs) run rest sizes ends moves above fits few =
     (few-below t s k b.size (b.size + total_size bs) b bs (run ++ rest) (and_parts (is_block_size s b.size) _ sizes).1 refl
     (λ before blocks behind parts moves above below low. few (b ∷ before) blocks behind (ap (λ m. b ∷ m) parts) moves above below (omega arith)))
 
+-- where the gap that begins at a place has no more than n free bytes, its bound may be n
+pub bounds-lowered : (z : ZoneState) → HasSizes z → (bounds : List ℕ) → AreBounds z bounds → (p n : ℕ) → p < length bounds → ((gap : GapAt z (z.shape.base + 4 * p)) → free_bytes gap.rest.blocks ≤ n) → AreBounds z (set bounds p n)
+bounds-lowered z sizes bounds kept p n inside few = record {
+  places = length-set bounds p n ∙ kept.places;
+  bounded = λ start rest below. elim (nat_eq (place z.shape start) p) as (λ b. nat_eq (place z.shape start) p ≡ b → free_bytes rest.blocks ≤ slice_index (set bounds p n) (place z.shape start)) [
+    | true ↦ λ is.
+        let same : place z.shape start ≡ p = grind (arith, nat_tests) in
+        let back = place-back z start sizes (record { before = rest.before; behind = rest.blocks ++ rest.behind; map = rest.map; place = rest.place }) in
+        let here : start ≡ z.shape.base + 4 * p = omega (arith, back, same) in
+        let most = few (record { rest = record { before = rest.before; blocks = rest.blocks; behind = rest.behind; map = rest.map; place = sym here ∙ rest.place; moves = rest.moves; above = rest.above }; below = below }) in
+        let bound : slice_index (set bounds p n) (place z.shape start) ≡ n = ap (slice_index (set bounds p n)) same ∙ get_or-set_same bounds p n 0 inside in
+        omega (arith, most, bound)
+    | false ↦ λ is.
+        let other = get_or-set_other bounds p (place z.shape start) n 0 (λ same. let e : nat_eq (place z.shape start) p ≡ true = grind (arith, nat_tests) in absurd (cc (sym e ∙ is))) in
+        let most = kept.bounded start rest below in
+        omega (arith, other, most)
+  ] refl;
+}
+
 -- The bounds below a place are lower than k.
 pub record Searched (z : ZoneState) (bounds : List ℕ) (k from : ℕ) : Type 0 where
   pub kept : AreBounds z bounds
@@ -167,22 +186,7 @@ module _ (z : ZoneState) (sizes : HasSizes z) (k : ℕ) (some : 0 < k) (bounds :
       -- else its bound becomes what it has, and the search goes on behind it
       pub searched-next : (n : ℕ) → n < k → ((gap : GapAt z (z.shape.base + 4 * p)) → free_bytes gap.rest.blocks ≤ n) → Searched z (set bounds p n) k (p + 1)
       searched-next n low few = record {
-        kept = record {
-          places = length-set bounds p n ∙ s.kept.places;
-          bounded = λ start rest below. elim (nat_eq (place z.shape start) p) as (λ b. nat_eq (place z.shape start) p ≡ b → free_bytes rest.blocks ≤ slice_index (set bounds p n) (place z.shape start)) [
-            | true ↦ λ is.
-                let same : place z.shape start ≡ p = grind (arith, nat_tests) in
-                let back = place-back z start sizes (record { before = rest.before; behind = rest.blocks ++ rest.behind; map = rest.map; place = rest.place }) in
-                let here : start ≡ z.shape.base + 4 * p = omega (arith, back, same) in
-                let most = few (record { rest = record { before = rest.before; blocks = rest.blocks; behind = rest.behind; map = rest.map; place = sym here ∙ rest.place; moves = rest.moves; above = rest.above }; below = below }) in
-                let bound : slice_index (set bounds p n) (place z.shape start) ≡ n = ap (slice_index (set bounds p n)) same ∙ get_or-set_same bounds p n 0 first.inside.1 in
-                omega (arith, most, bound)
-            | false ↦ λ is.
-                let other = get_or-set_other bounds p (place z.shape start) n 0 (λ same. let e : nat_eq (place z.shape start) p ≡ true = grind (arith, nat_tests) in absurd (cc (sym e ∙ is))) in
-                let most = s.kept.bounded start rest below in
-                omega (arith, other, most)
-          ] refl;
-        };
+        kept = bounds-lowered z sizes bounds s.kept p n first.inside.1 few;
         below = λ j under. elim (nat_lt j p) as (λ b. nat_lt j p ≡ b → slice_index (set bounds p n) j < k) [
           | true ↦ λ is.
               let lower : j < p = grind (arith, nat_tests) in

@@ -18,6 +18,7 @@ pub mod Raising
 pub mod Renewed
 pub mod Replaced
 pub mod Resizing
+pub mod RoomAt
 pub mod Rooms
 pub mod Splits
 pub mod Taking

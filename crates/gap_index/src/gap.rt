@@ -1,6 +1,6 @@
 //! The lowest gap with room.
 
-ghost use Rattle.std.specs.Prelude.{◌≡◌, ◌+◌, ◌<◌, ◌≤◌, ◌↔◌, IsTrue, MatchOption, None};
+ghost use Rattle.std.specs.Prelude.{◌≡◌, ◌+◌, ◌<◌, ◌≤◌, ◌↔◌, IsTrue, MatchOption, None, nat_le};
 ghost use Rattle.mac_base.specs.Gap.{gaps, lowest_gap};
 ghost use Rattle.mac_base.specs.ZoneMap.{free_bytes, total_size};
 ghost use Rattle.linked_zone.specs.Places.{SplitAt};
@@ -8,6 +8,7 @@ ghost use Rattle.fixed_index.specs.Runs.{RestAt};
 ghost use Rattle.gap_index.specs.Gaps.{GapAt, GapWith, IsLowestGap};
 ghost use Rattle.gap_index.specs.Index.{AreBounds};
 
+use crate::raise::{bound_at, set_bound};
 use crate::zone::GapZone;
 use fixed_index::IndexedZone;
 use linked_zone::LinkedZone;
@@ -25,6 +26,16 @@ impl GapZone {
             return None;
         }
         lowest_by_bounds(&self.zone, &mut self.bounds, needed)
+    }
+
+    /// Whether the gap that begins at an address has at least `needed` free bytes. Where its bound says more than it has, its
+    /// free blocks are gone through once, and the bound becomes what it has.
+    pub fn has_room_at(&mut self, start: u32, needed: u32) -> bool
+        requires gap { GapAt self.old start }
+        ensures zone { self.new ≡ self.old }
+        ensures room { (gap : GapAt self.old start) → result ≡ nat_le needed (free_bytes gap.rest.blocks) }
+    {
+        has_room_by_bound(&self.zone, &mut self.bounds, start, needed)
     }
 }
 
@@ -48,6 +59,28 @@ fn lowest_by_bounds(zone: &IndexedZone, bounds: &mut Sizes, needed: u32) -> Opti
         from = place + 1;
     }
     None
+}
+
+/// Whether the gap that begins at an address has `needed` free bytes, by its bound or else by its blocks.
+fn has_room_by_bound(zone: &IndexedZone, bounds: &mut Sizes, start: u32, needed: u32) -> bool
+    requires gap { GapAt zone.now start }
+    requires bounds { AreBounds zone.now bounds.old }
+    ensures bounds { AreBounds zone.now bounds.new }
+    ensures room { (gap : GapAt zone.now start) → result ≡ nat_le needed (free_bytes gap.rest.blocks) }
+{
+    let linked = zone.linked();
+    let base = linked.spec().base();
+    let bound = bound_at(bounds, base, start);
+    if bound < needed {
+        return false;
+    }
+    let end = zone.gap_end(start);
+    let room = room_up_to(linked, start, end, needed);
+    if room >= needed {
+        return true;
+    }
+    set_bound(bounds, base, start, room);
+    false
 }
 
 /// The free bytes of the gap that begins at an address, or `needed` of them at least; 0 where no gap begins there.

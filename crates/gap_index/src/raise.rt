@@ -1,6 +1,6 @@
-//! Bounds that are raised.
+//! Bounds that are read, written and raised.
 
-ghost use Rattle.std.specs.Prelude.{◌≡◌, ◌+◌, ◌-◌, ◌/◌, ◌≤◌, ◌<◌, length, slice_index};
+ghost use Rattle.std.specs.Prelude.{◌≡◌, ◌+◌, ◌-◌, ◌/◌, ◌≤◌, ◌<◌, length, set, slice_index};
 ghost use Rattle.gap_index.specs.Raised.{Raised};
 
 use crate::around::Around;
@@ -13,6 +13,15 @@ pub fn bound_at(bounds: &Sizes, base: u32, at: u32) -> u32
     ensures { result ≡ slice_index bounds.now ((at - base) / 4) }
 {
     bounds.get(((at - base) / 4) as usize)
+}
+
+/// Writes the bound for a gap that begins at an address of a zone.
+pub fn set_bound(bounds: &mut Sizes, base: u32, at: u32, room: u32)
+    requires low { base ≤ at }
+    requires high { (at - base) / 4 < length bounds.old }
+    ensures { bounds.new ≡ set bounds.old ((at - base) / 4) room }
+{
+    bounds.set(((at - base) / 4) as usize, room);
 }
 
 /// Raises the bound for a gap that begins at an address of a zone to `room`, where it is smaller.

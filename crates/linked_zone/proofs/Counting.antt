@@ -1,15 +1,16 @@
 -- How many handles may be purged once one of them is given, changed or taken out.
 use Rattle.std.proofs.Common.{◌≡◌, ℕ, ◌+◌, ◌≤◌, Bool, true, false, not, cond, eqb, Some, None, Option, List, [], ◌∷◌, refl, ap, sym, ◌∙◌, subst, arith, IsTrue}
-use Rattle.std.specs.Prelude.{◌&&◌, filter, nat_eq}
+use Rattle.std.specs.Prelude.{◌&&◌, ◌<◌, filter, nat_eq}
 use Rattle.std.specs.Ordering.{nat_cmp, eq_by_cmp, is_eq, is_lt}
 use Rattle.std.specs.declared.cmp.Ordering.{Ordering}
 use Rattle.std.specs.declared.cmp.Ordering.TheVariants.{Less, Equal, Greater}
 use Rattle.std.specs.FinMap.{find, put, is_sorted}
 use Rattle.std.specs.FinMap.Entries.{by_order, below_all}
+use Rattle.std.proofs.lemmas.Bool.{eqb-true, eq-eqb, true≢false}
 use Rattle.std.proofs.lemmas.Bool.Decides.{nat_tests}
 use Rattle.mac_base.specs.declared.block.Flags.{Flags}
-use Rattle.mac_base.specs.HandleTable.{HandleTable, Live, EmptyHandle, FullHandle, Pointer, flags_of, live_at, live_flags, live_full, refilled, with_bytes, with_live}
-use Rattle.linked_zone.specs.Purgeable.{live_purgeable, may_purge, one_if, purgeables, IsBound, NonePurgeable}
+use Rattle.mac_base.specs.HandleTable.{HandleTable, Live, EmptyHandle, FullHandle, Pointer, flags_of, is_purgeable, live_at, live_flags, live_full, refilled, with_bytes, with_live}
+use Rattle.linked_zone.specs.Purgeable.{live_purgeable, may_purge, one_if, purgeables, IsBound, NonePurgeable, OnlyPurgeable}
 
 -- whether what may be live may be purged
 abbrev pub found_purgeable : Option Live → Bool
@@ -135,3 +136,94 @@ none-bound t bound holds test = let zero = is_zero bound test in none-purgeable 
   where
     is_zero : (n : ℕ) → not (nat_eq n 0) ≡ false → n ≡ 0
     is_zero n h = grind (arith, nat_tests)
+
+-- ---- beside some
+
+-- a handle may be purged if what is found says so
+pub purgeable-found : (t : HandleTable) (x : ℕ) → is_purgeable t x ≡ found_purgeable (live_at t x)
+purgeable-found t x = by_live (live_at t x)
+  where
+    by_live : (o : Option Live) → (live_full o && ((live_flags o).purge && not (live_flags o).lock)) ≡ found_purgeable o
+    by_live None = refl
+    by_live (Some EmptyHandle) = refl
+    by_live (Some (FullHandle flags old)) = refl
+    by_live (Some (Pointer old)) = refl
+
+found-same : (x y : ℕ) → eq_by_cmp nat_cmp x y ≡ true → x ≡ y
+found-same x y is = grind (arith, nat_tests)
+
+found-other : (x y : ℕ) → (x ≡ y → ⊥) → eq_by_cmp nat_cmp x y ≡ false
+found-other x y apart = grind (arith, nat_tests)
+
+-- without one that counts there is one less
+count-beside : (x : ℕ) (es : List (ℕ × Live)) → purgeables (filter (λ e. not (eqb e.0 x)) es) + one_if (found_purgeable (find nat_cmp x es)) ≤ purgeables es
+count-beside x [] = omega arith
+count-beside x (e ∷ es) = by_test (count-beside x es) (eqb e.0 x) refl (eq_by_cmp nat_cmp x e.0) refl
+  where
+    by_test : purgeables (filter (λ e. not (eqb e.0 x)) es) + one_if (found_purgeable (find nat_cmp x es)) ≤ purgeables es → (b : Bool) → eqb e.0 x ≡ b → (c : Bool) → eq_by_cmp nat_cmp x e.0 ≡ c
+        → purgeables (cond (not b) (e ∷ filter (λ e. not (eqb e.0 x)) es) (filter (λ e. not (eqb e.0 x)) es)) + one_if (found_purgeable (cond c (Some e.1) (find nat_cmp x es))) ≤ one_if (live_purgeable e.1) + purgeables es
+    by_test rest true here true found = let fewer = count-without x es in omega (arith, fewer)
+    by_test rest true here false found = omega (arith, rest)
+    by_test rest false here true found = absurd (true≢false (sym (eq-eqb e.0 x (sym (found-same x e.0 found))) ∙ here))
+    by_test rest false here false found = omega (arith, rest)
+
+-- and any other is found as before
+find-beside : (x h : ℕ) (es : List (ℕ × Live)) → (x ≡ h → ⊥) → find nat_cmp h (filter (λ e. not (eqb e.0 x)) es) ≡ find nat_cmp h es
+find-beside x h [] apart = refl
+find-beside x h (e ∷ es) apart = by_test (find-beside x h es apart) (eqb e.0 x) refl
+  where
+    by_test : find nat_cmp h (filter (λ e. not (eqb e.0 x)) es) ≡ find nat_cmp h es → (b : Bool) → eqb e.0 x ≡ b
+        → find nat_cmp h (cond (not b) (e ∷ filter (λ e. not (eqb e.0 x)) es) (filter (λ e. not (eqb e.0 x)) es)) ≡ cond (eq_by_cmp nat_cmp h e.0) (Some e.1) (find nat_cmp h es)
+    by_test rest true here =
+        let same : e.0 ≡ x = eqb-true e.0 x here in
+        rest ∙ sym (ap (λ c. cond c (Some e.1) (find nat_cmp h es)) (found-other h e.0 (λ is. apart (sym same ∙ sym is))))
+    by_test rest false here = ap (λ o. cond (eq_by_cmp nat_cmp h e.0) (Some e.1) o) rest
+
+-- what may be purged beside another counts as well
+one-beside : (t : HandleTable) (x h : ℕ) → (x ≡ h → ⊥) → one_if (is_purgeable t x) + one_if (is_purgeable t h) ≤ purgeables t.live
+one-beside t x h apart =
+    let others : List (ℕ × Live) = filter (λ e. not (eqb e.0 x)) t.live in
+    let first = count-beside x t.live in
+    let is = ap one_if (purgeable-found t x) in
+    let last = count-found h others in
+    let also = ap one_if (purgeable-found t h ∙ ap found_purgeable (sym (find-beside x h t.live apart))) in
+    omega (arith, first, is, last, also)
+
+-- and beside two
+two-beside : (t : HandleTable) (x y h : ℕ) → (x ≡ y → ⊥) → (x ≡ h → ⊥) → (y ≡ h → ⊥) → one_if (is_purgeable t x) + one_if (is_purgeable t y) + one_if (is_purgeable t h) ≤ purgeables t.live
+two-beside t x y h apart first_apart second_apart =
+    let others : List (ℕ × Live) = filter (λ e. not (eqb e.0 x)) t.live in
+    let first = count-beside x t.live in
+    let is = ap one_if (purgeable-found t x) in
+    let second = count-beside y others in
+    let too = ap one_if (purgeable-found t y ∙ ap found_purgeable (sym (find-beside x y t.live apart))) in
+    let last = count-found h (filter (λ e. not (eqb e.0 y)) others) in
+    let also = ap one_if (purgeable-found t h ∙ ap found_purgeable (sym (find-beside y h others second_apart ∙ find-beside x h t.live first_apart))) in
+    omega (arith, first, is, second, too, last, also)
+
+other : (x h : ℕ) → eqb x h ≡ false → x ≡ h → ⊥
+other x h apart same = true≢false (sym (eq-eqb x h same) ∙ apart)
+
+few : (b : Bool) → one_if b ≤ 1
+few true = omega arith
+few false = omega arith
+
+none : (b : Bool) → one_if b ≤ 0 → b ≡ false
+none true h = absurd (omega arith)
+none false h = refl
+
+-- so where the bound is no more than these two count none may be purged beside them
+pub only-one : (t : HandleTable) (bound x : ℕ) → IsBound (purgeables t.live) bound → bound ≤ one_if (is_purgeable t x) → OnlyPurgeable x x t
+only-one t bound x holds low h first_apart second_apart =
+    let most = few (is_purgeable t x) in
+    let all = holds (omega (arith, low, most)) in
+    let more = one-beside t x h (other x h first_apart) in
+    none (is_purgeable t h) (omega (arith, all, more, low))
+
+pub only-two : (t : HandleTable) (bound x y : ℕ) → IsBound (purgeables t.live) bound → (x ≡ y → ⊥) → bound ≤ one_if (is_purgeable t x) + one_if (is_purgeable t y) → OnlyPurgeable x y t
+only-two t bound x y holds apart low h first_apart second_apart =
+    let most = few (is_purgeable t x) in
+    let also = few (is_purgeable t y) in
+    let all = holds (omega (arith, low, most, also)) in
+    let more = two-beside t x y h apart (other x h first_apart) (other y h second_apart) in
+    none (is_purgeable t h) (omega (arith, all, more, low))

@@ -1,5 +1,5 @@
 -- How many handles may be purged.
-use Rattle.std.specs.Prelude.{ℕ, ◌+◌, ◌<◌, ◌≤◌, Bool, false, not, ◌&&◌, if◌then◌else◌, List, [], ◌∷◌, IsFalse}
+use Rattle.std.specs.Prelude.{ℕ, ◌+◌, ◌<◌, ◌≤◌, Bool, false, not, ◌&&◌, ◌==◌, if◌then◌else◌, List, [], ◌∷◌, IsFalse}
 use Rattle.mac_base.specs.declared.block.Flags.{Flags}
 use Rattle.mac_base.specs.HandleTable.{HandleTable, Live, EmptyHandle, FullHandle, Pointer, is_purgeable}
 
@@ -29,3 +29,7 @@ IsBound n bound = bound < 0xFFFF_FFFF → n ≤ bound
 -- no handle may be purged
 abbrev pub NonePurgeable : HandleTable → Type 0
 NonePurgeable t = (h : ℕ) → IsFalse (is_purgeable t h)
+
+-- no handle may be purged but those of these two numbers
+abbrev pub OnlyPurgeable : ℕ → ℕ → HandleTable → Type 0
+OnlyPurgeable x y t = (h : ℕ) → IsFalse (x == h) → IsFalse (y == h) → IsFalse (is_purgeable t h)

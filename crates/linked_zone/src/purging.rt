@@ -6,7 +6,7 @@ ghost use Rattle.linked_zone.specs.Purgeable.{IsBound, may_purge, one_if};
 use mac_base::block::Flags;
 
 /// Whether a handle with a block may be purged under these flags.
-fn may_purge(flags: Flags) -> bool
+pub(crate) fn may_purge(flags: Flags) -> bool
     ensures { result ≡ may_purge flags }
 {
     flags.purge && !flags.lock

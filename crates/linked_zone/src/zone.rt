@@ -1,6 +1,7 @@
 //! The zone.
 
 use crate::flags;
+use crate::purging::may_purge;
 use mac_base::block::{Block, Entry, Flags, HeadKind, Kind};
 use mac_base::error::HostFull;
 use mac_base::handle::{Handle, Ptr};
@@ -48,7 +49,7 @@ impl LinkedZone {
     ghost use Rattle.std.specs.Prelude.{◌≡◌, ◌+◌, ◌≤◌, ◌<◌, IfOk, IfSome, IfNone, IsTrue, IsFalse, MatchOption, Some, None, ◌∷◌, [], not, drop, length, Contains, ◌↔◌};
     ghost use Rattle.std.specs.List.{list_all};
     ghost use Rattle.std.specs.Borrow.{sem};
-    ghost use Rattle.mac_base.specs.HandleTable.{EmptyHandle, has_block, is_handle, is_full, is_lent, is_pointer, live_at, bytes_of, flags_of};
+    ghost use Rattle.mac_base.specs.HandleTable.{EmptyHandle, has_block, is_handle, is_full, is_lent, is_pointer, is_purgeable, live_at, bytes_of, flags_of};
     ghost use Rattle.mac_base.specs.HeadKind.{master_length, head_size};
     ghost use Rattle.mac_base.specs.Heap.{has_none};
     ghost use Rattle.mac_base.specs.Loans.{most_loans, LoansFit};
@@ -59,7 +60,7 @@ impl LinkedZone {
     ghost use Rattle.linked_zone.specs.Fit.{Fits, HasSizes};
     ghost use Rattle.linked_zone.specs.WritingBack.{WritesBackBytes};
     ghost use Rattle.linked_zone.specs.Places.{EntryAt, HasOwner, FreeAt, BlockOf, NamedAt, LowestAt, RoomFor, CanCut, CanHold, CanGrow, FreePair, SplitAt, FirstFree, LastFree, none_free};
-    ghost use Rattle.linked_zone.specs.Purgeable.{NonePurgeable};
+    ghost use Rattle.linked_zone.specs.Purgeable.{NonePurgeable, OnlyPurgeable, one_if};
     ghost use Rattle.linked_zone.specs.Sizes.{sizes_of};
     ghost use Rattle.linked_zone.specs.Image.{IsImage};
     ghost use Rattle.block_bytes.specs.Walk.{Walks};
@@ -197,6 +198,29 @@ impl LinkedZone {
         ensures { IsFalse result → NonePurgeable self.now.heap.table }
     {
         self.purgeable != 0
+    }
+
+    /// Whether there may be a handle that may be purged, beside those of these two numbers. Where not, there is none.
+    pub fn has_purgeable_beside(&self, first: u32, second: u32) -> bool
+        ensures { IsFalse result → OnlyPurgeable first second self.now.heap.table }
+    {
+        let known = self.purgeable_count(first);
+        if first == second {
+            return known < self.purgeable;
+        }
+        known + self.purgeable_count(second) < self.purgeable
+    }
+
+    /// One where this is the number of a handle that may be purged, else 0.
+    fn purgeable_count(&self, number: u32) -> u32
+        ensures { result ≡ one_if (is_purgeable self.now.heap.table number) }
+    {
+        let handle = Handle::new(number);
+        if self.is_live(handle) && may_purge(self.flags(handle)) {
+            1
+        } else {
+            0
+        }
     }
 
     /// The bytes of a handle or a pointer that has a block.

@@ -16,14 +16,15 @@ use Rattle.mac_base.specs.ZoneState.{ZoneState}
 use Rattle.zone_laws.proofs.Arranging.{free_bytes-all_used, total_size-used}
 use Rattle.zone_laws.proofs.GapApart.{sizes_possible}
 use Rattle.zone_laws.proofs.GapAppend.{free_bytes-append, length-addresses_from, sizes-append, total_size-append}
-use Rattle.zone_laws.proofs.GapParts.{gap_behind-is}
+use Rattle.zone_laws.proofs.GapParts.{IsGap, gap-IsGap, gap_behind-is, ends_fixed as ends_in_fixed}
 use Rattle.zone_laws.proofs.GapRoom.{gap_behind-found}
 use Rattle.zone_laws.proofs.NamedPlace.{At-from, BeforeGap, gap_behind-parts, nil-append}
 use Rattle.gap_laws.proofs.FittingResize.{one_size}
 use Rattle.linked_zone.specs.Fit.{HasSizes}
 use Rattle.linked_zone.specs.Places.{EntryAt, NamedAt, all_can_move}
+use Rattle.gap_index.specs.Gaps.{GapAt as IndexedGap}
 use Rattle.zone_gaps.specs.Gaps.{Settled, GapAt, IsGapOf}
-use Rattle.fixed_index.specs.Runs.{RestAt, none_fixed}
+use Rattle.fixed_index.specs.Runs.{RestAt, ends_fixed}
 use Rattle.zone_gaps.specs.Runs.{RunAt, UsedUpTo, begins_unused}
 use Rattle.zone_gaps.proofs.Laws.{find-contains}
 use Rattle.zone_gaps.proofs.LoansKept.{no_handle, pointer-no_full, locked-full}
@@ -37,13 +38,9 @@ module _ (z : ZoneState) (test : Gap → Bool) (g : Gap) (found : find test (gap
   abbrev pub at_found : GapAt z start
   at_found = record { gap = g; among = find-contains test (gaps z.heap.table z.heap.map) g found; place = place }
 
-  -- is a run
-  abbrev pub run_found : Settled z → RunAt z start end
-  run_found settled = run_of_rest z start end settled (rest_of_gap z start at_found) long
-
-  -- whose free bytes are its room
-  pub gap_found : Settled z → (free : ℕ) → ((run : RunAt z start end) → free ≡ free_bytes run.blocks) → IsGapOf z (find test (gaps z.heap.table z.heap.map)) (record { start = start; end = end; room = free })
-  gap_found settled free is = record { gap = g; is = found; start = place; end = long; room = is (run_found settled) }
+  -- is the one that is sought
+  pub gap_found : IsGapOf z (find test (gaps z.heap.table z.heap.map)) (record { start = start; end = end })
+  gap_found = record { gap = g; is = found; start = place; end = long }
 
 -- the gap of a handle's block
 module _ (z : ZoneState) (h at : ℕ) (o : Owned z h at) (start end : ℕ) (start_is : start + total_size (o.place).front ≡ at) (end_is : end ≡ at + (o.size + total_size (o.place).back)) where
@@ -131,119 +128,14 @@ module _ (z : ZoneState) (x at : ℕ) (b : Beside z x at) where
   abbrev pub rest_beside : (start : ℕ) → start ≡ at + b.size → RestAt z start
   rest_beside start is = rest_of_gap z start (record { gap = b.gap; among = find-contains (λ g. ends_with x g.before) (gaps z.heap.table z.heap.map) b.gap b.found; place = is ∙ place-beside })
 
--- the first blocks of a run are passed, and their free bytes known
-pub record Counted {start end : ℕ} (z : ZoneState) (run : RunAt z start end) (free next : ℕ) : Type 0 where
-  pub done : ZoneMap
-  pub more : ZoneMap
-  pub parts : run.blocks ≡ done ++ more
-  pub next_is : next ≡ start + total_size done
-  pub free_is : free ≡ free_bytes done
+-- a gap begins behind a fixed block, or where the zone's blocks do
+behind_fixed : (t : HandleTable) (m : ZoneMap) → ends_in_fixed t m ≡ true → ends_fixed t m ≡ true
+behind_fixed t [] h = h
+behind_fixed t (e ∷ []) h = h
+behind_fixed t (e ∷ f ∷ es) h = behind_fixed t (f ∷ es) h
 
--- and a free one comes next, if there is one
-pub record Unused {start end : ℕ} (z : ZoneState) (run : RunAt z start end) (free next : ℕ) : Type 0 where
-  pub so_far : Counted z run free next
-  pub begins : IsTrue (begins_unused so_far.more)
-
--- a block of it that is passed next
-pub record Next {start end : ℕ} {free next : ℕ} (z : ZoneState) (run : RunAt z start end) (s : Counted z run free next) : Type 0 where
-  pub here : Entry
-  pub rest : ZoneMap
-  pub is : s.more ≡ here ∷ rest
-
-module _ {start end : ℕ} (z : ZoneState) (run : RunAt z start end) where
-  -- at first none is passed
-  abbrev pub none_counted : Counted z run 0 start
-  none_counted = record { done = []; more = run.blocks; parts = refl; next_is = (let e : start ≡ start + 0 = omega arith in e); free_is = refl }
-
-  module _ (free next : ℕ) where
-    pub end_counted : (s : Counted z run free next) → end ≡ next + total_size s.more
-    end_counted s =
-        let long = run.long in
-        let here = s.next_is in
-        let all : total_size run.blocks ≡ total_size s.done + total_size s.more = ap total_size s.parts ∙ total_size-append s.done s.more in
-        omega arith
-
-    -- below the end one more block stands
-    pub next_counted : (s : Counted z run free next) → next < end → Next z run s
-    next_counted s below = by_more s.more refl
-      where
-        by_more : (m : ZoneMap) → s.more ≡ m → Next z run s
-        by_more [] none = let bytes = ap total_size none in let all = end_counted s in absurd (omega arith)
-        by_more (e ∷ es) some = record { here = e; rest = es; is = some }
-
-    -- at the end all are passed
-    pub all_counted : HasSizes z → (s : Counted z run free next) → end ≤ next → free ≡ free_bytes run.blocks
-    all_counted sizes s above =
-        let all = end_counted s in
-        let parts = s.parts in
-        let none = no_bytes z.shape s.more (all_parts _ s.done s.more (subst (λ m. sizes_possible z.shape m ≡ true) parts (run_sizes z run sizes))).1 (omega arith) in
-        s.free_is ∙ ap free_bytes (sym (parts ∙ ap (λ m. s.done ++ m) none ∙ append-nil s.done))
-
-    -- the free bytes are some of those passed
-    pub free_counted : Counted z run free next → free ≤ next
-    free_counted s = let all = total_size-used s.done in let a = s.next_is in let f = s.free_is in omega arith
-
-    -- the block is the one that is read there
-    abbrev pub next_read : (s : Counted z run free next) (f : Next z run s) (e : Entry) → e ≡ f.here → Next z run s
-    next_read s f e is = record { here = e; rest = f.rest; is = f.is ∙ ap (λ e. e ∷ f.rest) (sym is) }
-
-    module _ (s : Counted z run free next) (f : Next z run s) where
-      pub map_next : z.heap.map ≡ (run.before ++ s.done) ++ f.here ∷ (f.rest ++ run.behind)
-      map_next =
-          run.map ∙ ap (λ b. run.before ++ (b ++ run.behind)) (s.parts ∙ ap (λ m. s.done ++ m) f.is) ∙ ap (λ m. run.before ++ m) (append_assoc s.done (f.here ∷ f.rest) run.behind)
-          ∙ sym (append_assoc run.before s.done (f.here ∷ (f.rest ++ run.behind)))
-
-      pub place_next : next ≡ address_behind z.shape (run.before ++ s.done)
-      place_next = let first = run.place in let here = s.next_is in let all = total_size-append run.before s.done in omega arith
-
-      abbrev pub entry_next : EntryAt z next
-      entry_next = record { before = run.before ++ s.done; here = f.here; behind = f.rest ++ run.behind; map = map_next; place = place_next }
-
-      -- it ends at the end or below
-      pub within_next : next + (f.here).size ≤ end
-      within_next = let all = end_counted s in let bytes = ap total_size f.is in omega arith
-
-      -- a free one is passed
-      pub counted_free : is_free (f.here).kind ≡ true → Counted z run (free + (f.here).size) (next + (f.here).size)
-      counted_free unused = record {
-        done = s.done ++ f.here ∷ [];
-        more = f.rest;
-        parts = s.parts ∙ ap (λ m. s.done ++ m) f.is ∙ sym (append_assoc s.done (f.here ∷ []) f.rest);
-        next_is = (let n = s.next_is in let all = total_size-push s.done f.here in omega arith);
-        free_is = ap (λ n. n + (f.here).size) s.free_is ∙ sym (free-push_free s.done f.here unused);
-      }
-
-    module _ (s : Counted z run free next) where
-      pub map_left : z.heap.map ≡ (run.before ++ s.done) ++ (s.more ++ run.behind)
-      map_left =
-          run.map ∙ ap (λ b. run.before ++ (b ++ run.behind)) s.parts ∙ ap (λ m. run.before ++ m) (append_assoc s.done s.more run.behind)
-          ∙ sym (append_assoc run.before s.done (s.more ++ run.behind))
-
-      pub place_left : next ≡ address_behind z.shape (run.before ++ s.done)
-      place_left = let first = run.place in let here = s.next_is in let all = total_size-append run.before s.done in omega arith
-
-      -- the blocks that are left are a run
-      abbrev pub run_left : RunAt z next end
-      run_left = record {
-        before = run.before ++ s.done;
-        blocks = s.more;
-        behind = run.behind;
-        map = map_left;
-        place = place_left;
-        long = end_counted s;
-        moves = (all_parts _ s.done s.more (ap (all_can_move z.heap.table) (sym s.parts) ∙ run.moves)).1;
-        loose = (all_parts _ s.done s.more (ap (none_fixed z.heap.table) (sym s.parts) ∙ run.loose)).1;
-      }
-
-      -- those in use with which it begins are passed
-      pub counted_used : (at : ℕ) → UsedUpTo s.more next at → Unused z run free at
-      counted_used at u = record {
-        so_far = record {
-          done = s.done ++ u.used;
-          more = u.rest;
-          parts = s.parts ∙ ap (λ m. s.done ++ m) u.parts ∙ sym (append_assoc s.done u.used u.rest);
-          next_is = (let n = s.next_is in let there = u.place in let all = total_size-append s.done u.used in omega arith);
-          free_is = (let n = s.free_is in let none = free_bytes-all_used u.used u.none in let all = free_bytes-append s.done u.used in omega arith);
-        };
-        begins = u.begins;
-      }
+-- so it has a bound
+abbrev pub gap_indexed : (z : ZoneState) (start : ℕ) → GapAt z start → IndexedGap z start
+gap_indexed z start at =
+    let is : IsGap z.heap.table z.heap.map at.gap = gap-IsGap z.heap.table z.heap.map at.gap at.among in
+    record { rest = rest_of_gap z start at; below = behind_fixed z.heap.table at.gap.before is.below }

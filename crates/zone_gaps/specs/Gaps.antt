@@ -2,7 +2,7 @@
 use Rattle.std.specs.Prelude.{◌≡◌, ℕ, ◌+◌, Contains, Option, Some}
 use Rattle.std.specs.Option.{option_map_or}
 use Rattle.mac_base.specs.Arrangement.{open_at}
-use Rattle.mac_base.specs.Gap.{Gap, gaps, filled, own_gap, room}
+use Rattle.mac_base.specs.Gap.{Gap, gaps, filled, own_gap}
 use Rattle.mac_base.specs.HandleTable.{HandleTable}
 use Rattle.mac_base.specs.Loans.{LoansAreFixed}
 use Rattle.mac_base.specs.Suits.{Coherent}
@@ -42,7 +42,6 @@ pub record IsGapOf (z : ZoneState) (searched : Option Gap) (found : FoundGap) : 
   pub is : searched ≡ Some gap
   pub start : found.start ≡ address_behind z.shape gap.before
   pub end : found.end ≡ found.start + total_size gap.blocks
-  pub room : found.room ≡ room gap
 
 -- the zone with these blocks in a gap
 abbrev pub with_gap : ZoneState → Gap → ZoneMap → ZoneState

@@ -15,8 +15,6 @@ pub struct FoundGap {
     pub start: u32,
     /// The address behind it.
     pub end: u32,
-    /// The gap's free bytes.
-    pub room: u32,
 }
 
 /// The address behind a zone's last block.

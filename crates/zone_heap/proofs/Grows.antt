@@ -44,7 +44,7 @@ room_further p d (g ∷ gs) same =
     ∙ (let rest = room_further p d gs same in elim (p g) as (λ c. room_of (cond c (Some (further d g)) (find p (map (further d) gs))) ≡ room_of (cond c (Some g) (find p gs))) [ true ↦ refl | false ↦ rest ])
 
 -- where x names no block of these, its block counts nowhere
-run-unnamed : (t : HandleTable) (x k r : ℕ) (m : ZoneMap) → sizes (is_named x) m ≡ [] → run_has (bounds_gap t (Some x)) (counts (Some x)) k r m ≡ run_has (is_fixed t) is_free k r m
+pub run-unnamed : (t : HandleTable) (x k r : ℕ) (m : ZoneMap) → sizes (is_named x) m ≡ [] → run_has (bounds_gap t (Some x)) (counts (Some x)) k r m ≡ run_has (is_fixed t) is_free k r m
 run-unnamed t x k r [] none = refl
 run-unnamed t x k r (e ∷ es) none =
     let parts = nothing_passes (is_named x e.kind) e.size (sizes (is_named x) es) none in

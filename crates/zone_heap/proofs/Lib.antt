@@ -37,5 +37,6 @@ pub mod Until
 pub mod Grows
 pub mod Replacing
 pub mod Limits
+pub mod Counting
 pub mod Behind
 pub mod RunWalks

@@ -102,7 +102,7 @@ among-kept t protected x kept (e ∷ es) = ap (λ hs. is_among hs x) (candidates
 
 module _ (z : ZoneState) (protected : List ℕ) (sound : SoundZone z) where
   -- a block that may move can grow, once blocks are purged, where a gap has room when it counts as free
-  moving_means : (x k : ℕ) → has_block z.heap.table x ≡ true → is_among protected x ≡ true → stays z.heap.table x ≡ false → (a : ZoneMap)
+  pub moving_means : (x k : ℕ) → has_block z.heap.table x ≡ true → is_among protected x ≡ true → stays z.heap.table x ≡ false → (a : ZoneMap)
       → can_grow z.heap.table x k (all_released (candidates_in z.heap.table protected a) z.heap.map) ≡ some_gap_has k (gaps z.heap.table (released x (all_released (candidates_in z.heap.table protected a) z.heap.map)))
   moving_means x k has kept stay a =
       let hs = candidates_in z.heap.table protected a in

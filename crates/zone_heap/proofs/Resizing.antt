@@ -1,21 +1,22 @@
 -- What a block that gets another size leaves, and what makes way for it.
-use Rattle.std.proofs.Common.{◌≡◌, ℕ, ◌+◌, ◌≤◌, ◌∷◌, ◌++◌, arith, true, false, cond, refl, ap, sym, ◌∙◌, subst, Option, Some, None}
+use Rattle.std.proofs.Common.{◌≡◌, ℕ, ◌+◌, ◌-◌, ◌<◌, ◌≤◌, Bool, arith, true, false, cond, refl, ap, sym, ◌∙◌, subst, Contains, Option, Some, None}
 use Rattle.std.specs.Prelude.{nat_le, is_some, option_and_then}
 use Rattle.std.specs.Option.{option_map_or}
+use Rattle.std.proofs.lemmas.Bool.{le-leb}
+use Rattle.std.proofs.lemmas.Bool.Decides.{nat_tests}
 use Rattle.mac_base.specs.Arrangement.{open_at, up}
-use Rattle.mac_base.specs.Gap.{Gap, gaps, filled, gap_behind, ends_with, own_gap}
+use Rattle.mac_base.specs.Gap.{Gap, gaps, filled, gap_behind, ends_with, has_named, own_gap}
 use Rattle.mac_base.specs.HandleTable.{HandleTable, has_block, is_lent}
 use Rattle.mac_base.specs.HeadKind.{Shape, need}
 use Rattle.mac_base.specs.Heap.{Heap}
 use Rattle.mac_base.specs.Request.{gap_to_grow, room_of, size_of, stays}
 use Rattle.mac_base.specs.Serve.{free_in_front, opened_for, resized_in_gap, resized_in_place}
 use Rattle.mac_base.specs.Sound.{Sound}
-use Rattle.mac_base.specs.ZoneMap.{ZoneMap, total_size}
+use Rattle.mac_base.specs.ZoneMap.{ZoneMap, free_bytes}
 use Rattle.mac_base.specs.ZoneState.{ZoneState}
-use Rattle.zone_laws.proofs.Arranging.{total_size-used, up-IsArrangement}
-use Rattle.zone_laws.proofs.GapAppend.{total_size-append}
+use Rattle.zone_laws.proofs.Arranging.{up-IsArrangement}
 use Rattle.zone_laws.proofs.ArrangingNamed.{open_at-IsArrangement}
-use Rattle.zone_laws.proofs.GapParts.{IsGap, gap_behind-is, own_gap-is}
+use Rattle.zone_laws.proofs.GapParts.{gap_behind-is, own_gap-is}
 use Rattle.zone_laws.proofs.Lent.{fixed-kept}
 use Rattle.zone_laws.proofs.OpenedGap.{is_some-resized_in_place}
 use Rattle.zone_laws.proofs.SuitsNamed.{named_once}
@@ -23,15 +24,16 @@ use Rattle.gap_laws.proofs.FittingResize.{is_some-resized_in_gap}
 use Rattle.gap_laws.proofs.RearrangedSuits.{Sound-arranged}
 use Rattle.linked_zone.specs.Changes.{with_map}
 use Rattle.linked_zone.specs.Loans.{KeepsLoans}
-use Rattle.linked_zone.specs.Places.{EntryAt}
+use Rattle.gap_index.specs.Gaps.{GapAt as IndexedGap}
 use Rattle.zone_gaps.specs.declared.gap.FoundGap.{FoundGap}
-use Rattle.zone_gaps.specs.Gaps.{GapBetween, IsGapOf, opened_after}
+use Rattle.zone_gaps.specs.Gaps.{GapAt, GapBetween, IsGapOf, opened_after}
 use Rattle.zone_gaps.proofs.Laws.{find-contains}
+use Rattle.zone_gaps.proofs.Rooms.{gap_indexed}
 use Rattle.zone_heap.specs.Attempts.{SoundZone}
 use Rattle.zone_heap.specs.Placed.{resized_there}
 use Rattle.zone_heap.specs.Resized.{way_made}
 use Rattle.zone_heap.proofs.Loans.{keeps-loans}
-use Rattle.zone_heap.proofs.Sizing.{Standing, there, size-there, sound-there, keeps-there}
+use Rattle.zone_heap.proofs.Sizing.{Standing, there, sound-there, keeps-there}
 
 -- a block can have the bytes where it is, if it and the free bytes right behind it have them
 pub fits-there : (z : ZoneState) (x n k at : ℕ) (b : Standing z x n k at) → is_some (resized_in_place z.shape (need z.shape.heads n) x z.heap.map) ≡ nat_le k (b.named.here.size + free_in_front b.named.behind)
@@ -40,13 +42,11 @@ fits-there z x n k at b =
     ∙ ap (λ j. nat_le j (b.named.here.size + free_in_front b.named.behind)) (sym b.size)
 
 -- it can have them in its gap, if it and the gap have them
-pub fits-gap : (z : ZoneState) (x n k at : ℕ) (b : Standing z x n k at) (found : FoundGap) → IsGapOf z (gap_to_grow z.heap.table x z.heap.map) found
-    → is_some (resized_in_gap z.shape z.heap.table (need z.shape.heads n) x z.heap.map) ≡ nat_le k (b.named.here.size + found.room)
-fits-gap z x n k at b found is =
-    is_some-resized_in_gap z.shape z.heap.table (need z.shape.heads n) x z.heap.map b.sound.suits (named_once z.shape z.heap.table z.heap.map x b.sound.suits b.block)
-    ∙ ap (λ j. nat_le j (size_of x z.heap.map + room_of (gap_to_grow z.heap.table x z.heap.map))) (sym b.size)
-    ∙ ap (λ m. nat_le k (m + room_of (gap_to_grow z.heap.table x z.heap.map))) (sym (size-there z x n k at b))
-    ∙ ap (λ o. nat_le k (b.named.here.size + room_of o)) is.is ∙ ap (λ m. nat_le k (b.named.here.size + m)) (sym is.room)
+pub fits-gap : (z : ZoneState) (x n k : ℕ) → Sound z.shape z.heap → has_block z.heap.table x ≡ true → k ≡ need z.shape.heads n
+    → is_some (resized_in_gap z.shape z.heap.table (need z.shape.heads n) x z.heap.map) ≡ nat_le k (size_of x z.heap.map + room_of (gap_to_grow z.heap.table x z.heap.map))
+fits-gap z x n k sound block size =
+    is_some-resized_in_gap z.shape z.heap.table (need z.shape.heads n) x z.heap.map sound.suits (named_once z.shape z.heap.table z.heap.map x sound.suits block)
+    ∙ ap (λ j. nat_le j (size_of x z.heap.map + room_of (gap_to_grow z.heap.table x z.heap.map))) (sym size)
 
 -- where it has them where it is, the zone stays sound
 pub there-sound : (z new : ZoneState) (x n : ℕ) → SoundZone z → has_block z.heap.table x ≡ true → is_lent z.heap.table x ≡ false → resized_there z.shape x n z.heap ≡ Some new.heap → new.shape ≡ z.shape → SoundZone new
@@ -104,26 +104,30 @@ way-fits s t k x m fits = by_gap (gap_to_grow t x m) fits
     by_gap None fits = absurd (cc fits)
     by_gap (Some g) fits = refl
 
--- the gap in which a block can grow is one
-to_grow-is : (t : HandleTable) (m : ZoneMap) (x : ℕ) (g : Gap) → gap_to_grow t x m ≡ Some g → IsGap t m g
-to_grow-is t m x g = elim (stays t x) as (λ c. cond c (gap_behind x (gaps t m)) (own_gap x (gaps t m)) ≡ Some g → IsGap t m g) [
-  | true ↦ λ found. (gap_behind-is t m x g found).0
-  | false ↦ λ found. (own_gap-is t m x g found).0
-]
+-- the gap in which a block can grow begins there
+pub to_grow-at : (z : ZoneState) (x : ℕ) (found : FoundGap) → IsGapOf z (gap_to_grow z.heap.table x z.heap.map) found → GapAt z found.start
+to_grow-at z x found is = record {
+  gap = is.gap;
+  among = (let t = z.heap.table in let gs = gaps t z.heap.map in elim (stays t x) as (λ c. cond c (gap_behind x gs) (own_gap x gs) ≡ Some is.gap → Contains gs is.gap) [
+    | true ↦ find-contains (λ g. ends_with x g.before) gs is.gap
+    | false ↦ find-contains (λ g. has_named x g.blocks) gs is.gap
+  ] is.is);
+  place = is.start;
+}
 
--- its room lies within the zone
-pub room-within : (z : ZoneState) (x : ℕ) → SoundZone z → (found : FoundGap) → IsGapOf z (gap_to_grow z.heap.table x z.heap.map) found → found.room ≤ z.shape.limit
-room-within z x sound found is =
-    let g : Gap = is.gap in
-    let i = to_grow-is z.heap.table z.heap.map x g is.is in
-    let all : total_size z.heap.map ≡ total_size (g.before ++ g.blocks) + total_size g.behind = ap total_size i.parts ∙ total_size-append (g.before ++ g.blocks) g.behind in
-    omega (arith, all, total_size-append g.before g.blocks, total_size-used g.blocks, is.room, sound.sound.within)
+more_than : (k n r : ℕ) → n < k → nat_le (k - n) r ≡ nat_le k (n + r)
+more_than k n r low = grind (arith, nat_tests)
 
--- so does a block
-pub here-within : (z : ZoneState) (at : ℕ) (e : EntryAt z at) → Sound z.shape z.heap → e.here.size ≤ z.shape.limit
-here-within z at e sound =
-    let all : total_size z.heap.map ≡ total_size e.before + (e.here.size + total_size e.behind) = ap total_size e.map ∙ total_size-append e.before (e.here ∷ e.behind) in
-    omega (arith, all, sound.within)
+-- it has what a block lacks where both together have what it is to have
+pub grows-gap : (z : ZoneState) (x k n : ℕ) (found : FoundGap) (is : IsGapOf z (gap_to_grow z.heap.table x z.heap.map) found) → n ≡ size_of x z.heap.map → n < k → (b : Bool) → ((gap : IndexedGap z found.start) → b ≡ nat_le (k - n) (free_bytes gap.rest.blocks))
+    → b ≡ nat_le k (size_of x z.heap.map + room_of (gap_to_grow z.heap.table x z.heap.map))
+grows-gap z x k n found is size low b has =
+    has (gap_indexed z found.start (to_grow-at z x found is)) ∙ more_than k n (free_bytes is.gap.blocks) low
+    ∙ ap (λ o. nat_le k (n + room_of o)) (sym is.is) ∙ ap (λ n. nat_le k (n + room_of (gap_to_grow z.heap.table x z.heap.map))) size
+
+-- and nothing is lacking where it is as long
+pub grows-itself : (k n r : ℕ) → k ≤ n → true ≡ nat_le k (n + r)
+grows-itself k n r le = sym (le-leb k (n + r) (omega (arith, le)))
 
 -- a gap opened at a block that may move has made way
 pub way-own : (t : HandleTable) (x : ℕ) (m : ZoneMap) → stays t x ≡ false → opened_after t x m ≡ way_made t x m

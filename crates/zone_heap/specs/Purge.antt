@@ -33,6 +33,10 @@ may_purge t protected Master = false
 may_purge t protected (Ptr p) = false
 may_purge t protected (Rel h) = is_purgeable t h && not (is_among protected h)
 
+-- no handle that isn't protected may be purged
+abbrev pub NoneToPurge : HandleTable → List ℕ → Type 0
+NoneToPurge t protected = (h : ℕ) → IsFalse (is_purgeable t h && not (is_among protected h))
+
 -- the handle of such a block
 abbrev pub handle_to_purge : HandleTable → List ℕ → Kind → Option ℕ
 handle_to_purge t protected kind = if may_purge t protected kind then handle_of kind else None

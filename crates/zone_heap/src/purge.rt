@@ -49,21 +49,20 @@ impl Zone {
     }
 }
 
-ghost use Rattle.std.specs.Prelude.{◌≡◌, ◌&&◌, ◌≤◌, nat_le, IsTrue, IsFalse, [], Some, None};
-ghost use Rattle.mac_base.specs.Gap.{gaps, some_gap_has};
-ghost use Rattle.mac_base.specs.HandleTable.{has_block, is_handle, is_locked};
+ghost use Rattle.std.specs.Prelude.{◌≡◌, ◌&&◌, nat_le, IsTrue, IsFalse, [], None};
+ghost use Rattle.mac_base.specs.HandleTable.{has_block};
 ghost use Rattle.mac_base.specs.Heap.{all_purged, with_all_emptied};
 ghost use Rattle.mac_base.specs.Purging.{purged, purged_for};
 ghost use Rattle.mac_base.specs.Request.{can_grow, candidates_in, fits, stays};
 ghost use Rattle.mac_base.specs.Suits.{starts_free};
-ghost use Rattle.mac_base.specs.ZoneMap.{address_behind, is_free, largest_free, released};
+ghost use Rattle.mac_base.specs.ZoneMap.{address_behind, is_free, largest_free};
 ghost use Rattle.mac_base.specs.ZoneState.{with_heap};
 ghost use Rattle.linked_zone.specs.Loans.{KeepsLoans};
 ghost use Rattle.linked_zone.specs.Fit.{HasSizes};
 ghost use Rattle.linked_zone.specs.Places.{EntryAt, HasOwner};
 ghost use Rattle.zone_heap.specs.Attempts.{CanAsk, SoundZone};
 ghost use Rattle.zone_heap.specs.Joins.{all_joined};
-ghost use Rattle.zone_heap.specs.Purge.{ApartBeside, BlocksAt, IsLimit, ShortBlocks, ShortGaps, Purges, PurgesFor, PurgesTo, blocks_behind, bounds_gap, bounds_free, bytes_before, counts, handle_to_purge, is_kept, is_protected, may_purge, purged_between, released_if, staying_block, CanCount, HasBlockIf};
+ghost use Rattle.zone_heap.specs.Purge.{ApartBeside, BlocksAt, IsLimit, ShortBlocks, ShortGaps, Purges, PurgesFor, PurgesTo, blocks_behind, bounds_gap, bounds_free, bytes_before, counts, handle_to_purge, is_kept, is_protected, may_purge, purged_between, staying_block, HasBlockIf, NoneToPurge};
 
 use crate::zone::Zone;
 use gap_index::GapZone;
@@ -233,47 +232,11 @@ fn gap_limit(
     }
 }
 
-/// Whether some gap has room for `needed` bytes, where the block of an unlocked handle counts as free.
-pub(crate) fn has_room(zone: &LinkedZone, needed: u32, counted: Option<Handle>) -> bool
-    requires sound { SoundZone zone.now }
-    requires handle { CanCount zone.now counted }
-    ensures { result ≡ some_gap_has needed (gaps zone.now.heap.table (released_if counted zone.now.heap.map)) }
-{
-    match counted {
-        Some(handle) => some_gap_has(zone, needed, Some(handle.number())),
-        None => some_gap_has(zone, needed, None),
-    }
-}
-
 /// The address of a zone's first block.
 fn zone_start(zone: &LinkedZone) -> u32
     ensures { result ≡ address_behind zone.now.shape [] }
 {
     zone.spec().base() + ZONE_HEADER
-}
-
-/// Whether some gap has room for `needed` bytes, where the block that this number names counts as free.
-fn some_gap_has(zone: &LinkedZone, needed: u32, counted: Option<u32>) -> bool
-    requires { SoundZone zone.now }
-    ensures { result ≡ some_gap_has needed (gaps zone.now.heap.table (released_if counted zone.now.heap.map)) }
-{
-    let start = zone_start(zone);
-    let end = zone_end(zone);
-    let mut at = start;
-    let mut room = 0;
-    while at < end {
-        let here = zone.entry_at(at);
-        if counts(counted, here.kind) {
-            room += here.size;
-        } else if is_fixed(zone, here.kind) {
-            if needed <= room {
-                return true;
-            }
-            room = 0;
-        }
-        at += here.size;
-    }
-    needed <= room
 }
 
 /// Purges all blocks that may be purged.
@@ -389,6 +352,16 @@ fn limit_behind(zone: &GapZone, block: u32, needed: u32, protected: &[u32]) -> L
     gap_limit(linked, start, end, needed - size, None, protected)
 }
 
+/// Whether a handle may be purged that isn't protected. Where it says no, none may be.
+fn may_purge_some(zone: &LinkedZone, protected: &[u32]) -> bool
+    ensures { IsFalse result → NoneToPurge zone.now.heap.table protected.now }
+{
+    if protected.is_empty() {
+        return zone.has_purgeable();
+    }
+    zone.has_purgeable_beside(protected[0], protected[protected.len() - 1])
+}
+
 /// Empties as few handles that may be purged as serve a request, in order of address, and all where none do. Gives whether
 /// the request fits then.
 pub(crate) fn purge_for(zone: &mut GapZone, request: Request, protected: &[u32]) -> bool
@@ -401,7 +374,7 @@ pub(crate) fn purge_for(zone: &mut GapZone, request: Request, protected: &[u32])
     ensures loans { KeepsLoans zone.old zone.new }
     ensures sound { SoundZone zone.new }
 {
-    if !zone.linked().has_purgeable() {
+    if !may_purge_some(zone.linked(), protected) {
         return false;
     }
     let limit = limit_for(zone, request, protected);

@@ -1,13 +1,16 @@
 //! A new block for a handle, in place of the one that it has.
 
-ghost use Rattle.std.specs.Prelude.{MatchResult};
+ghost use Rattle.std.specs.Prelude.{◌≡◌, ◌<◌, MatchResult, Some};
+ghost use Rattle.mac_base.specs.Gap.{gaps, some_gap_has};
 ghost use Rattle.mac_base.specs.declared.request.Request.TheVariants.{Replace};
 ghost use Rattle.linked_zone.specs.Loans.{KeepsLoans};
+ghost use Rattle.mac_base.specs.ZoneMap.{released};
 ghost use Rattle.zone_heap.specs.Attempts.{CanAsk, IsRefused, IsServed, SoundZone};
+ghost use Rattle.zone_heap.specs.Purge.{CanCount};
 
 use crate::place::open_lowest;
-use crate::purge::has_room;
 use crate::shortage::Shortage;
+use crate::size::{gap_to_grow, grows_to};
 use crate::zone::{Zone, cut, empty};
 use gap_index::GapZone;
 use mac_base::handle::Handle;
@@ -22,9 +25,8 @@ pub(crate) fn replace(zone: &mut GapZone, handle: Handle, length: u32) -> Result
     ensures loans { KeepsLoans zone.old zone.new }
     ensures sound { SoundZone zone.new }
 {
-    let linked = zone.linked();
-    let needed = need_for(linked.spec().heads(), length);
-    if !has_room(linked, needed, Some(handle)) {
+    let needed = need_for(zone.linked().spec().heads(), length);
+    if !has_room(zone, needed, handle) {
         return Err(Shortage::NoRoom);
     }
     empty(zone, handle);
@@ -34,6 +36,26 @@ pub(crate) fn replace(zone: &mut GapZone, handle: Handle, length: u32) -> Result
     cut(zone, at, needed);
     zone.point(handle, at, length);
     Ok(())
+}
+
+/// Whether some gap has room for `needed` bytes, where the block of an unlocked handle counts as free, if it has one.
+fn has_room(zone: &mut GapZone, needed: u32, handle: Handle) -> bool
+    requires some { 0 < needed }
+    requires sound { SoundZone zone.old }
+    requires handle { CanCount zone.old (Some handle) }
+    ensures zone { zone.new ≡ zone.old }
+    ensures room { result ≡ some_gap_has needed (gaps zone.old.heap.table (released handle zone.old.heap.map)) }
+{
+    let found = zone.lowest_gap(needed);
+    if found.is_some() {
+        return true;
+    }
+    let block = handle.number();
+    if !zone.linked().has_block(block) {
+        return false;
+    }
+    let gap = gap_to_grow(zone, block);
+    grows_to(zone, gap, block, needed)
 }
 
 impl Zone {

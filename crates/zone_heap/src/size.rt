@@ -1,10 +1,10 @@
 //! Another size for a block: where it is, or where others make way for it.
 
-ghost use Rattle.std.specs.Prelude.{◌≡◌, ◌<◌, ◌≤◌, IsTrue, IsFalse, MatchResult, Some, None, if◌then◌else◌, is_some};
+ghost use Rattle.std.specs.Prelude.{◌≡◌, ◌+◌, ◌<◌, ◌≤◌, IsTrue, IsFalse, MatchResult, Some, None, if◌then◌else◌, is_some, nat_le};
 ghost use Rattle.mac_base.specs.declared.request.Request.TheVariants.{Resize};
 ghost use Rattle.mac_base.specs.HandleTable.{has_block, is_full, is_lent, is_locked};
 ghost use Rattle.mac_base.specs.HeadKind.{max_size, need};
-ghost use Rattle.mac_base.specs.Request.{gap_to_grow, stays};
+ghost use Rattle.mac_base.specs.Request.{gap_to_grow, room_of, size_of, stays};
 ghost use Rattle.mac_base.specs.Serve.{resized_in_gap, resized_in_place};
 ghost use Rattle.linked_zone.specs.Changes.{with_map};
 ghost use Rattle.linked_zone.specs.Loans.{KeepsLoans};
@@ -94,7 +94,7 @@ fn resize_there(zone: &mut GapZone, block: u32, length: u32)
 }
 
 /// The gap in which a block can grow without a new place.
-fn gap_to_grow(zone: &GapZone, block: u32) -> FoundGap
+pub(crate) fn gap_to_grow(zone: &GapZone, block: u32) -> FoundGap
     requires sound { SoundZone zone.now }
     requires block { IsTrue (has_block zone.now.heap.table block) }
     ensures { IsGapOf zone.now (gap_to_grow zone.now.heap.table block zone.now.heap.map) result }
@@ -104,6 +104,22 @@ fn gap_to_grow(zone: &GapZone, block: u32) -> FoundGap
     } else {
         own_gap(zone, Handle::new(block))
     }
+}
+
+/// Whether a block can be `needed` bytes long with the free bytes of the gap in which it can grow.
+pub(crate) fn grows_to(zone: &mut GapZone, gap: FoundGap, block: u32, needed: u32) -> bool
+    requires sound { SoundZone zone.old }
+    requires block { IsTrue (has_block zone.old.heap.table block) }
+    requires gap { IsGapOf zone.old (gap_to_grow zone.old.heap.table block zone.old.heap.map) gap }
+    ensures zone { zone.new ≡ zone.old }
+    ensures grows { result ≡ nat_le needed (size_of block zone.old.heap.map + room_of (gap_to_grow zone.old.heap.table block zone.old.heap.map)) }
+{
+    let linked = zone.linked();
+    let size = linked.entry_at(linked.place_of(block)).size;
+    if needed <= size {
+        return true;
+    }
+    zone.has_room_at(gap.start, needed - size)
 }
 
 /// Lets the other blocks of its gap make way for a block, so that the free bytes of the gap stand right behind it, where
@@ -117,15 +133,12 @@ fn make_way(zone: &mut GapZone, block: u32, length: u32) -> bool
     ensures loans { KeepsLoans zone.old zone.new }
     ensures sound { SoundZone zone.new }
 {
-    let linked = zone.linked();
-    let spec = linked.spec();
-    prove!(spec.base() + spec.limit() <= ADDRESS_END);
     let gap = gap_to_grow(zone, block);
-    let size = linked.entry_at(linked.place_of(block)).size;
-    if size + gap.room < need_for(spec.heads(), length) {
+    let needed = need_for(zone.linked().spec().heads(), length);
+    if !grows_to(zone, gap, block, needed) {
         return false;
     }
-    if stays(linked, block) {
+    if stays(zone.linked(), block) {
         squeeze_up(zone, gap.start, gap.end);
     } else {
         open_after(zone, Handle::new(block));

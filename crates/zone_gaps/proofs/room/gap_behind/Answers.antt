@@ -2,7 +2,7 @@ use Rattle.std.proofs.Common.{◌≡◌, ◌+◌, ◌∙◌, ap, arith}
 use Rattle.mac_base.specs.declared.block.Entry.{Entry}
 use Rattle.mac_base.specs.Gap.{ends_with}
 use Rattle.zone_gaps.proofs.Entries.{entry_within}
-use Rattle.zone_gaps.proofs.Rooms.{Beside, beside, entry_beside, place-beside, rest_beside, run_found, gap_found}
+use Rattle.zone_gaps.proofs.Rooms.{Beside, beside, entry_beside, place-beside, rest_beside, gap_found}
 use Rattle.zone_gaps.proofs.room.gap_behind.Goals as goal
 use Rattle.zone_gaps.proofs.room.gap_behind.Goals.{After-place_of-at, After-entry_at}
 
@@ -31,19 +31,6 @@ gap_end-end-requires c =
     let b = own (goal.at.gap_end-end-requires c).After-place_of-at in
     record { rest = rest_beside z c.args.block c.place_of-at.result b (c.place_of-at.result + c.entry_at.result.size) (start_is (goal.at.gap_end-end-requires c).After-entry_at) }
 
-pub free_between-room-requires-clause-run : goal.free_between-room-requires-clause-run
-free_between-room-requires-clause-run c =
-    let z = c.args.zone.now in
-    let start = c.place_of-at.result + c.entry_at.result.size in
-    let b = own (goal.at.free_between-room-requires-clause-run c).After-place_of-at in
-    let is = start_is (goal.at.free_between-room-requires-clause-run c).After-entry_at in
-    rw c.linked-4.ensures
-    (run_found z (λ g. ends_with c.args.block g.before) b.gap b.found start c.gap_end-end.result
-    (is ∙ place-beside z c.args.block c.place_of-at.result b) (c.gap_end-end.ensures (rest_beside z c.args.block c.place_of-at.result b start is)) c.requires.settled)
-
-pub free_between-room-requires-clause-sizes : goal.free_between-room-requires-clause-sizes
-free_between-room-requires-clause-sizes c = rw c.linked-4.ensures c.requires.settled.sizes
-
 pub returns : goal.returns
 returns c =
     let z = c.args.zone.now in
@@ -51,4 +38,4 @@ returns c =
     let b = own (goal.at.returns c).After-place_of-at in
     let is = start_is (goal.at.returns c).After-entry_at in
     gap_found z (λ g. ends_with c.args.block g.before) b.gap b.found start c.gap_end-end.result
-    (is ∙ place-beside z c.args.block c.place_of-at.result b) (c.gap_end-end.ensures (rest_beside z c.args.block c.place_of-at.result b start is)) c.requires.settled c.free_between-room.result (rw c.linked-4.ensures at c.free_between-room.ensures)
+    (is ∙ place-beside z c.args.block c.place_of-at.result b) (c.gap_end-end.ensures (rest_beside z c.args.block c.place_of-at.result b start is))

@@ -2,7 +2,7 @@ use Rattle.std.proofs.Common.{◌≡◌, ◌+◌}
 use Rattle.mac_base.specs.Gap.{has_named}
 use Rattle.mac_base.specs.ZoneMap.{total_size}
 use Rattle.zone_gaps.proofs.Owning.{Owned, owned, front_owned, rest_owned}
-use Rattle.zone_gaps.proofs.Rooms.{run_found, gap_found, place-own, long-own}
+use Rattle.zone_gaps.proofs.Rooms.{gap_found, place-own, long-own}
 use Rattle.zone_gaps.proofs.room.own_gap.Goals as goal
 use Rattle.zone_gaps.proofs.room.own_gap.Goals.{After-block_of-at, After-gap_start-start, After-gap_end-end}
 
@@ -28,19 +28,6 @@ gap_end-end-requires c =
     let o = own (goal.at.gap_end-end-requires c).After-block_of-at in
     record { rest = rest_owned c.args.zone.now c.args.handle c.block_of-at.result o }
 
-pub free_between-room-requires-clause-run : goal.free_between-room-requires-clause-run
-free_between-room-requires-clause-run c =
-    let z = c.args.zone.now in
-    let o = own (goal.at.free_between-room-requires-clause-run c).After-block_of-at in
-    let s = start_is (goal.at.free_between-room-requires-clause-run c).After-gap_start-start in
-    let e = end_is (goal.at.free_between-room-requires-clause-run c).After-gap_end-end in
-    rw c.linked-2.ensures
-    (run_found z (λ g. has_named c.args.handle g.blocks) o.gap o.found c.gap_start-start.result c.gap_end-end.result
-    (place-own z c.args.handle c.block_of-at.result o c.gap_start-start.result c.gap_end-end.result s e) (long-own z c.args.handle c.block_of-at.result o c.gap_start-start.result c.gap_end-end.result s e) c.requires.settled)
-
-pub free_between-room-requires-clause-sizes : goal.free_between-room-requires-clause-sizes
-free_between-room-requires-clause-sizes c = rw c.linked-2.ensures c.requires.settled.sizes
-
 pub returns : goal.returns
 returns c =
     let z = c.args.zone.now in
@@ -49,4 +36,3 @@ returns c =
     let e = end_is (goal.at.returns c).After-gap_end-end in
     gap_found z (λ g. has_named c.args.handle g.blocks) o.gap o.found c.gap_start-start.result c.gap_end-end.result
     (place-own z c.args.handle c.block_of-at.result o c.gap_start-start.result c.gap_end-end.result s e) (long-own z c.args.handle c.block_of-at.result o c.gap_start-start.result c.gap_end-end.result s e)
-    c.requires.settled c.free_between-room.result (rw c.linked-2.ensures at c.free_between-room.ensures)

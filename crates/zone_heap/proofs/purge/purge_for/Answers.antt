@@ -8,8 +8,8 @@ use Rattle.zone_heap.proofs.Limits.{same-fits, same-purged}
 use Rattle.zone_heap.proofs.Purging.{unpurged-for}
 use Rattle.zone_heap.proofs.purge.purge_for.Goals as goal
 
-pub returns-then-not-has_purgeable-clause-zone : goal.returns-then-not-has_purgeable-clause-zone
-returns-then-not-has_purgeable-clause-zone c = unpurged-for c.args.zone.now ((rw c.linked.ensures at c.has_purgeable.ensures) c.if-not-has_purgeable.true) c.args.protected.now c.args.request
+pub returns-then-not-may_purge_some-clause-zone : goal.returns-then-not-may_purge_some-clause-zone
+returns-then-not-may_purge_some-clause-zone c = unpurged-for c.args.zone.now c.args.protected.now c.args.request ((rw c.linked.ensures at c.may_purge_some.ensures) c.if-not-may_purge_some.true)
 
 pub purge_between-requires-clause-blocks : goal.purge_between-requires-clause-blocks
 purge_between-requires-clause-blocks c = c.limit_for-limit.ensures.between
