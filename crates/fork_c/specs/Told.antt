@@ -9,6 +9,8 @@ use Rattle.fork_bytes.specs.declared.fault.ForkFault.{ForkFault}
 use Rattle.fork_bytes.specs.declared.fault.ForkFault.TheVariants.{EndOfFile, BadMap, HostFull}
 use Rattle.fork_bytes.specs.Fork.{IsFork, Refuses, table_of}
 use Rattle.fork_bytes.specs.Rows.{Row}
+use Rattle.fork_bytes.specs.declared.table.Table.{Table}
+use Rattle.fork_c.specs.declared.given.MfExtra.{MfExtra}
 use Rattle.fork_c.specs.declared.rows.MfRow.{MfRow}
 use Rattle.fork_c.specs.declared.rows.MfType.{MfType}
 
@@ -74,3 +76,11 @@ name_in index count rows = bytes_in name_of count (slice_get rows index)
 -- the data of one
 abbrev pub data_in : ℕ → ℕ → List Row → Result (List ℕ) OsErr
 data_in index count rows = bytes_in (λ (row : Row). row.datum) count (slice_get rows index)
+
+-- what a table has beside its rows
+abbrev pub extra_of : Table → MfExtra
+extra_of table = record { bytes = table.extra; map_attributes = table.map_attributes }
+
+-- C is shown what the fork that the bytes are has beside its rows; where they aren't read as one, what was there stays.
+abbrev pub IsExtraShown : List ℕ → ℤ → MfExtra → MfExtra → Type 0
+IsExtraShown fork code before shown = (IsFork fork × (code ≡ pos 0) × (shown ≡ extra_of (table_of fork))) ⊎ (IsRefused fork code × (shown ≡ before))

@@ -1,8 +1,9 @@
 //! The exports: each reads the bytes of a fork, and shows C something of them.
 
 ghost use Rattle.std.specs.Prelude.{length};
-ghost use Rattle.fork_c.specs.Told.{IsShown, count_in, data_in, name_in, shown_in};
+ghost use Rattle.fork_c.specs.Told.{IsExtraShown, IsShown, count_in, data_in, name_in, shown_in};
 
+use crate::given::{MfExtra, extra_of};
 use crate::rows::{MfRow, data_at, name_at, shown_at};
 use crate::told::{read, shown};
 use std::alloc::Global;
@@ -47,6 +48,17 @@ pub extern "C" fn mf_data(alloc: Global, fork: &[u8], index: usize, bytes: &mut 
 {
     match read(alloc, fork) {
         Ok(table) => data_at(table.rows.as_slice(), index, bytes),
+        Err(code) => code,
+    }
+}
+
+/// What a fork has beside its resources.
+#[unsafe(no_mangle)]
+pub extern "C" fn mf_extra(alloc: Global, fork: &[u8], extra: &mut MfExtra) -> i16
+    ensures { IsExtraShown fork.now result extra.old extra.new }
+{
+    match read(alloc, fork) {
+        Ok(table) => shown(Ok(extra_of(&table)), extra),
         Err(code) => code,
     }
 }

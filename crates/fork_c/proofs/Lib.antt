@@ -1,0 +1,2 @@
+mod Grouped
+mod Parts
