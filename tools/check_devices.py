@@ -17,7 +17,7 @@ import tempfile
 from check_files import A_XYZ, AB, BARE, HI, NONE, ZERO
 from check_fork_table import TABLE, read_table
 from check_resources import File, Row, journal_of
-from check_runs import are_wanted
+from check_runs import are_wanted, read
 
 TOOLS = os.path.dirname(os.path.abspath(__file__))
 SHIM = os.path.join(TOOLS, "fail_device.c")
@@ -56,12 +56,12 @@ OPENED = [
 
 
 class Played:
-    """What a program printed over a file, with a journal or without, its calls, and the bytes that it left."""
+    """What a program printed over a file, with a journal or without, or over two files, its calls, and the bytes that it left."""
 
-    def __init__(self, program, shim, folder, fork, lines, journal=None, **settings):
-        path, log, beside = (os.path.join(folder, it) for it in ("fork", "log", "journal"))
-        words = ["--fork", path] + (["--journal", beside] if journal is not None else [])
-        for name, data in ((path, fork), (log, b""), (beside, journal or b"")):
+    def __init__(self, program, shim, folder, fork, lines, journal=None, second=None, **settings):
+        path, other, log, beside = (os.path.join(folder, it) for it in ("fork", "second", "log", "journal"))
+        words = ["--fork", path] + (["--journal", beside] if journal is not None else []) + (["--fork", other] if second is not None else [])
+        for name, data in ((path, fork), (other, second or b""), (log, b""), (beside, journal or b"")):
             with open(name, "wb") as file:
                 file.write(data)
         environment = {**os.environ, "LD_PRELOAD": shim, "DEVICE_LOG": log, "DEVICE_JOURNAL": beside, **{name: str(it) for name, it in settings.items()}}
@@ -73,6 +73,8 @@ class Played:
             self.left = file.read()
         with open(beside, "rb") as file:
             self.journal = file.read()
+        with open(other, "rb") as file:
+            self.second = file.read()
 
     def fault(self, printed, calls, left, journal=b""):
         """What isn't as it should be, or None. Calls of None, and a journal of None, may be any."""
@@ -269,6 +271,41 @@ def loaded(play):
     yield "a load of no bytes", play(fork, empty).fault(["..", "2 GetHandleSize 0 0"], "ssrrrrr", fork)
 
 
+# the forks of tools/faults.txt
+FAULT_FORKS = {
+    "HI": HI,
+    "NO": HI.replace(b"Hi", b"No"),
+    **{name: File(1, [Row(b"TEXT", 5, None, 0, it.encode()) for it in (name[0].lower(), name[1:].lower())]).fork(lambda row: row.disk) for name in ("AB", "AY", "CB", "A")},
+}
+FAULT_FORKS["A+1"] = FAULT_FORKS["A"] + AB[-1:]
+
+
+def faults(table):
+    """The rows of tools/faults.txt: the forks, the lines, the call that fails or 0, the forks that stand then, and what is printed."""
+    for row in table.read().split("\n"):
+        if row.startswith("> "):
+            names, script = row[2:].split(" : ")
+            forks = [FAULT_FORKS[name] for name in names.split(" ")]
+        elif row and not row.startswith("#"):
+            turns, left, printed = row.split(" : ")
+            first, _, last = turns.replace("none", "0").partition("-")
+            for turn in range(int(first), int(last or first) + 1):
+                yield forks, script.split(" / "), turn, [FAULT_FORKS[name] for name in left.split(" ")], printed.split(" / ")
+
+
+def told(play):
+    """The runs of tools/faults.txt."""
+    for forks, lines, turn, left, printed in read("faults.txt", faults):
+        second = forks[1] if len(forks) > 1 else None
+        played = play(forks[0], lines, second=second, DEVICE_FAIL=turn)
+        fault = played.fault(printed, None, left[0])
+        if len(played.calls) < turn:
+            fault = f"it has only the calls {played.calls}"
+        elif second is not None and played.second != left[1]:
+            fault = f"it left {len(played.second)} bytes on the second file, which aren't the {len(left[1])} that are wanted"
+        yield f"{' / '.join(lines)}, call {turn}", fault
+
+
 def main(program):
     failures, count = [], 0
     with tempfile.TemporaryDirectory() as folder:
@@ -278,7 +315,7 @@ def main(program):
         def play(fork, lines, journal=None, **settings):
             return Played(program, shim, folder, fork, lines, journal, **settings)
 
-        for rows in (opened, updated, loaded, recovered, journalled, in_rows):
+        for rows in (opened, updated, loaded, recovered, journalled, in_rows, told):
             for what, fault in rows(play):
                 count += 1
                 failures += [f"{what}: {fault}"] if fault else []

@@ -1,5 +1,6 @@
 #!/usr/bin/env python3
-"""Checks what a macheap program prints and leaves on its resource files, on the rows below and on the calls of tools/refusals.txt.
+"""Checks what a macheap program prints and leaves on its resource files, on the rows below, on the calls of
+tools/refusals.txt and on the operands of tools/operands.txt.
 
     tools/check_files.py PROGRAM
 
@@ -12,9 +13,8 @@ import sys
 import tempfile
 
 from check_resources import File, Row
-from check_runs import are_wanted, calls_of, lines_of, numbered
+from check_runs import FAULT, are_wanted, calls_of, lines_of, numbered, read, unescaped
 
-REFUSALS = os.path.join(os.path.dirname(os.path.abspath(__file__)), "refusals.txt")
 PROBES = "ZoneMap / CountResources 'TEXT' / CountTypes / GetResAttrs h / CurResFile"
 
 
@@ -450,11 +450,24 @@ def refusals(table):
                 yield [FORKS[name]], f"{script} / {PROBES} / {call} / ResError / {PROBES}", " / ".join(numbered(lines)), [FORKS[name]]
 
 
+def operands(table):
+    """The rows of tools/operands.txt."""
+    for row in table.read().split("\n"):
+        if row.startswith("> "):
+            script = row[2:]
+            fault = f"{FAULT}{script[: script.index('?')].count(' / ') + 1}"
+        elif row.startswith("= "):
+            last = row[2:]
+        elif " -> " in row and not row.startswith("# "):
+            operand, wanted = row.split(" -> ")
+            printed = fault if wanted == "none" else ".. / " + last.replace("?", wanted)
+            yield [b""], script.replace("?", unescaped(operand).decode()), printed, None
+
+
 def main(program):
     failed = 0
-    with open(REFUSALS, encoding="utf-8") as table:
-        refused = list(refusals(table))
-    rows = ROWS + [*chains(), *kinds()] + refused
+    refused, written = read("refusals.txt", refusals), read("operands.txt", operands)
+    rows = ROWS + [*chains(), *kinds()] + refused + written
     with tempfile.TemporaryDirectory() as folder:
         for disks, script, printed, wanted in rows:
             paths = [os.path.join(folder, f"file{index}") for index in range(len(disks))]
@@ -468,12 +481,12 @@ def main(program):
             for path in paths:
                 with open(path, "rb") as file:
                     left.append(file.read())
-            right = are_wanted(ran.stdout, printed.split(" / "))
-            if ran.returncode != 0 or not right or wanted not in (None, left):
+            right = are_wanted(ran.stdout, printed.split(" / ")) and ran.returncode == (3 if printed.startswith(FAULT) else 0)
+            if not right or wanted not in (None, left):
                 failed += 1
                 print(f"{script}: status {ran.returncode}, {ran.stdout!r}, files of {[len(it) for it in left]} bytes")
-    print(f"scripts over resource files: {len(rows) - failed} as they should be, {failed} not; {len(refused)} are of calls that are refused")
-    return 1 if failed or not refused else 0
+    print(f"scripts over resource files: {len(rows) - failed} as they should be, {failed} not; {len(refused)} are of calls that are refused, {len(written)} of operands")
+    return 1 if failed or not refused or not written else 0
 
 
 if __name__ == "__main__":

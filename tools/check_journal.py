@@ -6,6 +6,8 @@ import subprocess
 import sys
 import tempfile
 
+from check_files import AB
+
 # the fork of one resource 'TEXT' 128 with the bytes "Hi"
 HI = (
     struct.pack(">4I", 256, 262, 6, 50)
@@ -20,6 +22,12 @@ HI = (
 )
 WRITES = "h = NewHandle 2\nPoke h 0 \"Hi\"\nAddResource h 'TEXT' 128\nUpdateResFile\n"
 WRITTEN = "1 NewHandle $0010003C 0\n2 Poke 0\n3 AddResource 0\n4 UpdateResFile 0\n"
+# the same fork in the place of a longer one
+REPLACES = "a = GetIndResource 'TEXT' 1\nb = GetIndResource 'TEXT' 2\nRemoveResource a\nRemoveResource b\n" + WRITES + "GetResource 'TEXT' 128\n"
+REPLACED = "1 GetIndResource $0010003C 0\n2 GetIndResource $00100040 0\n3 RemoveResource 0\n4 RemoveResource 0\n5 NewHandle $00100044 0\n6 Poke 0\n"
+REPLACED += "7 AddResource 0\n8 UpdateResFile 0\n9 GetResource $00100044 0\n"
+READS = "h = GetResource 'TEXT' 128\nPeek h 0 2\n"
+READ = '1 GetResource $0010003C 0\n2 Peek "Hi" 0\n'
 REFUSED = "0 OpenResFile -199\n"
 TEXT = struct.pack(">I", len(HI)) + HI
 OPEN, SHUT = b"\1" + TEXT, b"\0" + TEXT
@@ -27,8 +35,10 @@ OPEN, SHUT = b"\1" + TEXT, b"\0" + TEXT
 # what it is; the forks before, the journals before, the script; what is printed, the forks after, the journals after. None: no such file
 ROWS = [
     ("an update leaves a shut gate, a length and the fork", [b""], [b""], WRITES, WRITTEN, [HI], [SHUT]),
+    ("a shorter fork is put in the place of a longer one", [AB], [b""], REPLACES, REPLACED, [HI], [SHUT]),
     ("files that are missing are made", [None], [None], WRITES, WRITTEN, [HI], [SHUT]),
     ("a start writes the fork of an open journal, and shuts it", [HI[:100]], [OPEN], "", "", [HI], [SHUT]),
+    ("which reads back", [HI[:100]], [OPEN], READS, READ, [HI], [SHUT]),
     ("also where bytes follow the text", [b"x" * 400], [OPEN + b"more"], "", "", [HI], [SHUT + b"more"]),
     ("a gate of 2 is shut", [HI[:100]], [b"\2" + TEXT], "", REFUSED, [HI[:100]], [b"\2" + TEXT]),
     ("a text that lacks its last byte isn't used", [HI[:100]], [OPEN[:-1]], "", REFUSED, [HI[:100]], [OPEN[:-1]]),

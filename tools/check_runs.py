@@ -1,5 +1,6 @@
 #!/usr/bin/env python3
-"""Checks what a macheap program prints on the scripts of tools/runs.txt and on the calls of tools/memory_refusals.txt.
+"""Checks what a macheap program prints on the scripts of tools/runs.txt and on the calls of tools/memory_refusals.txt, what the
+steps of tools/steps.txt make of a zone's blocks, and which texts of tools/lines.txt are scripts.
 
     tools/check_runs.py PROGRAM
 """
@@ -60,6 +61,79 @@ def numbered(lines):
     return [line if line.startswith("  ") else f"{next(numbers)} {line}" for line in lines.split(" / ")]
 
 
+def unescaped(text):
+    """The bytes of a text in which \\n, \\r, \\t and \\xHH stand for a byte each."""
+    return text.encode("latin-1").decode("unicode_escape").encode("latin-1")
+
+
+def texts(table):
+    """The rows of tools/lines.txt: a text, and the first line that is none, or None where it is a script."""
+    for row in table.read().split("\n"):
+        line, mark, text = row.partition(": ")
+        if mark and not row.startswith("# "):
+            times = re.fullmatch(r"(.*)\*(\d+)", text)
+            data = unescaped(times[1] if times else text)
+            yield data[:-1] + data[-1:] * (int(times[2]) if times else 1), None if line == "ok" else int(line)
+
+
+def is_read(program, text, line):
+    """Whether a text is a script, or has its first fault in this line."""
+    ran = subprocess.run([program], input=text, capture_output=True, check=False)
+    if line is None:
+        return ran.returncode == 0 and not ran.stdout.startswith(FAULT.encode())
+    return (ran.returncode, ran.stdout) == (3, f"{FAULT}{line}\n".encode())
+
+
+# the calls of steps that name a block, of those that have a number, and of the others
+ON_BLOCKS = {"L": "HLock", "U": "HUnlock", "P": "HPurge", "H": "MoveHHi"}
+WITH_NUMBER = {"+": "NewHandle", "*": "NewPtr", "R": "ReserveMem", "C": "CompactMem", "Q": "PurgeMem"}
+ALONE = {"A": "CompactMem 8388608", "G": "MaxApplZone", "X": "MaxMem"}
+
+
+def line_of(word, made):
+    """The line of a step, where blocks were made by these letters so far."""
+    what, rest = word.lstrip("!")[0], word.lstrip("!")[1:]
+    if what in "+*":
+        made.append(what)
+        return f"b{len(made) - 1} = {WITH_NUMBER[what]} {rest}"
+    if what in "-S":
+        block, _, size = rest.partition(":")
+        kind = "Handle" if made[int(block)] == "+" else "Ptr"
+        return f"Dispose{kind} b{block}" if what == "-" else f"Set{kind}Size b{block} {size}"
+    return ALONE.get(what) or (f"{ON_BLOCKS[what]} b{rest}" if what in ON_BLOCKS else f"{WITH_NUMBER[what]} {rest}")
+
+
+def zone_steps(table):
+    """The rows of tools/steps.txt: the options, the steps and the blocks that stand then."""
+    for row in table.read().split("\n"):
+        if row.startswith("> "):
+            options = row[2:].split()
+        elif " | " in row:
+            yield options, *(it.split(" ") for it in row.split(" | "))
+
+
+def block_word(line, numbers):
+    """A line of ZoneMap in a word, where these numbers have these blocks."""
+    address, size, kind, *rest = line.split()
+    number = {"rel": rest[0] if rest else "", "ptr": f"${int(address[1:], 16) + 8:08X}"}.get(kind)
+    return f"{size}:" + {"free": ".", "master": "m"}.get(kind, str(numbers.get(number)))
+
+
+def step_fault(program, options, steps, blocks):
+    """What isn't as it should be behind these steps, or None."""
+    made = []
+    script = [line_of(step, made) for step in steps]
+    ran = subprocess.run([program, *options], input="\n".join([*script, "ZoneMap"]), capture_output=True, text=True, check=False)
+    replies = [line.split() for line in ran.stdout.split("\n")]
+    for step, reply in zip(steps, replies):
+        if step[0] != "Q" and reply[-1:] != ["-108" if step[0] == "!" else "0"]:
+            return f"{step} answers {reply}"
+    # a number may be given again
+    numbers = {number: index for index, number in enumerate(reply[2] for step, reply in zip(steps, replies) if step[0] in "+*")}
+    found = [block_word(line, numbers) for line in ran.stdout.split("\n") if line.startswith("  ")]
+    return None if found[1:] == blocks else f"the blocks are {found}"
+
+
 def read(name, by):
     with open(os.path.join(FOLDER, name), encoding="utf-8") as table:
         return list(by(table))
@@ -80,9 +154,19 @@ def main(program):
         if ran.returncode != status or not are_wanted(ran.stdout, wanted):
             failed += 1
             print(f"{script!r} {' '.join(options)} ended with {ran.returncode} and printed {ran.stdout!r}")
-    count = len(runs) + len(refused)
-    print(f"runs: {count - failed} as they should be, {failed} not; {len(refused)} are of calls that are refused")
-    return 1 if failed or not runs or not refused else 0
+    stepped, scripts = read("steps.txt", zone_steps), read("lines.txt", texts)
+    for options, steps, blocks in stepped:
+        fault = step_fault(program, options, steps, blocks)
+        if fault:
+            failed += 1
+            print(f"{' '.join(steps)}: {fault}")
+    for text, line in scripts:
+        if not is_read(program, text, line):
+            failed += 1
+            print(f"{text[:200]!r}, of {len(text)} bytes, isn't {'a script' if line is None else f'refused at line {line}'}")
+    count = len(runs) + len(refused) + len(stepped) + len(scripts)
+    print(f"runs: {count - failed} as they should be, {failed} not; {len(refused)} are of calls that are refused, {len(scripts)} of texts that are scripts or none")
+    return 1 if failed or not runs or not refused or not stepped or not scripts else 0
 
 
 if __name__ == "__main__":

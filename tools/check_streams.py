@@ -3,11 +3,12 @@
 
     tools/check_streams.py PROGRAM
 
-An output that takes some bytes, and then fails, is interrupted or takes none: these bytes are the beginning of what the whole run prints, nothing is told
+An output that takes some bytes, and then fails, is interrupted once or takes none: these bytes are the beginning of what the whole run prints, nothing is told
 on standard error, and the status is 1. The calls up to the reply that isn't whole were made, so the file and its journal are as behind them.
-An input that gives some bytes and then fails or is interrupted: nothing is printed, the status is 1, and the file and its journal keep their bytes. One
-that ends there is the script of these bytes. Inputs and outputs that go byte by byte change nothing. Beside this stand such as a system has: a device
-that is full, a pipe without a reader, a folder to read from. Needs a C compiler: `cc`, or $CC.
+An input that gives some bytes and then fails or is interrupted once: nothing is printed, the status is 1, and the file and its journal keep their bytes. One
+that ends there is the script of these bytes. Inputs and outputs that go in small steps change nothing. Each reply is one write, what failed isn't tried
+again, and of an input that is too long no more is read than shows it. Beside this stand such as a system has: a device that is full, a pipe without a
+reader, a folder to read from. Needs a C compiler: `cc`, or $CC.
 """
 import errno
 import os
@@ -25,11 +26,21 @@ READ_ERRORS = [errno.EIO, errno.EINTR]
 # the last stands for an output that takes no byte
 WRITE_ERRORS = [errno.EIO, errno.EINTR, 0]
 
+# a script, its replies, and the lengths of the writes of these
+SHORT = "h = NewHandle 2\nPoke h 0 \"Hi\"\nPeek h 0 2\n"
+REPLIES = b'1 NewHandle $0010003C 0\n2 Poke 0\n3 Peek "Hi" 0\n'
+LENGTHS = [24, 9, 14]
+# comments of so many bytes, which are one byte a read, and how the run ends
+COMMENTS = [(1_048_576, (0, b"")), (1_048_577, (3, b"script fault at line 0\n")), (1_048_580, (3, b"script fault at line 0\n"))]
+
 PRINTS = "h = NewHandle 100\nPoke h 0 \"Hi\"\nPeek h 0 4\nZoneMap"
+LENT = "h = NewHandle 8\np = NewPtr 20\nHLock h\nPoke h 0 \"HandleHa\"\nLend h\nLend p\n"
 UPDATES = "h = GetResource 'TEXT' 128\nPoke h 0 \"No\"\nChangedResource h\nUpdateResFile\nSetHandleSize h 3\nChangedResource h\nCloseResFile\nCountTypes"
 # the words, the script, and the bytes of the fork and of its journal, or None for none. The last journal is recovered by a start.
 ROWS = [
     ([], PRINTS, None, None),
+    # two blocks stay lent
+    ([], LENT, None, None),
     ([], "ZoneMap\nNewHandl 3\n", None, None),
     (["--help"], "", None, None),
     ([], UPDATES, HI, None),
@@ -77,10 +88,16 @@ class Player:
         return [data for data in self.files if data is not None]
 
 
+def failing(error):
+    """The settings with which a call fails by this error; one that is interrupted would go on if it were tried again."""
+    return {"STREAM_ERROR": error, **({"STREAM_ONCE": 1} if error == errno.EINTR else {})}
+
+
 def steps(player):
-    """Inputs and outputs that go byte by byte change nothing."""
+    """Inputs and outputs that go in small steps change nothing."""
     whole = player.play()
-    yield "byte by byte", player.play(STREAM_STEP=1), whole
+    for step in (1, 5, 7):
+        yield f"{step} bytes at once", player.play(STREAM_STEP=step), whole
 
 
 def outputs(player):
@@ -98,7 +115,7 @@ def outputs(player):
         left = behind[made] if behind else player.before()
         for error in WRITE_ERRORS:
             wanted = (1, whole[:count], b"", left)
-            yield f"an output of {count} bytes, error {error}", player.play(STREAM_TAKES=count, STREAM_ERROR=error), wanted
+            yield f"an output of {count} bytes, error {error}", player.play(STREAM_TAKES=count, **failing(error)), wanted
     yield "an output of all bytes", player.play(STREAM_TAKES=len(whole), STREAM_ERROR=errno.EIO), (status, whole, told, after)
 
 
@@ -109,11 +126,34 @@ def inputs(player):
     for count in range(len(player.script) + 1):
         for error in READ_ERRORS:
             wanted = (1, b"", b"", player.before())
-            yield f"an input of {count} bytes, error {error}", player.play(STREAM_GIVES=count, STREAM_ERROR=error), wanted
+            yield f"an input of {count} bytes, error {error}", player.play(STREAM_GIVES=count, **failing(error)), wanted
         wanted = player.play(player.script[:count])
         if wanted[0] not in (0, 3):
             wanted = "status 0 or 3"
         yield f"an input that ends behind {count} bytes", player.play(STREAM_GIVES=count), wanted
+
+
+def calls(program, shim, folder):
+    """How often is read and how long each write is."""
+    log = os.path.join(folder, "log")
+
+    def logged(script, **settings):
+        with open(log, "w", encoding="ascii"):
+            pass
+        status, printed, _, _ = Player(program, shim, folder, ([], script, None, None)).play(STREAM_LOG=log, **settings)
+        with open(log, encoding="ascii") as file:
+            lines = file.read().split()
+        return (status, printed), sum(it[0] == "r" for it in lines), [int(it[1:]) for it in lines if it[0] == "w"]
+
+    ended, _, writes = logged(SHORT)
+    yield "each reply is one write", (ended, writes), ((0, REPLIES), LENGTHS)
+    ended, _, writes = logged(SHORT, STREAM_TAKES=LENGTHS[0], **failing(errno.EINTR))
+    yield "a write that failed", (ended, writes), ((1, REPLIES[: LENGTHS[0]]), LENGTHS[:2])
+    ended, reads, _ = logged("ZoneMap", STREAM_STEP=1, STREAM_GIVES=1, **failing(errno.EINTR))
+    yield "a read that failed", (ended, reads), ((1, b""), 2)
+    for count, end in COMMENTS:
+        ended, reads, _ = logged("#" * count, STREAM_STEP=1)
+        yield f"reads of {count} bytes, {reads}", (ended, reads <= 1_048_578), (end, True)
 
 
 def of_the_system(program, folder):
@@ -143,7 +183,7 @@ def main(program):
     with tempfile.TemporaryDirectory() as folder:
         shim = os.path.join(folder, "stream.so")
         subprocess.run([os.environ.get("CC", "cc"), "-O1", "-shared", "-fPIC", "-o", shim, SHIM, "-ldl"], check=True)
-        runs = [("", of_the_system(program, folder))]
+        runs = [("", calls(program, shim, folder)), ("", of_the_system(program, folder))]
         for row in ROWS:
             player = Player(program, shim, folder, row)
             runs += [(f"{' '.join(row[0])} {row[1]!r}, ", kind(player)) for kind in (steps, outputs, inputs)]

@@ -10,49 +10,27 @@ use std::test::Fail;
 /// More writes, cuts and syncs than an update or a recovery makes.
 const MANY: u64 = 20;
 
-/// What a crash may leave of a write: lost, kept or filled, at the old length or the new one.
-const OF_WRITE: [Choice; 6] = [
+/// What a crash may leave of a write, the n-th of six: lost, kept or filled, at the old length or the new one.
+fn of_write(n: u64) -> Choice {
+    let fate = match n / 2 {
+        0 => Fate::Lost,
+        1 => Fate::Kept,
+        _ => Fate::Filled,
+    };
     Choice {
-        fate: Fate::Lost,
-        has_new_length: false,
-    },
-    Choice {
-        fate: Fate::Lost,
-        has_new_length: true,
-    },
-    Choice {
-        fate: Fate::Kept,
-        has_new_length: false,
-    },
-    Choice {
-        fate: Fate::Kept,
-        has_new_length: true,
-    },
-    Choice {
-        fate: Fate::Filled,
-        has_new_length: false,
-    },
-    Choice {
-        fate: Fate::Filled,
-        has_new_length: true,
-    },
-];
+        fate,
+        has_new_length: n % 2 == 1,
+    }
+}
 
-/// And of a cut.
-const OF_CUT: [Choice; 3] = [
-    Choice {
-        fate: Fate::Kept,
-        has_new_length: true,
-    },
-    Choice {
-        fate: Fate::Kept,
-        has_new_length: false,
-    },
-    Choice {
-        fate: Fate::Filled,
-        has_new_length: false,
-    },
-];
+/// And of a cut, the n-th of three: as a write that is kept, or one that is filled at the old length.
+fn of_cut(n: u64) -> Choice {
+    of_write(match n {
+        0 => 3,
+        1 => 2,
+        _ => 4,
+    })
+}
 
 /// How many calls there are up to the last sync, with it.
 fn count_synced(calls: &[Call]) -> usize {
@@ -79,22 +57,25 @@ fn count_outcomes(calls: &[Call]) -> u64 {
     count
 }
 
+/// What the n-th outcome has of a call, and which of the others it is for the calls behind it.
+fn pick(call: &Call, n: u64) -> (Choice, u64) {
+    if matches!(call, Call::Write(..)) {
+        (of_write(n % 6), n / 6)
+    } else {
+        (of_cut(n % 3), n / 3)
+    }
+}
+
 /// The n-th of these outcomes.
 fn outcome(alloc: Global, pair: &CrashPair, n: u64) -> Result<MemPair, AllocError> {
     let calls = pair.pair().calls();
     let synced = count_synced(calls);
     let mut rest = n;
-    let mut picked = Vec::new(alloc);
-    for (index, call) in calls.iter().enumerate() {
-        if index < synced {
-            picked.push(Choice::WHOLE)?;
-        } else if matches!(call, Call::Write(..)) {
-            picked.push(OF_WRITE[(rest % 6) as usize])?;
-            rest /= 6;
-        } else {
-            picked.push(OF_CUT[(rest % 3) as usize])?;
-            rest /= 3;
-        }
+    let mut picked = vec![in alloc; Choice::WHOLE; synced]?;
+    for call in calls.iter().skip(synced) {
+        let (choice, more) = pick(call, rest);
+        picked.push(choice)?;
+        rest = more;
     }
     pair.outcome(alloc, &picked)
 }

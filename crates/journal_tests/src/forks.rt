@@ -3,7 +3,6 @@
 use fork_disk::store::ForkStore;
 use fork_journal::{CrashPair, Journal, MemPair, PairDisk};
 use std::alloc::{AllocError, Global};
-use std::process::Abort;
 
 /// A header, 240 bytes of zeros, and what follows.
 fn fork_of(alloc: Global, header: &[u8; 16], rest: &[u8]) -> Result<Vec<u8>, AllocError> {
@@ -69,10 +68,4 @@ pub fn is_replaced<P: PairDisk>(store: &mut Journal<P>, new: &[u8]) -> bool {
         Ok(()) => store.replace(new).is_ok(),
         Err(_) => false,
     }
-}
-
-/// A fork and its journal have these bytes.
-pub fn assert_left(rt: &impl Abort, left: (&[u8], &[u8]), want: (&[u8], &[u8])) {
-    assert_eq!(rt; left.0, want.0, "the fork");
-    assert_eq!(rt; left.1, want.1, "the journal");
 }

@@ -2,12 +2,6 @@
 #![tactic(auto)]
 
 #[cfg(test)]
-mod attempt;
-#[cfg(test)]
-mod gaps;
-#[cfg(test)]
-mod place;
-#[cfg(test)]
 mod region;
 #[cfg(test)]
 mod zone;

@@ -1,13 +1,10 @@
-//! What the moves of a region do is compared with a plain array, and the calls are each made once.
+//! What the moves of a region do is compared with a plain array, and the calls are each made once. Loans are tried on the blocks that stand on it, by `block_tests`.
 
 ghost use Rattle.std.specs.Prelude.{◌≡◌, ◌+◌, ◌≤◌, [], length};
 
 use raw_region::Region;
 use std::alloc::Global;
 use std::process::Abort;
-
-mod caller;
-mod loans;
 
 /// The bytes that each case begins with.
 const START: [u8; 20] = [
