@@ -222,7 +222,7 @@ fn counts_lines_and_bytes(rt: HostRuntime) -> Result<(), AllocError> {
 }
 
 /// The names of a script in which only `x` has been assigned.
-fn names_of_x(alloc: Global) -> Result<Names, HostFull> {
+fn names_of_x(alloc: Global) -> Result<Names<'static>, HostFull> {
     let mut names = Names::new(alloc);
     names.add(b"x")?;
     Ok(names)
@@ -232,7 +232,7 @@ fn names_of_x(alloc: Global) -> Result<Names, HostFull> {
 fn read_operands<'a>(
     alloc: Global,
     arena: &'a Bump,
-    names: &Names,
+    names: &Names<'_>,
     kinds: &[OperandKind],
     text: &'a [u8],
 ) -> Result<Option<Operands<'a>>, HostFull> {

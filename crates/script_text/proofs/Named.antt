@@ -1,4 +1,4 @@
--- Look-ups by the bytes of names, in sets whose keys own their bytes.
+-- Look-ups by the bytes of names, in sets whose keys spell them.
 use Rattle.std.proofs.Common.{◌≡◌, ℕ, ◌+◌, Bool, true, false, cond, List, [], ◌∷◌, ◌++◌, map, Some, refl, sym, ap, ◌∙◌}
 use Rattle.std.specs.Prelude.{◌||◌, not, position, Result, Ok, Err, OnOk}
 use Rattle.std.specs.List.{list_any, position_or_len}

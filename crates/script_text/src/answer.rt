@@ -47,7 +47,7 @@ fn name_of_token(token: Token<'_>) -> Option<ReleasingName>
 fn written_call<'a>(
     name: Token<'_>,
     operand: Token<'_>,
-    names: &Names,
+    names: &Names<'_>,
 ) -> Result<Option<WrittenCall<'a>>, HostFull>
     ensures { IfOk result (λ found.
         Finds found (IsWrittenCall names.now (view name.entry) (view operand.entry))) }
@@ -76,7 +76,7 @@ fn may_follow(behind: &[Token<'_>]) -> bool
 fn written_calls<'a>(
     arena: &'a Bump,
     tokens: &[Token<'a>],
-    names: &Names,
+    names: &Names<'_>,
 ) -> Result<Option<WrittenCalls<'a>>, HostFull>
     ensures { IfOk result (λ found. Finds found (AreCalls names.now (map view tokens.now))) }
 {
@@ -102,7 +102,7 @@ fn written_calls<'a>(
 pub fn answer_line<'a>(
     arena: &'a Bump,
     line: &[Token<'a>],
-    names: &Names,
+    names: &Names<'_>,
 ) -> Result<Option<AnswerLine<'a>>, HostFull>
     ensures { IfOk result (λ found. Finds found (IsAnswer names.now (map view line.now))) }
 {

@@ -5,9 +5,10 @@ use mac_base::error::HostFull;
 use mac_calls::CallName;
 use std::marker::Model;
 
-/// The name of a variable. A contract sees its place among the names of a script, in order of first assignment.
+/// The name of a variable. A contract sees its place among the names of a script, in order of first assignment. A script
+/// has no more lines than there are places.
 #[derive(Clone, Copy)]
-pub struct Name(u32);
+pub struct Name(u16);
 
 impl Model for Name {
     ghost use Rattle.std.specs.Prelude.{ℕ};
@@ -26,7 +27,7 @@ impl Name {
     pub(crate) fn at(place: usize) -> Result<Name, HostFull>
         ensures { IfOk result (λ name. name ≡ place) }
     {
-        match u32::try_from(place) {
+        match u16::try_from(place) {
             Ok(place) => Ok(Name(place)),
             Err(_) => Err(HostFull),
         }
@@ -36,7 +37,7 @@ impl Name {
     pub fn place(self) -> u32
         ensures { result ≡ self }
     {
-        self.0
+        u32::from(self.0)
     }
 }
 

@@ -8,31 +8,29 @@ use mac_base::error::HostFull;
 use std::alloc::Global;
 use std::marker::Model;
 
-/// Names of variables, in order of first assignment. A contract sees the list.
+/// Names of variables, in order of first assignment; each lies where it was assigned. A contract sees the list.
 #[derive(Drop)]
-pub struct Names {
-    alloc: Global,
-    names: IndexSet<Vec<u8>>,
+pub struct Names<'a> {
+    names: IndexSet<&'a [u8]>,
 }
 
-impl Model for Names {
+impl<'a> Model for Names<'a> {
     ghost use Rattle.std.specs.Prelude.{List, ℕ, map};
 
     ghost Value = { List (List ℕ) };
 
-    ghost view = { λ n. map (λ name. name.items) n.names.keys };
+    ghost view = { λ n. map (λ name. name.now) n.names.keys };
 }
 
-impl Names {
+impl<'a> Names<'a> {
     ghost use Rattle.std.specs.Prelude.{◌≡◌, [], IfOk, OnOk};
     ghost use Rattle.script_text.specs.Names.{place_of, place_for, with_name};
 
     /// No names.
-    pub fn new(alloc: Global) -> Names
+    pub fn new(alloc: Global) -> Names<'a>
         ensures { result ≡ [] }
     {
         Names {
-            alloc,
             names: IndexSet::new(alloc),
         }
     }
@@ -48,15 +46,11 @@ impl Names {
     }
 
     /// The name that a word is. It is added if it is new.
-    pub fn add(&mut self, word: &[u8]) -> Result<Name, HostFull>
+    pub fn add(&mut self, word: &'a [u8]) -> Result<Name, HostFull>
         ensures place { IfOk result (λ name. name ≡ place_for self.old word.now) }
         ensures names { OnOk result (self.new ≡ with_name self.old word.now) }
     {
-        if let Some(place) = self.names.get_index_of(word) {
-            return Name::at(place);
-        }
-        let name = Vec::from_slice(self.alloc, word)?;
-        let (place, _) = self.names.insert_full(name)?;
+        let (place, _) = self.names.insert_full(word)?;
         Name::at(place)
     }
 }

@@ -130,7 +130,7 @@ fn are_printable(bytes: &[u8]) -> bool
 }
 
 /// The variable of this name, if it has been assigned.
-fn variable(word: &[u8], names: &Names) -> Result<Option<Name>, HostFull>
+fn variable(word: &[u8], names: &Names<'_>) -> Result<Option<Name>, HostFull>
     ensures { IfOk result (λ found. Finds found (IsVariable names.now word.now)) }
 {
     if !is_name(word) {
@@ -140,7 +140,7 @@ fn variable(word: &[u8], names: &Names) -> Result<Option<Name>, HostFull>
 }
 
 /// A number, or the name of a variable that has been assigned.
-fn number_operand<'a>(word: &[u8], names: &Names) -> Result<Option<Operand<'a>>, HostFull>
+fn number_operand<'a>(word: &[u8], names: &Names<'_>) -> Result<Option<Operand<'a>>, HostFull>
     ensures { IfOk result (λ found.
         Finds found (IsNumberOperand names.now (Word word.now))) }
 {
@@ -156,7 +156,7 @@ fn number_operand<'a>(word: &[u8], names: &Names) -> Result<Option<Operand<'a>>,
 /// The number or the variable that a token is.
 pub(crate) fn number_or_variable<'a>(
     token: Token<'_>,
-    names: &Names,
+    names: &Names<'_>,
 ) -> Result<Option<Operand<'a>>, HostFull>
     ensures { IfOk result (λ found. Finds found (IsNumberOperand names.now (view token.entry))) }
 {
@@ -167,7 +167,7 @@ pub(crate) fn number_or_variable<'a>(
 }
 
 /// An id, or the name of a variable that has been assigned.
-fn id_operand<'a>(word: &[u8], names: &Names) -> Result<Option<Operand<'a>>, HostFull>
+fn id_operand<'a>(word: &[u8], names: &Names<'_>) -> Result<Option<Operand<'a>>, HostFull>
     ensures { IfOk result (λ found.
         Finds found (IsIdOperand names.now (Word word.now))) }
 {
@@ -297,7 +297,7 @@ fn operand<'a>(
     arena: &'a Bump,
     kind: OperandKind,
     token: Token<'a>,
-    names: &Names,
+    names: &Names<'_>,
 ) -> Result<Option<Operand<'a>>, HostFull>
     ensures { IfOk result (λ found. Finds found (IsOperand names.now kind (view token.entry))) }
 {
@@ -318,7 +318,7 @@ fn operand_at<'a>(
     arena: &'a Bump,
     kind: OperandKind,
     token: Option<&Token<'a>>,
-    names: &Names,
+    names: &Names<'_>,
 ) -> Result<Option<Operand<'a>>, HostFull>
     ensures { IfOk result (λ found.
         Finds found (IsOperandAt names.now kind (option_map view (option_copied token.entry)))) }
@@ -335,7 +335,7 @@ pub fn operands<'a>(
     arena: &'a Bump,
     kinds: &[OperandKind],
     tokens: &[Token<'a>],
-    names: &Names,
+    names: &Names<'_>,
 ) -> Result<Option<Operands<'a>>, HostFull>
     ensures { IfOk result (λ found.
         Finds found (AreOperands names.now kinds.now (map view tokens.now))) }

@@ -73,7 +73,7 @@ fn read_line<'a>(
     number: u32,
     text: &'a [u8],
     tokens: &mut Vec<Token<'a>>,
-    names: &mut Names,
+    names: &mut Names<'a>,
 ) -> Result<Option<Line<'a>>, Fault>
     ensures line { IfOk result (λ found. Reads number names.old text.now found names.new) }
     ensures fault { IfErr result (Fails number names.old text.now) }

@@ -41,7 +41,7 @@ pub(crate) fn first_word<'a, 'b>(line: &'b [Token<'a>]) -> Option<(&'a [u8], &'b
 }
 
 /// The name that a line assigns, which is added to the names.
-fn add_assigned(names: &mut Names, word: Option<&[u8]>) -> Result<Option<Name>, HostFull>
+fn add_assigned<'a>(names: &mut Names<'a>, word: Option<&'a [u8]>) -> Result<Option<Name>, HostFull>
     ensures name { IfOk result (λ name. name ≡ option_map (place_for names.old) (option_copied word.entry)) }
     ensures names { OnOk result (names.new ≡ with_assigned names.old (option_copied word.entry)) }
 {
@@ -55,7 +55,7 @@ fn add_assigned(names: &mut Names, word: Option<&[u8]>) -> Result<Option<Name>, 
 pub fn call_line<'a>(
     arena: &'a Bump,
     line: &[Token<'a>],
-    names: &mut Names,
+    names: &mut Names<'a>,
 ) -> Result<Option<CallLine<'a>>, HostFull>
     ensures line { IfOk result (λ found. Finds found (IsCall names.old (map view line.now))) }
     ensures names { IfOk result (λ found. IfSome found (λ _.
