@@ -40,13 +40,7 @@ pub(crate) fn make(
             block,
             offset,
             ref bytes,
-        } => Ok(lending::lent_poke(
-            memory,
-            loans,
-            block,
-            offset,
-            bytes.as_slice(),
-        )),
+        } => Ok(lending::lent_poke(memory, loans, block, offset, bytes.as_slice())),
         LoanCall::Return(block) => Ok(lending::take_back(memory, loans, block)),
     }
 }
