@@ -1,4 +1,3 @@
-pub mod Holding
 pub mod ToolState
 pub mod Steps
 pub mod Queue

@@ -2,7 +2,6 @@
 #![tactic(auto)]
 
 mod lending;
-mod loans;
 mod memory;
 mod queue;
 mod toolbox;

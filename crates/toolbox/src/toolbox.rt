@@ -5,10 +5,10 @@ ghost use Rattle.linked_zone.specs.Loans.{KeepsLoans};
 ghost use Rattle.mac_calls.specs.Tests.{refusal};
 ghost use Rattle.toolbox.specs.Steps.{MemorySteps, copies, disposed_itself, refused_after, resource_refused_after};
 
-use crate::loans::{Held, Loans};
 use crate::queue::AnswerQueue;
 use crate::{lending, memory};
 use fork_disk::store::ForkStore;
+use held_loans::loans::Loans;
 use mac_base::error::{HostFull, OsErr};
 use mac_base::handle::Handle;
 use mac_calls::{Call, GrowZone, MemoryCall, Outcome, Reply, ResourceCall, Results};
@@ -33,7 +33,7 @@ pub struct Toolbox<S: ForkStore> {
 }
 
 impl<S: ForkStore> Model for Toolbox<S> {
-    ghost use Rattle.toolbox.specs.Holding.{Holds, loans_of};
+    ghost use Rattle.held_loans.specs.Holding.{Holds, loans_of};
     ghost use Rattle.toolbox.specs.ToolState.{ToolState};
 
     ghost Value = { ToolState S };
@@ -210,16 +210,13 @@ impl<S: ForkStore> Toolbox<S> {
     {
         let Toolbox {
             alloc: _,
-            mut memory,
-            mut loans,
+            memory,
+            loans,
             refused: _,
             files,
             resource_refused: _,
         } = self;
-        while let Some(Held { block, loan }) = loans.take_first() {
-            memory.give_back(block, loan);
-        }
-        (memory, files)
+        (held_loans::lending::finish(memory, loans), files)
     }
 }
 

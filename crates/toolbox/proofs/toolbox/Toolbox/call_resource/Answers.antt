@@ -1,5 +1,5 @@
-use Rattle.toolbox.specs.Holding.{loans_of}
-use Rattle.toolbox.proofs.Holding.{Holds-kept}
+use Rattle.held_loans.specs.Holding.{loans_of}
+use Rattle.held_loans.proofs.Holding.{Holds-kept}
 use Rattle.toolbox.proofs.Resources.{given_first, resource_gives, resource_unchanged}
 use Rattle.toolbox.proofs.toolbox.Toolbox.call_resource.Goals as goal
 
