@@ -7,3 +7,4 @@ pub mod Pairs
 pub mod Resources
 pub mod Sorting
 pub mod Expanded
+pub mod Types

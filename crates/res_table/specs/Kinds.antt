@@ -1,6 +1,7 @@
 -- The types of rows, in order: one for each row.
-use Rattle.std.specs.Prelude.{ℕ, ◌+◌, Bool, not, ◌&&◌, if◌then◌else◌, List, [], ◌∷◌, ◌++◌, map, replicate, bytes_eq, nat_lt}
+use Rattle.std.specs.Prelude.{ℕ, suc, ◌+◌, Bool, false, not, ◌&&◌, if◌then◌else◌, List, [], ◌∷◌, ◌++◌, map, replicate, bytes_eq, nat_lt, Option, None, Some}
 use Rattle.std.specs.List.{list_any}
+use Rattle.std.specs.Option.{option_map_or}
 use Rattle.fork_bytes.specs.declared.layout.TypeCount.{TypeCount}
 use Rattle.res_table.specs.declared.row.Row.{Row}
 
@@ -25,6 +26,19 @@ has_kind kind ks = list_any (λ k. bytes_eq k kind) ks
 abbrev pub count_of : List ℕ → List (List ℕ) → ℕ
 count_of kind [] = 0
 count_of kind (k ∷ ks) = if bytes_eq k kind then count_of kind ks + 1 else count_of kind ks
+
+-- the type of a run, if it has rows
+abbrev pub kind_in : TypeCount → Option (List ℕ)
+kind_in run = if nat_lt 0 run.count then Some run.kind else None
+
+-- whether a type differs from the one before it, if there is one
+abbrev pub is_other : Option (List ℕ) → List ℕ → Bool
+is_other last kind = not (option_map_or (λ k. bytes_eq k kind) last false)
+
+-- how many of some types differ from the one before them, where this one stands before the first
+abbrev pub changes : Option (List ℕ) → List (List ℕ) → ℕ
+changes last [] = 0
+changes last (k ∷ ks) = if is_other last k then suc (changes (Some k) ks) else changes (Some k) ks
 
 -- where those of some types stand that are this one, where the first stands here
 abbrev pub places_of : ℕ → List ℕ → List (List ℕ) → List ℕ

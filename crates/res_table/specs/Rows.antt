@@ -1,8 +1,9 @@
 -- Lists of rows: look-ups, which give the first match, and changes.
 use Rattle.std.specs.Prelude.{ℕ, zero, suc, ◌+◌, ◌==◌, ℤ, pos, Bool, false, not, ◌&&◌, if◌then◌else◌, List, [], ◌∷◌, length, map, filter, remove, set, slice_get, Option, None, bytes_eq}
-use Rattle.std.specs.List.{list_any}
+use Rattle.std.specs.List.{list_any, sum_by}
 use Rattle.std.specs.Option.{option_map_or}
 use Rattle.std.specs.Ordering.{int_eq}
+use Rattle.fork_bytes.specs.Written.{name_text}
 use Rattle.mac_base.specs.HandleTable.{HandleTable, bytes_of}
 use Rattle.res_base.specs.declared.resource.ResAttrs.{ResAttrs}
 use Rattle.res_base.specs.declared.resource.Resource.{Resource}
@@ -28,6 +29,14 @@ is_changed r = is_marked r.resource.attributes
 -- the contents of a row: the bytes of its handle, and none where it has no handle or an empty one
 abbrev pub contents : {D : Type 0} → HandleTable → Row D → List ℕ
 contents t r = option_map_or (bytes_of t) r.handle []
+
+-- how many bytes the name of a row takes in a fork, with its byte of length; none where it has no name
+abbrev pub name_size : {D : Type 0} → Row D → ℕ
+name_size r = length (name_text r.resource.name)
+
+-- how many bytes the names of rows take
+abbrev pub names_size : {D : Type 0} → List (Row D) → ℕ
+names_size rows = sum_by name_size rows
 
 -- the row with this handle, or with none
 abbrev pub with_handle : {D : Type 0} → Option ℕ → Row D → Row D

@@ -1,7 +1,7 @@
 //! The types of rows, in order: how many rows of one type stand together.
 
-ghost use Rattle.std.specs.Prelude.{◌≡◌, ◌≤◌, ◌<◌, ◌+◌, ◌^◌, ◌++◌, ◌∷◌, [], length, take, drop, get_or, remove, true, false, bytes_eq, if◌then◌else◌, IfSome, IfNone, OnOk, vec_len, vec_capacity};
-ghost use Rattle.res_table.specs.Kinds.{is_run_of, expanded, has_kind, count_of, places_of, end_of, with_kind};
+ghost use Rattle.std.specs.Prelude.{◌≡◌, ◌≤◌, ◌<◌, ◌+◌, ◌^◌, ◌++◌, ◌∷◌, [], length, take, drop, get_or, remove, true, false, not, bytes_eq, nat_lt, ◌&&◌, if◌then◌else◌, Some, None, IfSome, IfNone, OnOk, vec_len, vec_capacity};
+ghost use Rattle.res_table.specs.Kinds.{is_run_of, expanded, has_kind, kind_in, count_of, changes, places_of, end_of, with_kind};
 ghost use Rattle.res_table.specs.Rows.{ith};
 
 use fork_bytes::layout::TypeCount;
@@ -14,6 +14,20 @@ fn is_run_of(run: TypeCount, kind: ResType) -> bool
     ensures { result ≡ is_run_of kind run }
 {
     run.kind == kind && run.count > 0
+}
+
+/// Whether a run has rows, and not of the type of the last before it that has any.
+fn begins_type(last: &TypeCount, run: &TypeCount) -> bool
+    ensures { result ≡ (not (is_run_of run.now.kind last.now) && nat_lt 0 run.now.count) }
+{
+    !is_run_of(*last, run.kind) && run.count > 0
+}
+
+/// The last run that has rows, up to this one.
+fn last_with_rows(last: &TypeCount, run: &TypeCount) -> TypeCount
+    ensures { kind_in result ≡ (if nat_lt 0 run.now.count then Some run.now.kind else kind_in last.now) }
+{
+    if run.count > 0 { *run } else { *last }
 }
 
 /// How many rows of a type a run has.
@@ -109,6 +123,24 @@ impl Kinds {
         let mut count = 0;
         for run in &self.runs {
             count += counted(*run, kind);
+        }
+        count
+    }
+
+    /// How many types there are, where one is counted anew behind another.
+    pub(crate) fn count_types(&self) -> usize
+        ensures { result ≡ changes None (expanded self.now.runs.items) }
+    {
+        let mut count = 0;
+        let mut last = TypeCount {
+            kind: ResType::new([0; 4]),
+            count: 0,
+        };
+        for run in &self.runs {
+            if begins_type(&last, run) {
+                count += 1;
+            }
+            last = last_with_rows(&last, run);
         }
         count
     }

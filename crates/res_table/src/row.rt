@@ -2,6 +2,7 @@
 
 use crate::keys::{key_of_handle, key_of_resource};
 use bitflags::Flags;
+use mac_base::error::HostFull;
 use mac_base::handle::Handle;
 use res_base::resource::{ResAttrs, ResType, Resource};
 
@@ -13,9 +14,9 @@ pub struct Row<D> {
 }
 
 impl<D> Row<D> {
-    ghost use Rattle.std.specs.Prelude.{◌≡◌, ◌==◌};
+    ghost use Rattle.std.specs.Prelude.{◌≡◌, ◌==◌, ◌+◌, IfOk};
     ghost use Rattle.res_table.specs.Keyed.{handle_key, key_of_resource};
-    ghost use Rattle.res_table.specs.Rows.{is_of_type, is_resource, is_changed, opened_row};
+    ghost use Rattle.res_table.specs.Rows.{is_of_type, is_resource, is_changed, name_size, opened_row};
 
     /// The row of a resource that was read: it has no handle and is not changed.
     pub fn opened(resource: Resource<D>) -> Row<D>
@@ -60,6 +61,23 @@ impl<D> Row<D> {
         ensures { result ≡ key_of_resource self.now.resource.kind self.now.resource.id }
     {
         key_of_resource(self.resource.kind, self.resource.id)
+    }
+
+    /// How many bytes the row's name takes in a fork, with its byte of length.
+    pub(crate) fn name_size(&self) -> usize
+        ensures { result ≡ name_size self.now }
+    {
+        match &self.resource.name {
+            Some(name) => 1 + name.as_slice().len(),
+            None => 0,
+        }
+    }
+
+    /// How many bytes names take with that of the row. No host has memory for names of which there are more than a number tells.
+    pub(crate) fn names_with(&self, names: usize) -> Result<usize, HostFull>
+        ensures { IfOk result (λ all. all ≡ names + name_size self.now) }
+    {
+        names.checked_add(self.name_size()).ok_or(HostFull)
     }
 
     /// Whether the row has the key of a type and an id: it is of that type then, and has that id.

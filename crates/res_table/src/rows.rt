@@ -14,13 +14,14 @@ use std::alloc::Global;
 use std::marker::Model;
 
 /// The rows of an open file, in order. A contract sees the list. A row is found by its handle, or by its type and id, without going
-/// through the rows, and what is asked of a type goes through the runs of rows of one type alone.
+/// through the rows, what is asked of a type goes through the runs of rows of one type alone, and the size of the names is kept.
 #[derive(Drop)]
 pub struct Rows<D> {
     rows: Vec<Row<D>>,
     handles: Keyed,
     kinds: Kinds,
     resources: Keyed,
+    names: usize,
 }
 
 impl<D> Model for Rows<D> {
@@ -28,20 +29,22 @@ impl<D> Model for Rows<D> {
     ghost use Rattle.res_table.specs.declared.row.Row.{Row};
     ghost use Rattle.res_table.specs.Keyed.{pairs_of, handle_key, resource_key};
     ghost use Rattle.res_table.specs.Kinds.{expanded, kinds_of};
+    ghost use Rattle.res_table.specs.Rows.{names_size};
 
     ghost Value = { List (Row D) };
 
     ghost view = { λ r. r.rows.items };
 
     ghost invariant = { λ r. (r.handles.pairs.items ≡ pairs_of handle_key r.rows.items) × (length r.rows.items ≤ vec_capacity r.handles.pairs)
-        × (expanded r.kinds.runs.items ≡ kinds_of r.rows.items) × (r.resources.pairs.items ≡ pairs_of resource_key r.rows.items) };
+        × (expanded r.kinds.runs.items ≡ kinds_of r.rows.items) × (r.resources.pairs.items ≡ pairs_of resource_key r.rows.items)
+        × (r.names ≡ names_size r.rows.items) };
 }
 
 impl<D> Rows<D> {
     ghost use Rattle.std.specs.Prelude.{◌≡◌, ◌<◌, [], length, position, remove, slice_get, get_or, count_by, ◌≤◌, OnOk, OnErr, IfOk, Some, map, ◌↔◌, pos, IsTrue};
     ghost use Rattle.fork_bytes.specs.Fork.{max_rows};
     ghost use Rattle.res_table.specs.Saved.{row_types, kind_of, RowsFit};
-    ghost use Rattle.res_table.specs.Rows.{has_handle, is_resource, is_of_type, added, forgotten, changed_at, with_handle, with_attributes, with_datum, opened_row, count_of_type, index_of_ith, ith, unique_id};
+    ghost use Rattle.res_table.specs.Rows.{has_handle, is_resource, is_of_type, added, forgotten, changed_at, with_handle, with_attributes, with_datum, opened_row, count_of_type, index_of_ith, ith, names_size, unique_id};
     ghost use Rattle.res_table.specs.Behind.{end_of_type};
 
     /// No rows. This takes no memory of the host.
@@ -53,6 +56,7 @@ impl<D> Rows<D> {
             handles: Keyed::new(alloc),
             kinds: Kinds::new(alloc),
             resources: Keyed::new(alloc),
+            names: 0,
         }
     }
 
@@ -66,8 +70,10 @@ impl<D> Rows<D> {
         let mut rows = Vec::with_capacity(alloc, resources.len())?;
         let mut kinds = Kinds::new(alloc);
         let mut keys = Vec::with_capacity(alloc, resources.len())?;
+        let mut names = 0;
         for resource in resources {
             let row = Row::opened(resource);
+            names = row.names_with(names)?;
             kinds.push(row.kind())?;
             keys.push(Pair {
                 key: row.resource_key(),
@@ -82,6 +88,7 @@ impl<D> Rows<D> {
             handles,
             kinds,
             resources: Keyed::sorted(keys),
+            names,
         })
     }
 
@@ -172,6 +179,7 @@ impl<D> Rows<D> {
         let handle = row.handle_key();
         let key = row.resource_key();
         let count = self.rows.len();
+        let names = row.names_with(self.names)?;
         self.handles.reserve(count + 1)?;
         self.kinds.reserve()?;
         self.resources.reserve(count + 1)?;
@@ -181,6 +189,7 @@ impl<D> Rows<D> {
         self.kinds.add(kind);
         self.resources.push_back(at, count);
         self.resources.add(Some(key), at);
+        self.names = names;
         Ok(())
     }
 
@@ -196,6 +205,7 @@ impl<D> Rows<D> {
         self.kinds.remove(index);
         self.resources.remove(Some(row.resource_key()), index);
         self.resources.pull_up(index);
+        self.names -= row.name_size();
         row
     }
 
@@ -215,18 +225,19 @@ impl<D> Rows<D> {
         self.kinds.ith(kind, i)
     }
 
+    /// How many bytes the names take in a fork, each with its byte of length.
+    pub fn names_size(&self) -> usize
+        ensures { result ≡ names_size self.now }
+    {
+        self.names
+    }
+
     /// How many types there are (CountTypes). Rows of one type stand together.
     pub fn count_types(&self) -> usize
         ensures types { result ≡ length (row_types self.now) }
         ensures few { result ≤ length self.now }
     {
-        let mut at = 0;
-        let mut count = 0;
-        while at < self.rows.len() {
-            at = run_end(&self.rows, at);
-            count += 1;
-        }
-        count
+        self.kinds.count_types()
     }
 
     /// The i-th type, counted from 1, or None where there are fewer (GetIndType).

@@ -1,11 +1,13 @@
 use Rattle.std.proofs.Common.{Option, Some, ◌≡◌, sym, ap, ◌∙◌, ◌≤◌, ◌<◌, ◌+◌, ℕ, List, length, map, subst, arith}
 use Rattle.std.specs.Prelude.{insert, vec_len, All}
 use Rattle.std.proofs.lemmas.List.Edits.{length-insert}
+use Rattle.std.proofs.lemmas.List.Sums.{sum_by-insert}
 use Rattle.res_table.specs.declared.row.Row.{Row}
 use Rattle.res_table.specs.declared.keyed.Pair.{Pair}
 use Rattle.res_table.specs.Keyed.{handle_key, resource_key, pairs_of, pushed_back, with_key, AreInOrder}
 use Rattle.res_table.proofs.Pairs.{places_below, order_pushed, pushed_is, few_pairs}
 use Rattle.res_table.specs.Behind.{end_of_type}
+use Rattle.res_table.specs.Rows.{name_size, names_size}
 use Rattle.res_table.proofs.Adding.{insert-at-end, end-within}
 use Rattle.fork_bytes.specs.declared.layout.TypeCount.{TypeCount}
 use Rattle.res_table.specs.Kinds.{expanded, kinds_of, with_kind}
@@ -90,4 +92,5 @@ invariant_of-self-2 g c =
           ∙ ap (λ (k : List ℕ). with_kind k (kinds_of rows)) c.kind-kind.ensures ∙ added_are r rows
           ∙ ap kinds_of (sym (new ∙ ap (λ (i : ℕ). insert rows i r) (c.end_of_type-at.ensures ∙ ap (λ (k : List ℕ). end_of_type k c.args.self.now) c.kind-kind.ensures ∙ ap (end_of_type r.resource.kind) (sym c.self.view_is)) ∙ insert-at-end r rows)),
       c.add-3.ensures.pairs ∙ keyed ∙ ap (pairs_of resource_key) (sym new),
+      c.in_ok-names.ensures ∙ ap (λ (n : ℕ). n + name_size r) c.self.invariant.4 ∙ sym (sum_by-insert name_size rows at r) ∙ ap names_size (sym new),
     )

@@ -1,10 +1,15 @@
-use Rattle.std.proofs.Common.{ℕ, Option, Some, remove, ◌<◌, List, length, sym, ap, ◌∙◌, arith, map, slice_get}
+use Rattle.std.proofs.Common.{ℕ, Option, Some, remove, ◌≡◌, ◌+◌, ◌-◌, ◌<◌, List, length, sym, ap, ◌∙◌, arith, map, slice_get}
 use Rattle.res_table.specs.declared.row.Row.{Row}
 use Rattle.res_table.specs.Keyed.{handle_key, resource_key, pulled_up, without_key, pairs_of}
 use Rattle.res_table.proofs.Pairs.{order_kept, pairs_removed, row_is}
 use Rattle.res_table.specs.Kinds.{kinds_of}
+use Rattle.res_table.specs.Rows.{name_size, names_size}
 use Rattle.res_table.proofs.Expanded.{removed_are, as_many}
+use Rattle.res_table.proofs.Types.{names_less}
 use Rattle.res_table.proofs.rows.Rows.remove.Goals as goal
+
+left_over : (all rest one : ℕ) → all ≡ rest + one → all - one ≡ rest
+left_over all rest one is = omega (arith, is)
 
 pub remove-requires : goal.remove-requires
 remove-requires g c = record { order = order_kept handle_key c.self.inside.handles.pairs.items c.self.inside.rows.items c.self.invariant.0 }
@@ -22,7 +27,17 @@ invariant_of-self g c =
       c.remove-2.ensures ∙ ap (λ (ks : List (List ℕ)). remove ks i) c.self.invariant.2 ∙ removed_are i rows ∙ ap kinds_of (sym c.remove-row.ensures.items),
       c.pull_up-2.ensures.pairs ∙ ap (map (pulled_up i)) (c.remove-3.ensures.pairs ∙ ap (λ (k : ℕ). without_key (Some k) i c.self.inside.resources.pairs.items) c.resource_key.ensures ∙ ap (without_key (resource_key r) i) c.self.invariant.3)
           ∙ pairs_removed resource_key i r rows within c.remove-row.ensures.value ∙ ap (pairs_of resource_key) (sym c.remove-row.ensures.items),
+      ap (λ (n : ℕ). c.self.inside.names - n) c.name_size.ensures ∙ left_over c.self.inside.names (names_size (remove rows i)) (name_size r) (c.self.invariant.4 ∙ sym (names_less i r rows within c.remove-row.ensures.value)) ∙ ap names_size (sym c.remove-row.ensures.items),
     )
+
+-- the name of the row is among those that are counted
+pub overflow_sub-self : goal.overflow_sub-self
+overflow_sub-self g c =
+    let rows = c.self.inside.rows.items in let r = c.remove-row.result in
+    let long = ap (λ (rs : List (Row _)). length rs) c.self.view_is in
+    let within : c.args.index < length rows = omega arith in
+    let less = names_less c.args.index r rows within c.remove-row.ensures.value in let all = c.self.invariant.4 in let one = c.name_size.ensures in
+    omega arith
 
 pub remove-requires-2 : goal.remove-requires-2
 remove-requires-2 g c =

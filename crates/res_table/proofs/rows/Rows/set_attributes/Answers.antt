@@ -4,17 +4,21 @@ use Rattle.res_table.specs.declared.row.Row.{Row}
 use Rattle.res_table.specs.Rows.{changed_at, with_attributes}
 use Rattle.res_table.proofs.Pairs.{kept, resources_kept, changed_is}
 use Rattle.res_table.proofs.Expanded.{kinds_kept}
+use Rattle.res_table.proofs.Types.{names_kept}
 use Rattle.res_table.proofs.rows.Rows.set_attributes.Goals as goal
 
 pub invariant_of-self : goal.invariant_of-self
 invariant_of-self g c =
     let r = c.index_mut.result.now in let rows = c.self.inside.rows.items in let pairs = c.self.inside.handles.pairs in
     let new = with_attributes c.args.attributes r in
+    let long = ap (λ (rs : List (Row _)). length rs) c.self.view_is in
+    let within : c.args.index < length rows = omega arith in
     let all = kept c.args.index r new rows pairs.items (vec_capacity pairs) c.index_mut.ensures.value refl (c.self.invariant.0, c.self.invariant.1) in (
       all.0,
       all.1,
       c.self.invariant.2 ∙ sym (kinds_kept c.args.index r new rows c.index_mut.ensures.value refl),
       resources_kept c.args.index r new rows c.self.inside.resources.pairs.items c.index_mut.ensures.value refl refl c.self.invariant.3,
+      c.self.invariant.4 ∙ sym (names_kept c.args.index r new rows within c.index_mut.ensures.value refl),
     )
 
 pub returns : goal.returns
