@@ -1,11 +1,10 @@
 -- Whether one gap has room, by its bound.
-use Rattle.std.proofs.Common.{◌≡◌, ℕ, ◌+◌, ◌*◌, ◌<◌, ◌≤◌, true, false, List, ◌++◌, length, set, ap, sym, ◌∙◌, subst, arith}
+use Rattle.std.proofs.Common.{◌≡◌, ℕ, ◌<◌, ◌≤◌, true, false, List, ◌++◌, length, set, ap, sym, ◌∙◌, subst, arith}
 use Rattle.std.specs.Prelude.{nat_le, slice_index}
 use Rattle.std.proofs.lemmas.Bool.{false_from_ne_true, le-leb, leb-true}
 use Rattle.mac_base.specs.ZoneMap.{free_bytes, total_size}
 use Rattle.mac_base.specs.ZoneState.{ZoneState}
 use Rattle.zone_laws.proofs.GapAppend.{total_size-append}
-use Rattle.linked_zone.specs.Fit.{HasSizes}
 use Rattle.fixed_index.specs.Index.{place}
 use Rattle.fixed_index.specs.Runs.{RestAt}
 use Rattle.fixed_index.proofs.Searching.{place-back}

@@ -1,5 +1,5 @@
 -- The gap in which a block can grow, by its addresses.
-use Rattle.std.proofs.Common.{◌≡◌, ℕ, ◌+◌, ◌<◌, ◌≤◌, Bool, true, cond, [], ◌∷◌, ◌++◌, length, refl, ap, sym, ◌∙◌, inl, inr, subst, append_assoc, append-nil, arith, IsTrue, Option, Some, None}
+use Rattle.std.proofs.Common.{◌≡◌, ℕ, ◌+◌, Bool, true, cond, [], ◌∷◌, ◌++◌, length, refl, ap, sym, ◌∙◌, inl, inr, arith, Option, Some, None}
 use Rattle.std.specs.Prelude.{◌⊎◌, find, is_some}
 use Rattle.std.proofs.lemmas.Bool.{or_cases, eqb-true}
 use Rattle.std.proofs.lemmas.List.{length-map}
@@ -11,27 +11,22 @@ use Rattle.mac_base.specs.HandleTable.{HandleTable, live_at, is_locked, is_point
 use Rattle.mac_base.specs.HeadKind.{Shape}
 use Rattle.mac_base.specs.Request.{stays}
 use Rattle.mac_base.specs.Suits.{Coherent, is_handle_block, is_pointer_block}
-use Rattle.mac_base.specs.ZoneMap.{ZoneMap, block, addresses, address_behind, free_bytes, is_free, is_named, sizes, total_size}
+use Rattle.mac_base.specs.ZoneMap.{ZoneMap, block, addresses, address_behind, is_named, sizes, total_size}
 use Rattle.mac_base.specs.ZoneState.{ZoneState}
-use Rattle.zone_laws.proofs.Arranging.{free_bytes-all_used, total_size-used}
-use Rattle.zone_laws.proofs.GapApart.{sizes_possible}
-use Rattle.zone_laws.proofs.GapAppend.{free_bytes-append, length-addresses_from, sizes-append, total_size-append}
+use Rattle.zone_laws.proofs.GapAppend.{length-addresses_from, sizes-append, total_size-append}
 use Rattle.zone_laws.proofs.GapParts.{IsGap, gap-IsGap, gap_behind-is, ends_fixed as ends_in_fixed}
 use Rattle.zone_laws.proofs.GapRoom.{gap_behind-found}
 use Rattle.zone_laws.proofs.NamedPlace.{At-from, BeforeGap, gap_behind-parts, nil-append}
 use Rattle.gap_laws.proofs.FittingResize.{one_size}
-use Rattle.linked_zone.specs.Fit.{HasSizes}
-use Rattle.linked_zone.specs.Places.{EntryAt, NamedAt, all_can_move}
+use Rattle.linked_zone.specs.Places.{EntryAt, NamedAt}
 use Rattle.gap_index.specs.Gaps.{GapAt as IndexedGap}
 use Rattle.zone_gaps.specs.Gaps.{Settled, GapAt, IsGapOf}
 use Rattle.fixed_index.specs.Runs.{RestAt, ends_fixed}
-use Rattle.zone_gaps.specs.Runs.{RunAt, UsedUpTo, begins_unused}
 use Rattle.zone_gaps.proofs.Laws.{find-contains}
 use Rattle.zone_gaps.proofs.LoansKept.{no_handle, pointer-no_full, locked-full}
 use Rattle.zone_gaps.proofs.Owning.{Owned, length-named, named_alone, same_named}
-use Rattle.zone_gaps.proofs.Settling.{rest_of_gap, run_of_rest}
-use Rattle.zone_gaps.proofs.Sizes.{all_parts, no_bytes, total_size-push}
-use Rattle.zone_gaps.proofs.Pressing.{run_sizes, free-push_free}
+use Rattle.zone_gaps.proofs.Settling.{rest_of_gap}
+use Rattle.zone_gaps.proofs.Sizes.{total_size-push}
 
 -- a gap that a search finds, between its addresses
 module _ (z : ZoneState) (test : Gap → Bool) (g : Gap) (found : find test (gaps z.heap.table z.heap.map) ≡ Some g) (start end : ℕ) (place : start ≡ address_behind z.shape g.before) (long : end ≡ start + total_size g.blocks) where
@@ -129,7 +124,7 @@ module _ (z : ZoneState) (x at : ℕ) (b : Beside z x at) where
   rest_beside start is = rest_of_gap z start (record { gap = b.gap; among = find-contains (λ g. ends_with x g.before) (gaps z.heap.table z.heap.map) b.gap b.found; place = is ∙ place-beside })
 
 -- a gap begins behind a fixed block, or where the zone's blocks do
-behind_fixed : (t : HandleTable) (m : ZoneMap) → ends_in_fixed t m ≡ true → ends_fixed t m ≡ true
+pub behind_fixed : (t : HandleTable) (m : ZoneMap) → ends_in_fixed t m ≡ true → ends_fixed t m ≡ true
 behind_fixed t [] h = h
 behind_fixed t (e ∷ []) h = h
 behind_fixed t (e ∷ f ∷ es) h = behind_fixed t (f ∷ es) h

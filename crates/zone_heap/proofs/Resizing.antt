@@ -121,6 +121,7 @@ more_than k n r low = grind (arith, nat_tests)
 -- it has what a block lacks where both together have what it is to have
 pub grows-gap : (z : ZoneState) (x k n : ℕ) (found : FoundGap) (is : IsGapOf z (gap_to_grow z.heap.table x z.heap.map) found) → n ≡ size_of x z.heap.map → n < k → (b : Bool) → ((gap : IndexedGap z found.start) → b ≡ nat_le (k - n) (free_bytes gap.rest.blocks))
     → b ≡ nat_le k (size_of x z.heap.map + room_of (gap_to_grow z.heap.table x z.heap.map))
+unfolding to_grow-at
 grows-gap z x k n found is size low b has =
     has (gap_indexed z found.start (to_grow-at z x found is)) ∙ more_than k n (free_bytes is.gap.blocks) low
     ∙ ap (λ o. nat_le k (n + room_of o)) (sym is.is) ∙ ap (λ n. nat_le k (n + room_of (gap_to_grow z.heap.table x z.heap.map))) size

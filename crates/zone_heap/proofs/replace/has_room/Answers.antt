@@ -1,6 +1,8 @@
-use Rattle.std.proofs.Common.{◌≡◌, ◌∙◌, ap, sym}
+use Rattle.std.proofs.Common.{◌≡◌, ◌+◌, ◌∙◌, ap, sym}
+use Rattle.std.specs.Prelude.{nat_le}
 use Rattle.mac_base.specs.Gap.{gaps, some_gap_has}
 use Rattle.mac_base.specs.HandleTable.{has_block}
+use Rattle.mac_base.specs.Request.{gap_to_grow, room_of, size_of}
 use Rattle.zone_heap.proofs.Counting.{found-some, room-found, room-none, room-own}
 use Rattle.zone_heap.proofs.replace.has_room.Goals as goal
 use Rattle.zone_heap.proofs.replace.has_room.Goals.{After-is_some, After-has_block}
@@ -25,5 +27,7 @@ returns-then-not-has_block-clause-room c =
 pub returns-clause-room : goal.returns-clause-room
 returns-clause-room c =
     let w = goal.at.returns-clause-room c in
-    (rw c.number-block.ensures at (rw c.lowest_gap-found.ensures.zone at c.grows_to.ensures.grows))
+    let z = c.args.zone.now in
+    (rw c.lowest_gap-found.ensures.zone at c.grows_to.ensures.grows)
+    ∙ ap (λ x. nat_le c.args.needed (size_of x z.heap.map + room_of (gap_to_grow z.heap.table x z.heap.map))) c.number-block.ensures
     ∙ room-own c.args.zone.now c.args.handle c.args.needed c.requires.sound c.requires.handle (sym (block w.After-has_block) ∙ c.if-not-has_block.false) (sym (some w.After-is_some) ∙ c.if-is_some.false)

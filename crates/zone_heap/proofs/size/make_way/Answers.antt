@@ -49,6 +49,9 @@ way c =
     (rw c.grows_to.ensures.zone at c.squeeze_up.ensures.zone) (gap-behind-at c.args.zone.now c.args.block c.gap_to_grow-gap.result fixed c.gap_to_grow-gap.ensures)
     ∙ ap (λ m. with_map m c.args.zone.now) (way-behind c.args.zone.now c.args.block c.gap_to_grow-gap.result fixed c.gap_to_grow-gap.ensures)
 
+pub returns-then-stays-clause-loans : goal.returns-then-stays-clause-loans
+returns-then-stays-clause-loans c = subst (λ v. KeepsLoans v c.squeeze_up.new.zone) c.grows_to.ensures.zone c.squeeze_up.ensures.loans
+
 pub returns-then-stays-clause-zone : goal.returns-then-stays-clause-zone
 returns-then-stays-clause-zone c = way (goal.at.returns-then-stays-clause-zone c).After-squeeze_up
 
