@@ -46,8 +46,10 @@ impl Drop for Session {
 }
 
 impl Session {
-    ghost use Rattle.std.specs.Prelude.{◌++◌, ◌∷◌, length, IfOk, OnOk, OnErr};
+    ghost use Rattle.std.specs.Prelude.{◌<◌, ◌++◌, ◌∷◌, length, IfOk, IfErr, OnOk, OnErr};
     ghost use Rattle.std.specs.Result.{result_err};
+    ghost use Rattle.linked_zone.specs.Image.{IsImage};
+    ghost use Rattle.mac_base.specs.declared.error.OsErr.TheVariants.{MemLockedErr};
     ghost use Rattle.mac_base.specs.BlockReport.{report_at};
     ghost use Rattle.mac_base.specs.ZoneMap.{address_behind};
     ghost use Rattle.mac_calls.specs.declared.loan_call.LoanCall.TheVariants as loan_call;
@@ -143,6 +145,15 @@ impl Session {
         ensures { result ≡ report_at self.now.zone.shape self.now.zone.heap at }
     {
         self.memory.entry(at)
+    }
+
+    /// The bytes of the zone, from its start to the end of its last block. memLockedErr where a block is lent.
+    pub fn image(&self) -> Result<&[u8], OsErr>
+        ensures image { IfOk result (λ image. IsImage self.now.zone image.now) }
+        ensures nothing_lent { IfOk result (λ image. length self.now.zone.heap.table.lent ≡ 0) }
+        ensures refusal { IfErr result (λ code. (code ≡ MemLockedErr) × (0 < length self.now.zone.heap.table.lent)) }
+    {
+        self.memory.image()
     }
 
     /// Queues an answer behind the others: nothing is asked then. Sixteen may wait.

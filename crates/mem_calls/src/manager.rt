@@ -1,7 +1,7 @@
 //! The Memory Manager, and what it shows of its zone.
 
 use mac_base::block::{Block, Status};
-use mac_base::error::HostFull;
+use mac_base::error::{HostFull, OsErr};
 use mac_base::handle::Handle;
 use mac_base::zone_spec::{LARGEST_LIMIT, ZoneSpec};
 use std::alloc::Global;
@@ -38,7 +38,9 @@ impl Drop for MemoryManager {
 }
 
 impl MemoryManager {
-    ghost use Rattle.std.specs.Prelude.{◌≡◌, ◌+◌, ◌≤◌, IfOk, IsTrue, [], length};
+    ghost use Rattle.std.specs.Prelude.{◌≡◌, ◌+◌, ◌<◌, ◌≤◌, IfOk, IfErr, IsTrue, [], length};
+    ghost use Rattle.mac_base.specs.declared.error.OsErr.TheVariants.{MemLockedErr};
+    ghost use Rattle.linked_zone.specs.Image.{IsImage};
     ghost use Rattle.std.specs.Borrow.{sem};
     ghost use Rattle.mac_base.specs.BlockStatus.{status_of};
     ghost use Rattle.mac_base.specs.HandleTable.{bytes_of, has_block};
@@ -117,5 +119,19 @@ impl MemoryManager {
         ensures { result ≡ report_at self.now.shape self.now.heap at }
     {
         self.zone.entry(at)
+    }
+
+    /// The bytes of the zone, from its start to the end of its last block: its header, and its blocks with their headers, master
+    /// pointers and contents. memLockedErr where a block is lent, whose bytes aren't the zone's.
+    pub fn image(&self) -> Result<&[u8], OsErr>
+        ensures image { IfOk result (λ image. IsImage self.now image.now) }
+        ensures nothing_lent { IfOk result (λ image. length self.now.heap.table.lent ≡ 0) }
+        ensures refusal { IfErr result (λ code. (code ≡ MemLockedErr) × (0 < length self.now.heap.table.lent)) }
+    {
+        if self.zone.lent_count() == 0 {
+            Ok(self.zone.image())
+        } else {
+            Err(OsErr::MemLockedErr)
+        }
     }
 }
