@@ -200,16 +200,37 @@ fn stop_behind(
     stop_update(rt, alloc, old, &journal, new)
 }
 
-/// An update where there is no journal yet, one behind a gate that is open over too short a text, one back with the journal of the
-/// first, and one back with a longer journal of any bytes.
+/// An update where there is no journal yet, and one behind a gate that is open over too short a text.
+fn stop_forth(
+    rt: &impl Abort,
+    alloc: Global,
+    first: &[u8],
+    second: &[u8],
+) -> Result<u64, AllocError> {
+    let seen = stop_update(rt, alloc, first, &[], second)?;
+    let more = stop_behind(rt, alloc, first, (1, front(second, 311)), second)?;
+    Ok(seen.saturating_add(more))
+}
+
+/// One back with the journal of the first, and one back with a longer journal of any bytes.
+fn stop_back(
+    rt: &impl Abort,
+    alloc: Global,
+    first: &[u8],
+    second: &[u8],
+) -> Result<u64, AllocError> {
+    let ones = vec![in alloc; 1; 400]?;
+    let seen = stop_behind(rt, alloc, second, (0, second), first)?;
+    let more = stop_behind(rt, alloc, second, (2, &ones), first)?;
+    Ok(seen.saturating_add(more))
+}
+
 #[test]
 fn leaves_the_fork_before_or_after(rt: HostRuntime) -> Result<(), AllocError> {
-    let alloc = rt.alloc();
-    let (first, second) = (two_rows(alloc)?, one_row(alloc)?);
-    let seen = stop_update(&rt, alloc, &first, &[], &second)?
-        .saturating_add(stop_behind(&rt, alloc, &first, (1, front(&second, 311)), &second)?)
-        .saturating_add(stop_behind(&rt, alloc, &second, (0, &second), &first)?)
-        .saturating_add(stop_behind(&rt, alloc, &second, (2, &[1; 400]), &first)?);
+    let (first, second) = (two_rows(rt.alloc())?, one_row(rt.alloc())?);
+    let forth = stop_forth(&rt, rt.alloc(), &first, &second)?;
+    let back = stop_back(&rt, rt.alloc(), &first, &second)?;
+    let seen = forth.saturating_add(back);
     assert!(rt; seen >= 5000, "{seen} outcomes");
     Ok(())
 }
