@@ -176,8 +176,23 @@ fn check_order(
     compare(rt, blocks, heads, head, &order.map(|place| laid[place % 5]));
 }
 
-/// Makes the blocks and then each exchange, and compares the bytes each time. Those of a free block that has moved aren't
-/// kept, so they are cleared.
+/// Makes the blocks.
+fn make(rt: &impl Abort, blocks: &mut Blocks, made: &[Made]) {
+    blocks.set_front(FRONT);
+    for (at, size, role, contents) in made {
+        place(rt, blocks, *at, *size, *role, *contents);
+    }
+}
+
+/// Makes an exchange. The bytes of a free block that has moved aren't kept, so they are cleared.
+fn change(rt: &impl Abort, blocks: &mut Blocks, at: u32, moved: &[u32]) {
+    exchange(rt, blocks, at);
+    for there in moved {
+        clear(rt, blocks, *there);
+    }
+}
+
+/// Makes the blocks and then each exchange, and compares the bytes each time.
 fn run(
     rt: &impl Abort,
     blocks: &mut Blocks,
@@ -186,16 +201,10 @@ fn run(
     (free, lowest): (u32, u32),
     steps: &[Step],
 ) {
-    blocks.set_front(FRONT);
-    for (at, size, role, contents) in made {
-        place(rt, blocks, *at, *size, *role, *contents);
-    }
+    make(rt, blocks, made);
     check_order(rt, blocks, laid, (free, lowest), [0, 1, 2, 3, 4]);
     for (at, moved, lowest, order) in steps {
-        exchange(rt, blocks, *at);
-        for there in *moved {
-            clear(rt, blocks, *there);
-        }
+        change(rt, blocks, *at, moved);
         check_order(rt, blocks, laid, (free, *lowest), *order);
     }
     assert_eq!(rt; blocks.lent_count(), 0);
@@ -207,6 +216,10 @@ fn blocks_change_places(rt: HostRuntime) {
     let start = (0x38c, 0x0010_0054);
     run(&rt, &mut blocks, &MADE_24, &BLOCKS_24, start, &STEPS_24);
     assert_eq!(rt; blocks.lent_count(), 0);
+}
+
+#[test]
+fn wide_blocks_change_places(rt: HostRuntime) {
     let mut blocks = new_zone(&rt, rt.alloc(), HeadKind::Bits32);
     let start = (0x37c, 0x0010_005c);
     run(&rt, &mut blocks, &MADE_32, &BLOCKS_32, start, &STEPS_32);

@@ -52,7 +52,16 @@ fn image_of(head: Head, blocks: &[Laid]) -> [u8; 1024] {
     image
 }
 
-/// The bytes of a zone are those of these blocks, and bytes of a zone.
+/// Whether the bytes of a zone of which nothing is lent are those of these blocks, and bytes of a zone.
+fn is_laid(blocks: &Blocks, heads: HeadKind, head: Head, wanted: &[Laid]) -> bool {
+    if blocks.lent_count() != 0 {
+        return false;
+    }
+    let image = blocks.image();
+    image == image_of(head, wanted).as_slice() && check(heads, image)
+}
+
+/// The bytes of a zone are those of these blocks.
 pub(crate) fn compare(
     rt: &impl Abort,
     blocks: &Blocks,
@@ -60,7 +69,8 @@ pub(crate) fn compare(
     head: Head,
     wanted: &[Laid],
 ) {
-    assert_eq!(rt; blocks.lent_count(), 0);
-    assert_eq!(rt; blocks.image(), image_of(head, wanted).as_slice());
-    assert!(rt; check(heads, blocks.image()), "they are a zone's");
+    assert!(rt;
+        is_laid(blocks, heads, head, wanted),
+        "the bytes of the blocks"
+    );
 }

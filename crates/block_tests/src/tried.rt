@@ -232,17 +232,16 @@ pub(crate) fn give_back(rt: &impl Abort, blocks: &mut Blocks, at: u32, loan: Len
     blocks.give_back(at, loan);
 }
 
-/// So many blocks are lent. The one at an address is, or else its contents are eight numbers that rise from this one on.
-pub(crate) fn check(rt: &impl Abort, blocks: &Blocks, at: u32, contents: Option<u8>, count: u32) {
-    assert_eq!(rt; blocks.lent_count(), count);
+/// Whether the block at an address is lent, or else its contents are eight numbers that rise from this one on.
+fn has(blocks: &Blocks, at: u32, contents: Option<u8>) -> bool {
     match contents {
-        Some(first) => {
-            assert!(rt; is_unlent(blocks, at), "it isn't lent");
-            assert!(rt; counts_up(blocks.contents(at), first), "its contents");
-        }
-        None => {
-            assert!(rt; blocks.is_block(at), "a block");
-            assert!(rt; blocks.is_lent(at), "it is lent");
-        }
+        Some(first) => is_unlent(blocks, at) && counts_up(blocks.contents(at), first),
+        None => blocks.is_block(at) && blocks.is_lent(at),
     }
+}
+
+/// So many blocks are lent, and the one at an address is or has these contents.
+pub(crate) fn check(rt: &impl Abort, blocks: &Blocks, at: u32, contents: Option<u8>, count: u32) {
+    let is_right = blocks.lent_count() == count && has(blocks, at, contents);
+    assert!(rt; is_right, "the block at {at}, {count} lent");
 }

@@ -2,10 +2,9 @@
 
 use crate::forks::{front, is_replaced, journal_of, one_row, started, two_rows};
 use fork_disk::store::ForkStore;
-use fork_journal::{Call, Choice, CrashPair, Fate, MemPair};
+use fork_journal::{Call, Choice, CrashPair, Fate, Journal, MemPair};
 use std::alloc::{AllocError, Global};
 use std::process::Abort;
-use std::test::Fail;
 
 /// More writes, cuts and syncs than an update or a recovery makes.
 const MANY: u64 = 20;
@@ -80,11 +79,16 @@ fn outcome(alloc: Global, pair: &CrashPair, n: u64) -> Result<MemPair, AllocErro
     pair.outcome(alloc, &picked)
 }
 
+/// The fork of a store.
+fn copied(alloc: Global, store: &Journal<CrashPair>) -> Result<Vec<u8>, AllocError> {
+    store.pair().pair().fork().to_vec(alloc)
+}
+
 /// The fork behind a start that nothing stops.
-fn recovered(rt: &impl Abort, alloc: Global, found: &MemPair) -> Result<Vec<u8>, Fail> {
+fn recovered(rt: &impl Abort, alloc: Global, found: &MemPair) -> Result<Vec<u8>, AllocError> {
     let mut store = started(alloc, found.fork(), found.journal(), MANY)?;
     assert!(rt; store.recover().is_ok());
-    Ok(store.pair().pair().fork().to_vec(alloc)?)
+    copied(alloc, &store)
 }
 
 /// Recovers each outcome of a recovery that was stopped behind so many calls: always the same fork. How many there are.
@@ -94,7 +98,7 @@ fn check_recoveries(
     pair: &CrashPair,
     calls: u64,
     want: &[u8],
-) -> Result<u64, Fail> {
+) -> Result<u64, AllocError> {
     let count = count_outcomes(pair.pair().calls());
     for n in 0..count {
         let left = outcome(alloc, pair, n)?;
@@ -112,7 +116,7 @@ fn stop_recovery(
     alloc: Global,
     found: &MemPair,
     want: &[u8],
-) -> Result<u64, Fail> {
+) -> Result<u64, AllocError> {
     let mut seen: u64 = 0;
     for calls in 0..MANY {
         let mut store = started(alloc, found.fork(), found.journal(), calls)?;
@@ -126,6 +130,11 @@ fn stop_recovery(
     Ok(seen)
 }
 
+/// Whether a fork is one of both.
+fn is_either(fork: &[u8], either: (&[u8], &[u8])) -> bool {
+    fork == either.0 || fork == either.1
+}
+
 /// Recovers the n-th outcome of an update that was stopped behind so many calls: one of both forks. Then it stops that recovery. How
 /// many outcomes of that were seen.
 fn check_outcome(
@@ -134,14 +143,10 @@ fn check_outcome(
     left: &MemPair,
     (calls, n): (u64, u64),
     either: (&[u8], &[u8]),
-) -> Result<u64, Fail> {
-    let found = recovered(rt, alloc, left)?;
-    let fork = found.as_slice();
-    assert!(rt;
-        fork == either.0 || fork == either.1,
-        "call {calls}, outcome {n}"
-    );
-    stop_recovery(rt, alloc, left, fork)
+) -> Result<u64, AllocError> {
+    let fork = recovered(rt, alloc, left)?;
+    assert!(rt; is_either(&fork, either), "call {calls}, outcome {n}");
+    stop_recovery(rt, alloc, left, &fork)
 }
 
 /// The same for each outcome.
@@ -151,7 +156,7 @@ fn check_outcomes(
     pair: &CrashPair,
     calls: u64,
     either: (&[u8], &[u8]),
-) -> Result<u64, Fail> {
+) -> Result<u64, AllocError> {
     let mut seen: u64 = 0;
     for n in 0..count_outcomes(pair.pair().calls()) {
         let left = outcome(alloc, pair, n)?;
@@ -168,7 +173,7 @@ fn stop_update(
     old: &[u8],
     journal: &[u8],
     new: &[u8],
-) -> Result<u64, Fail> {
+) -> Result<u64, AllocError> {
     let mut seen: u64 = 0;
     for calls in 0..MANY {
         let mut store = started(alloc, old, journal, calls)?;
@@ -190,21 +195,42 @@ fn stop_behind(
     old: &[u8],
     (gate, bytes): (u8, &[u8]),
     new: &[u8],
-) -> Result<u64, Fail> {
+) -> Result<u64, AllocError> {
     let journal = journal_of(alloc, gate, bytes)?;
     stop_update(rt, alloc, old, &journal, new)
 }
 
-/// An update where there is no journal yet, one behind a gate that is open over too short a text, one back with the journal of the
-/// first, and one back with a longer journal of any bytes.
+/// An update where there is no journal yet, and one behind a gate that is open over too short a text.
+fn stop_forth(
+    rt: &impl Abort,
+    alloc: Global,
+    first: &[u8],
+    second: &[u8],
+) -> Result<u64, AllocError> {
+    let seen = stop_update(rt, alloc, first, &[], second)?;
+    let more = stop_behind(rt, alloc, first, (1, front(second, 311)), second)?;
+    Ok(seen.saturating_add(more))
+}
+
+/// One back with the journal of the first, and one back with a longer journal of any bytes.
+fn stop_back(
+    rt: &impl Abort,
+    alloc: Global,
+    first: &[u8],
+    second: &[u8],
+) -> Result<u64, AllocError> {
+    let ones = vec![in alloc; 1; 400]?;
+    let seen = stop_behind(rt, alloc, second, (0, second), first)?;
+    let more = stop_behind(rt, alloc, second, (2, &ones), first)?;
+    Ok(seen.saturating_add(more))
+}
+
 #[test]
-fn leaves_the_fork_before_or_after(rt: HostRuntime) -> Result<(), Fail> {
-    let alloc = rt.alloc();
-    let (first, second) = (two_rows(alloc)?, one_row(alloc)?);
-    let seen = stop_update(&rt, alloc, &first, &[], &second)?
-        .saturating_add(stop_behind(&rt, alloc, &first, (1, front(&second, 311)), &second)?)
-        .saturating_add(stop_behind(&rt, alloc, &second, (0, &second), &first)?)
-        .saturating_add(stop_behind(&rt, alloc, &second, (2, &[1; 400]), &first)?);
+fn leaves_the_fork_before_or_after(rt: HostRuntime) -> Result<(), AllocError> {
+    let (first, second) = (two_rows(rt.alloc())?, one_row(rt.alloc())?);
+    let forth = stop_forth(&rt, rt.alloc(), &first, &second)?;
+    let back = stop_back(&rt, rt.alloc(), &first, &second)?;
+    let seen = forth.saturating_add(back);
     assert!(rt; seen >= 5000, "{seen} outcomes");
     Ok(())
 }

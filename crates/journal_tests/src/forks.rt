@@ -7,7 +7,7 @@ use std::alloc::{AllocError, Global};
 /// A header, 240 bytes of zeros, and what follows.
 fn fork_of(alloc: Global, header: &[u8; 16], rest: &[u8]) -> Result<Vec<u8>, AllocError> {
     let mut fork = header.to_vec(alloc)?;
-    fork.extend_from_slice(&[0; 240])?;
+    fork.resize(256, 0)?;
     fork.extend_from_slice(rest)?;
     Ok(fork)
 }

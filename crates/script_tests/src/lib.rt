@@ -1,15 +1,9 @@
-//! Tests of the script's layers, as a crate above them sees them. Here their proofs need none of the layers' own again.
+//! Tests of whole runs: over readers and writers that fail, and over a resource file on a disk in memory of which a call fails.
 #![tactic(auto)]
 
 #[cfg(test)]
-mod loans;
+mod disks;
 #[cfg(test)]
-mod reply;
+mod runs;
 #[cfg(test)]
-mod run;
-#[cfg(test)]
-mod stores;
-#[cfg(test)]
-mod text;
-#[cfg(test)]
-mod vars;
+mod streams;
