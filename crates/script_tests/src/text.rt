@@ -243,14 +243,18 @@ fn read_operands<'a>(
     operands(arena, kinds, &tokens, names)
 }
 
-/// The last of some operands in words, or `none` where there are none.
-fn last_in_words(alloc: Global, found: &Option<Operands<'_>>) -> Result<String, HostFull> {
-    let operands: &[Operand<'_>] = match found {
-        Some(found) => found.as_slice(),
-        None => &[],
+/// The operand at a place in words, or `none` where there are none.
+fn operand_in_words(
+    alloc: Global,
+    found: &Option<Operands<'_>>,
+    place: usize,
+) -> Result<String, HostFull> {
+    let operand = match found {
+        Some(found) => found.get(place),
+        None => None,
     };
-    match operands.last() {
-        Some(operand) => in_words(alloc, operand),
+    match operand {
+        Some(operand) => in_words(alloc, &operand),
         None => Ok("none".to_string(alloc)?),
     }
 }
@@ -260,7 +264,7 @@ fn last_operand(alloc: Global, kinds: &[OperandKind], text: &[u8]) -> Result<Str
     let arena = Bump::new(alloc);
     let names = names_of_x(alloc)?;
     let found = read_operands(alloc, &arena, &names, kinds, text)?;
-    last_in_words(alloc, &found)
+    operand_in_words(alloc, &found, kinds.len() - 1)
 }
 
 /// An operand in words.
