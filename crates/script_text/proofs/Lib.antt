@@ -1,3 +1,4 @@
+pub mod KeptLaws
 pub mod Lists
 pub mod Fronts
 pub mod ByteTests

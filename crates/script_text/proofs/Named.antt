@@ -1,11 +1,10 @@
 -- Look-ups by the bytes of names, in sets whose keys spell them.
-use Rattle.std.proofs.Common.{◌≡◌, ℕ, ◌+◌, Bool, true, false, cond, List, [], ◌∷◌, ◌++◌, map, Some, refl, sym, ap, ◌∙◌}
+use Rattle.std.proofs.Common.{◌≡◌, ℕ, ◌+◌, Bool, true, false, cond, List, [], ◌∷◌, ◌++◌, map, refl, sym, ap, ◌∙◌}
 use Rattle.std.specs.Prelude.{◌||◌, not, position, Result, Ok, Err, OnOk}
 use Rattle.std.specs.List.{list_any, position_or_len}
 use Rattle.std.specs.Str.{bytes_eq}
 use Rattle.std.proofs.lemmas.List.{map_push, length-map}
 use Rattle.indexmap.specs.IndexSet.{insert_key}
-use Rattle.script_text.proofs.Fronts.{position_found}
 use Rattle.script_text.specs.Names.{is_named, place_of, place_for, with_name}
 
 -- whether a key spells the word
@@ -31,16 +30,6 @@ pub with_name-map : {V : Type 0} (spelled : V → List ℕ) (keys : List V) (key
 with_name-map spelled keys key =
     with_name-cases spelled key keys (list_any (λ k. bytes_eq (spelled key) (spelled k)) keys)
     ∙ ap (λ (b : Bool). cond b (map spelled keys) (map spelled keys ++ spelled key ∷ [])) (sym (is_named-map spelled (spelled key) keys))
-
--- a word that has a place stands there, and the names stay when it is assigned
-pub found_place : {V : Type 0} (spelled : V → List ℕ) (names : List (List ℕ)) (keys : List V) (word : List ℕ) (place : ℕ) → map spelled keys ≡ names → position (λ k. bytes_eq word (spelled k)) keys ≡ Some place → place ≡ place_for names word
-found_place spelled names keys word place view found =
-    sym (position_found (λ k. bytes_eq word (spelled k)) keys place found).0 ∙ sym (place_for-map spelled word keys) ∙ ap (λ (n : List (List ℕ)). place_for n word) view
-
-pub found_named : {V : Type 0} (spelled : V → List ℕ) (names : List (List ℕ)) (keys : List V) (word : List ℕ) → map spelled keys ≡ names → true ≡ list_any (λ k. bytes_eq word (spelled k)) keys → names ≡ with_name names word
-found_named spelled names keys word view found =
-    let named : is_named names word ≡ true = ap (λ (n : List (List ℕ)). is_named n word) (sym view) ∙ is_named-map spelled word keys ∙ sym found in
-    rw named refl
 
 -- a fact holds where a call succeeded
 pub on_ok : {X E : Type 0} (r : Result X E) (P : Type 0) → P → OnOk r P

@@ -2,6 +2,7 @@
 #![tactic(auto)]
 
 mod answer;
+mod kept;
 mod line;
 mod names;
 mod operand;
@@ -9,8 +10,9 @@ mod script;
 mod statement;
 mod token;
 
+pub use kept::Operands;
 pub use line::{
-    AnswerLine, CallLine, Line, Name, Operand, OperandBytes, Operands, ReleasingName, Statement,
+    AnswerLine, CallLine, Line, Name, Operand, OperandBytes, ReleasingName, Statement,
     WrittenAnswer, WrittenCall, WrittenCalls,
 };
 pub use names::{Names, names_have_places};

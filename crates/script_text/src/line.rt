@@ -1,5 +1,6 @@
 //! What the lines of a script say.
 
+use crate::kept::Operands;
 use bumpalo::Bump;
 use mac_base::error::HostFull;
 use mac_calls::CallName;
@@ -68,6 +69,20 @@ impl<'a> OperandBytes<'a> {
         }
     }
 
+    /// Bytes whose place and length are kept here.
+    pub(crate) fn kept_at(bytes: &'a &'a [u8]) -> OperandBytes<'a>
+        ensures { result ≡ bytes.now.now }
+    {
+        OperandBytes { bytes }
+    }
+
+    /// Where their place and length are kept.
+    pub(crate) fn kept(&self) -> &'a &'a [u8]
+        ensures { result.now.now ≡ self.now }
+    {
+        self.bytes
+    }
+
     /// The bytes, first to last.
     pub fn as_slice(&self) -> &'a [u8]
         ensures { result.now ≡ self.now }
@@ -89,39 +104,6 @@ pub enum Operand<'a> {
     Type([u8; 4]),
     /// No operand, where the last one is left out.
     Missing,
-}
-
-/// The operands of a line, first to last. A contract sees the list.
-#[derive(Drop)]
-pub struct Operands<'a> {
-    operands: &'a [Operand<'a>],
-}
-
-impl<'a> Model for Operands<'a> {
-    ghost use Rattle.std.specs.Prelude.{List};
-    ghost use Rattle.script_text.specs.declared.line.Operand.{Operand};
-
-    ghost Value = { List Operand };
-
-    ghost view = { λ o. o.operands.now };
-}
-
-impl<'a> Operands<'a> {
-    ghost use Rattle.std.specs.Prelude.{◌≡◌};
-
-    /// These operands.
-    pub(crate) fn new(operands: &'a [Operand<'a>]) -> Operands<'a>
-        ensures { result ≡ operands.now }
-    {
-        Operands { operands }
-    }
-
-    /// The operands, first to last.
-    pub fn as_slice(&self) -> &'a [Operand<'a>]
-        ensures { result.now ≡ self.now }
-    {
-        self.operands
-    }
 }
 
 /// A line that makes a call, and may assign its first result. What it keeps of its operands lies in the text and in an

@@ -9,7 +9,8 @@ ghost use Rattle.script_text.specs.Tokens.{Word, Single, Double, Hexadecimal};
 ghost use Rattle.script_text.specs.Front.{view};
 ghost use Rattle.script_text.specs.Operands.{IsNumeral, IsNumber, IsByte, AreDigitsOf, is_name, is_name_byte, is_printable, IsPositiveId, IsNegativeId, IsId, IsVariable, IsNumberOperand, IsBytesOperand, IsIdOperand, IsTypeOfBytes, IsTypeOperand, IsOperand, IsOperandAt, AreOperands};
 
-use crate::line::{Name, Operand, OperandBytes, Operands};
+use crate::kept::{Operands, ReadOperands};
+use crate::line::{Name, Operand, OperandBytes};
 use crate::names::Names;
 use crate::token::Token;
 use bumpalo::Bump;
@@ -343,12 +344,12 @@ pub fn operands<'a>(
     if kinds.len() < tokens.len() {
         return Ok(None);
     }
-    let mut operands = Vec::with_capacity(arena, kinds.len())?;
+    let mut operands = ReadOperands::with_capacity(arena, kinds.len())?;
     for (index, kind) in kinds.iter().enumerate() {
         let Some(operand) = operand_at(arena, *kind, tokens.get(index), names)? else {
             return Ok(None);
         };
-        operands.push(operand)?;
+        operands.push(&operand)?;
     }
-    Ok(Some(Operands::new(into_bump_slice(operands))))
+    Ok(Some(operands.into_operands()))
 }

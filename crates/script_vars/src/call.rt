@@ -8,10 +8,10 @@ use crate::operand::{bytes_at, given_bytes_at, given_number_at, id_at, number_at
 use crate::vars::Vars;
 use mac_base::handle::{Handle, Ptr};
 use mac_calls::{Call, CallName, LoanCall, MemoryCall, ResourceCall, Span};
-use script_text::{CallLine, Operand};
+use script_text::{CallLine, Operands};
 
 /// The call of the Memory Manager that has this name, with these operands.
-fn memory_call<'a>(call: CallName, operands: &[Operand<'a>], vars: &Vars) -> Option<MemoryCall<'a>>
+fn memory_call<'a>(call: CallName, operands: &Operands<'a>, vars: &Vars) -> Option<MemoryCall<'a>>
     ensures { result ≡ memory_call_in (call_with vars.now call operands.now) }
 {
     let first = number_at(operands, vars, 0);
@@ -81,7 +81,7 @@ fn memory_call<'a>(call: CallName, operands: &[Operand<'a>], vars: &Vars) -> Opt
 }
 
 /// The call on a loan that has this name, with these operands.
-fn loan_call<'a>(call: CallName, operands: &[Operand<'a>], vars: &Vars) -> Option<LoanCall<'a>>
+fn loan_call<'a>(call: CallName, operands: &Operands<'a>, vars: &Vars) -> Option<LoanCall<'a>>
     ensures { result ≡ loan_call_in (call_with vars.now call operands.now) }
 {
     let block = number_at(operands, vars, 0);
@@ -107,7 +107,7 @@ fn loan_call<'a>(call: CallName, operands: &[Operand<'a>], vars: &Vars) -> Optio
 /// The call of the Resource Manager that has this name, with these operands.
 fn resource_call<'a>(
     call: CallName,
-    operands: &[Operand<'a>],
+    operands: &Operands<'a>,
     vars: &Vars,
 ) -> Option<ResourceCall<'a>>
     ensures { result ≡ resource_call_in (call_with vars.now call operands.now) }
@@ -164,7 +164,7 @@ fn resource_call<'a>(
 pub fn resolve<'a>(line: &CallLine<'a>, vars: &Vars) -> Call<'a>
     ensures { result ≡ call_of vars.now line.now }
 {
-    let operands = line.operands.as_slice();
+    let operands = &line.operands;
     if let Some(call) = memory_call(line.call, operands, vars) {
         return Call::Memory(call);
     }

@@ -6,7 +6,7 @@ ghost use Rattle.script_vars.specs.Variables.{number_in, number_at, bytes_at, id
 use crate::vars::Vars;
 use mac_calls::Span;
 use res_base::resource::ResType;
-use script_text::Operand;
+use script_text::{Operand, Operands};
 
 /// The number of an operand. Bytes, an id, a type and an operand that is missing count as 0.
 pub(crate) fn number_in(operand: &Operand<'_>, vars: &Vars) -> u32
@@ -20,17 +20,17 @@ pub(crate) fn number_in(operand: &Operand<'_>, vars: &Vars) -> u32
 }
 
 /// The number of the operand at a place, and 0 where there is none.
-pub(crate) fn number_at(operands: &[Operand<'_>], vars: &Vars, place: usize) -> u32
+pub(crate) fn number_at(operands: &Operands<'_>, vars: &Vars, place: usize) -> u32
     ensures { result ≡ number_at vars.now operands.now place }
 {
     match operands.get(place) {
-        Some(operand) => number_in(operand, vars),
+        Some(operand) => number_in(&operand, vars),
         None => 0,
     }
 }
 
 /// The bytes of the operand at a place, and none where it is no operand of bytes.
-pub(crate) fn bytes_at<'a>(operands: &[Operand<'a>], place: usize) -> &'a [u8]
+pub(crate) fn bytes_at<'a>(operands: &Operands<'a>, place: usize) -> &'a [u8]
     ensures { result.now ≡ bytes_at operands.now place }
 {
     match operands.get(place) {
@@ -41,27 +41,27 @@ pub(crate) fn bytes_at<'a>(operands: &[Operand<'a>], place: usize) -> &'a [u8]
 
 /// The id that the operand at a place is, or the number of a variable, which may be out of the range of ids; 0 where it is
 /// neither.
-pub(crate) fn id_at(operands: &[Operand<'_>], vars: &Vars, place: usize) -> i64
+pub(crate) fn id_at(operands: &Operands<'_>, vars: &Vars, place: usize) -> i64
     ensures { result ≡ id_at vars.now operands.now place }
 {
     match operands.get(place) {
-        Some(Operand::Id(id)) => i64::from(*id),
+        Some(Operand::Id(id)) => i64::from(id),
         _ => i64::from(number_at(operands, vars, place)),
     }
 }
 
 /// The type that the operand at a place is, and four zeros where it is none.
-pub(crate) fn type_at(operands: &[Operand<'_>], place: usize) -> ResType
+pub(crate) fn type_at(operands: &Operands<'_>, place: usize) -> ResType
     ensures { result ≡ type_at operands.now place }
 {
     match operands.get(place) {
-        Some(Operand::Type(bytes)) => ResType::new(*bytes),
+        Some(Operand::Type(bytes)) => ResType::new(bytes),
         _ => ResType::new([0; 4]),
     }
 }
 
 /// The bytes of the operand at a place, if it is one of bytes.
-pub(crate) fn given_bytes_at<'a>(operands: &[Operand<'a>], place: usize) -> Option<Span<'a>>
+pub(crate) fn given_bytes_at<'a>(operands: &Operands<'a>, place: usize) -> Option<Span<'a>>
     ensures { result ≡ given_bytes_at operands.now place }
 {
     match operands.get(place) {
@@ -71,11 +71,11 @@ pub(crate) fn given_bytes_at<'a>(operands: &[Operand<'a>], place: usize) -> Opti
 }
 
 /// The number of the operand at a place, unless it is missing.
-pub(crate) fn given_number_at(operands: &[Operand<'_>], vars: &Vars, place: usize) -> Option<u32>
+pub(crate) fn given_number_at(operands: &Operands<'_>, vars: &Vars, place: usize) -> Option<u32>
     ensures { result ≡ given_number_at vars.now operands.now place }
 {
     match operands.get(place) {
         Some(Operand::Missing) | None => None,
-        Some(operand) => Some(number_in(operand, vars)),
+        Some(operand) => Some(number_in(&operand, vars)),
     }
 }

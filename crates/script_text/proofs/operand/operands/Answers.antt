@@ -26,6 +26,6 @@ pub loop-index-preserved : goal.loop-index-preserved
 loop-index-preserved c =
     let is = rw c.in-Some.is at c.in_ok-operand.ensures in
     let token = slice_get-map view c.args.tokens.now c.loop-index.index ∙ ap (λ o. option_map view o) (slice_get_copied c.args.tokens.now c.loop-index.index c.get.result c.get.ensures.lookup.0 c.get.ensures.lookup.1) in
-    rw c.in_ok-push.ensures.items
-    (AreOperands-push c.args.names.now c.args.kinds.now (map view c.args.tokens.now) c.loop-index.operands.items c.loop-index.index Number c.in-Some.operand c.loop-index-test.true c.loop-index.invariant
+    rw c.in_ok-push.ensures
+    (AreOperands-push c.args.names.now c.args.kinds.now (map view c.args.tokens.now) c.loop-index.operands c.loop-index.index Number c.in-Some.operand c.loop-index-test.true c.loop-index.invariant
     (subst (λ (t : Option tokens.Token). IsOperandAt c.args.names.now (get_or c.args.kinds.now c.loop-index.index Number) t c.in-Some.operand) (sym token) is))

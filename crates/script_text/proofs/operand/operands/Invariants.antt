@@ -5,4 +5,4 @@ use Rattle.script_text.proofs.operand.operands.Given as goal
 
 -- the tokens so far are the operands so far
 abbrev pub invariant-loop-index : goal.invariant-loop-index
-invariant-loop-index l = AreOperands l.names (take l.index l.kinds) (take l.index (map view l.tokens)) l.operands.items
+invariant-loop-index l = AreOperands l.names (take l.index l.kinds) (take l.index (map view l.tokens)) l.operands
