@@ -1,5 +1,5 @@
 -- Calls that write no file and open none.
-use Rattle.std.proofs.Common.{◌≡◌, ℕ, true, List, [], Option, Some, None, Result, Ok, Err, refl, ap, sym, subst, ◌∙◌}
+use Rattle.std.proofs.Common.{◌≡◌, ℕ, true, false, List, [], Option, Some, None, Result, Ok, Err, refl, ap, sym, subst, ◌∙◌}
 use Rattle.std.specs.Prelude.{IfOk, OnOk, OnErr}
 use Rattle.std.specs.Option.{option_map_or}
 use Rattle.mac_base.specs.ZoneState.{ZoneState}
@@ -12,7 +12,8 @@ use Rattle.res_calls.specs.Files.{ResState}
 use Rattle.res_calls.specs.Loads.{row_wanted}
 use Rattle.res_calls.specs.Steps.{Work, Gets, Quiet, work_of}
 use Rattle.res_calls.specs.Tests.{ResourceTest, first_refused_for, resource_refusal}
-use Rattle.res_calls.specs.Updates.{Update}
+use Rattle.res_calls.specs.Updates.{Update, row_passes}
+use Rattle.res_table.specs.Rows.{is_changed}
 use Rattle.res_manager.specs.Crash.{IsSettled, file_settled}
 use Rattle.res_files.specs.FilesOn.{FilesOn}
 use Rattle.res_manager.specs.Ends.{copies, is_calm, is_quiet}
@@ -36,6 +37,10 @@ calm_work state (call.UpdateResFile named) is = absurd (cc is)
 calm_work state (call.CloseResFile named) is = absurd (cc is)
 calm_work state (call.OpenResFile k) is = absurd (cc is)
 calm_work state c is = idle (row_wanted state c)
+
+-- nor has the row of a handle that isn't changed
+pub unchanged_work : (state : ResState) (h : ℕ) → row_passes is_changed h state.files ≡ false → IsIdle (work_of state (call.WriteResource h))
+unchanged_work state h same = rw same (record { no_update = refl; no_file = refl })
 
 -- all its tests are early ones
 no_late : (c : ResourceCall) → is_calm c ≡ true → late_tests c ≡ []

@@ -53,3 +53,23 @@ module _ {S : Type 0} (fork : S → List ℕ) (failures : S → ℕ) (may_leave 
           × (IsFalse (device_works dev) → SomeFailed failures on.stores after.stores)) (refused_with DskFulErr (state_of fork zone on) ≡ record { outcome = outcome; state = state_of fork new after })
       by_case true (dev, leaves, ends, cause) = by_device dev leaves ends
       by_case false ends = absurd (not_given DskFulErr (sym (ap (λ (e : ResourceEnd). e.outcome) ends)))
+
+module _ {S : Type 0} (fork : S → List ℕ) (failures : S → ℕ) (may_leave : LeaveRelation) (zone : ZoneState) (on mid : FilesOn S) (u : Update) (outcome : Outcome) where
+  -- a file that wasn't written ends as its update did
+  pub closes_refused : is_err outcome ≡ true → WritesFile fork failures may_leave zone on (UpdateResFile None) u outcome zone mid → WritesFile fork failures may_leave zone on (CloseResFile None) u outcome zone mid
+  closes_refused given written = by_case (fits_fork u.table) written
+    where
+      by_device : (dev : Device) → LeavesDisk Memory may_leave dev u (disk_of u.file (state_of fork zone on)) → update_end dev (UpdateResFile None) u (state_of fork zone on) ≡ record { outcome = outcome; state = state_of fork zone mid }
+          → (IsFalse (device_works dev) → SomeFailed failures on.stores mid.stores)
+          → (dev : Device) × LeavesDisk Memory may_leave dev u (disk_of u.file (state_of fork zone on)) × (update_end dev (CloseResFile None) u (state_of fork zone on) ≡ record { outcome = outcome; state = state_of fork zone mid })
+          × (IsFalse (device_works dev) → SomeFailed failures on.stores mid.stores)
+      by_device device.Works leaves ends cause = absurd (cc (ap (λ (e : ResourceEnd). is_err e.outcome) ends ∙ given))
+      by_device device.FailsBefore leaves ends cause = (device.FailsBefore, leaves, ends, cause)
+      by_device (device.FailsWriting left) leaves ends cause = (device.FailsWriting left, leaves, ends, cause)
+
+      by_case : (b : Bool) → MatchBool b ((dev : Device) × LeavesDisk Memory may_leave dev u (disk_of u.file (state_of fork zone on)) × (update_end dev (UpdateResFile None) u (state_of fork zone on) ≡ record { outcome = outcome; state = state_of fork zone mid })
+          × (IsFalse (device_works dev) → SomeFailed failures on.stores mid.stores)) (refused_with DskFulErr (state_of fork zone on) ≡ record { outcome = outcome; state = state_of fork zone mid })
+          → MatchBool b ((dev : Device) × LeavesDisk Memory may_leave dev u (disk_of u.file (state_of fork zone on)) × (update_end dev (CloseResFile None) u (state_of fork zone on) ≡ record { outcome = outcome; state = state_of fork zone mid })
+          × (IsFalse (device_works dev) → SomeFailed failures on.stores mid.stores)) (refused_with DskFulErr (state_of fork zone on) ≡ record { outcome = outcome; state = state_of fork zone mid })
+      by_case true (dev, leaves, ends, cause) = by_device dev leaves ends cause
+      by_case false ends = ends

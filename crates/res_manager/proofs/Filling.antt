@@ -114,3 +114,7 @@ filled-read heap h n x bytes placed is long row (Err e) (Ok u) same read = absur
 filled-read heap h n x bytes placed is long row result (Err f) same read = tt
 filled-read heap h n x bytes placed is long None (Ok v) (Ok u) same read = tt
 filled-read heap h n x bytes placed is long (Some r) (Ok v) (Ok u) same read = subst (λ others. IsFilled h others heap (with_table (with_bytes x (overwritten (bytes_of heap.table x) bytes) heap.table) heap)) read (filled-contents heap h n x bytes placed is long)
+
+-- what is filled is as it is
+pub filled-itself : (h : ℕ) (bytes : List ℕ) (old new : Heap) → IsFilled h bytes old new → IsFilled h bytes new new
+filled-itself h bytes old new filled = record { some = filled.some; block = filled.block; here = filled.here; given = λ l. refl; gone = refl }

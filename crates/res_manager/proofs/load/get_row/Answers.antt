@@ -1,12 +1,13 @@
-use Rattle.std.proofs.Common.{◌∙◌, sym, refl, ap, subst, map, All}
+use Rattle.std.proofs.Common.{◌≡◌, ◌∙◌, List, length, sym, refl, ap, subst, map, All}
 use Rattle.std.proofs.lemmas.Result.{err_from_is_err_and}
-use Rattle.std.specs.Prelude.{if◌then◌else◌}
+use Rattle.std.specs.Prelude.{◌↔◌, if◌then◌else◌}
 use Rattle.mac_base.specs.Heap.{with_emptied}
 use Rattle.mac_base.specs.Releasing.{heap_released}
 use Rattle.mac_base.specs.declared.releasing.ReleasingCall.TheVariants.{DisposesHandle}
 use Rattle.res_files.specs.FilesOn.{FilesOn}
 use Rattle.res_manager.proofs.GettingRows.{IsGot, some-holds, long_then, loaded_then, refuses, faults, attaches}
 use Rattle.res_manager.proofs.Lent.{lent_placed}
+use Rattle.res_manager.proofs.Stepping.{iff_same, iff_then}
 use Rattle.res_manager.proofs.load.get_row.Goals as goal
 use Rattle.res_manager.proofs.load.get_row.Goals.{in-Some+else-serves, in_default, then-loads+in_ok-load_bytes, else-loads}
 
@@ -94,3 +95,52 @@ returns-clause-lent g c =
     let step = c.make_place.ensures.step in
     let placed = lent_placed c.args.memory.now c.make_place.new.memory c.match-own.own c.unwrap-row.result.now.resource.datum.length c.args.loads (g.G.GrowZone.asks c.make_place.new.procedure) step.0 step.1 in
     elim c.if-loads.branch [ then-loads+in_ok-load_bytes w ↦ rw w.memory-is (w.load_bytes.ensures.lent ∙ placed) | else-loads w ↦ rw w.memory-is placed ]
+
+pub returns-clause-shape : goal.returns-clause-shape
+returns-clause-shape g c = elim c.if-loads.branch [
+  | then-loads+in_ok-load_bytes w ↦ rw w.memory-is (w.load_bytes.ensures.shape ∙ c.make_place.ensures.shape)
+  | else-loads w ↦ rw w.memory-is c.make_place.ensures.shape
+]
+
+pub returns-in_err-handle-clause-honest : goal.returns-in_err-handle-clause-honest
+returns-in_err-handle-clause-honest g c = iff_same (λ (f : FilesOn g.row.S.Denot). All g.S.ForkStore.is_honest f.stores) _ _ c.make_place.ensures.forgotten
+
+pub returns-in_err-load_bytes-clause-honest : goal.returns-in_err-load_bytes-clause-honest
+returns-in_err-load_bytes-clause-honest g c = iff_then (iff_same (λ (f : FilesOn g.row.S.Denot). All g.S.ForkStore.is_honest f.stores) _ _ c.make_place.ensures.forgotten) c.load_bytes.ensures.honest
+
+pub returns-clause-honest : goal.returns-clause-honest
+returns-clause-honest g c =
+    let placed = iff_same (λ (f : FilesOn g.row.S.Denot). All g.S.ForkStore.is_honest f.stores) _ _ c.make_place.ensures.forgotten in
+    let loaded : All g.S.ForkStore.is_honest c.args.files.now.stores ↔ All g.S.ForkStore.is_honest c.if-loads.files.stores =
+    elim c.if-loads.branch [
+      | then-loads+in_ok-load_bytes w ↦ iff_then placed (iff_then w.load_bytes.ensures.honest (iff_same (λ (f : FilesOn g.row.S.Denot). All g.S.ForkStore.is_honest f.stores) _ _ w.files-is))
+      | else-loads w ↦ iff_then placed (iff_same (λ (f : FilesOn g.row.S.Denot). All g.S.ForkStore.is_honest f.stores) _ _ w.files-is)
+    ]
+    in
+    iff_then loaded (iff_same (λ (stores : List g.row.S.Denot). All g.S.ForkStore.is_honest stores) _ _ c.attach.ensures.stores)
+
+pub returns-clause-count : goal.returns-clause-count
+returns-clause-count g c =
+    let placed = ap (λ (f : FilesOn g.row.S.Denot). length f.stores) c.make_place.ensures.forgotten in
+    let loaded : length c.if-loads.files.stores ≡ length c.args.files.now.stores =
+    elim c.if-loads.branch [
+      | then-loads+in_ok-load_bytes w ↦ ap (λ (f : FilesOn g.row.S.Denot). length f.stores) w.files-is ∙ (w.load_bytes.ensures.count ∙ placed)
+      | else-loads w ↦ ap (λ (f : FilesOn g.row.S.Denot). length f.stores) w.files-is ∙ placed
+    ]
+    in
+    ap (λ (stores : List g.row.S.Denot). length stores) c.attach.ensures.stores ∙ loaded
+
+pub returns-clause-calm : goal.returns-clause-calm
+returns-clause-calm g c = λ honest.
+    let placed = ap (λ (f : FilesOn g.row.S.Denot). map g.S.ForkStore.history f.stores) c.make_place.ensures.forgotten in
+    let after = subst (λ (f : FilesOn g.row.S.Denot). All g.S.ForkStore.is_honest f.stores) (sym c.make_place.ensures.forgotten) honest in
+    let loaded : map g.S.ForkStore.history c.if-loads.files.stores ≡ map g.S.ForkStore.history c.args.files.now.stores =
+    elim c.if-loads.branch [
+      | then-loads+in_ok-load_bytes w ↦ ap (λ (f : FilesOn g.row.S.Denot). map g.S.ForkStore.history f.stores) w.files-is ∙ (w.load_bytes.ensures.calm after ∙ placed)
+      | else-loads w ↦ ap (λ (f : FilesOn g.row.S.Denot). map g.S.ForkStore.history f.stores) w.files-is ∙ placed
+    ]
+    in
+    ap (map g.S.ForkStore.history) c.attach.ensures.stores ∙ loaded
+
+pub load_bytes-requires-clause-placed : goal.load_bytes-requires-clause-placed
+load_bytes-requires-clause-placed g c = c.in_ok-handle.ensures.placed c.if-loads.true

@@ -29,6 +29,16 @@ overflow_add-from g c =
     let few = c.in-Some.ensures.few in
     omega arith
 
+pub loop-found-smaller : goal.loop-found-smaller
+loop-found-smaller g c =
+    let some = c.in-Some.ensures.some in
+    let has = some.5 in
+    let at = some.6 in
+    let next = next_found (rows_of c.args.number c.args.files.now.files) c.loop-found.from c.in-Some.found.0 c.in-Some.found.1 some.0 some.1 some.2 some.3 some.4 has at in
+    let within = next.within in
+    let later = next.later in
+    omega arith
+
 pub loop-found-preserved : goal.loop-found-preserved
 loop-found-preserved g c =
     let some = c.in-Some.ensures.some in

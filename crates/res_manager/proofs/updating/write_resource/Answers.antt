@@ -1,4 +1,5 @@
-use Rattle.std.proofs.Common.{◌≡◌, true, Some, None, rules, refl, sym, ap, ◌∙◌}
+use Rattle.std.proofs.Common.{◌≡◌, true, false, Some, None, Ok, rules, refl, sym, ap, ◌∙◌}
+use Rattle.mac_calls.specs.declared.reply.Results.TheVariants.{Nothing}
 use Rattle.mac_calls.specs.declared.resource_call.ResourceCall.TheVariants.{UpdateResFile, WriteResource}
 use Rattle.res_calls.specs.Changes.{FileRow}
 use Rattle.res_calls.specs.Steps.{work_of}
@@ -6,7 +7,8 @@ use Rattle.res_calls.specs.Updates.{row_passes, update_of}
 use Rattle.res_table.specs.Rows.{is_changed}
 use Rattle.res_update.specs.Selected.{updated}
 use Rattle.res_update.specs.declared.selection.Selection.TheVariants.{RowAt}
-use Rattle.res_manager.specs.Steps.{state_of, update_in}
+use Rattle.res_manager.specs.Steps.{state_of, update_in, work_takes_memory}
+use Rattle.res_manager.proofs.CalmCalls.{calm_reads, calm_settles, unchanged_work}
 use Rattle.res_manager.proofs.Crash.{calm_leaves, made_file, work_leaves, work_settles}
 use Rattle.res_manager.proofs.ReadingBack.{made_reads}
 use Rattle.res_manager.proofs.RowUpdates.{row_open}
@@ -76,3 +78,25 @@ returns-clause-settled g c = λ honest.
 
 pub returns-then-not-is_changed-clause-any_moment : goal.returns-then-not-is_changed-clause-any_moment
 returns-then-not-is_changed-clause-any_moment g c = λ honest. calm_leaves g.S.ForkStore c.args.files.now.stores c.args.files.now.stores (update_in (work_of (state_of g.S.ForkStore.fork c.args.memory.now c.args.files.now) (WriteResource c.args.handle))) refl
+
+pub returns-clause-full : goal.returns-clause-full
+returns-clause-full g c = λ honest.
+    let fork = g.S.ForkStore.fork in
+    let zone = c.args.memory.now in
+    let on = c.args.files.now in
+    let changed : row_passes is_changed c.args.handle c.args.files.now.files ≡ true = search rules in
+    let o = open_update c.in-Some.place.file (updated zone.heap.table (RowAt c.in-Some.place.index)) on.files (row_open c.in-Some.place on.files (λ (r : FileRow). r.handle ≡ Some c.args.handle) c.in-Some.ensures.there) in
+    let made = makes_row fork zone on c.args.handle c.in-Some.place o.0 c.requires (sym c.row_of_handle.ensures.value ∙ c.in-Some.is) changed o.1 in
+    on_err _ _ c.write_file.result (λ fits. ap work_takes_memory made.work) (c.write_file.ensures.fits honest)
+
+pub returns-then-not-is_changed-clause-reads_back : goal.returns-then-not-is_changed-clause-reads_back
+returns-then-not-is_changed-clause-reads_back g c = λ honest.
+    let state = state_of g.S.ForkStore.fork c.args.memory.now c.args.files.now in
+    let unchanged : row_passes is_changed c.args.handle c.args.files.now.files ≡ false = search rules in
+    calm_reads state state (WriteResource c.args.handle) (unchanged_work state c.args.handle unchanged) (Ok Nothing)
+
+pub returns-then-not-is_changed-clause-settled : goal.returns-then-not-is_changed-clause-settled
+returns-then-not-is_changed-clause-settled g c = λ honest.
+    let state = state_of g.S.ForkStore.fork c.args.memory.now c.args.files.now in
+    let unchanged : row_passes is_changed c.args.handle c.args.files.now.files ≡ false = search rules in
+    calm_settles g.S.ForkStore c.args.files.now.stores (work_of state (WriteResource c.args.handle)) (unchanged_work state c.args.handle unchanged) (Ok Nothing)
