@@ -6,14 +6,15 @@ use Rattle.std.specs.Option.{option_map_or, is_some}
 use Rattle.std.proofs.lemmas.Bool.{le-leb, leb-true}
 use Rattle.std.proofs.lemmas.Slice.Eq.{bytes_eq-Decides}
 use Rattle.std.proofs.lemmas.Option.{same_Some}
+use Rattle.std.proofs.lemmas.List.Sums.{sum_by-cons, sum_by-insert}
 use Rattle.std.proofs.lemmas.List.{length-map, length-drop, take_all, append-nil}
 use Rattle.fork_bytes.specs.Fork.{max_rows}
-use Rattle.fork_bytes.specs.Written.{counted_before, names_offset}
+use Rattle.fork_bytes.specs.Written.{counted_before, name_text, names_offset}
 use Rattle.fork_bytes.specs.declared.layout.TypeCount.{TypeCount}
 use Rattle.fork_reader.specs.declared.place.Place.{Place}
 use Rattle.res_base.specs.declared.resource.Resource.{Resource}
 use Rattle.res_table.specs.declared.row.Row.{Row}
-use Rattle.res_table.specs.Rows.{is_of_type, added, ith, indexes_from, index_of_ith, count_of_type}
+use Rattle.res_table.specs.Rows.{is_of_type, added, name_size, names_size, ith, indexes_from, index_of_ith, count_of_type}
 use Rattle.res_table.specs.Behind.{end_of_type}
 use Rattle.res_table.specs.Saved.{bare, saved_row, row_types}
 use Rattle.res_table.proofs.Adding.{up_to_last, last-is, insert-at-end}
@@ -253,6 +254,27 @@ fit_parts new rows few low =
     let low_now : names_offset (bare (added new rows)) ≤ 65535 = omega (arith, long, low) in
     sym (ap (λ b. b && (nat_le (names_offset (bare (added new rows))) 65535 && names_fit 0 (bare (added new rows)))) (le-leb (length (bare (added new rows))) max_rows few_now)
     ∙ ap (λ b. b && names_fit 0 (bare (added new rows))) (le-leb (names_offset (bare (added new rows))) 65535 low_now))
+
+-- names that take few bytes fit
+few_names : (at : ℕ) (rows : List (Row Place)) → at + names_size rows ≤ 65535 → names_fit at (bare rows) ≡ true
+few_names at [] few = refl
+few_names at (r ∷ rows) few =
+    let size = sum_by-cons name_size r rows in
+    by r.resource.name (omega (arith, size, few)) (few_names (at + name_size r) rows (omega (arith, size, few)))
+  where
+    by : (name : Option (List ℕ)) → at + length (name_text name) ≤ 65535 → names_fit (at + length (name_text name)) (bare rows) ≡ true
+        → (option_map_or (λ _. nat_le at 65534) name true && names_fit (at + length (name_text name)) (bare rows)) ≡ true
+    by None low others = others
+    by (Some name) low others = ap (λ b. b && names_fit (at + suc (length name)) (bare rows)) (le-leb at 65534 (omega (arith, low))) ∙ others
+
+-- and so do they with one more, wherever that stands
+pub few_with : (new : Row Place) (rows : List (Row Place)) (name : Option (List ℕ)) → new.resource.name ≡ name → names_size rows + length (name_text name) ≤ 65535
+    → names_fit 0 (bare (added new rows)) ≡ true
+few_with new rows name named few =
+    let all : names_size (added new rows) ≡ names_size rows + name_size new =
+    ap (λ (rs : List (Row Place)). names_size rs) (sym (insert-at-end new rows)) ∙ sum_by-insert name_size rows (end_of_type new.resource.kind rows) new in
+    let one : name_size new ≡ length (name_text name) = ap (λ (n : Option (List ℕ)). length (name_text n)) named in
+    few_names 0 (added new rows) (omega (arith, all, one, few))
 
 not_le : (a b : ℕ) → b < a → nat_le a b ≡ false
 not_le a b less = by (nat_le a b) refl

@@ -1,13 +1,14 @@
 //! Whether the current file fits a fork with one more resource.
 
-ghost use Rattle.std.specs.Prelude.{◌≡◌, ◌+◌, ◌-◌, ◌≤◌, ◌++◌, ◌∷◌, List, ℕ, false, length, take, drop};
+ghost use Rattle.std.specs.Prelude.{◌≡◌, ◌+◌, ◌-◌, ◌≤◌, ◌↔◌, ◌++◌, ◌∷◌, List, ℕ, false, length, take, drop, IsTrue};
 ghost use Rattle.std.specs.Option.{option_copied, option_map_or};
 ghost use Rattle.fork_bytes.specs.Fork.{max_rows};
+ghost use Rattle.fork_bytes.specs.Written.{name_text};
 ghost use Rattle.fork_reader.specs.declared.place.Place.{Place};
 ghost use Rattle.res_base.specs.declared.resource.Resource.{Resource};
 ghost use Rattle.res_table.specs.declared.row.Row.{Row};
 ghost use Rattle.res_table.specs.Behind.{end_of_type};
-ghost use Rattle.res_table.specs.Rows.{added};
+ghost use Rattle.res_table.specs.Rows.{added, names_size};
 ghost use Rattle.res_table.specs.Saved.{bare, row_types};
 ghost use Rattle.res_calls.specs.Changes.{FileRow, current_rows};
 ghost use Rattle.res_calls.specs.Fitting.{rows_fit, names_fit};
@@ -109,7 +110,25 @@ fn names_fit_with(rows: &Rows<Place>, at: usize, name: Option<&[u8]>) -> bool
     names_end(rows, at, rows.len(), next).is_some()
 }
 
-/// Whether rows fit a fork with one more.
+/// How many bytes a name takes, with its byte of length.
+fn size_of(name: Option<&[u8]>) -> usize
+    ensures { result ≡ length (name_text (option_copied name.entry)) }
+{
+    match name {
+        Some(name) => 1 + name.len(),
+        None => 0,
+    }
+}
+
+/// Whether the names take so few bytes, with one more, that two bytes hold each offset in whatever order they stand.
+fn names_are_few(rows: &Rows<Place>, name: Option<&[u8]>) -> bool
+    ensures { IsTrue result ↔ (names_size rows.now + length (name_text (option_copied name.entry)) ≤ 65535) }
+{
+    let size = rows.names_size();
+    size <= MAX_OFFSET && size_of(name) <= MAX_OFFSET - size
+}
+
+/// Whether rows fit a fork with one more. The rows are gone through only where the names take many bytes.
 fn fits_with(rows: &Rows<Place>, kind: ResType, name: Option<&[u8]>) -> bool
     requires { length rows.now ≤ max_rows }
     ensures { (r : Row Place) → r.resource.kind ≡ kind → r.resource.name ≡ option_copied name.entry → result ≡ rows_fit (bare (added r rows.now)) }
@@ -117,6 +136,9 @@ fn fits_with(rows: &Rows<Place>, kind: ResType, name: Option<&[u8]>) -> bool
     let names = 42 + 8 * types_with(rows, kind) + 12 * rows.len();
     if rows.len() >= MAX_ROWS || names > MAX_OFFSET {
         return false;
+    }
+    if names_are_few(rows, name) {
+        return true;
     }
     names_fit_with(rows, end_of_type(rows, kind), name)
 }
