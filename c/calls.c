@@ -81,6 +81,7 @@ static void misuse(void) {
     MhZone zone = MH_NO_ZONE;
     uint32_t out = 7, other = 8;
     uint8_t byte = 9;
+    size_t size = 10;
     MhBlock block = {1, 2, 3, 4, 5, 6};
     MhAnswer answer = {.value = 1};
     MhAsk ask = {.needed = 11};
@@ -99,6 +100,8 @@ static void misuse(void) {
         IS(mh_poke(&zone, BASE + 0x3C, 0, &byte, 1), MH_PARAM_ERR);
         IS(mh_first_block(&zone, &out), MH_PARAM_ERR);
         IS(mh_block(&zone, BASE + 0x34, &block), MH_PARAM_ERR);
+        IS(mh_image_size(&zone, &size), MH_PARAM_ERR);
+        IS(mh_image(&zone, &byte, 1), MH_PARAM_ERR);
         IS(mh_queue_answer(&zone, &answer), MH_PARAM_ERR);
         IS(mh_asked(&zone, &out), MH_PARAM_ERR);
         IS(mh_ask(&zone, 0, &ask), MH_PARAM_ERR);
@@ -116,6 +119,7 @@ static void misuse(void) {
     IS(out, 7);
     IS(other, 8);
     IS(byte, 9);
+    IS(size, 10);
     IS(block.address + block.flags, 7);
     IS(ask.needed + carried.kind, 23);
     zone = fresh();
@@ -407,6 +411,70 @@ static void lending(void) {
     IS(mh_return(&zone, b), MH_PARAM_ERR);
 }
 
+/* A word of a zone's bytes: its offset, and what it says. */
+typedef struct {
+    uint32_t at, says;
+} Word;
+
+static void put(uint8_t *bytes, uint32_t at, uint32_t word) {
+    for (int n = 0; n < 4; n++) bytes[at + n] = (uint8_t)(word >> (24 - 8 * n));
+}
+
+/* The zone has 4096 bytes: these words, the 63 free slots from `first` on, of which each but the last says `more` and its own offset, and
+ * zeros. */
+static void has_bytes(int line, MhZone *zone, const Word *words, uint32_t count, uint32_t first, uint32_t more, uint32_t last) {
+    static uint8_t wanted[4096], bytes[4097];
+    size_t size = 0;
+    memset(wanted, 0, sizeof wanted);
+    for (uint32_t n = 0; n < count; n++) put(wanted, words[n].at, words[n].says);
+    for (uint32_t n = 0; n < 63; n++) put(wanted, first + 4 * n, n < 62 ? more + first + 4 * n : last);
+    same(line, "the code of mh_image_size", mh_image_size(zone, &size), MH_NO_ERR);
+    same(line, "the size of the zone's bytes", (int64_t)size, 4096);
+    memset(bytes, 0xEE, sizeof bytes);
+    same(line, "the code of mh_image with too little room", mh_image(zone, bytes, 4095), MH_PARAM_ERR);
+    same(line, "the code of mh_image with too much room", mh_image(zone, bytes, 4097), MH_PARAM_ERR);
+    same(line, "the first byte, not written", bytes[0], 0xEE);
+    same(line, "the code of mh_image", mh_image(zone, bytes, 4096), MH_NO_ERR);
+    for (uint32_t n = 0; n < 4096; n++) {
+        if (bytes[n] != wanted[n]) printf("offset %03" PRIX32 ": ", n), same(line, "a byte of the zone", bytes[n], wanted[n]);
+    }
+    same(line, "the byte behind", bytes[4096], 0xEE);
+}
+#define HAS_BYTES(zone, first, more, last, ...) \
+    do { \
+        const Word words[] = {__VA_ARGS__}; \
+        has_bytes(__LINE__, zone, words, sizeof words / sizeof words[0], first, more, last); \
+    } while (0)
+
+/* The bytes of a zone with one handle, of 24-bit blocks and of 32-bit blocks. While a block is lent there are none. */
+static void images(void) {
+    MhZone zone = fresh();
+    new_handle(&zone, 100);
+    HAS_BYTES(&zone, 0x40, 0x01100004, 0x01000000, {0x00, 0x00101000}, {0x08, 0x00100040}, {0x0C, 0x00000E58}, {0x14, 0x00400000},
+              {0x30, 0x001001A8}, {0x34, 0x50000108}, {0x38, 0x00100000}, {0x3C, 0x00100144}, {0x13C, 0x8000006C}, {0x140, 0x0000003C},
+              {0x1A8, 0x00000E58});
+    ended(&zone);
+    zone = sized(4096, 4096, 32);
+    uint32_t h = new_handle(&zone, 100), p = 0;
+    HAS_BYTES(&zone, 0x44, 0x00100005, 0x00000001, {0x00, 0x00101000}, {0x08, 0x00100044}, {0x0C, 0x00000E50}, {0x14, 0x00400000},
+              {0x30, 0x001001B0}, {0x34, 0x50000000}, {0x38, 0x0000010C}, {0x3C, 0x00100000}, {0x40, 0x0010014C}, {0x140, 0x80000000},
+              {0x144, 0x00000070}, {0x148, 0x00000040}, {0x1B4, 0x00000E50});
+    IS(mh_hlock(&zone, h), MH_NO_ERR);
+    p = new_ptr(&zone, 4);
+    IS(mh_lend(&zone, p), MH_NO_ERR);
+    size_t size = 7;
+    uint8_t bytes[4096];
+    IS(mh_image_size(&zone, &size), MH_MEM_LOCKED_ERR);
+    IS(size, 7);
+    IS(mh_image(&zone, bytes, sizeof bytes), MH_MEM_LOCKED_ERR);
+    IS(mh_return(&zone, p), MH_NO_ERR);
+    IS(mh_image_size(&zone, &size), MH_NO_ERR);
+    IS(size, 4096);
+    IS(mh_image(&zone, bytes, sizeof bytes), MH_NO_ERR);
+    IS(bytes[0x140] << 8 | bytes[0x141], 0x8080);
+    ended(&zone);
+}
+
 /* Two zones know nothing of each other. */
 static void two_zones(void) {
     MhZone one = fresh(), other = sized(4096, 4096, 32);
@@ -428,6 +496,7 @@ int main(void) {
     places();
     growing();
     lending();
+    images();
     two_zones();
     printf("%d of %d checks differ\n", faults, checks);
     return faults != 0;

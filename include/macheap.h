@@ -139,6 +139,12 @@ typedef struct MhBlock {
 MhErr mh_first_block(MhZone *zone, uint32_t *at);
 MhErr mh_block(MhZone *zone, uint32_t at, MhBlock *block);
 
+/* The bytes of the zone, from its start to the end of its last block: its header, and its blocks with their headers, master
+ * pointers and contents. mh_image_size tells how many there are, and mh_image copies just so many; paramErr where count is another
+ * number. memLockedErr while a block is lent. */
+MhErr mh_image_size(MhZone *zone, size_t *size);
+MhErr mh_image(MhZone *zone, uint8_t *bytes, size_t count);
+
 /* The grow-zone procedure. A call that finds no room asks it for bytes. It answers here what was queued before the call,
  * first in, first out; with none left there is no procedure. An answer's calls are carried out in order, those on a
  * block of the running call skipped; then a value that isn't 0 has the call try once more, 16 times at most. Sixteen

@@ -1,3 +1,4 @@
 pub mod Growing
+pub mod Image
 pub mod Life
 pub mod Walk

@@ -6,6 +6,7 @@ mod bytes;
 mod copying;
 mod flags;
 mod growing;
+mod image;
 mod lent;
 mod life;
 mod places;
