@@ -86,12 +86,12 @@ NO_ZONES = [
     ("--zone 1048580", "a zone's limit is 1048576 bytes at most, and 1048580 are too many"),
     ("--limit 4098", "a zone's limit is a multiple of 4 bytes, and 4098 is none"),
     ("--limit 1048580", "a zone's limit is 1048576 bytes at most, and 1048580 are too many"),
-    ("--limit 4092", "a zone of 4096 bytes can't have a limit of 4092: its size is at most its limit"),
+    ("--limit 4092", "a zone's limit is its size at least, and 4092 is below it"),
     ("--limit 4108", "a zone that may grow may grow by 16 bytes at least, and 12 are too few"),
     ("--base 4092", "a zone begins at 4096 or above, and 4092 is too low"),
     ("--base 4098", "a zone begins at a multiple of 4, and 4098 is none"),
-    ("--mode 32 --base 16773124", "a zone ends at 16777216 or below: at 16773124 its limit can't be 4096"),
-    ("--base 16773124", "a zone ends at 16777216 or below: at 16773124 its limit can't be 4096"),
+    ("--mode 32 --base 16773124", "a zone that has grown ends at 16777216 or below, and 16777220 is above"),
+    ("--base 16773124", "a zone that has grown ends at 16777216 or below, and 16777220 is above"),
     ("--fork @/new --zone 1020", "a zone has 1024 bytes at least, and 1020 are too few"),
 ]
 

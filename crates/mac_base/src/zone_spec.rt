@@ -1,8 +1,9 @@
 //! The sizes that a zone may have.
 
 use crate::block::HeadKind;
+use std::error::Error;
+use std::fmt;
 use std::marker::Model;
-use thiserror::Error;
 
 /// The least size of a zone, in bytes.
 pub const LEAST_SIZE: u32 = 1024;
@@ -20,27 +21,79 @@ pub const LOWEST_BASE: u32 = 0x1000;
 pub const ADDRESS_END: u32 = 0x100_0000;
 
 /// Why there is no zone of these sizes.
-#[derive(Clone, Copy, Debug, PartialEq, Eq, Error)]
+#[derive(Clone, Copy, Debug, PartialEq, Eq)]
 pub enum BadSpec {
-    #[error("a zone begins at a multiple of 4, and {0} is none")]
+    /// The base is no multiple of 4.
     UnevenBase(u32),
-    #[error("a zone's size is a multiple of 4 bytes, and {0} is none")]
+    /// The size is no multiple of 4.
     UnevenSize(u32),
-    #[error("a zone's limit is a multiple of 4 bytes, and {0} is none")]
+    /// The limit is no multiple of 4.
     UnevenLimit(u32),
-    #[error("a zone has 1024 bytes at least, and {0} are too few")]
+    /// The size is below the least.
     SmallSize(u32),
-    #[error("a zone's limit is 1048576 bytes at most, and {0} are too many")]
+    /// The limit is above the largest.
     LargeLimit(u32),
-    #[error("a zone of {size} bytes can't have a limit of {limit}: its size is at most its limit")]
+    /// The size is above the limit.
     SizeOverLimit { size: u32, limit: u32 },
-    #[error("a zone that may grow may grow by 16 bytes at least, and {0} are too few")]
+    /// The zone may grow, but by less than the least growth.
     SmallGrowth(u32),
-    #[error("a zone begins at 4096 or above, and {0} is too low")]
+    /// The base is too low.
     LowBase(u32),
-    #[error("a zone ends at 16777216 or below: at {base} its limit can't be {limit}")]
+    /// The zone may reach past the last address.
     HighEnd { base: u32, limit: u32 },
 }
+
+impl BadSpec {
+    /// The condition that isn't met.
+    fn rule(self) -> &'static str {
+        match self {
+            BadSpec::UnevenBase(_) => "a zone begins at a multiple of 4",
+            BadSpec::UnevenSize(_) => "a zone's size is a multiple of 4 bytes",
+            BadSpec::UnevenLimit(_) => "a zone's limit is a multiple of 4 bytes",
+            BadSpec::SmallSize(_) => "a zone has 1024 bytes at least",
+            BadSpec::LargeLimit(_) => "a zone's limit is 1048576 bytes at most",
+            BadSpec::SizeOverLimit { .. } => "a zone's limit is its size at least",
+            BadSpec::SmallGrowth(_) => "a zone that may grow may grow by 16 bytes at least",
+            BadSpec::LowBase(_) => "a zone begins at 4096 or above",
+            BadSpec::HighEnd { .. } => "a zone that has grown ends at 16777216 or below",
+        }
+    }
+
+    /// The number that doesn't meet it.
+    fn number(self) -> u64 {
+        match self {
+            BadSpec::UnevenBase(number)
+            | BadSpec::UnevenSize(number)
+            | BadSpec::UnevenLimit(number)
+            | BadSpec::SmallSize(number)
+            | BadSpec::LargeLimit(number)
+            | BadSpec::SmallGrowth(number)
+            | BadSpec::LowBase(number) => u64::from(number),
+            BadSpec::SizeOverLimit { limit, .. } => u64::from(limit),
+            BadSpec::HighEnd { base, limit } => u64::from(base) + u64::from(limit),
+        }
+    }
+
+    /// What is wrong with that number.
+    fn fault(self) -> &'static str {
+        match self {
+            BadSpec::UnevenBase(_) | BadSpec::UnevenSize(_) | BadSpec::UnevenLimit(_) => "is none",
+            BadSpec::SmallSize(_) | BadSpec::SmallGrowth(_) => "are too few",
+            BadSpec::LargeLimit(_) => "are too many",
+            BadSpec::SizeOverLimit { .. } => "is below it",
+            BadSpec::LowBase(_) => "is too low",
+            BadSpec::HighEnd { .. } => "is above",
+        }
+    }
+}
+
+impl fmt::Display for BadSpec {
+    fn fmt<W: fmt::Write>(&self, f: &mut fmt::Formatter<W>) -> fmt::Result {
+        write!(f, "{}, and {} {}", self.rule(), self.number(), self.fault())
+    }
+}
+
+impl Error for BadSpec {}
 
 /// A zone's place and sizes, in bytes, which meet all conditions. A contract sees them as a record.
 #[derive(Clone, Copy, Debug, PartialEq, Eq)]
