@@ -17,3 +17,4 @@ pub mod Steps
 pub mod Unmoved
 pub mod Lengths
 pub mod LentSteps
+pub mod Walk

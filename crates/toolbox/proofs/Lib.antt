@@ -2,4 +2,3 @@ pub mod Lent
 pub mod Queued
 pub mod Quiet
 pub mod Resources
-pub mod Walk

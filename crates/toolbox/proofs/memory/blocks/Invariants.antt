@@ -1,6 +1,6 @@
 use Rattle.std.proofs.Common.{◌-◌}
 use Rattle.mac_base.specs.ZoneMap.{address_behind}
-use Rattle.toolbox.proofs.Walk.{HasWalked}
+use Rattle.call_laws.proofs.Walk.{HasWalked}
 use Rattle.toolbox.proofs.memory.blocks.Given as goal
 
 -- the blocks so far
