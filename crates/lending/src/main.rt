@@ -9,10 +9,10 @@ use mac_base::block::Status;
 use mac_base::error::OsErr;
 use mac_base::handle::Ptr;
 use mac_base::zone_spec::ZoneSpec;
+use mac_calls::NoProcedure;
 use mem_calls::MemoryManager;
 use raw_region::Lent;
 use std::io;
-use toolbox::AnswerQueue;
 
 /// How many bytes the device gives.
 const COUNT: u32 = 4;
@@ -25,9 +25,9 @@ fn device(loan: &mut Lent)
 }
 
 /// A new pointer, whose block the device has filled.
-fn filled(memory: &mut MemoryManager, procedure: &mut AnswerQueue) -> Result<Ptr, OsErr>
+fn filled(memory: &mut MemoryManager, procedure: &mut NoProcedure) -> Result<Ptr, OsErr>
     requires nothing_lent { memory.old.heap.table.lent ≡ [] }
-    requires unasked { procedure.old.asks ≡ [] }
+    requires unasked { procedure.old ≡ [] }
     ensures nothing_lent { memory.new.heap.table.lent ≡ [] }
     ensures filled { IfOk result (λ pointer. bytes_of memory.new.heap.table pointer ≡ replicate 4 42) }
 {
@@ -56,8 +56,8 @@ fn main(rt: HostRuntime) -> Result<(), io::Error> {
     let Ok(mut memory) = MemoryManager::create(rt.alloc(), spec) else {
         return rt.println("no memory");
     };
-    let mut no_answers = AnswerQueue::new(rt.alloc());
-    match filled(&mut memory, &mut no_answers) {
+    let mut procedure = NoProcedure::new();
+    match filled(&mut memory, &mut procedure) {
         Ok(pointer) => rt.println(shown(&memory, pointer.number())),
         Err(_) => rt.println("the zone has no room"),
     }

@@ -33,6 +33,11 @@ pub record Ask : Type 0 where
 abbrev pub new_ask : ℕ → Option Answer → Ask
 new_ask needed answer = record { needed = needed; answer = answer; carried = [] }
 
+-- what was asked where nobody answers: once, or not at all
+abbrev pub asked_in_vain : Option ℕ → List Ask
+asked_in_vain None = []
+asked_in_vain (Some needed) = new_ask needed None ∷ []
+
 -- the answers that were given to these asks, in order
 abbrev pub answers_in : List Ask → List Answer
 answers_in asks = filter_map (λ (a : Ask). a.answer) asks

@@ -5,18 +5,13 @@ use Rattle.mac_base.specs.HandleTable.{HandleTable, is_locked, live_at}
 use Rattle.mac_calls.specs.declared.memory_call.MemoryCall.{MemoryCall}
 use Rattle.mac_calls.specs.declared.memory_call.MemoryCall.TheVariants as memory_call
 use Rattle.mac_calls.specs.declared.reply.Results.TheVariants as results
-use Rattle.mac_calls.specs.GrowZone.{Answer, Ask, new_ask}
+use Rattle.mac_calls.specs.GrowZone.{Answer, Ask, asked_in_vain}
 use Rattle.mac_calls.specs.Outcomes.{Outcome, done_outcome}
 use Rattle.mac_base.specs.declared.releasing.ReleasingCall.{ReleasingCall}
 use Rattle.paint_trace.specs.declared.procedure.Carried.{Carried}
 use Rattle.paint_trace.specs.declared.procedure.Procedure.{Procedure}
 use Rattle.paint_trace.specs.declared.trace.Action.{Action}
 use Rattle.paint_trace.specs.declared.trace.Action.TheVariants as action
-
--- what was asked where nobody answers: once, or not at all
-abbrev pub asked_in_vain : Option ℕ → List Ask
-asked_in_vain None = []
-asked_in_vain (Some needed) = new_ask needed None ∷ []
 
 -- the answer that gives up a cushion
 abbrev pub giving_up : ReleasingCall → Answer

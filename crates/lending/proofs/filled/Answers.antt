@@ -11,7 +11,7 @@ give_back-requires c = still_loan c.lend.new.self c.in_ok-pointer.pointer c.numb
 
 came_back : (c : goal.After-give_back) → CameBack c.args.memory.now.shape c.args.memory.now.heap c.new_ptr.new.self c.lend.new.self c.give_back.new.self c.in_ok-pointer.pointer c.number.result c.number-2.result c.in_ok-loan.loan c.device.new.loan
 came_back c = record {
-  asks = c.new_ptr.new.procedure.asks;
+  asks = c.new_ptr.new.procedure;
   step = c.in_ok-pointer.ensures.step;
   none = c.requires.nothing_lent;
   x_is = c.number.ensures;
@@ -29,9 +29,9 @@ pub returns-clause-filled : goal.returns-clause-filled
 returns-clause-filled c = device_bytes _ _ _ _ _ _ _ _ _ _ (came_back c)
 
 pub returns-in_err-pointer-clause-nothing_lent : goal.returns-in_err-pointer-clause-nothing_lent
-returns-in_err-pointer-clause-nothing_lent c = step_keeps_lent c.args.memory.now.shape c.args.memory.now.heap (call.NewPtr 4) c.new_ptr.new.procedure.asks _ c.new_ptr.new.self.heap c.in_err-pointer.ensures.step ∙ c.requires.nothing_lent
+returns-in_err-pointer-clause-nothing_lent c = step_keeps_lent c.args.memory.now.shape c.args.memory.now.heap (call.NewPtr 4) c.new_ptr.new.procedure _ c.new_ptr.new.self.heap c.in_err-pointer.ensures.step ∙ c.requires.nothing_lent
 
 pub returns-in_err-loan-clause-nothing_lent : goal.returns-in_err-loan-clause-nothing_lent
 returns-in_err-loan-clause-nothing_lent c =
     ap (λ (z : ZoneState). z.heap.table.lent) c.in_err-loan.ensures.unchanged
-    ∙ none_lent_yet c.args.memory.now.shape c.args.memory.now.heap c.new_ptr.new.self.heap c.new_ptr.new.procedure.asks c.in_ok-pointer.pointer c.in_ok-pointer.ensures.step c.requires.nothing_lent
+    ∙ none_lent_yet c.args.memory.now.shape c.args.memory.now.heap c.new_ptr.new.self.heap c.new_ptr.new.procedure c.in_ok-pointer.pointer c.in_ok-pointer.ensures.step c.requires.nothing_lent
