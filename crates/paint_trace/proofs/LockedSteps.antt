@@ -16,7 +16,7 @@ use Rattle.mac_base.specs.Trial.{Fails, MayPrepare, NumberGiven, Preparation, pr
 use Rattle.mac_calls.specs.declared.memory_call.MemoryCall.{MemoryCall}
 use Rattle.mac_calls.specs.declared.reply.Results.TheVariants as results
 use Rattle.mac_calls.specs.Effect.{request_of, table_copied}
-use Rattle.mac_calls.specs.GrowZone.{Answer, Ask, answers_in, carried_out, most_answers}
+use Rattle.mac_calls.specs.GrowZone.{Answer, Ask, answers_in, asked_in_vain, carried_out, most_answers}
 use Rattle.mac_calls.specs.MemoryStep.{BehindMaster, EndsRequest, MemoryStep, OwnRequest, RequestStep, StepAsking, StepUnless}
 use Rattle.mac_calls.specs.Outcomes.{Outcome, given_results}
 use Rattle.mac_calls.specs.RequestRun.{EndsUnserved, RequestRun}
@@ -30,7 +30,7 @@ use Rattle.paint_trace.specs.declared.trace.Action.TheVariants as action
 use Rattle.mac_base.specs.declared.releasing.ReleasingCall.{ReleasingCall}
 use Rattle.paint_trace.specs.declared.procedure.Carried.{Carried}
 use Rattle.paint_trace.specs.declared.procedure.Procedure.{Procedure}
-use Rattle.paint_trace.specs.Trace.{IsOther, KeepsOthers, answers_of, asked_in_vain, asks_of, call_of, given_asks, source_of}
+use Rattle.paint_trace.specs.Trace.{IsOther, KeepsOthers, answers_of, asks_of, call_of, given_asks, source_of}
 
 -- h is as it was
 abbrev Same : ℕ → HandleTable → HandleTable → Type 0
