@@ -86,6 +86,7 @@ static void misuse(void) {
     MhAnswer answer = {.value = 1};
     MhAsk ask = {.needed = 11};
     MhCarried carried = {.kind = 12};
+    MhWindow window = {&byte, 13};
     for (int round = 0; round < 2; round++) {
         IS(mh_end_zone(&zone), MH_PARAM_ERR);
         IS(mh_new_handle(&zone, 6, &out), MH_PARAM_ERR);
@@ -106,6 +107,7 @@ static void misuse(void) {
         IS(mh_asked(&zone, &out), MH_PARAM_ERR);
         IS(mh_ask(&zone, 0, &ask), MH_PARAM_ERR);
         IS(mh_carried(&zone, 0, 0, &carried), MH_PARAM_ERR);
+        IS(mh_window(&zone, BASE + 0x3C, &window), MH_PARAM_ERR);
         if (round == 0) { /* once more behind a zone that has ended */
             zone = fresh();
             ended(&zone);
@@ -122,6 +124,8 @@ static void misuse(void) {
     IS(size, 10);
     IS(block.address + block.flags, 7);
     IS(ask.needed + carried.kind, 23);
+    IS(window.start == &byte, 1);
+    IS(window.length, 13);
     zone = fresh();
     uint32_t h = new_handle(&zone, 6);
     IS(mh_make_zone(&zone, BASE, 4096, 4096, 24), MH_PARAM_ERR);
@@ -411,6 +415,86 @@ static void lending(void) {
     IS(mh_return(&zone, b), MH_PARAM_ERR);
 }
 
+/* The code of mh_window, which writes nothing. */
+static MhErr no_window(int line, MhZone *zone, uint32_t block) {
+    uint8_t byte = 0;
+    MhWindow window = {&byte, 5};
+    MhErr code = mh_window(zone, block, &window);
+    same(line, "the address that stays", window.start == &byte, 1);
+    same(line, "the length that stays", (int64_t)window.length, 5);
+    return code;
+}
+#define NO_WINDOW(zone, block) no_window(__LINE__, zone, block)
+
+/* What C writes through a window is what the block has, whatever other calls are made meanwhile. */
+static void windows(uint32_t mode) {
+    MhZone zone = sized(4096, 8192, mode);
+    uint32_t a = new_handle(&zone, 1000), b = new_handle(&zone, 6), p = new_ptr(&zone, 4), e = 0, n = 0;
+    uint8_t bytes[6] = {0};
+    MhWindow window = {NULL, 0}, again = {NULL, 0}, other = {NULL, 0};
+    poke(&zone, b, "before");
+    IS(NO_WINDOW(&zone, b), MH_PARAM_ERR);
+    IS(NO_WINDOW(&zone, 0), MH_NIL_HANDLE_ERR);
+    IS(NO_WINDOW(&zone, b + 1), MH_MEM_WZ_ERR);
+    IS(mh_new_empty_handle(&zone, &e), MH_NO_ERR);
+    IS(NO_WINDOW(&zone, e), MH_PARAM_ERR);
+    IS(mh_hlock(&zone, b), MH_NO_ERR);
+    IS(NO_WINDOW(&zone, b), MH_PARAM_ERR);
+    IS(mh_lend(&zone, b), MH_NO_ERR);
+    IS(mh_lend(&zone, p), MH_NO_ERR);
+    IS(mh_window(&zone, b, &window), MH_NO_ERR);
+    IS(window.length, 6);
+    IS(memcmp(window.start, "before", 6), 0);
+    IS(mh_window(&zone, p, &other), MH_NO_ERR);
+    IS(other.length, 4);
+    IS(memcmp(other.start, "\0\0\0\0", 4), 0);
+    memcpy(window.start, "window", 6);
+    memcpy(other.start, "ptr.", 4);
+    IS(mh_dispose_ptr(&zone, p), MH_MEM_LOCKED_ERR);
+    IS(mh_dispose_handle(&zone, b), MH_MEM_LOCKED_ERR);
+    IS(mh_hunlock(&zone, b), MH_MEM_LOCKED_ERR);
+    IS(mh_poke(&zone, b, 0, bytes, 6), MH_MEM_LOCKED_ERR);
+    /* Other blocks come, move, go and are purged, and the zone grows. */
+    IS(mh_hpurge(&zone, a), MH_NO_ERR);
+    uint32_t c = new_handle(&zone, 1500), d = new_handle(&zone, 1000);
+    poke(&zone, c, "other block");
+    IS(mh_dispose_handle(&zone, c), MH_NO_ERR);
+    IS(mh_set_handle_size(&zone, d, 4000), MH_NO_ERR);
+    IS(mh_compact_mem(&zone, 8388608, &n), MH_NO_ERR);
+    IS(memcmp(window.start, "window", 6), 0);
+    IS(mh_lent_peek(&zone, b, 0, bytes, 6), MH_NO_ERR);
+    IS(memcmp(bytes, "window", 6), 0);
+    IS(mh_lent_poke(&zone, b, 2, (const uint8_t *)"ll", 2), MH_NO_ERR);
+    IS(memcmp(window.start, "willow", 6), 0);
+    IS(mh_window(&zone, b, &again), MH_NO_ERR);
+    IS(again.start == window.start, 1);
+    IS(again.length, 6);
+    again.start[5] = 's';
+    IS(mh_return(&zone, b), MH_NO_ERR);
+    PEEKS(&zone, b, 0, "willos");
+    IS(NO_WINDOW(&zone, b), MH_PARAM_ERR);
+    IS(mh_return(&zone, p), MH_NO_ERR);
+    PEEKS(&zone, p, 0, "ptr.");
+    /* Bytes of a loan are those of the zone, where its addresses say. */
+    size_t size = 0;
+    static uint8_t image[8192];
+    IS(mh_image_size(&zone, &size), MH_NO_ERR);
+    IS(mh_image(&zone, image, size), MH_NO_ERR);
+    IS(mh_deref(&zone, b, &n), MH_NO_ERR);
+    IS(memcmp(image + (n - BASE), "willos", 6), 0);
+    IS(other.start - window.start, (int64_t)p - (int64_t)n);
+    ended(&zone);
+    IS(NO_WINDOW(&zone, b), MH_PARAM_ERR);
+    /* A block without bytes has a window too, and a zone may end with one. */
+    zone = sized(4096, 4096, mode);
+    p = new_ptr(&zone, 0);
+    IS(mh_lend(&zone, p), MH_NO_ERR);
+    IS(mh_window(&zone, p, &window), MH_NO_ERR);
+    IS(window.length, 0);
+    IS(window.start != NULL, 1);
+    ended(&zone);
+}
+
 /* A word of a zone's bytes: its offset, and what it says. */
 typedef struct {
     uint32_t at, says;
@@ -496,6 +580,8 @@ int main(void) {
     places();
     growing();
     lending();
+    windows(24);
+    windows(32);
     images();
     two_zones();
     printf("%d of %d checks differ\n", faults, checks);

@@ -1,5 +1,5 @@
 /* An emulator's loop in small: a program's traps of the Memory Manager go to the library, with their operands and results
- * in the registers A0 and D0, as on the Macintosh. */
+ * in the registers A0 and D0, as on the Macintosh. A block of the program is its screen: a display draws there itself. */
 #include "macheap.h"
 
 #include <inttypes.h>
@@ -32,6 +32,21 @@ static void trap(Machine *m, uint16_t word) {
     printf("$%04X: A0 $%08" PRIX32 ", D0 %" PRId32 "\n", word, m->a0, (int32_t)m->d0);
 }
 
+/* Draws into a row of pixels; it knows nothing of a zone. */
+static void draw(uint8_t *pixels, size_t count) {
+    for (size_t at = 0; at < count; at++) pixels[at] = (uint8_t)(at % 8 == 0 ? '#' : '.');
+}
+
+/* The block that A0 names is the display's while it draws, and the program's again behind it. */
+static MhErr show(Machine *m) {
+    MhWindow window = {NULL, 0};
+    MhErr code = mh_lend(&m->zone, m->a0);
+    if (code != MH_NO_ERR) return code;
+    if ((code = mh_window(&m->zone, m->a0, &window)) == MH_NO_ERR) draw(window.start, window.length);
+    MhErr back = mh_return(&m->zone, m->a0);
+    return code != MH_NO_ERR ? code : back;
+}
+
 int main(void) {
     /* a trap, and what the program put into D0 before it */
     static const struct { uint16_t word; uint32_t d0; } program[] = {
@@ -44,5 +59,10 @@ int main(void) {
         machine.d0 = program[at].d0;
         trap(&machine, program[at].word);
     }
+    uint8_t row[17] = {0};
+    machine.d0 = 16;
+    trap(&machine, NEW_PTR);
+    if (show(&machine) != MH_NO_ERR || mh_peek(&machine.zone, machine.a0, 0, row, 16) != MH_NO_ERR) return 1;
+    printf("screen: %s\n", (const char *)row);
     return mh_end_zone(&machine.zone) != MH_NO_ERR;
 }

@@ -5,6 +5,7 @@
 #include <inttypes.h>
 #include <stdio.h>
 #include <stdlib.h>
+#include <string.h>
 
 enum { KEPT = 48, BYTES = 8 };
 
@@ -90,7 +91,31 @@ static void comes(void) {
     if (code == MH_NO_ERR) kept[below(KEPT)] = number;
 }
 
-/* Bytes go in and come out, of a block or of one that is lent. Each begins with a byte over $7E, so that it is shown in digits. */
+/* The window on bytes of a lent block, or the code of its refusal. */
+static MhErr reached(MhZone *it, uint32_t x, uint32_t at, size_t count, uint8_t **bytes) {
+    MhWindow window = {NULL, 0};
+    MhErr code = mh_window(it, x, &window);
+    if (code != MH_NO_ERR) return code;
+    if (at > window.length || count > window.length - at) return MH_PARAM_ERR;
+    *bytes = window.start + at;
+    return MH_NO_ERR;
+}
+
+/* mh_lent_poke and mh_lent_peek through a window, by C itself. */
+static MhErr window_poke(MhZone *it, uint32_t x, uint32_t at, const uint8_t *bytes, size_t count) {
+    uint8_t *there = NULL;
+    MhErr code = reached(it, x, at, count, &there);
+    if (code == MH_NO_ERR) memcpy(there, bytes, count);
+    return code;
+}
+static MhErr window_peek(MhZone *it, uint32_t x, uint32_t at, uint8_t *bytes, size_t count) {
+    uint8_t *there = NULL;
+    MhErr code = reached(it, x, at, count, &there);
+    if (code == MH_NO_ERR) memcpy(bytes, there, count);
+    return code;
+}
+
+/* Bytes go in and come out, of a block or of one that is lent, half of these through a window. Each begins with a byte over $7E, so that it is shown in digits. */
 static void bytes(void) {
     bool lent = !below(4);
     uint32_t x = block(), at = below(6), count = 1 + below(BYTES);
@@ -100,12 +125,12 @@ static void bytes(void) {
         fprintf(script, "%s %" PRIu32 " %" PRIu32 " $\"", name, x, at);
         for (uint32_t n = 0; n < count; n++) fprintf(script, "%02X", some[n] = (uint8_t)(0x80 + below(128)));
         fprintf(script, "\"\n");
-        told(name, (lent ? mh_lent_poke : mh_poke)(&zone, x, at, some, count), NULL, 0);
+        told(name, (!lent ? mh_poke : below(2) ? mh_lent_poke : window_poke)(&zone, x, at, some, count), NULL, 0);
         return;
     }
     const char *name = lent ? "LentPeek" : "Peek";
     fprintf(script, "%s %" PRIu32 " %" PRIu32 " %" PRIu32 "\n", name, x, at, count);
-    MhErr code = (lent ? mh_lent_peek : mh_peek)(&zone, x, at, some, count);
+    MhErr code = (!lent ? mh_peek : below(2) ? mh_lent_peek : window_peek)(&zone, x, at, some, count);
     fprintf(replies, "%d %s", line, name);
     if (code == MH_NO_ERR) {
         fprintf(replies, " $\"");

@@ -9,6 +9,7 @@
  *    zone is never passed to them.
  *  - A pointer is not null, is aligned, and leads to what its type says, to be read, or where it isn't const, written.
  *    Those of one call don't overlap. This holds where a count is 0, too.
+ *  - Bytes behind a window (mh_window) are read and written only while their block is lent, and not beyond its length.
  *  - One call at a time on one zone, on one thread, and none from a signal handler. Two zones are independent.
  *  - malloc, realloc and free of the program are those of one C library.
  *
@@ -118,12 +119,19 @@ MhErr mh_poke(MhZone *zone, uint32_t block, uint32_t offset, const uint8_t *byte
 
 /* Loans. mh_lend lends a pointer's block, or that of a locked handle: then its bytes are C's, until mh_return. The block
  * stays where it is, and each call that would read, write, free, resize or unlock it answers memLockedErr. C reads and
- * writes the bytes by copies: there is no window into a zone, and no pointer is ever handed out. paramErr for an unlocked
- * handle, for a ninth loan, and of the other three calls for a block that isn't lent. mh_end_zone takes back what is lent. */
+ * writes the bytes by copies, or itself through a window: mh_window gives the address of the first of them and how many there
+ * are. The window is C's until mh_return of the block or mh_end_zone, whatever other calls are made; mh_lent_peek and
+ * mh_lent_poke reach the same bytes. paramErr for an unlocked handle, for a ninth loan, and of the other four calls for a
+ * block that isn't lent. mh_end_zone takes back what is lent. */
 MhErr mh_lend(MhZone *zone, uint32_t block);
 MhErr mh_lent_peek(MhZone *zone, uint32_t block, uint32_t offset, uint8_t *bytes, size_t count);
 MhErr mh_lent_poke(MhZone *zone, uint32_t block, uint32_t offset, const uint8_t *bytes, size_t count);
 MhErr mh_return(MhZone *zone, uint32_t block);
+typedef struct MhWindow {
+    uint8_t *start;
+    size_t length;
+} MhWindow;
+MhErr mh_window(MhZone *zone, uint32_t block, MhWindow *window);
 
 /* The walk over the zone's blocks, lowest first: from mh_first_block on, the next header stands at address + size, and
  * behind the last block memWZErr is answered. */

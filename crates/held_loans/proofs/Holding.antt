@@ -372,3 +372,7 @@ return_step old new x held loan rest taken is live holds =
     let lent : is_lent old.heap.table x ≡ true = (taken_is_loan old x held loan rest taken holds.each).lent in
     let heap : new.heap ≡ returned x (held_bytes x (loans_of held)) old.heap = ap (λ (z : ZoneState). z.heap) is ∙ ap (λ (bs : List ℕ). returned x bs old.heap) (sym (bytes_of-taken x held loan rest taken)) in
     (rw ((first_passed old.shape old.heap (IsBlock x) [] live).0, lent) (refl, loans_of-taken x held loan rest taken holds.once, heap), ap (λ (z : ZoneState). z.shape) is)
+
+-- a lent block may be returned
+pub held_returns : (zone : ZoneState) (held : List Held) (x : ℕ) → Holds zone held → first_refusal zone.shape zone.heap (IsBlock x ∷ []) ≡ None → is_held x held ≡ true → loan_refusal zone.shape zone.heap (Return x) ≡ None
+held_returns zone held x holds live is = rw ((first_passed zone.shape zone.heap (IsBlock x) [] live).0, holds.all x, is) refl

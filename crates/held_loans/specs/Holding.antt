@@ -1,7 +1,9 @@
 -- The loans that a program holds.
 use Rattle.std.specs.Prelude.{◌≡◌, ℕ, ◌==◌, Bool, if◌then◌else◌, List, [], ◌∷◌, ◌++◌, length, map, Option, Some, None, IsFalse}
 use Rattle.std.specs.List.{list_any, flat_map}
+use Rattle.std.specs.Borrow.{MutBor}
 use Rattle.std.specs.Option.{option_to_list}
+use Rattle.std.specs.Ptr.{as_mut_ptr}
 use Rattle.mac_base.specs.HandleTable.{is_lent}
 use Rattle.mac_base.specs.ZoneState.{ZoneState, written}
 use Rattle.linked_zone.specs.Loans.{IsLoanOf}
@@ -10,6 +12,7 @@ use Rattle.mac_calls.specs.Loans.{Loans, LoanStep}
 use Rattle.mac_calls.specs.Outcomes.{Outcome}
 use Rattle.raw_region.specs.State.{Loan}
 use Rattle.held_loans.specs.declared.loans.Held.{Held}
+use Rattle.held_loans.specs.declared.window.Window.{Window}
 
 -- the loans at these places, in their order
 abbrev pub held_at : List (Option Held) → List Held
@@ -82,3 +85,7 @@ pub record TakenOut (x : ℕ) (old : List Held) (loan : Loan) (new : List Held) 
 -- From the old zone and the loans that were held, the call may have this outcome and leave the new ones.
 abbrev pub LoanSteps : ZoneState → List Held → LoanCall → Outcome → ZoneState → List Held → Type 0
 LoanSteps old held call outcome new new_held = LoanStep old.shape (loans_of held) old.heap call outcome (loans_of new_held) new.heap × (new.shape ≡ old.shape)
+
+-- the window is on these bytes: as many, where a slice of them stands
+abbrev pub IsOn : Window → List ℕ → Type 0
+IsOn window bytes = (window.length ≡ length bytes) × ((slice : MutBor (List ℕ)) × (slice.now ≡ bytes) × (window.start ≡ as_mut_ptr slice))

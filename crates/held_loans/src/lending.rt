@@ -5,9 +5,10 @@ ghost use Rattle.std.specs.Result.{result_err};
 ghost use Rattle.mac_calls.specs.declared.loan_call.LoanCall.TheVariants as call;
 ghost use Rattle.mac_calls.specs.Loans.{all_returned, held_bytes, loan_refusal};
 ghost use Rattle.mac_calls.specs.Tests.{IsBlock, first_refusal};
-ghost use Rattle.held_loans.specs.Holding.{Holds, LoanSteps, loans_of};
+ghost use Rattle.held_loans.specs.Holding.{Holds, IsOn, LoanSteps, loans_of};
 
 use crate::loans::{Held, Loans};
+use crate::window::Window;
 use mac_base::block::Status;
 use mac_base::error::OsErr;
 use mac_calls::{Outcome, Results};
@@ -80,6 +81,20 @@ pub fn lent_bytes<'a>(
     } else {
         Err(OsErr::ParamErr)
     }
+}
+
+/// The window on a lent block's bytes. It is refused as Return is.
+pub fn window(memory: &MemoryManager, loans: &mut Loans, block: u32) -> Result<Window, OsErr>
+    requires { Holds memory.now loans.old }
+    ensures refusal { result_err result ≡ loan_refusal memory.now.shape memory.now.heap (call.Return block) }
+    ensures window { IfOk result (λ window. IsOn window (held_bytes block (loans_of loans.old))) }
+    ensures loans { loans.new ≡ loans.old }
+{
+    test_live(memory, block)?;
+    let Some(window) = loans.window(block) else {
+        return Err(OsErr::ParamErr);
+    };
+    Ok(window)
 }
 
 /// Tests that a number is that of a handle or a pointer: nilHandleErr where it is 0, memWZErr where it isn't live.

@@ -3,3 +3,4 @@
 
 pub mod lending;
 pub mod loans;
+pub mod window;

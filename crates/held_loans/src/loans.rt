@@ -3,6 +3,7 @@
 ghost use Rattle.std.specs.Prelude.{◌≡◌, ◌+◌, ◌<◌, ◌≤◌, ◌++◌, ◌∷◌, [], None, IfSome, IfNone, IsFalse, length};
 ghost use Rattle.held_loans.specs.Holding.{held_at, is_held, loan_written, StandsAt, FreeAt, IsFirst};
 
+use crate::window::{Window, window_on};
 use raw_region::Lent;
 use std::marker::Model;
 use std::mem;
@@ -43,7 +44,7 @@ impl Drop for Loans {
 impl Loans {
     ghost use Rattle.std.specs.Prelude.{◌≡◌, ◌+◌, ◌<◌, ◌≤◌, [], ◌∷◌, ◌++◌, length, is_some, IfSome, IfNone, IsFalse};
     ghost use Rattle.mac_calls.specs.Loans.{held_bytes};
-    ghost use Rattle.held_loans.specs.Holding.{is_held, held_written, loans_of, TakenOut};
+    ghost use Rattle.held_loans.specs.Holding.{is_held, held_written, loans_of, IsOn, TakenOut};
 
     /// No loans.
     pub fn new() -> Loans
@@ -83,6 +84,17 @@ impl Loans {
         if let Some(held) = &mut self.places[place] {
             write_over(&mut held.loan, at, bytes);
         }
+    }
+
+    /// The window on the loan of a block, if it is held.
+    pub fn window(&mut self, block: u32) -> Option<Window>
+        ensures held { is_some result ≡ is_held block self.old }
+        ensures window { IfSome result (λ window. IsOn window (held_bytes block (loans_of self.old))) }
+        ensures unchanged { self.new ≡ self.old }
+    {
+        let place = place_of(&self.places, block)?;
+        let held = self.places[place].as_mut()?;
+        Some(window_on(&mut held.loan))
     }
 
     /// Takes out the loan of a block, if it is held.

@@ -15,6 +15,10 @@ pub record State : Type 0 where
   pub left : List Answer
   pub asks : List Ask
 
+-- the state in which nothing was asked
+abbrev pub with_no_asks : State → State
+with_no_asks s = record { zone = s.zone; loans = s.loans; left = s.left; asks = [] }
+
 -- sixteen answers may wait, and the next is refused by paramErr
 abbrev pub queue_refusal : State → Option OsErr
 queue_refusal s = if nat_lt (length s.left) 16 then None else Some ParamErr

@@ -2,15 +2,18 @@
 use Rattle.std.specs.Prelude.{◌≡◌, ℕ, ℤ, pos, List, [], Result, Bool, true, false, Option, Some, None, Ok, Err, unwrap_or}
 use Rattle.mac_base.specs.Codes.{code_of, minus}
 use Rattle.mac_base.specs.declared.error.OsErr.{OsErr}
+use Rattle.held_loans.specs.declared.window.Window.{Window}
+use Rattle.held_loans.specs.Holding.{IsOn}
 use Rattle.mac_calls.specs.declared.loan_call.LoanCall.{LoanCall}
+use Rattle.mac_calls.specs.declared.loan_call.LoanCall.TheVariants.{Return}
 use Rattle.mac_calls.specs.declared.memory_call.MemoryCall.{MemoryCall}
 use Rattle.mac_calls.specs.declared.memory_call.MemoryCall.TheVariants as memory_call
 use Rattle.mac_calls.specs.declared.reply.Results.{Results}
 use Rattle.mac_calls.specs.declared.reply.Results.TheVariants.{Handle, Pointer, Address, Number, TwoNumbers, Bytes}
 use Rattle.mac_calls.specs.ExactStep.{exact_step}
-use Rattle.mac_calls.specs.Loans.{LoanStep}
+use Rattle.mac_calls.specs.Loans.{LoanStep, held_bytes, loan_refusal}
 use Rattle.mac_calls.specs.Outcomes.{Outcome}
-use Rattle.held_zone.specs.State.{State}
+use Rattle.held_zone.specs.State.{State, with_no_asks}
 
 -- whether a call neither shows nor is given bytes or blocks
 abbrev pub is_plain : MemoryCall → Bool
@@ -136,3 +139,13 @@ LoanTold old call code new = (outcome : Option Outcome) × (code ≡ code_told o
 -- The same for bytes.
 abbrev pub LoanToldBytes : Option State → LoanCall → ℤ → List ℕ → List ℕ → Option State → Type 0
 LoanToldBytes old call code before bytes new = (outcome : Option Outcome) × (code ≡ code_told outcome) × (bytes ≡ bytes_told before outcome) × LoanCalled old call outcome new
+
+-- the window is on these bytes, unless the call is refused: then there is the refusal's code, and what was there stays
+abbrev pub ShowsWindow : Option OsErr → List ℕ → ℤ → Window → Window → Type 0
+ShowsWindow None bytes code before window = (code ≡ pos 0) × IsOn window bytes
+ShowsWindow (Some refusal) bytes code before window = (code ≡ code_of refusal) × (window ≡ before)
+
+-- C is shown the window on the bytes that it has of a block, unless it is refused as a Return of the block is. All stays but what was asked.
+abbrev pub WindowTold : Option State → ℕ → ℤ → Window → Window → Option State → Type 0
+WindowTold None block code before window new = (code ≡ no_zone) × (window ≡ before) × (new ≡ None)
+WindowTold (Some old) block code before window new = ShowsWindow (loan_refusal old.zone.shape old.zone.heap (Return block)) (held_bytes block old.loans) code before window × (new ≡ Some (with_no_asks old))

@@ -6,6 +6,7 @@ use crate::answers::{Answers, MadeAsk, Queued};
 use crate::{bytes, calls, lent};
 use held_loans::lending;
 use held_loans::loans::Loans;
+use held_loans::window::Window;
 use mac_base::block::Block;
 use mac_base::error::{HostFull, OsErr};
 use mac_base::zone_spec::ZoneSpec;
@@ -54,8 +55,10 @@ impl Session {
     ghost use Rattle.mac_base.specs.ZoneMap.{address_behind};
     ghost use Rattle.mac_calls.specs.declared.loan_call.LoanCall.TheVariants as loan_call;
     ghost use Rattle.mac_calls.specs.declared.memory_call.MemoryCall.TheVariants as call;
+    ghost use Rattle.mac_calls.specs.Loans.{held_bytes, loan_refusal};
     ghost use Rattle.mac_calls.specs.Outcomes.{done_outcome};
-    ghost use Rattle.held_zone.specs.State.{IsNew, queue_refusal};
+    ghost use Rattle.held_loans.specs.Holding.{IsOn};
+    ghost use Rattle.held_zone.specs.State.{IsNew, queue_refusal, with_no_asks};
     ghost use Rattle.held_zone.specs.Told.{Makes, MakesLoan, is_plain, shown_outcome};
 
     /// A new zone. Nothing is lent, no answer waits, and nothing was asked.
@@ -131,6 +134,16 @@ impl Session {
     {
         self.answers.begin();
         lending::lent_poke(&self.memory, &mut self.loans, block, offset, bytes)
+    }
+
+    /// The window on the bytes that C has of a block. It is refused as Return is.
+    pub fn window(&mut self, block: u32) -> Result<Window, OsErr>
+        ensures refusal { result_err result ≡ loan_refusal self.old.zone.shape self.old.zone.heap (loan_call.Return block) }
+        ensures window { IfOk result (λ window. IsOn window (held_bytes block self.old.loans)) }
+        ensures state { self.new ≡ with_no_asks self.old }
+    {
+        self.answers.begin();
+        lending::window(&self.memory, &mut self.loans, block)
     }
 
     /// The address of the zone's first block header.

@@ -8,6 +8,7 @@ ghost use Rattle.held_zone.specs.State.{State};
 use crate::parked::Parked;
 use crate::session::Session;
 use crate::told;
+pub use held_loans::window::Window;
 use mac_calls::{MemoryCall, Outcome};
 use std::alloc::Global;
 use std::marker::Model;

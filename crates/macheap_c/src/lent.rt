@@ -1,11 +1,12 @@
-//! The calls on blocks that are lent. C has their bytes by copies.
+//! The calls on blocks that are lent. C has their bytes by copies, or by a window.
 
 ghost use Rattle.std.specs.Prelude.{◌≡◌, length};
 ghost use Rattle.mac_calls.specs.declared.loan_call.LoanCall.TheVariants as loan_call;
-ghost use Rattle.held_zone.specs.Told.{LoanTold, LoanToldBytes};
+ghost use Rattle.held_zone.specs.Told.{LoanTold, LoanToldBytes, WindowTold};
 
 use held_zone::told::{self, NO_ZONE};
-use held_zone::zone::MhZone;
+use held_zone::zone::{MhZone, Window};
+use mac_base::error::NO_ERR;
 use std::alloc::Global;
 
 /// Lend: C has the bytes of a pointer's or a locked handle's block, until it gives them back. The block stays where it is,
@@ -71,4 +72,28 @@ pub extern "C" fn mh_lent_poke(
     let outcome = session.lent_poke(block, offset, bytes);
     zone.put(session);
     told::code(&Some(outcome))
+}
+
+/// The window on a lent block's bytes: C may read and write them there, until it gives them back.
+#[unsafe(no_mangle)]
+pub extern "C" fn mh_window(
+    alloc: Global,
+    zone: &mut MhZone,
+    block: u32,
+    window: &mut Window,
+) -> i16
+    ensures { WindowTold zone.old.held.session block result window.old window.new zone.new.held.session }
+{
+    let Some(mut session) = zone.take(alloc) else {
+        return NO_ZONE;
+    };
+    let found = session.window(block);
+    zone.put(session);
+    match found {
+        Ok(found) => {
+            *window = found;
+            NO_ERR
+        }
+        Err(code) => code.code(),
+    }
 }
