@@ -1,6 +1,6 @@
 use Rattle.std.proofs.Common.{◌∙◌, ◌++◌, ◌∷◌, [], ap}
 use Rattle.toolbox.specs.Queue.{Queue}
-use Rattle.toolbox.proofs.Queued.{calls_added, left_behind, on_err, pushed, pushed_left}
+use Rattle.toolbox.proofs.Queued.{left_behind, on_err, pushed, pushed_left}
 use Rattle.toolbox.proofs.queue.AnswerQueue.push.Goals as goal
 
 pub returns-in_err-kept-clause-unchanged : goal.returns-in_err-kept-clause-unchanged

@@ -1,4 +1,4 @@
-use Rattle.std.proofs.Common.{◌≡◌, ◌++◌, ◌∙◌, List, ap, arith}
+use Rattle.std.proofs.Common.{◌++◌, ◌∙◌, List, ap, arith}
 use Rattle.mac_calls.specs.GrowZone.{Answer, Ask, answers_in, noted}
 use Rattle.toolbox.specs.Queue.{Queue, left_of}
 use Rattle.toolbox.proofs.Queued.{call_noted, may_note-out, noted-answers, noted-back, room_behind}
