@@ -1,5 +1,5 @@
 -- Rows as they are saved: what is read of them at an index, and what looks at no datum.
-use Rattle.std.proofs.Common.{◌≡◌, refl, sym, ap, ◌∙◌, arith, ℕ, zero, suc, ◌+◌, ◌*◌, ◌<◌, ◌≤◌, List, [], ◌∷◌, length, map, get_or, drop, IfSome, subst, Bool, true, false, bytes_eq, slice_get, Some, ◌-◌, ◌≢◌, if◌then◌else◌}
+use Rattle.std.proofs.Common.{◌≡◌, refl, sym, ap, ◌∙◌, arith, ℕ, zero, suc, ◌+◌, ◌*◌, ◌<◌, ◌≤◌, List, [], ◌∷◌, length, map, get_or, drop, IfSome, IsTrue, subst, Bool, true, false, bytes_eq, slice_get, Some, ◌-◌, ◌≢◌, if◌then◌else◌}
 use Rattle.std.proofs.lemmas.List.{drop_more, length-drop}
 use Rattle.fork_bytes.specs.Fork.{max_rows}
 use Rattle.fork_bytes.specs.Rows as fork
@@ -9,6 +9,10 @@ use Rattle.fork_bytes.specs.Written.{types_of, counted_before, name_text, NamesF
 use Rattle.fork_bytes.specs.declared.layout.TypeCount.{TypeCount}
 use Rattle.res_table.specs.declared.row.Row.{Row}
 use Rattle.res_table.specs.Saved.{saved_row, saved_rows, bare, kind_of, RowsFit}
+
+-- from what never is, anything follows
+pub never : {P : Type 0} → IsTrue false → P
+never t = absurd (cc t)
 
 -- as many
 pub length-saved : {D : Type 0} (text : D → List ℕ) (rows : List (Row D)) → length (saved_rows text rows) ≡ length rows

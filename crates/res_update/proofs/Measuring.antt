@@ -144,7 +144,7 @@ length-fork f rows extra marks kinds =
     let types = types_are f rows in let count = same_count f 0 rows in omega arith
 
 -- the data and the names are not all of it
-length-over : (table : Table) → length (data_text table.rows) + length (names_text table.rows) ≤ length (written table)
+pub length-over : (table : Table) → length (data_text table.rows) + length (names_text table.rows) ≤ length (written table)
 length-over table =
     let rows = table.rows in
     let whole = length-append (front_text table) (data_text rows ++ map_text table) in

@@ -1,11 +1,13 @@
 -- A queue of answers, as it is filled and asked.
-use Rattle.std.proofs.Common.{◌≡◌, ℕ, suc, ◌+◌, ◌<◌, ◌≤◌, length, drop, Bool, true, ◌&&◌, nat_lt, List, [], ◌∷◌, ◌++◌, Option, Some, None, Ok, Err, refl, sym, ap, ◌∙◌, subst, append_assoc, length-append, arith, inl, inr}
-use Rattle.std.specs.Prelude.{IfOk, IfSome, OnSome, Result, is_some, filter_map, option_map}
-use Rattle.std.specs.List.{cons_option}
+use Rattle.std.proofs.Common.{◌≡◌, ℕ, zero, suc, ◌+◌, ◌-◌, ◌<◌, ◌≤◌, length, map, take, drop, get_or, Bool, true, ◌&&◌, nat_lt, List, [], ◌∷◌, ◌++◌, Option, Some, None, Ok, Err, refl, sym, ap, ◌∙◌, subst, append_assoc, length-append, length-drop, arith, inl, inr}
+use Rattle.std.specs.Prelude.{All, IfOk, OnErr, Result, is_some, filter_map, option_map}
+use Rattle.std.specs.List.{cons_option, flat_map, slice_get}
+use Rattle.std.proofs.lemmas.Option.{get_or_from_slice_get, slice_get_within}
+use Rattle.std.specs.Option.{option_to_list}
 use Rattle.std.proofs.lemmas.Bool.{and_parts}
 use Rattle.std.proofs.lemmas.Bool.Decides.{nat_tests}
-use Rattle.std.proofs.lemmas.List.{append-nil, drop-append-le}
-use Rattle.std.proofs.lemmas.List.Elements.{filter_map-append}
+use Rattle.std.proofs.lemmas.List.{append-nil, drop-append-le, map-append, take-append-drop, take-append-le}
+use Rattle.std.proofs.lemmas.List.Elements.{All-append, All-drop, filter_map-append}
 use Rattle.std.proofs.lemmas.List.Folds.{list_all-append}
 use Rattle.mac_base.specs.declared.error.HostFull.{HostFull}
 use Rattle.mac_base.specs.declared.error.OsErr.{OsErr}
@@ -21,7 +23,8 @@ use Rattle.mac_calls.specs.Outcomes.{Outcome}
 use Rattle.mac_base.specs.HeadKind.{Shape}
 use Rattle.mac_base.specs.Heap.{Heap}
 use Rattle.mac_calls.specs.GrowZone.{Answer, Ask, answered, answers_in, may_ask, may_note, most_answers, new_ask, noted}
-use Rattle.toolbox.specs.Queue.{IsInOrder, Queue, TookAnswers}
+use Rattle.toolbox.specs.declared.queue.Kept.{Kept}
+use Rattle.toolbox.specs.Queue.{HasItsCalls, IsInOrder, Queue, TookAnswers, kept_answer, left_of}
 use Rattle.fork_disk.specs.declared.store.ForkStore.{Ghosts}
 use Rattle.res_manager.specs.Steps.{Memory as MayStep}
 use Rattle.toolbox.specs.Steps.{LeavesAnswers, ResourceGives, Steps, StepsFrom}
@@ -30,23 +33,128 @@ use Rattle.toolbox.proofs.Resources.{step_by}
 use Rattle.call_laws.proofs.RunAnswers.{all_answered}
 use Rattle.call_laws.proofs.StepAnswers.{exact-framed_all, step_left}
 
+-- the calls of an answer that is kept stay its own where others come behind them
+kept_answer-stays : (calls more : List ReleasingCall) (k : Kept) → HasItsCalls calls k → kept_answer (calls ++ more) k ≡ kept_answer calls k
+kept_answer-stays calls more k own =
+    let within = own.within in
+    let behind : drop k.first (calls ++ more) ≡ drop k.first calls ++ more = drop-append-le k.first calls more (omega arith) in
+    let rest : length (drop k.first calls) ≡ length calls - k.first = length-drop k.first calls in
+    let front : take k.count (drop k.first calls ++ more) ≡ take k.count (drop k.first calls) = take-append-le k.count (drop k.first calls) more (omega arith) in
+    ap (λ (own : List ReleasingCall). record { calls = own; value = k.value }) (ap (λ (rest : List ReleasingCall). take k.count rest) behind ∙ front)
+
+left-stays : (calls more : List ReleasingCall) (kept : List Kept) → All (HasItsCalls calls) kept → map (kept_answer (calls ++ more)) kept ≡ map (kept_answer calls) kept
+left-stays calls more [] own = refl
+left-stays calls more (k ∷ kept) own =
+    let first : HasItsCalls calls k = own 0 k (omega arith) in
+    let others : All (HasItsCalls calls) kept = λ i d less. own (suc i) d (omega arith) in
+    ap (λ (answer : Answer). answer ∷ map (kept_answer (calls ++ more)) kept) (kept_answer-stays calls more k first)
+    ∙ ap (λ (rest : List Answer). kept_answer calls k ∷ rest) (left-stays calls more kept others)
+
+calls-stay : (calls more : List ReleasingCall) (k : Kept) → HasItsCalls calls k → HasItsCalls (calls ++ more) k
+calls-stay calls more k own =
+    let within = own.within in
+    record { within = simp length-append (omega arith); few = own.few }
+
+own-stays : (calls more : List ReleasingCall) (kept : List Kept) → All (HasItsCalls calls) kept → All (HasItsCalls (calls ++ more)) kept
+own-stays calls more kept own = λ i d less. calls-stay calls more (get_or kept i d) (own i d less)
+
+grown : (calls new : List ReleasingCall) → take (length calls) new ≡ calls → new ≡ calls ++ drop (length calls) new
+grown calls new others = sym (take-append-drop (length calls) new) ∙ ap (λ (front : List ReleasingCall). front ++ drop (length calls) new) others
+
+-- where calls were put behind those of the others, the same answers are left
+pub left_behind : (calls new : List ReleasingCall) (kept : List Kept) (taken : ℕ) → take (length calls) new ≡ calls → All (HasItsCalls calls) kept → left_of new kept taken ≡ left_of calls kept taken
+left_behind calls new kept taken others own =
+    ap (λ (all : List ReleasingCall). left_of all kept taken) (grown calls new others)
+    ∙ left-stays calls (drop (length calls) new) (drop taken kept) (All-drop (HasItsCalls calls) taken kept own)
+
+-- and each has its calls
+pub own_behind : (calls new : List ReleasingCall) (kept : List Kept) → take (length calls) new ≡ calls → All (HasItsCalls calls) kept → All (HasItsCalls new) kept
+own_behind calls new kept others own = subst (λ (all : List ReleasingCall). All (HasItsCalls all) kept) (sym (grown calls new others)) (own-stays calls (drop (length calls) new) kept own)
+
+-- with one more answer, that is left, too
+pub left_with : (calls : List ReleasingCall) (kept : List Kept) (taken : ℕ) (k : Kept) → taken ≤ length kept → left_of calls (kept ++ k ∷ []) taken ≡ left_of calls kept taken ++ kept_answer calls k ∷ []
+left_with calls kept taken k within =
+    ap (λ (rest : List Kept). map (kept_answer calls) rest) (drop-append-le taken kept (k ∷ []) within)
+    ∙ map-append (kept_answer calls) (drop taken kept) (k ∷ [])
+
+-- calls were put behind the others, and their answer isn't kept yet
+pub calls_added : (calls new : List ReleasingCall) (kept : List Kept) (taken : ℕ) (asks : List Ask) (printed : List Asked) → IsInOrder calls kept taken asks printed → take (length calls) new ≡ calls → IsInOrder new kept taken asks printed
+calls_added calls new kept taken asks printed queue others = record {
+  within = queue.within;
+  own = own_behind calls new kept others queue.own;
+  few = queue.few;
+  out = elim queue.out [ inl all ↦ inl all | inr none ↦ inr (left_behind calls new kept taken others queue.own ∙ none) ];
+  printed_is = queue.printed_is;
+}
+
+-- what is said of a failure holds at once
+pub on_err : {A E : Type 0} (result : Result A E) (P : Type 0) → P → OnErr result P
+on_err (Ok x) P holds = tt
+on_err (Err e) P holds = holds
+
 -- an answer is queued between two calls
-pub pushed : (answers : List Answer) (begun taken : ℕ) (asks : List Ask) (printed : List Asked) (answer : Answer) → IsInOrder answers begun taken asks printed → asks ≡ [] → IsInOrder (answers ++ answer ∷ []) begun taken asks printed
-pushed answers begun taken asks printed answer queue none =
-    let order = queue.order in
+pub pushed : (calls new : List ReleasingCall) (kept : List Kept) (taken : ℕ) (asks : List Ask) (printed : List Asked) (k : Kept) → IsInOrder calls kept taken asks printed → asks ≡ [] → take (length calls) new ≡ calls → HasItsCalls new k → IsInOrder new (kept ++ k ∷ []) taken asks printed
+pushed calls new kept taken asks printed k queue none others its =
     let within = queue.within in
-    let front : drop begun (answers ++ answer ∷ []) ≡ drop begun answers ++ answer ∷ [] = drop-append-le begun answers (answer ∷ []) (omega arith) in
-    let back : drop taken (answers ++ answer ∷ []) ≡ drop taken answers ++ answer ∷ [] = drop-append-le taken answers (answer ∷ []) within in
     record {
-      order = order;
-      within = (simp length-append (omega arith));
+      within = simp length-append (omega arith);
+      own = All-append (HasItsCalls new) kept (k ∷ []) (own_behind calls new kept others queue.own) one;
       few = queue.few;
-      took = record {
-        taken = front ∙ ap (λ (rest : List Answer). rest ++ answer ∷ []) queue.took.taken ∙ append_assoc (answers_in asks) (drop taken answers) (answer ∷ []) ∙ ap (λ (rest : List Answer). answers_in asks ++ rest) (sym back);
-        out = inl (ap all_answered none);
-      };
+      out = inl (ap all_answered none);
       printed_is = queue.printed_is;
     }
+  where
+    one : All (HasItsCalls new) (k ∷ [])
+    one zero d less = its
+    one (suc i) d less = absurd (omega arith)
+
+-- and is left
+pub pushed_left : (calls new : List ReleasingCall) (kept : List Kept) (taken : ℕ) (k : Kept) (answer : Answer) → taken ≤ length kept → All (HasItsCalls calls) kept → take (length calls) new ≡ calls → kept_answer new k ≡ answer → left_of new (kept ++ k ∷ []) taken ≡ left_of calls kept taken ++ answer ∷ []
+pushed_left calls new kept taken k answer within own others is =
+    left_with new kept taken k within
+    ∙ ap (λ (front : List Answer). front ++ kept_answer new k ∷ []) (left_behind calls new kept taken others own)
+    ∙ ap (λ (last : Answer). left_of calls kept taken ++ last ∷ []) is
+
+-- the answer that is kept at a place is the first of those that are left there
+front_left : (calls : List ReleasingCall) (kept : List Kept) (taken : ℕ) (k : Kept) → slice_get kept taken ≡ Some k → left_of calls kept taken ≡ kept_answer calls k ∷ left_of calls kept (suc taken)
+front_left calls [] taken k is = cc
+front_left calls (x ∷ kept) zero k is =
+    let same : x ≡ k = cc in
+    ap (λ (front : Kept). kept_answer calls front ∷ map (kept_answer calls) kept) same
+front_left calls (x ∷ kept) (suc n) k is = front_left calls kept n k is
+
+-- it is taken
+pub front_taken : (calls : List ReleasingCall) (kept : List Kept) (taken next : ℕ) (k : Kept) (answer : Answer) → slice_get kept taken ≡ Some k → next ≡ taken + 1 → answer ≡ kept_answer calls k → left_of calls kept taken ≡ answer ∷ left_of calls kept next
+front_taken calls kept taken next k answer is one made =
+    let last : suc taken ≡ next = omega arith in
+    front_left calls kept taken k is
+    ∙ ap (λ n. kept_answer calls k ∷ left_of calls kept n) last
+    ∙ ap (λ (front : Answer). front ∷ left_of calls kept next) (sym made)
+
+-- none is left behind the last
+pub none_left : (calls : List ReleasingCall) (kept : List Kept) (taken : ℕ) → slice_get kept taken ≡ None → left_of calls kept taken ≡ []
+none_left calls [] zero is = refl
+none_left calls [] (suc n) is = refl
+none_left calls (x ∷ kept) zero is = cc
+none_left calls (x ∷ kept) (suc n) is = none_left calls kept n is
+
+-- the calls of an answer that is kept at a place are there
+pub own_at : (calls : List ReleasingCall) (kept : List Kept) (taken : ℕ) (k : Kept) → All (HasItsCalls calls) kept → slice_get kept taken ≡ Some k → HasItsCalls calls k
+own_at calls kept taken k own is = subst (HasItsCalls calls) (get_or_from_slice_get kept taken k k is) (own taken k (slice_get_within kept taken k is))
+
+-- eight places with these calls, and none behind them
+pub eight_places : (calls : List ReleasingCall) → length calls ≤ 8
+    → flat_map option_to_list (slice_get calls 0 ∷ slice_get calls 1 ∷ slice_get calls 2 ∷ slice_get calls 3 ∷ slice_get calls 4 ∷ slice_get calls 5 ∷ slice_get calls 6 ∷ slice_get calls 7 ∷ []) ≡ calls
+eight_places [] few = refl
+eight_places (a ∷ []) few = refl
+eight_places (a ∷ b ∷ []) few = refl
+eight_places (a ∷ b ∷ c ∷ []) few = refl
+eight_places (a ∷ b ∷ c ∷ d ∷ []) few = refl
+eight_places (a ∷ b ∷ c ∷ d ∷ e ∷ []) few = refl
+eight_places (a ∷ b ∷ c ∷ d ∷ e ∷ f ∷ []) few = refl
+eight_places (a ∷ b ∷ c ∷ d ∷ e ∷ f ∷ g ∷ []) few = refl
+eight_places (a ∷ b ∷ c ∷ d ∷ e ∷ f ∷ g ∷ h ∷ []) few = refl
+eight_places (a ∷ b ∷ c ∷ d ∷ e ∷ f ∷ g ∷ h ∷ i ∷ rest) few = absurd (omega arith)
 
 may_ask-parts : (asks : List Ask) → may_ask asks ≡ true → (length asks < most_answers) × (all_answered asks ≡ true)
 may_ask-parts asks may =
@@ -67,66 +175,54 @@ length-answered : (asks : List Ask) → length (answered asks) ≤ length asks
 length-answered asks = length-filter_map (λ (a : Ask). option_map (λ (answer : Answer). record { needed = a.needed; value = answer.value }) a.answer) asks
 
 -- there is room to print one more ask
-pub room_to_print : (answers : List Answer) (begun taken : ℕ) (asks : List Ask) (printed : List Asked) → IsInOrder answers begun taken asks printed → may_ask asks ≡ true → length printed < 16
-room_to_print answers begun taken asks printed queue may =
+pub room_to_print : (calls : List ReleasingCall) (kept : List Kept) (taken : ℕ) (asks : List Ask) (printed : List Asked) → IsInOrder calls kept taken asks printed → may_ask asks ≡ true → length printed < 16
+room_to_print calls kept taken asks printed queue may =
     let printed_is : length printed ≡ length (answered asks) = ap length queue.printed_is in
     let le = length-answered asks in
     let less = (may_ask-parts asks may).0 in
     omega arith
 
 -- the front answer is given
-pub answer_given : (answers : List Answer) (begun taken next needed : ℕ) (asks : List Ask) (printed : List Asked) (answer : Answer) → IsInOrder answers begun taken asks printed → may_ask asks ≡ true → drop taken answers ≡ answer ∷ drop next answers → next ≡ taken + 1 → taken < length answers
-    → IsInOrder answers begun next (asks ++ new_ask needed (Some answer) ∷ []) (printed ++ record { needed = needed; value = answer.value } ∷ [])
-answer_given answers begun taken next needed asks printed answer queue may is one less =
-    let order = queue.order in
+pub front_given : (calls : List ReleasingCall) (kept : List Kept) (taken next needed : ℕ) (asks : List Ask) (printed : List Asked) (answer : Answer) → IsInOrder calls kept taken asks printed → may_ask asks ≡ true → next ≡ taken + 1 → taken < length kept
+    → IsInOrder calls kept next (asks ++ new_ask needed (Some answer) ∷ []) (printed ++ record { needed = needed; value = answer.value } ∷ [])
+front_given calls kept taken next needed asks printed answer queue may one less =
     let parts = may_ask-parts asks may in
     let few = parts.0 in
     let ask : Ask = new_ask needed (Some answer) in
     record {
-      order = omega arith;
       within = omega arith;
+      own = queue.own;
       few = simp length-append (omega arith);
-      took = record {
-        taken = queue.took.taken
-            ∙ ap (λ (rest : List Answer). answers_in asks ++ rest) is
-            ∙ sym (append_assoc (answers_in asks) (answer ∷ []) (drop next answers))
-            ∙ ap (λ (front : List Answer). front ++ drop next answers) (sym (filter_map-append (λ (a : Ask). a.answer) asks (ask ∷ [])));
-        out = inl (list_all-append (λ (a : Ask). is_some a.answer) asks (ask ∷ []) ∙ ap (λ (b : Bool). b && true) parts.1);
-      };
+      out = inl (list_all-append (λ (a : Ask). is_some a.answer) asks (ask ∷ []) ∙ ap (λ (b : Bool). b && true) parts.1);
       printed_is = ap (λ (front : List Asked). front ++ record { needed = needed; value = answer.value } ∷ []) queue.printed_is
           ∙ sym (filter_map-append (λ (a : Ask). option_map (λ (x : Answer). record { needed = a.needed; value = x.value }) a.answer) asks (ask ∷ []));
     }
 
--- the same, as it comes from the answers that are left
-pub front_given : (answers shown : List Answer) (begun taken next needed : ℕ) (asks : List Ask) (printed : List Asked) (o : Option Answer) (answer : Answer) → IsInOrder answers begun taken asks printed → may_ask asks ≡ true → shown ≡ answers → o ≡ Some answer
-    → IfSome o (λ a. drop taken shown ≡ a ∷ drop next shown) → OnSome o (next ≡ taken + 1) → OnSome o (taken < length shown)
-    → IsInOrder answers begun next (asks ++ new_ask needed (Some answer) ∷ []) (printed ++ record { needed = needed; value = answer.value } ∷ [])
-front_given answers shown begun taken next needed asks printed o answer queue may same is some one less =
-    let front : drop taken shown ≡ answer ∷ drop next shown = subst (λ (p : Option Answer). IfSome p (λ a. drop taken shown ≡ a ∷ drop next shown)) is some in
-    let step : next ≡ taken + 1 = subst (λ (p : Option Answer). OnSome p (next ≡ taken + 1)) is one in
-    let within : taken < length shown = subst (λ (p : Option Answer). OnSome p (taken < length shown)) is less in
-    answer_given answers begun taken next needed asks printed answer queue may
-    (subst (λ (xs : List Answer). drop taken xs ≡ answer ∷ drop next xs) same front) step (subst (λ (xs : List Answer). taken < length xs) same within)
+-- what was there stays the same where the front answer is asked for
+pub source_stays : (asks : List Ask) (ask : Ask) (answer : Answer) (old new : List Answer) → ask.answer ≡ Some answer → old ≡ answer ∷ new → answers_in (asks ++ ask ∷ []) ++ new ≡ answers_in asks ++ old
+source_stays asks ask answer old new is front =
+    ap (λ (all : List Answer). all ++ new) (filter_map-append (λ (a : Ask). a.answer) asks (ask ∷ []) ∙ ap (λ (o : Option Answer). answers_in asks ++ cons_option o []) is)
+    ∙ append_assoc (answers_in asks) (answer ∷ []) new
+    ∙ ap (λ (rest : List Answer). answers_in asks ++ rest) (sym front)
+
+-- and where none is left
+pub source_stays-none : (asks : List Ask) (ask : Ask) (old new : List Answer) → ask.answer ≡ None → old ≡ new → answers_in (asks ++ ask ∷ []) ++ new ≡ answers_in asks ++ old
+source_stays-none asks ask old new is same =
+    ap (λ (all : List Answer). all ++ new) (filter_map-append (λ (a : Ask). a.answer) asks (ask ∷ []) ∙ ap (λ (o : Option Answer). answers_in asks ++ cons_option o []) is ∙ append-nil (answers_in asks))
+    ∙ ap (λ (rest : List Answer). answers_in asks ++ rest) (sym same)
 
 -- none is left
-pub none_given : (answers : List Answer) (begun taken next needed : ℕ) (asks : List Ask) (printed : List Asked) → IsInOrder answers begun taken asks printed → may_ask asks ≡ true → drop taken answers ≡ [] → next ≡ taken
-    → IsInOrder answers begun next (asks ++ new_ask needed None ∷ []) printed
-none_given answers begun taken next needed asks printed queue may none same =
-    let order = queue.order in
+pub none_given : (calls : List ReleasingCall) (kept : List Kept) (taken next needed : ℕ) (asks : List Ask) (printed : List Asked) → IsInOrder calls kept taken asks printed → may_ask asks ≡ true → left_of calls kept taken ≡ [] → next ≡ taken
+    → IsInOrder calls kept next (asks ++ new_ask needed None ∷ []) printed
+none_given calls kept taken next needed asks printed queue may none same =
     let within = queue.within in
     let few = (may_ask-parts asks may).0 in
     let ask : Ask = new_ask needed None in
-    let left : drop next answers ≡ drop taken answers = ap (λ n. drop n answers) same in
     record {
-      order = omega arith;
       within = omega arith;
+      own = queue.own;
       few = simp length-append (omega arith);
-      took = record {
-        taken = queue.took.taken
-            ∙ ap (λ (front : List Answer). front ++ drop taken answers) (sym (filter_map-append (λ (a : Ask). a.answer) asks (ask ∷ []) ∙ append-nil (answers_in asks)))
-            ∙ ap (λ (rest : List Answer). answers_in (asks ++ ask ∷ []) ++ rest) (sym left);
-        out = inr (left ∙ none);
-      };
+      out = inr (ap (λ n. left_of calls kept n) same ∙ none);
       printed_is = queue.printed_is
           ∙ sym (filter_map-append (λ (a : Ask). option_map (λ (x : Answer). record { needed = a.needed; value = x.value }) a.answer) asks (ask ∷ []) ∙ append-nil (answered asks));
     }
@@ -143,7 +239,7 @@ noted-last call code [] a = refl
 noted-last call code (x ∷ []) a = refl
 noted-last call code (x ∷ y ∷ asks) a = ap (λ (xs : List Ask). x ∷ xs) (noted-last call code (y ∷ asks) a)
 
-noted-answers : (call : ReleasingCall) (code : Option OsErr) (asks : List Ask) → answers_in (noted call code asks) ≡ answers_in asks
+pub noted-answers : (call : ReleasingCall) (code : Option OsErr) (asks : List Ask) → answers_in (noted call code asks) ≡ answers_in asks
 noted-answers call code [] = refl
 noted-answers call code (a ∷ []) = refl
 noted-answers call code (a ∷ b ∷ asks) = behind a.answer (noted-answers call code (b ∷ asks))
@@ -176,8 +272,8 @@ pub may_note-out : (asks now front : List Ask) (ask : Ask) → asks ≡ now → 
 may_note-out asks now front ask same parts may = sym (may_note-last front ask) ∙ ap may_note (sym parts ∙ same) ∙ may
 
 -- there is room for it then
-pub room_behind : (answers : List Answer) (begun taken : ℕ) (asks front : List Ask) (ask : Ask) (printed : List Asked) → IsInOrder answers begun taken asks printed → asks ≡ front ++ ask ∷ [] → length front < 16
-room_behind answers begun taken asks front ask printed queue parts =
+pub room_behind : (calls : List ReleasingCall) (kept : List Kept) (taken : ℕ) (asks front : List Ask) (ask : Ask) (printed : List Asked) → IsInOrder calls kept taken asks printed → asks ≡ front ++ ask ∷ [] → length front < 16
+room_behind calls kept taken asks front ask printed queue parts =
     let few = queue.few in
     let same : length asks ≡ length front + 1 = ap length parts ∙ length-append front (ask ∷ []) in
     omega arith
@@ -187,18 +283,15 @@ pub noted-back : (call : ReleasingCall) (code : Option OsErr) (asks front : List
 noted-back call code asks front ask new parts is = ap (λ (back : List Ask). front ++ back) is ∙ sym (noted-last call code front ask) ∙ ap (λ (xs : List Ask). noted call code xs) (sym parts)
 
 -- a call is noted for the last ask
-pub call_noted : (answers : List Answer) (begun taken : ℕ) (asks : List Ask) (printed : List Asked) (call : ReleasingCall) (code : Option OsErr) → IsInOrder answers begun taken asks printed → IsInOrder answers begun taken (noted call code asks) printed
-call_noted answers begun taken asks printed call code queue =
+pub call_noted : (calls : List ReleasingCall) (kept : List Kept) (taken : ℕ) (asks : List Ask) (printed : List Asked) (call : ReleasingCall) (code : Option OsErr) → IsInOrder calls kept taken asks printed → IsInOrder calls kept taken (noted call code asks) printed
+call_noted calls kept taken asks printed call code queue =
     let few = queue.few in
     let same : length (noted call code asks) ≡ length asks = noted-length call code asks in
     record {
-      order = queue.order;
       within = queue.within;
+      own = queue.own;
       few = omega arith;
-      took = record {
-        taken = queue.took.taken ∙ ap (λ (front : List Answer). front ++ drop taken answers) (sym (noted-answers call code asks));
-        out = elim queue.took.out [ inl all ↦ inl (noted-all_answered call code asks ∙ all) | inr none ↦ inr none ];
-      };
+      out = elim queue.out [ inl all ↦ inl (noted-all_answered call code asks ∙ all) | inr none ↦ inr none ];
       printed_is = queue.printed_is ∙ sym (noted-printed call code asks);
     }
 

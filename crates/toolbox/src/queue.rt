@@ -1,7 +1,10 @@
 //! The answers of the grow-zone procedure that a script has queued.
 
-ghost use Rattle.std.specs.Prelude.{◌≡◌, ◌+◌, ◌<◌, [], ◌∷◌, ◌++◌, drop, length, IsTrue, IfSome, IfNone, OnSome};
+ghost use Rattle.std.specs.Prelude.{◌≡◌, ◌+◌, ◌<◌, ◌≤◌, [], ◌∷◌, ◌++◌, All, drop, length, map, take, IsTrue, IfOk, OnOk, IfSome, IfNone, OnSome};
 ghost use Rattle.mac_calls.specs.GrowZone.{answered, may_note, new_ask, noted};
+ghost use Rattle.std.specs.List.{flat_map, slice_get};
+ghost use Rattle.std.specs.Option.{option_to_list};
+ghost use Rattle.toolbox.specs.Queue.{HasItsCalls, kept_answer, left_of};
 
 use arrayvec::ArrayVec;
 use mac_base::error::{HostFull, OsErr};
@@ -93,14 +96,24 @@ impl MadeAsk {
     }
 }
 
+/// An answer that was queued: its value, and which of the calls of all answers are its own.
+#[derive(Clone, Copy)]
+struct Kept {
+    /// Where its calls begin.
+    first: usize,
+    value: u32,
+    /// How many they are.
+    count: u8,
+}
+
 /// Answers of the grow-zone procedure, which are given first in, first out, and what the running call asked. Contracts see the
 /// answers that are left, those that were there when the running call began, and its asks.
 #[derive(Drop)]
 pub struct AnswerQueue {
     /// All that were queued: those that were taken stand in front.
-    answers: Vec<Answer>,
-    /// How many were taken before the running call began.
-    begun: usize,
+    kept: Vec<Kept>,
+    /// Their calls.
+    calls: Vec<ReleasingCall>,
     /// How many were taken.
     taken: usize,
     /// What the running call asked, in order.
@@ -110,14 +123,15 @@ pub struct AnswerQueue {
 }
 
 impl Model for AnswerQueue {
-    ghost use Rattle.std.specs.Prelude.{drop};
-    ghost use Rattle.toolbox.specs.Queue.{Queue, IsInOrder};
+    ghost use Rattle.std.specs.Prelude.{◌++◌};
+    ghost use Rattle.mac_calls.specs.GrowZone.{answers_in};
+    ghost use Rattle.toolbox.specs.Queue.{Queue, IsInOrder, left_of};
 
     ghost Value = { Queue };
 
-    ghost view = { λ q. record { source = drop q.begun q.answers.items; left = drop q.taken q.answers.items; asks = q.asks.items } };
+    ghost view = { λ q. record { source = answers_in q.asks.items ++ left_of q.calls.items q.kept.items q.taken; left = left_of q.calls.items q.kept.items q.taken; asks = q.asks.items } };
 
-    ghost invariant = { λ q. IsInOrder q.answers.items q.begun q.taken q.asks.items q.answered.items };
+    ghost invariant = { λ q. IsInOrder q.calls.items q.kept.items q.taken q.asks.items q.answered.items };
 }
 
 impl AnswerQueue {
@@ -129,8 +143,8 @@ impl AnswerQueue {
         ensures { result ≡ no_answers }
     {
         AnswerQueue {
-            answers: Vec::new(alloc),
-            begun: 0,
+            kept: Vec::new(alloc),
+            calls: Vec::new(alloc),
             taken: 0,
             asks: ArrayVec::new(),
             answered: ArrayVec::new(),
@@ -144,7 +158,8 @@ impl AnswerQueue {
         ensures asks { self.new.asks ≡ [] }
     {
         self.begin();
-        self.answers.push(answer)?;
+        let kept = keep(&mut self.calls, &answer.again())?;
+        self.kept.push(kept)?;
         Ok(())
     }
 
@@ -159,7 +174,6 @@ impl AnswerQueue {
     pub(crate) fn begin(&mut self)
         ensures { self.new ≡ record { source = self.old.left; left = self.old.left; asks = [] } }
     {
-        self.begun = self.taken;
         self.asks.clear();
         self.answered.clear();
     }
@@ -168,7 +182,7 @@ impl AnswerQueue {
     pub(crate) fn end(&self)
         ensures { TookAnswers self.now }
     {
-        let _ = &self.answers;
+        let _ = &self.kept;
     }
 }
 
@@ -178,7 +192,7 @@ impl GrowZone for AnswerQueue {
     ghost source = { λ q. q.source };
 
     fn ask(&mut self, needed: u32) -> Option<Answer> {
-        let answer = take_front(&self.answers, &mut self.taken);
+        let answer = take_front(&self.calls, &self.kept, &mut self.taken);
         self.asks.push(MadeAsk::new(needed, &answer));
         if let Some(answer) = &answer {
             self.answered.push(Asked {
@@ -197,15 +211,79 @@ impl GrowZone for AnswerQueue {
     }
 }
 
+/// Puts the calls of an answer behind those of the others. Where no memory is left for them, some may stand there.
+fn keep(calls: &mut Vec<ReleasingCall>, answer: &Answer) -> Result<Kept, HostFull>
+    requires few { length answer.now.calls ≤ 8 }
+    ensures kept { IfOk result (λ kept. kept_answer calls.new.items kept ≡ answer.now) }
+    ensures own { IfOk result (λ kept. HasItsCalls calls.new.items kept) }
+    ensures others { take (length calls.old.items) calls.new.items ≡ calls.old.items }
+{
+    let first = calls.len();
+    add_calls(calls, answer.calls())?;
+    Ok(Kept {
+        first,
+        value: answer.value(),
+        count: (calls.len() - first) as u8,
+    })
+}
+
+/// Puts these calls behind the others, in order. Where no memory is left, some may stand there.
+fn add_calls(
+    calls: &mut Vec<ReleasingCall>,
+    added: &[Option<ReleasingCall>],
+) -> Result<(), HostFull>
+    ensures all { OnOk result (calls.new.items ≡ calls.old.items ++ flat_map option_to_list added.now) }
+    ensures others { take (length calls.old.items) calls.new.items ≡ calls.old.items }
+{
+    for call in added {
+        if let Some(call) = call {
+            calls.push(*call)?;
+        }
+    }
+    Ok(())
+}
+
 /// Takes the front one of the answers behind those that were taken, if one is left.
-fn take_front(answers: &[Answer], taken: &mut usize) -> Option<Answer>
-    ensures some { IfSome result (λ answer. drop taken.old answers.now ≡ answer ∷ drop taken.new answers.now) }
+fn take_front(calls: &[ReleasingCall], kept: &[Kept], taken: &mut usize) -> Option<Answer>
+    requires { All (HasItsCalls calls.now) kept.now }
+    ensures some { IfSome result (λ answer. left_of calls.now kept.now taken.old ≡ answer ∷ left_of calls.now kept.now taken.new) }
     ensures next { OnSome result (taken.new ≡ taken.old + 1) }
-    ensures within { OnSome result (taken.old < length answers.now) }
-    ensures none { IfNone result (drop taken.old answers.now ≡ []) }
+    ensures within { OnSome result (taken.old < length kept.now) }
+    ensures none { IfNone result (left_of calls.now kept.now taken.old ≡ []) }
     ensures stays { IfNone result (taken.new ≡ taken.old) }
 {
-    let answer = answers.get(*taken)?.again();
+    let front = *kept.get(*taken)?;
+    let answer = made_of(
+        &calls[front.first..front.first + front.count as usize],
+        front.value,
+    );
     *taken += 1;
     Some(answer)
+}
+
+/// The answer with these calls.
+fn made_of(calls: &[ReleasingCall], value: u32) -> Answer
+    requires { length calls.now ≤ 8 }
+    ensures { result ≡ record { calls = calls.now; value = value } }
+{
+    Answer::new(
+        [
+            call_at(calls, 0),
+            call_at(calls, 1),
+            call_at(calls, 2),
+            call_at(calls, 3),
+            call_at(calls, 4),
+            call_at(calls, 5),
+            call_at(calls, 6),
+            call_at(calls, 7),
+        ],
+        value,
+    )
+}
+
+/// The call at a place, if one stands there.
+fn call_at(calls: &[ReleasingCall], at: usize) -> Option<ReleasingCall>
+    ensures { result ≡ slice_get calls.now at }
+{
+    calls.get(at).copied()
 }

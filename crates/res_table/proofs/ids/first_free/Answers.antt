@@ -1,4 +1,4 @@
-use Rattle.std.proofs.Common.{◌<◌, pos, sym, ap, ◌∙◌, arith}
+use Rattle.std.proofs.Common.{◌<◌, below_more, pos, sym, ap, ◌∙◌, arith}
 use Rattle.res_table.proofs.FreeIds.{at_least, free_after, id_of}
 use Rattle.res_table.proofs.ids.first_free.Goals as goal
 
@@ -16,3 +16,6 @@ pub unreachable-requires : goal.unreachable-requires
 unreachable-requires g c =
     let long = c.requires.all in let few = c.requires.few in let rows = c.requires.rows in
     let enough = at_least c.args.taken.now 8193 (omega arith) (λ k below. c.loop-place.invariant k (omega (arith, c.loop-place-test.false))) in omega arith
+
+pub loop-place-preserved : goal.loop-place-preserved
+loop-place-preserved g c = below_more _ _ c.loop-place.invariant c.if-not-mark.false

@@ -1,7 +1,7 @@
 use Rattle.std.proofs.Common.{◌<◌, ℕ, List, [], length, sym, ap, subst, arith}
 use Rattle.fork_bytes.proofs.Steps.{some_name, no_name, fit_step, fit_not}
 use Rattle.res_table.specs.Saved.{bare, saved_row}
-use Rattle.res_table.proofs.Bare.{length-saved, saved_at}
+use Rattle.res_table.proofs.Bare.{length-saved, never, saved_at}
 use Rattle.res_table.proofs.runs.names_fit.Goals.{in-Some+else-next-gt-MAX_NAME_OFFSET, in_default}
 use Rattle.res_table.proofs.runs.names_fit.Goals as goal
 
@@ -9,7 +9,7 @@ pub returns-then-next-gt-MAX_NAME_OFFSET : goal.returns-then-next-gt-MAX_NAME_OF
 returns-then-next-gt-MAX_NAME_OFFSET g c =
     let rows = c.args.rows.now in let i = c.loop-row.row-index in let row = c.row-item.result in
     let inside : i < length (bare rows) = subst (λ (n : ℕ). i < n) (sym (length-saved (λ _. []) rows)) c.loop-row-test.true in (
-      λ t. absurd (cc t),
+      λ t. never t,
       λ fit. absurd (fit_not (bare rows) i c.loop-row.next (saved_row (λ _. []) row) c.in-Some.name inside (saved_at (λ _. []) rows i row c.loop-row-test.true c.row-item.is)
           c.in-Some.is c.if-next-gt-MAX_NAME_OFFSET.true (c.loop-row.invariant.0.0 fit)),
     )

@@ -1,12 +1,12 @@
-use Rattle.std.proofs.Common.{◌≤◌, ◌≡◌, ◌∙◌, List, [], ℕ, Err, true, length, map, refl, sym, ap, subst, arith}
-use Rattle.std.specs.Prelude.{All, IsErrOf}
+use Rattle.std.proofs.Common.{◌≤◌, ◌≡◌, ◌∙◌, List, [], ℕ, Ok, Err, Bool, true, length, map, refl, sym, ap, subst, arith}
+use Rattle.std.specs.Prelude.{All, IsErrOf, IsFalse}
 use Rattle.fork_disk.specs.declared.store.ReplaceFault.{ReplaceFault}
 use Rattle.fork_disk.specs.declared.store.ReplaceFault.TheVariants.{BeforeFirstWrite, Later}
 use Rattle.fork_disk.specs.Crash.{AlwaysFinds, FoundBeforeOr}
 use Rattle.fork_disk.proofs.Crash.{finds_before_or}
 use Rattle.res_calls.specs.Updates.{fits_fork}
 use Rattle.res_update.specs.declared.fault.UpdateFault.{UpdateFault}
-use Rattle.res_update.specs.declared.fault.UpdateFault.TheVariants.{Device}
+use Rattle.res_update.specs.declared.fault.UpdateFault.TheVariants.{Device, HostFull, TooBig}
 use Rattle.res_update.specs.Placed.{table_on, bytes_on, IsInside}
 use Rattle.res_update.specs.Selected.{updated}
 use Rattle.res_update.proofs.Placing.{IsDraft, kept_within, places_near, places_each, fits_is, kept_found, gathered_is, places_read, places_within}
@@ -19,6 +19,20 @@ use Rattle.res_update.proofs.write.write_table.Goals as goal
 -- the device's fault in the answer is that of the replacement
 device_fault : {A B : Type 0} (fault told : ReplaceFault) → IsErrOf {T = A} {E = UpdateFault} (Err (Device fault)) (Device told) → IsErrOf {T = B} {E = ReplaceFault} (Err fault) told
 device_fault fault told is = let same : fault ≡ told = cc in ap (λ (e : _). Err e) same
+
+-- no other answer says that the fork is too big
+host_full : {A P : Type 0} → IsErrOf {T = A} {E = UpdateFault} (Err HostFull) TooBig → P
+host_full told = absurd (cc told)
+
+no_fault : {A P : Type 0} (x : A) → IsErrOf {T = A} {E = UpdateFault} (Ok x) TooBig → P
+no_fault x told = absurd (cc told)
+
+device_faults : {A P : Type 0} (fault : ReplaceFault) → IsErrOf {T = A} {E = UpdateFault} (Err (Device fault)) TooBig → P
+device_faults fault told = absurd (cc told)
+
+-- nor does the fork, which fits
+unfit_never : {P : Type 0} (fits : Bool) → fits ≡ true → IsFalse fits → P
+unfit_never fits fit unfit = absurd (cc (unfit, fit))
 
 pub returns-then-not-fits-clause-too_big : goal.returns-then-not-fits-clause-too_big
 returns-then-not-fits-clause-too_big g c =
@@ -33,21 +47,21 @@ returns-in_default-clause-too_big g c =
     let t = g.C.Contents.table c.args.contents.now in let s = c.args.selection in let table = c.args.table.now in let old = g.S.ForkStore.fork c.args.store.now in
     λ honest. (
     let fit : fits_fork (updated t s (table_on old table)) ≡ true = sym (fits_is t s table [] [] [] old (c.requires.inside honest)) ∙ (sym c.fits.ensures ∙ c.if-not-fits.false) in
-    ((λ told. absurd (cc told)), (λ unfit. absurd (cc (unfit, fit)))))
+    (host_full, unfit_never _ fit))
 
 pub returns-in-Ok-update-clause-too_big : goal.returns-in-Ok-update-clause-too_big
 returns-in-Ok-update-clause-too_big g c =
     let t = g.C.Contents.table c.args.contents.now in let s = c.args.selection in let table = c.args.table.now in let old = g.S.ForkStore.fork c.args.store.now in
     λ honest. (
     let fit : fits_fork (updated t s (table_on old table)) ≡ true = sym (fits_is t s table [] [] [] old (c.requires.inside honest)) ∙ (sym c.fits.ensures ∙ c.if-not-fits.false) in
-    ((λ told. absurd (cc told)), (λ unfit. absurd (cc (unfit, fit)))))
+    (no_fault _, unfit_never _ fit))
 
 pub returns-in-Err-clause-too_big : goal.returns-in-Err-clause-too_big
 returns-in-Err-clause-too_big g c =
     let t = g.C.Contents.table c.args.contents.now in let s = c.args.selection in let table = c.args.table.now in let old = g.S.ForkStore.fork c.args.store.now in
     λ honest. (
     let fit : fits_fork (updated t s (table_on old table)) ≡ true = sym (fits_is t s table [] [] [] old (c.requires.inside honest)) ∙ (sym c.fits.ensures ∙ c.if-not-fits.false) in
-    ((λ told. absurd (cc told)), (λ unfit. absurd (cc (unfit, fit)))))
+    (device_faults c.in-Err.fault, unfit_never _ fit))
 
 pub update-requires-clause-inside : goal.update-requires-clause-inside
 update-requires-clause-inside g c =
@@ -56,7 +70,7 @@ update-requires-clause-inside g c =
     let is : IsDraft (g.C.Contents.table c.args.contents.now) c.args.selection c.args.table.now c.deref_mut.result.now c.in-Ok.draft.places.items c.deref.result.now = record {
       extra = c.in-Ok.ensures.extra;
       bytes_are = c.deref_mut.ensures.value ∙ c.in-Ok.ensures.fork;
-      small = omega arith;
+      small = omega (arith, long, low);
       places_are = c.in-Ok.ensures.places;
       kept_are = c.deref.ensures.value ∙ c.in-Ok.ensures.kept;
     } in
@@ -69,7 +83,7 @@ update-requires-clause-there g c =
     let is : IsDraft (g.C.Contents.table c.args.contents.now) c.args.selection c.args.table.now c.deref_mut.result.now c.in-Ok.draft.places.items c.deref.result.now = record {
       extra = c.in-Ok.ensures.extra;
       bytes_are = c.deref_mut.ensures.value ∙ c.in-Ok.ensures.fork;
-      small = omega arith;
+      small = omega (arith, long, low);
       places_are = c.in-Ok.ensures.places;
       kept_are = c.deref.ensures.value ∙ c.in-Ok.ensures.kept;
     } in
@@ -82,7 +96,7 @@ returns-in-Ok-update-clause-written g c =
     let is : IsDraft (g.C.Contents.table c.args.contents.now) c.args.selection c.args.table.now c.deref_mut.result.now c.in-Ok.draft.places.items c.deref.result.now = record {
       extra = c.in-Ok.ensures.extra;
       bytes_are = c.deref_mut.ensures.value ∙ c.in-Ok.ensures.fork;
-      small = omega arith;
+      small = omega (arith, long, low);
       places_are = c.in-Ok.ensures.places;
       kept_are = c.deref.ensures.value ∙ c.in-Ok.ensures.kept;
     } in
@@ -95,7 +109,7 @@ returns-in-Ok-update-clause-stands g c =
     let is : IsDraft (g.C.Contents.table c.args.contents.now) c.args.selection c.args.table.now c.deref_mut.result.now c.in-Ok.draft.places.items c.deref.result.now = record {
       extra = c.in-Ok.ensures.extra;
       bytes_are = c.deref_mut.ensures.value ∙ c.in-Ok.ensures.fork;
-      small = omega arith;
+      small = omega (arith, long, low);
       places_are = c.in-Ok.ensures.places;
       kept_are = c.deref.ensures.value ∙ c.in-Ok.ensures.kept;
     } in
@@ -109,7 +123,7 @@ returns-in-Ok-update-clause-places g c =
     let is : IsDraft (g.C.Contents.table c.args.contents.now) c.args.selection c.args.table.now c.deref_mut.result.now c.in-Ok.draft.places.items c.deref.result.now = record {
       extra = c.in-Ok.ensures.extra;
       bytes_are = c.deref_mut.ensures.value ∙ c.in-Ok.ensures.fork;
-      small = omega arith;
+      small = omega (arith, long, low);
       places_are = c.in-Ok.ensures.places;
       kept_are = c.deref.ensures.value ∙ c.in-Ok.ensures.kept;
     } in
@@ -124,7 +138,7 @@ returns-in-Ok-update-clause-inside g c =
     let is : IsDraft (g.C.Contents.table c.args.contents.now) c.args.selection c.args.table.now c.deref_mut.result.now c.in-Ok.draft.places.items c.deref.result.now = record {
       extra = c.in-Ok.ensures.extra;
       bytes_are = c.deref_mut.ensures.value ∙ c.in-Ok.ensures.fork;
-      small = omega arith;
+      small = omega (arith, long, low);
       places_are = c.in-Ok.ensures.places;
       kept_are = c.deref.ensures.value ∙ c.in-Ok.ensures.kept;
     } in
@@ -139,7 +153,7 @@ returns-in-Ok-update-clause-near g c =
     let is : IsDraft (g.C.Contents.table c.args.contents.now) c.args.selection c.args.table.now c.deref_mut.result.now c.in-Ok.draft.places.items c.deref.result.now = record {
       extra = c.in-Ok.ensures.extra;
       bytes_are = c.deref_mut.ensures.value ∙ c.in-Ok.ensures.fork;
-      small = omega arith;
+      small = omega (arith, long, low);
       places_are = c.in-Ok.ensures.places;
       kept_are = c.deref.ensures.value ∙ c.in-Ok.ensures.kept;
     } in
@@ -152,7 +166,7 @@ returns-in-Ok-update-clause-each g c =
     let is : IsDraft (g.C.Contents.table c.args.contents.now) c.args.selection c.args.table.now c.deref_mut.result.now c.in-Ok.draft.places.items c.deref.result.now = record {
       extra = c.in-Ok.ensures.extra;
       bytes_are = c.deref_mut.ensures.value ∙ c.in-Ok.ensures.fork;
-      small = omega arith;
+      small = omega (arith, long, low);
       places_are = c.in-Ok.ensures.places;
       kept_are = c.deref.ensures.value ∙ c.in-Ok.ensures.kept;
     } in
@@ -165,7 +179,7 @@ returns-in-Err-clause-left g c =
     let is : IsDraft (g.C.Contents.table c.args.contents.now) c.args.selection c.args.table.now c.deref_mut.result.now c.in-Ok.draft.places.items c.deref.result.now = record {
       extra = c.in-Ok.ensures.extra;
       bytes_are = c.deref_mut.ensures.value ∙ c.in-Ok.ensures.fork;
-      small = omega arith;
+      small = omega (arith, long, low);
       places_are = c.in-Ok.ensures.places;
       kept_are = c.deref.ensures.value ∙ c.in-Ok.ensures.kept;
     } in
@@ -186,7 +200,7 @@ returns-in-Ok-update-clause-any_moment g c =
     let is : IsDraft (g.C.Contents.table c.args.contents.now) c.args.selection c.args.table.now c.deref_mut.result.now c.in-Ok.draft.places.items c.deref.result.now = record {
       extra = c.in-Ok.ensures.extra;
       bytes_are = c.deref_mut.ensures.value ∙ c.in-Ok.ensures.fork;
-      small = omega arith;
+      small = omega (arith, long, low);
       places_are = c.in-Ok.ensures.places;
       kept_are = c.deref.ensures.value ∙ c.in-Ok.ensures.kept;
     } in
@@ -202,7 +216,7 @@ returns-in-Err-clause-any_moment g c =
     let is : IsDraft (g.C.Contents.table c.args.contents.now) c.args.selection c.args.table.now c.deref_mut.result.now c.in-Ok.draft.places.items c.deref.result.now = record {
       extra = c.in-Ok.ensures.extra;
       bytes_are = c.deref_mut.ensures.value ∙ c.in-Ok.ensures.fork;
-      small = omega arith;
+      small = omega (arith, long, low);
       places_are = c.in-Ok.ensures.places;
       kept_are = c.deref.ensures.value ∙ c.in-Ok.ensures.kept;
     } in

@@ -1,4 +1,4 @@
-use Rattle.std.proofs.Common.{◌+◌, drop, slice_get, sym, ap, ◌∙◌, arith, ℕ, List}
+use Rattle.std.proofs.Common.{◌+◌, length, drop, slice_get, sym, ap, ◌∙◌, arith, ℕ, List}
 use Rattle.fork_bytes.specs.declared.layout.TypeCount.{TypeCount}
 use Rattle.res_table.specs.Kinds.{expanded, places_of}
 use Rattle.res_table.specs.Rows.{ith}
@@ -32,3 +32,19 @@ loop-run-preserved c =
       ],
       omega arith,
     )
+
+pub overflow_add-result : goal.overflow_add-result
+overflow_add-result c =
+    let runs = c.deref-run-items.result.now in
+    let step = long_step runs c.loop-run.run-index c.run-item.result c.loop-run-test.true c.run-item.is in
+    let all = c.loop-run.invariant.1 in let less = c.if-left-run.true in
+    let same = ap (λ (rs : List TypeCount). length (expanded rs)) c.deref-run-items.ensures.value in let few = c.requires in
+    omega (arith, step, all, less, same, few)
+
+pub overflow_add-at : goal.overflow_add-at
+overflow_add-at c =
+    let runs = c.deref-run-items.result.now in
+    let step = long_step runs c.loop-run.run-index c.run-item.result c.loop-run-test.true c.run-item.is in
+    let all = c.loop-run.invariant.1 in
+    let same = ap (λ (rs : List TypeCount). length (expanded rs)) c.deref-run-items.ensures.value in let few = c.requires in
+    omega (arith, step, all, same, few)

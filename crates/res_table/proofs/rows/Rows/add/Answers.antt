@@ -11,7 +11,7 @@ use Rattle.res_table.specs.Rows.{name_size, names_size}
 use Rattle.res_table.proofs.Adding.{insert-at-end, end-within}
 use Rattle.fork_bytes.specs.declared.layout.TypeCount.{TypeCount}
 use Rattle.res_table.specs.Kinds.{expanded, kinds_of, with_kind}
-use Rattle.res_table.proofs.Expanded.{added_are}
+use Rattle.res_table.proofs.Expanded.{added_are, as_many}
 use Rattle.res_table.proofs.rows.Rows.add.Goals as goal
 
 -- src/rows.rt:73:9
@@ -66,7 +66,7 @@ add-requires-clause-room g c =
     let inside = within c.kind-kind.result at rows c.args.self.now c.self.view_is c.end_of_type-at.ensures in
     let is = with_new handle_key c.handle_key-handle.result at r rows _ c.push_back.new.self.pairs.items c.handle_key-handle.ensures inside c.push_back.ensures.pairs (c.reserve.ensures.same ∙ c.self.invariant.0) in
     let len = c.len-count.ensures in let ok = c.self.inside.rows.ok.0 in let room = c.in_ok-reserve.ensures.room in let then = c.push_back.ensures.room in
-    room_for_new handle_key at _ r rows _ inside is (omega arith)
+    room_for_new handle_key at _ r rows _ inside is (omega (arith, len, ok, room, then))
 
 pub add-requires-3-clause-room : goal.add-requires-3-clause-room
 add-requires-3-clause-room g c =
@@ -74,7 +74,7 @@ add-requires-3-clause-room g c =
     let inside = within c.kind-kind.result at rows c.args.self.now c.self.view_is c.end_of_type-at.ensures in
     let is = with_new resource_key (Some c.resource_key-key.result) at r rows _ c.push_back-2.new.self.pairs.items (ap Some c.resource_key-key.ensures) inside c.push_back-2.ensures.pairs (c.reserve-3.ensures.same ∙ c.self.invariant.3) in
     let len = c.len-count.ensures in let ok = c.self.inside.rows.ok.0 in let room = c.in_ok-reserve-3.ensures.room in let then = c.push_back-2.ensures.room in
-    room_for_new resource_key at _ r rows _ inside is (omega arith)
+    room_for_new resource_key at _ r rows _ inside is (omega (arith, len, ok, room, then))
 
 pub invariant_of-self-2 : goal.invariant_of-self-2
 invariant_of-self-2 g c =
@@ -87,10 +87,17 @@ invariant_of-self-2 g c =
     let len = c.len-count.ensures in let ok = c.self.inside.rows.ok.0 in let room = c.in_ok-reserve.ensures.room in
     let then = c.push_back.ensures.room in let last = c.add.ensures.room in (
       c.add.ensures.pairs ∙ is ∙ ap (pairs_of handle_key) (sym new),
-      omega arith,
+      omega (arith, count, n, len, ok, room, then, last),
       c.add-2.ensures ∙ ap (with_kind c.kind-kind.result) (ap (λ (runs : List TypeCount). expanded runs) c.reserve-2.ensures.same ∙ c.self.invariant.2)
           ∙ ap (λ (k : List ℕ). with_kind k (kinds_of rows)) c.kind-kind.ensures ∙ added_are r rows
           ∙ ap kinds_of (sym (new ∙ ap (λ (i : ℕ). insert rows i r) (c.end_of_type-at.ensures ∙ ap (λ (k : List ℕ). end_of_type k c.args.self.now) c.kind-kind.ensures ∙ ap (end_of_type r.resource.kind) (sym c.self.view_is)) ∙ insert-at-end r rows)),
       c.add-3.ensures.pairs ∙ keyed ∙ ap (pairs_of resource_key) (sym new),
       c.in_ok-names.ensures ∙ ap (λ (n : ℕ). n + name_size r) c.self.invariant.4 ∙ sym (sum_by-insert name_size rows at r) ∙ ap names_size (sym new),
     )
+
+pub add-requires-2-clause-small : goal.add-requires-2-clause-small
+add-requires-2-clause-small g c =
+    let rows = c.self.inside.rows.items in
+    let many = ap (λ (runs : List TypeCount). length (expanded runs)) c.reserve-2.ensures.same ∙ ap (λ (kinds : List (List ℕ)). length kinds) c.self.invariant.2 ∙ as_many rows ∙ sym c.self.inside.rows.ok.0 in
+    let small = c.self.inside.rows.small in
+    omega (arith, many, small)

@@ -2,13 +2,13 @@ use Rattle.std.proofs.Common.{List, length, sym, ap, ◌∙◌, subst, arith}
 use Rattle.fork_bytes.specs.Written.{NamesFit}
 use Rattle.res_table.specs.declared.row.Row.{Row}
 use Rattle.res_table.specs.Saved.{bare}
-use Rattle.res_table.proofs.Bare.{rows_fit, few_fit, low_fit, names_fit}
+use Rattle.res_table.proofs.Bare.{rows_fit, few_fit, low_fit, names_fit, never}
 use Rattle.res_table.proofs.rows.Rows.fits.Goals as goal
 
 pub returns-then-len-gt-MAX_ROWS : goal.returns-then-len-gt-MAX_ROWS
 returns-then-len-gt-MAX_ROWS g c =
     let long = ap (λ (rs : List (Row _)). length rs) c.self.view_is in
-    (λ t. absurd (cc t), λ fit. absurd (let few = few_fit c.args.self.now fit in let over = c.if-len-gt-MAX_ROWS.true in let n = c.len.ensures in omega arith))
+    (λ t. never t, λ fit. absurd (let few = few_fit c.args.self.now fit in let over = c.if-len-gt-MAX_ROWS.true in let n = c.len.ensures in omega (arith, long, few, over, n)))
 
 pub returns-then-names-gt-MAX_OFFSET : goal.returns-then-names-gt-MAX_OFFSET
 returns-then-names-gt-MAX_OFFSET g c =
@@ -16,7 +16,7 @@ returns-then-names-gt-MAX_OFFSET g c =
     let long = ap (λ (rs : List (Row _)). length rs) c.self.view_is in
     let n = c.len.ensures in let m = c.len-2.ensures in
     let types = c.count_types.ensures.types in let over = c.if-names-gt-MAX_OFFSET.true in
-    (λ t. absurd (cc t), λ fit. absurd (let low = low_fit rows fit in omega arith))
+    (λ t. never t, λ fit. absurd (let low = low_fit rows fit in omega (arith, long, n, m, types, over, low)))
 
 pub returns : goal.returns
 returns g c =
@@ -26,6 +26,6 @@ returns g c =
     let types = c.count_types.ensures.types in let low = c.if-names-gt-MAX_OFFSET.false in
     let same = c.deref.ensures.value ∙ c.self.view_is in
     let P : List (Row _) → Type 0 = λ rs. NamesFit 0 (bare rs) in (
-      λ t. rows_fit rows (omega arith) (omega arith) (subst P same (c.names_fit.ensures.0 t)),
+      λ t. rows_fit rows (omega (arith, long, few, n)) (omega (arith, long, m, types, low)) (subst P same (c.names_fit.ensures.0 t)),
       λ fit. c.names_fit.ensures.1 (subst P (sym same) (names_fit rows fit)),
     )

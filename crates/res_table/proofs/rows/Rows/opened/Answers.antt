@@ -8,7 +8,7 @@ use Rattle.res_table.specs.Keyed.{handle_key, key_of_resource, in_order, pairs_o
 use Rattle.res_table.specs.Kinds.{kinds_of}
 use Rattle.res_table.proofs.Pairs.{opened_pairs}
 use Rattle.res_table.proofs.Sorting.{listed, listed_more, listed_are}
-use Rattle.res_table.proofs.Expanded.{kinds_more}
+use Rattle.res_table.proofs.Expanded.{as_many, kinds_more}
 use Rattle.res_table.proofs.rows.Rows.opened.Goals as goal
 
 -- the pairs as they come, with that of one more row
@@ -39,3 +39,10 @@ invariant_of-result g c =
       c.sorted.ensures ∙ ap in_order c.loop-resource.invariant.2 ∙ listed_are 0 c.loop-resource.rows.items,
       c.loop-resource.invariant.3,
     )
+
+pub push-requires : goal.push-requires
+push-requires g c =
+    let rows = c.loop-resource.rows in
+    let many = ap (λ (kinds : List (List ℕ)). length kinds) c.loop-resource.invariant.1 ∙ as_many rows.items ∙ sym rows.ok.0 in
+    let small = rows.small in
+    omega (arith, many, small)

@@ -1,4 +1,4 @@
-use Rattle.std.proofs.Common.{ℕ, Option, Some, remove, ◌≡◌, ◌+◌, ◌-◌, ◌<◌, List, length, sym, ap, ◌∙◌, arith, map, slice_get}
+use Rattle.std.proofs.Common.{ℕ, Option, Some, remove, subst, ◌≡◌, ◌+◌, ◌-◌, ◌<◌, List, length, sym, ap, ◌∙◌, arith, map, slice_get}
 use Rattle.res_table.specs.declared.row.Row.{Row}
 use Rattle.res_table.specs.Keyed.{handle_key, resource_key, pulled_up, without_key, pairs_of}
 use Rattle.res_table.proofs.Pairs.{order_kept, pairs_removed, row_is}
@@ -18,7 +18,7 @@ pub invariant_of-self : goal.invariant_of-self
 invariant_of-self g c =
     let rows = c.self.inside.rows.items in let r = c.remove-row.result in let i = c.args.index in
     let long = ap (λ (rs : List (Row _)). length rs) c.self.view_is in
-    let within : i < length rows = omega arith in
+    let within : i < length rows = subst (λ (n : ℕ). i < n) (sym long) c.requires in
     let count = c.remove-row.ensures.len in let old = c.self.inside.rows.ok.0 in let new = c.remove-row.new.self.ok.0 in
     let few = c.self.invariant.1 in let room = c.remove.ensures.room in let then = c.pull_up.ensures.room in (
       c.pull_up.ensures.pairs ∙ ap (map (pulled_up i)) (c.remove.ensures.pairs ∙ ap (λ (k : Option ℕ). without_key k i c.self.inside.handles.pairs.items) c.handle_key.ensures ∙ ap (without_key (handle_key r) i) c.self.invariant.0)
@@ -35,7 +35,7 @@ pub overflow_sub-self : goal.overflow_sub-self
 overflow_sub-self g c =
     let rows = c.self.inside.rows.items in let r = c.remove-row.result in
     let long = ap (λ (rs : List (Row _)). length rs) c.self.view_is in
-    let within : c.args.index < length rows = omega arith in
+    let within : c.args.index < length rows = subst (λ (n : ℕ). c.args.index < n) (sym long) c.requires in
     let less = names_less c.args.index r rows within c.remove-row.ensures.value in let all = c.self.invariant.4 in let one = c.name_size.ensures in
     omega arith
 
@@ -49,8 +49,11 @@ pub returns-clause-row : goal.returns-clause-row
 returns-clause-row g c =
     let rows = c.self.inside.rows.items in
     let long = ap (λ (rs : List (Row _)). length rs) c.self.view_is in
-    let within : c.args.index < length rows = omega arith in
+    let within : c.args.index < length rows = subst (λ (n : ℕ). c.args.index < n) (sym long) c.requires in
     sym (ap (λ (rs : List (Row _)). slice_get rs c.args.index) c.self.view_is) ∙ row_is c.args.index c.remove-row.result rows within c.remove-row.ensures.value
 
 pub remove-requires-3 : goal.remove-requires-3
 remove-requires-3 g c = record { order = order_kept resource_key c.self.inside.resources.pairs.items c.self.inside.rows.items c.self.invariant.3 }
+
+pub remove-row-requires : goal.remove-row-requires
+remove-row-requires g c = subst (λ (n : ℕ). c.args.index < n) (ap (λ (rows : List (Row _)). length rows) (sym c.self.view_is) ∙ sym c.self.inside.rows.ok.0) c.requires

@@ -1,4 +1,4 @@
-use Rattle.std.proofs.Common.{◌<◌, List, length, refl, sym, ap, ◌∙◌, arith}
+use Rattle.std.proofs.Common.{◌<◌, ℕ, List, subst, length, refl, sym, ap, ◌∙◌}
 use Rattle.std.specs.Prelude.{vec_capacity}
 use Rattle.res_table.specs.declared.row.Row.{Row}
 use Rattle.res_table.specs.Rows.{changed_at, with_attributes}
@@ -12,7 +12,7 @@ invariant_of-self g c =
     let r = c.index_mut.result.now in let rows = c.self.inside.rows.items in let pairs = c.self.inside.handles.pairs in
     let new = with_attributes c.args.attributes r in
     let long = ap (λ (rs : List (Row _)). length rs) c.self.view_is in
-    let within : c.args.index < length rows = omega arith in
+    let within : c.args.index < length rows = subst (λ (n : ℕ). c.args.index < n) (sym long) c.requires in
     let all = kept c.args.index r new rows pairs.items (vec_capacity pairs) c.index_mut.ensures.value refl (c.self.invariant.0, c.self.invariant.1) in (
       all.0,
       all.1,
@@ -25,6 +25,9 @@ pub returns : goal.returns
 returns g c =
     let rows = c.self.inside.rows.items in
     let long = ap (λ (rs : List (Row _)). length rs) c.self.view_is in
-    let within : c.args.index < length rows = omega arith in
+    let within : c.args.index < length rows = subst (λ (n : ℕ). c.args.index < n) (sym long) c.requires in
     changed_is c.args.index (with_attributes c.args.attributes) c.index_mut.result.now rows within c.index_mut.ensures.value
     ∙ ap (changed_at c.args.index (with_attributes c.args.attributes)) c.self.view_is
+
+pub index_mut-requires : goal.index_mut-requires
+index_mut-requires g c = subst (λ (n : ℕ). c.args.index < n) (ap (λ (rows : List (Row _)). length rows) (sym c.self.view_is) ∙ sym c.self.inside.rows.ok.0) c.requires

@@ -29,7 +29,7 @@ pub add-requires-clause-room : goal.add-requires-clause-room
 add-requires-clause-room g c =
     let rows = c.self.inside.rows.items in let i = c.args.index in let pairs = c.self.inside.handles.pairs in
     let long = ap (λ (rs : List (Row _)). length rs) c.self.view_is in
-    let within : i < length rows = omega arith in
+    let within : i < length rows = subst (λ (n : ℕ). i < n) (sym long) c.requires in
     let new = with_handle c.args.handle c.index_mut.result.now in
     let is = pairs_are i c.index.result.now new c.index-2.result.now rows pairs.items c.remove.new.self.pairs.items c.handle_key-old.result c.handle_key-new.result within c.index.ensures c.index-2.ensures
     c.self.invariant.0 c.remove.ensures.pairs c.handle_key-old.ensures c.handle_key-new.ensures in
@@ -40,7 +40,7 @@ pub invariant_of-self : goal.invariant_of-self
 invariant_of-self g c =
     let rows = c.self.inside.rows.items in let i = c.args.index in let pairs = c.self.inside.handles.pairs in
     let long = ap (λ (rs : List (Row _)). length rs) c.self.view_is in
-    let within : i < length rows = omega arith in
+    let within : i < length rows = subst (λ (n : ℕ). i < n) (sym long) c.requires in
     let new = with_handle c.args.handle c.index_mut.result.now in
     let is = pairs_are i c.index.result.now new c.index-2.result.now rows pairs.items c.remove.new.self.pairs.items c.handle_key-old.result c.handle_key-new.result within c.index.ensures c.index-2.ensures
     c.self.invariant.0 c.remove.ensures.pairs c.handle_key-old.ensures c.handle_key-new.ensures in
@@ -56,6 +56,15 @@ pub returns : goal.returns
 returns g c =
     let rows = c.self.inside.rows.items in
     let long = ap (λ (rs : List (Row _)). length rs) c.self.view_is in
-    let within : c.args.index < length rows = omega arith in
+    let within : c.args.index < length rows = subst (λ (n : ℕ). c.args.index < n) (sym long) c.requires in
     changed_is c.args.index (with_handle c.args.handle) c.index_mut.result.now rows within c.index_mut.ensures.value
     ∙ ap (changed_at c.args.index (with_handle c.args.handle)) c.self.view_is
+
+pub index_mut-requires : goal.index_mut-requires
+index_mut-requires g c = subst (λ (n : ℕ). c.args.index < n) (ap (λ (rows : List (Row _)). length rows) (sym c.self.view_is) ∙ sym c.self.inside.rows.ok.0) c.requires
+
+pub index-requires-2 : goal.index-requires-2
+index-requires-2 g c = subst (λ (n : ℕ). c.args.index < n) (ap (λ (rows : List (Row _)). length rows) (sym c.self.view_is) ∙ sym c.self.inside.rows.ok.0) c.requires
+
+pub index-requires : goal.index-requires
+index-requires g c = subst (λ (n : ℕ). c.args.index < n) (ap (λ (rows : List (Row _)). length rows) (sym c.self.view_is) ∙ sym c.self.inside.rows.ok.0) c.requires

@@ -1,7 +1,7 @@
-use Rattle.std.proofs.Common.{◌∙◌, ap, arith}
-use Rattle.mac_calls.specs.GrowZone.{noted}
-use Rattle.toolbox.specs.Queue.{Queue}
-use Rattle.toolbox.proofs.Queued.{call_noted, may_note-out, noted-back, room_behind}
+use Rattle.std.proofs.Common.{◌++◌, ◌∙◌, List, ap, arith}
+use Rattle.mac_calls.specs.GrowZone.{Answer, Ask, answers_in, noted}
+use Rattle.toolbox.specs.Queue.{Queue, left_of}
+use Rattle.toolbox.proofs.Queued.{call_noted, may_note-out, noted-answers, noted-back, room_behind}
 use Rattle.toolbox.proofs.queue.AnswerQueueGrowZone.did.Goals as goal
 
 pub note-requires : goal.note-requires
@@ -19,3 +19,10 @@ returns-in-Some-clause-asks c =
     c.push.ensures.items
     ∙ noted-back c.args.call c.args.code c.self.inside.asks.items c.pop.new.self.items c.in-Some.ask c.note.new.self c.in-Some.ensures.items c.note.ensures
     ∙ ap (λ (q : Queue). noted c.args.call c.args.code q.asks) c.self.view_is
+
+pub returns-in-Some-clause-source : goal.returns-in-Some-clause-source
+returns-in-Some-clause-source c =
+    ap (λ (asks : List Ask). answers_in asks ++ left_of c.self.inside.calls.items c.self.inside.kept.items c.self.inside.taken)
+    (c.push.ensures.items ∙ noted-back c.args.call c.args.code c.self.inside.asks.items c.pop.new.self.items c.in-Some.ask c.note.new.self c.in-Some.ensures.items c.note.ensures)
+    ∙ ap (λ (answers : List Answer). answers ++ left_of c.self.inside.calls.items c.self.inside.kept.items c.self.inside.taken) (noted-answers c.args.call c.args.code c.self.inside.asks.items)
+    ∙ ap (λ (q : Queue). q.source) c.self.view_is
