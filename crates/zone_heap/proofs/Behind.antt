@@ -18,7 +18,7 @@ use Rattle.zone_heap.specs.Purge.{BlocksAt, IsLimit, Purges, all_released, block
 use Rattle.zone_heap.specs.declared.purge.Limit.{Limit}
 use Rattle.zone_heap.proofs.FreedBlocks.{Once, once-suits, once-At, sizes-At}
 use Rattle.zone_heap.proofs.Grows.{blocks-behind, grows-staying}
-use Rattle.zone_heap.proofs.Until.{until-limit, until-enough_then}
+use Rattle.zone_heap.proofs.Until.{limit-blocks, limit-candidates, until-limit, until-enough_then}
 
 size_fits : (k n r : ℕ) (c : Bool) → (nat_le k (n + r) || c) ≡ false → n ≤ k
 size_fits k n r c h = less (or_parts (nat_le k (n + r)) c h).0
@@ -90,14 +90,7 @@ module _ (z : ZoneState) (x at : ℕ) (n : NamedAt z x at) (sound : SoundZone z)
             ap (λ b. purged_until test (candidates_in t protected b) z.heap.map) same
             ∙ until-limit (bounds_gap t None) (counts None) (k - (n.here).size) t protected gap_here.blocks start limit l test z.heap.map (means_here protected) in
             record {
-              between = record {
-                before = n.before ++ n.here ∷ [];
-                blocks = l.below;
-                behind = l.above ++ gap_here.behind;
-                map = whole_map ∙ ap (λ b. (n.before ++ n.here ∷ []) ++ (b ++ gap_here.behind)) l.parts ∙ ap (λ b. (n.before ++ n.here ∷ []) ++ b) (append_assoc l.below l.above gap_here.behind);
-                place = l.start ∙ start_place;
-                long = l.end ∙ ap (λ n. n + total_size l.below) (sym l.start);
-              };
-              these = sym these;
+              between = limit-blocks (bounds_gap t None) (counts None) (k - (n.here).size) t protected gap_here.blocks start limit l z (n.before ++ n.here ∷ []) gap_here.behind whole_map start_place;
+              these = limit-candidates (bounds_gap t None) (counts None) (k - (n.here).size) t protected gap_here.blocks start limit l ∙ sym these;
               enough = until-enough_then (bounds_gap t None) (counts None) (k - (n.here).size) t protected gap_here.blocks start limit l test z.heap.map (means_here protected) ∙ ap (λ hs. test (all_released hs z.heap.map)) (sym these);
             }

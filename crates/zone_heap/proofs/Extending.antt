@@ -51,8 +51,8 @@ module _ (z : ZoneState) (sound : Sound z.shape z.heap) where
   extended-joined = refl
 
   -- and so it is where there is none
-  pub extended-full : (zone_header + total_size z.heap.map < z.shape.limit → ⊥) → extended z ≡ with_heap (grown z.shape z.heap) z
-  extended-full full =
+  pub grown-full : (zone_header + total_size z.heap.map < z.shape.limit → ⊥) → z ≡ with_heap (grown z.shape z.heap) z
+  grown-full full =
       let none : left ≡ 0 = omega arith in
       let same : z.heap.map ++ free_block left ≡ z.heap.map = ap (λ n. z.heap.map ++ free_block n) none ∙ append-nil z.heap.map in
-      ap (λ m. with_map m z) (sym (joined-apart (z.heap.map ++ free_block left) (ap free_apart same ∙ sound.suits.apart)))
+      ap (λ m. with_map m z) (sym same) ∙ ap (λ m. with_map m z) (sym (joined-apart (z.heap.map ++ free_block left) (ap free_apart same ∙ sound.suits.apart)))

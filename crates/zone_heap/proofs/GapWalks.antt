@@ -1,6 +1,6 @@
 -- Walks by which the room of gaps is counted.
-use Rattle.std.proofs.Common.{◌≡◌, ℕ, ◌+◌, ◌<◌, ◌≤◌, Bool, true, false, not, cond, eqb, List, ◌∷◌, ◌++◌, refl, ap, sym, ◌∙◌, arith, subst, Some, None, Option}
-use Rattle.std.specs.Prelude.{◌&&◌, ◌||◌, is_some, nat_le}
+use Rattle.std.proofs.Common.{◌≡◌, ℕ, ◌+◌, ◌<◌, ◌≤◌, ◌≢◌, Bool, true, false, not, cond, eqb, List, [], ◌∷◌, ◌++◌, refl, ap, sym, ◌∙◌, arith, subst, inl, inr, Some, None, Option}
+use Rattle.std.specs.Prelude.{◌&&◌, ◌⊎◌, is_some, nat_le}
 use Rattle.std.proofs.lemmas.Bool.Decides.{nat_tests}
 use Rattle.mac_base.specs.declared.block.Kind.{Kind}
 use Rattle.mac_base.specs.declared.block.Kind.TheVariants.{Free, Master, Ptr, Rel}
@@ -12,10 +12,11 @@ use Rattle.mac_base.specs.ZoneState.{ZoneState}
 use Rattle.zone_laws.proofs.Tables.{eqb-true-is}
 use Rattle.zone_gaps.proofs.Sizes.{total_size-push}
 use Rattle.zone_heap.specs.Attempts.{SoundZone}
-use Rattle.zone_heap.specs.Purge.{BlocksAt, IsLimit, bounds_gap, bytes_before, counts, handle_to_purge, is_kept, may_purge, run_has, size_if}
+use Rattle.zone_heap.specs.Purge.{BlocksAt, IsLimit, Spanned, bounds_gap, bytes_before, counts, handle_to_purge, is_kept, may_purge, run_has, size_if}
+use Rattle.zone_heap.specs.declared.purge.Limit.{Limit}
 use Rattle.zone_heap.proofs.Purging.{may_purge-parts}
-use Rattle.zone_heap.proofs.Runs.{Swept, bytes-within, bound_swept, limit_here, limit_last, more-run, none_behind, none_swept, pass_swept, purge_swept}
-use Rattle.zone_heap.proofs.Walks.{Walked, Facing, none_walked, end_walked, walked_end, walked_on, within_facing}
+use Rattle.zone_heap.proofs.Runs.{Swept, bytes-within, bound_swept, limit_here, limit_last, more-run, none_behind, none_swept, pass_swept, purge_swept, spanned-high, spanned_all, spanned_go, spanned_stay}
+use Rattle.zone_heap.proofs.Walks.{Walked, Facing, bytes_facing, none_walked, end_walked, rest_walked, walked_end, walked_on, within_facing}
 
 -- a free block counts
 pub counts-free : (counted : Option ℕ) → counts counted Free ≡ true
@@ -114,94 +115,99 @@ module _ {start end : ℕ} (z : ZoneState) (b : BlocksAt z start end) (counted :
     pub within_counted : room + (f.here).size ≤ end
     within_counted = let few = c.few in let here = (c.walked).at_is in let within = within_facing z b at c.walked f in omega arith
 
--- Gaps are searched up to an address: the blocks below are purged, and fewer don't do; the gap that goes on has room.
-pub record Sought {start end : ℕ} (z : ZoneState) (b : BlocksAt z start end) (k : ℕ) (counted : Option ℕ) (protected : List ℕ) (at room : ℕ) : Type 0 where
+-- Gaps are searched up to an address: the blocks below are purged, and fewer don't do; the gap that goes on began at an address, so
+-- many of its bytes are purged, and where some are its room before is known.
+pub record Sought {start end : ℕ} (z : ZoneState) (b : BlocksAt z start end) (k : ℕ) (counted : Option ℕ) (protected : List ℕ) (at from freed room : ℕ) (limit : Limit) : Type 0 where
   pub walked : Walked z b at
   pub run : ℕ
   pub swept : Swept (bounds_gap z.heap.table counted) (counts counted) k (may_purge z.heap.table protected) (counts-free counted) (bounds-free z.heap.table counted) walked.done walked.rest run
-  pub room_is : room ≡ run + bytes_before (bounds_gap z.heap.table counted) (counts counted) walked.rest
+  pub gap : BlocksAt z from end
+  pub known : freed ≢ 0 → (g : BlocksAt z from end) → room ≡ bytes_before (bounds_gap z.heap.table counted) (counts counted) g.blocks
+  pub so_far : bytes_before (bounds_gap z.heap.table counted) (counts counted) gap.blocks + freed ≡ run + bytes_before (bounds_gap z.heap.table counted) (counts counted) walked.rest
+  pub spanned : Spanned (may_purge z.heap.table protected) walked.done start limit.start limit.end
+  pub some : (spanned.between ≡ []) ⊎ (limit.start < limit.end)
+  pub not_yet : limit.enough ≡ false
 
 module _ {start end : ℕ} (z : ZoneState) (b : BlocksAt z start end) (k : ℕ) (counted : Option ℕ) (protected : List ℕ) where
   -- at first none is purged
-  pub none_sought : (room : ℕ) → room ≡ bytes_before (bounds_gap z.heap.table counted) (counts counted) b.blocks → run_has (bounds_gap z.heap.table counted) (counts counted) k 0 b.blocks ≡ false → Sought z b k counted protected start room
-  none_sought room is none = record {
+  pub none_sought : run_has (bounds_gap z.heap.table counted) (counts counted) k 0 b.blocks ≡ false → Sought z b k counted protected start start 0 0 (record { start = start; end = start; enough = false })
+  none_sought none = record {
     walked = none_walked z b;
     run = 0;
     swept = none_swept (bounds_gap z.heap.table counted) (counts counted) k (may_purge z.heap.table protected) (counts-free counted) (bounds-free z.heap.table counted) b.blocks none;
-    room_is = is ∙ (let n : ℕ = bytes_before (bounds_gap z.heap.table counted) (counts counted) b.blocks in let e : n ≡ 0 + n = omega arith in e);
+    gap = b;
+    known = λ some. absurd (some refl);
+    so_far = (let n : ℕ = bytes_before (bounds_gap z.heap.table counted) (counts counted) b.blocks in let e : n + 0 ≡ 0 + n = omega arith in e);
+    spanned = spanned_all (may_purge z.heap.table protected) [] start start (let e : start ≡ start + 0 = omega arith in e);
+    some = inl refl;
+    not_yet = refl;
   }
 
   -- at the end all are
-  pub sought_all : (at room : ℕ) → SoundZone z → Sought z b k counted protected at room → end ≤ at
-      → IsLimit (bounds_gap z.heap.table counted) (counts counted) (may_purge z.heap.table protected) k b.blocks start (record { start = start; end = at; enough = false })
-  sought_all at room sound s above =
+  pub sought_all : (at from freed room : ℕ) (limit : Limit) → SoundZone z → Sought z b k counted protected at from freed room limit → end ≤ at
+      → IsLimit (bounds_gap z.heap.table counted) (counts counted) (may_purge z.heap.table protected) k b.blocks start limit
+  sought_all at from freed room limit sound s above =
       let none = walked_end z b at s.walked sound above in
-      limit_last (bounds_gap z.heap.table counted) (counts counted) k (may_purge z.heap.table protected) (counts-free counted) (bounds-free z.heap.table counted) (s.walked).done s.run start at
+      limit_last (bounds_gap z.heap.table counted) (counts counted) k (may_purge z.heap.table protected) (counts-free counted) (bounds-free z.heap.table counted) (s.walked).done s.run start limit
       (subst (λ m. Swept (bounds_gap z.heap.table counted) (counts counted) k (may_purge z.heap.table protected) (counts-free counted) (bounds-free z.heap.table counted) (s.walked).done m s.run) none s.swept)
-      b.blocks ((s.walked).parts ∙ ap (λ m. (s.walked).done ++ m) none) (s.walked).at_is
+      b.blocks ((s.walked).parts ∙ ap (λ m. (s.walked).done ++ m) none) s.spanned s.not_yet
 
-  module _ (at room : ℕ) (s : Sought z b k counted protected at room) (f : Facing z b at s.walked) where
+  module _ (at from freed room : ℕ) (limit : Limit) (s : Sought z b k counted protected at from freed room limit) (f : Facing z b at s.walked) where
     here_swept : Swept (bounds_gap z.heap.table counted) (counts counted) k (may_purge z.heap.table protected) (counts-free counted) (bounds-free z.heap.table counted) (s.walked).done (f.here ∷ f.after) s.run
     here_swept = subst (λ m. Swept (bounds_gap z.heap.table counted) (counts counted) k (may_purge z.heap.table protected) (counts-free counted) (bounds-free z.heap.table counted) (s.walked).done m s.run) f.is s.swept
 
-    room_here : room ≡ s.run + cond (bounds_gap z.heap.table counted (f.here).kind) 0 (size_if (counts counted) f.here + bytes_before (bounds_gap z.heap.table counted) (counts counted) f.after)
-    room_here = s.room_is ∙ ap (λ m. s.run + bytes_before (bounds_gap z.heap.table counted) (counts counted) m) f.is
+    room_here : bytes_before (bounds_gap z.heap.table counted) (counts counted) (s.gap).blocks + freed
+        ≡ s.run + cond (bounds_gap z.heap.table counted (f.here).kind) 0 (size_if (counts counted) f.here + bytes_before (bounds_gap z.heap.table counted) (counts counted) f.after)
+    room_here = s.so_far ∙ ap (λ m. s.run + bytes_before (bounds_gap z.heap.table counted) (counts counted) m) f.is
 
     -- a block that stays and bounds a gap: the next one begins
-    pub sought_bound : may_purge z.heap.table protected (f.here).kind ≡ false → bounds_gap z.heap.table counted (f.here).kind ≡ true → (next : ℕ) → next ≡ bytes_before (bounds_gap z.heap.table counted) (counts counted) f.after
-        → Sought z b k counted protected (at + (f.here).size) next
-    sought_bound stays bounding next is = record {
+    pub sought_bound : may_purge z.heap.table protected (f.here).kind ≡ false → bounds_gap z.heap.table counted (f.here).kind ≡ true → Sought z b k counted protected (at + (f.here).size) (at + (f.here).size) 0 room limit
+    sought_bound stays bounding = record {
       walked = walked_on z b at s.walked f;
       run = 0;
       swept = bound_swept (bounds_gap z.heap.table counted) (counts counted) k (may_purge z.heap.table protected) (counts-free counted) (bounds-free z.heap.table counted) (s.walked).done f.here f.after s.run here_swept stays bounding;
-      room_is = is ∙ (let n : ℕ = bytes_before (bounds_gap z.heap.table counted) (counts counted) f.after in let e : n ≡ 0 + n = omega arith in e);
+      gap = rest_walked z b (at + (f.here).size) (walked_on z b at s.walked f);
+      known = λ some. absurd (some refl);
+      so_far = (let n : ℕ = bytes_before (bounds_gap z.heap.table counted) (counts counted) f.after in let e : n + 0 ≡ 0 + n = omega arith in e);
+      spanned = spanned_stay (may_purge z.heap.table protected) (s.walked).done start limit.start limit.end s.spanned f.here stays;
+      some = s.some;
+      not_yet = s.not_yet;
     }
 
     -- one that stays and doesn't
-    pub sought_on : may_purge z.heap.table protected (f.here).kind ≡ false → bounds_gap z.heap.table counted (f.here).kind ≡ false → Sought z b k counted protected (at + (f.here).size) room
+    pub sought_on : may_purge z.heap.table protected (f.here).kind ≡ false → bounds_gap z.heap.table counted (f.here).kind ≡ false → Sought z b k counted protected (at + (f.here).size) from freed room limit
     sought_on stays moves = record {
       walked = walked_on z b at s.walked f;
       run = s.run + size_if (counts counted) f.here;
       swept = pass_swept (bounds_gap z.heap.table counted) (counts counted) k (may_purge z.heap.table protected) (counts-free counted) (bounds-free z.heap.table counted) (s.walked).done f.here f.after s.run here_swept stays moves;
-      room_is = room_here ∙ ap (λ c. s.run + cond c 0 (size_if (counts counted) f.here + bytes_before (bounds_gap z.heap.table counted) (counts counted) f.after)) moves
+      gap = s.gap;
+      known = s.known;
+      so_far = room_here ∙ ap (λ c. s.run + cond c 0 (size_if (counts counted) f.here + bytes_before (bounds_gap z.heap.table counted) (counts counted) f.after)) moves
           ∙ (let n : ℕ = bytes_before (bounds_gap z.heap.table counted) (counts counted) f.after in let size : ℕ = size_if (counts counted) f.here in let e : s.run + (size + n) ≡ s.run + size + n = omega arith in e);
+      spanned = spanned_stay (may_purge z.heap.table protected) (s.walked).done start limit.start limit.end s.spanned f.here stays;
+      some = s.some;
+      not_yet = s.not_yet;
     }
 
-    module _ (kept : is_kept protected counted ≡ true) (may : may_purge z.heap.table protected (f.here).kind ≡ true) where
+    module _ (kept : is_kept protected counted ≡ true) (may : may_purge z.heap.table protected (f.here).kind ≡ true) (whole : ℕ) (is : (g : BlocksAt z from end) → whole ≡ bytes_before (bounds_gap z.heap.table counted) (counts counted) g.blocks) where
       moves_here : bounds_gap z.heap.table counted (f.here).kind ≡ false
       moves_here = purged-moves z.heap.table protected counted (f.here).kind kept may
 
-      room_purged : room + (f.here).size ≡ s.run + (f.here).size + bytes_before (bounds_gap z.heap.table counted) (counts counted) f.after
+      room_purged : whole + (freed + (f.here).size) ≡ s.run + (f.here).size + bytes_before (bounds_gap z.heap.table counted) (counts counted) f.after
       room_purged =
           let n : ℕ = bytes_before (bounds_gap z.heap.table counted) (counts counted) f.after in
-          let is : room ≡ s.run + (0 + n) = room_here ∙ ap (λ c. s.run + cond c 0 (size_if (counts counted) f.here + bytes_before (bounds_gap z.heap.table counted) (counts counted) f.after)) moves_here
+          let all = is s.gap in
+          let here : bytes_before (bounds_gap z.heap.table counted) (counts counted) (s.gap).blocks + freed ≡ s.run + (0 + n) = room_here ∙ ap (λ c. s.run + cond c 0 (size_if (counts counted) f.here + bytes_before (bounds_gap z.heap.table counted) (counts counted) f.after)) moves_here
           ∙ ap (λ c. s.run + (cond c (f.here).size 0 + bytes_before (bounds_gap z.heap.table counted) (counts counted) f.after)) (purged-apart z.heap.table protected counted (f.here).kind kept may) in
           omega arith
 
-      run_purged : run_has (bounds_gap z.heap.table counted) (counts counted) k (s.run + (f.here).size) f.after ≡ nat_le k (room + (f.here).size)
+      run_purged : run_has (bounds_gap z.heap.table counted) (counts counted) k (s.run + (f.here).size) f.after ≡ nat_le k (whole + (freed + (f.here).size))
       run_purged =
           let behind = none_behind (bounds_gap z.heap.table counted) (counts counted) k (may_purge z.heap.table protected) (counts-free counted) (bounds-free z.heap.table counted) (s.walked).done f.here f.after s.run here_swept false moves_here in
           more-run (bounds_gap z.heap.table counted) (counts counted) k (s.run + size_if (counts counted) f.here) (s.run + (f.here).size) f.after behind ∙ ap (nat_le k) (sym room_purged)
 
-      -- one that is purged
-      pub sought_more : nat_le k (room + (f.here).size) ≡ false → Sought z b k counted protected (at + (f.here).size) (room + (f.here).size)
-      sought_more less = record {
-        walked = walked_on z b at s.walked f;
-        run = s.run + (f.here).size;
-        swept = purge_swept (bounds_gap z.heap.table counted) (counts counted) k (may_purge z.heap.table protected) (counts-free counted) (bounds-free z.heap.table counted) (s.walked).done f.here f.after s.run here_swept may (run_purged ∙ less);
-        room_is = room_purged;
-      }
-
-      -- and is enough
-      pub sought_found : nat_le k (room + (f.here).size) ≡ true
-          → IsLimit (bounds_gap z.heap.table counted) (counts counted) (may_purge z.heap.table protected) k b.blocks start (record { start = start; end = at + (f.here).size; enough = true })
-      sought_found enough =
-          let w = walked_on z b at s.walked f in
-          limit_here (bounds_gap z.heap.table counted) (counts counted) k (may_purge z.heap.table protected) (counts-free counted) (bounds-free z.heap.table counted) (s.walked).done f.here f.after s.run here_swept start (at + (f.here).size)
-          may (run_purged ∙ enough) b.blocks w.parts w.at_is
-
       -- the room fits
-      pub within_sought : room + (f.here).size ≤ end
+      pub within_sought : whole + (freed + (f.here).size) ≤ end
       within_sought =
           let is = room_purged in
           let few = (s.swept).few in
@@ -211,62 +217,27 @@ module _ {start end : ℕ} (z : ZoneState) (b : BlocksAt z start end) (k : ℕ) 
           let all = ap total_size f.is in
           omega arith
 
--- Gaps are looked through up to an address: none below has room, and the one that goes on has some.
-pub record Through {start end : ℕ} (z : ZoneState) (b : BlocksAt z start end) (k : ℕ) (counted : Option ℕ) (at room : ℕ) : Type 0 where
-  pub walked : Walked z b at
-  pub so_far : run_has (bounds_gap z.heap.table counted) (counts counted) k 0 b.blocks ≡ run_has (bounds_gap z.heap.table counted) (counts counted) k room walked.rest
-  pub few : room ≤ total_size walked.done
+      module _ (wider : Limit) (low : wider.start ≡ cond (eqb limit.start limit.end) at limit.start) (high : wider.end ≡ at + (f.here).size) where
+        wide : Spanned (may_purge z.heap.table protected) ((s.walked).done ++ f.here ∷ []) start wider.start wider.end
+        wide = spanned_go (may_purge z.heap.table protected) (s.walked).done start limit.start limit.end s.spanned f.here s.some at (s.walked).at_is wider.start wider.end low high
 
-module _ {start end : ℕ} (z : ZoneState) (b : BlocksAt z start end) (k : ℕ) (counted : Option ℕ) where
-  -- at first none is
-  pub none_through : Through z b k counted start 0
-  none_through = record { walked = none_walked z b; so_far = refl; few = omega arith }
+        -- one that is purged
+        pub sought_more : SoundZone z → nat_le k (whole + (freed + (f.here).size)) ≡ false → wider.enough ≡ false → Sought z b k counted protected (at + (f.here).size) from (freed + (f.here).size) whole wider
+        sought_more sound less less_is = record {
+          walked = walked_on z b at s.walked f;
+          run = s.run + (f.here).size;
+          swept = purge_swept (bounds_gap z.heap.table counted) (counts counted) k (may_purge z.heap.table protected) (counts-free counted) (bounds-free z.heap.table counted) (s.walked).done f.here f.after s.run here_swept may (run_purged ∙ less);
+          gap = s.gap;
+          known = λ _ g. is g;
+          so_far = ap (λ n. n + (freed + (f.here).size)) (sym (is s.gap)) ∙ room_purged;
+          spanned = wide;
+          some = inr (spanned-high (may_purge z.heap.table protected) (s.walked).done start limit.start limit.end s.spanned f.here at wider.start wider.end (s.walked).at_is low high (bytes_facing z b at s.walked f sound));
+          not_yet = less_is;
+        }
 
-  -- at the end all are
-  pub through_all : (at room : ℕ) → SoundZone z → Through z b k counted at room → end ≤ at → nat_le k room ≡ run_has (bounds_gap z.heap.table counted) (counts counted) k 0 b.blocks
-  through_all at room sound s above = sym (s.so_far ∙ ap (run_has (bounds_gap z.heap.table counted) (counts counted) k room) (walked_end z b at s.walked sound above))
-
-  module _ (at room : ℕ) (s : Through z b k counted at room) (f : Facing z b at s.walked) where
-    through_step : run_has (bounds_gap z.heap.table counted) (counts counted) k 0 b.blocks
-        ≡ cond (bounds_gap z.heap.table counted (f.here).kind) (nat_le k room || run_has (bounds_gap z.heap.table counted) (counts counted) k 0 f.after) (run_has (bounds_gap z.heap.table counted) (counts counted) k (room + size_if (counts counted) f.here) f.after)
-    through_step = s.so_far ∙ ap (run_has (bounds_gap z.heap.table counted) (counts counted) k room) f.is
-
-    -- a block that counts
-    pub through_more : counts counted (f.here).kind ≡ true → Through z b k counted (at + (f.here).size) (room + (f.here).size)
-    through_more here = record {
-      walked = walked_on z b at s.walked f;
-      so_far = through_step
-          ∙ ap (λ c. cond c (nat_le k room || run_has (bounds_gap z.heap.table counted) (counts counted) k 0 f.after) (run_has (bounds_gap z.heap.table counted) (counts counted) k (room + size_if (counts counted) f.here) f.after)) (bounds-counts z.heap.table counted (f.here).kind here)
-          ∙ ap (λ c. run_has (bounds_gap z.heap.table counted) (counts counted) k (room + cond c (f.here).size 0) f.after) here;
-      few = (let was = s.few in let all = total_size-push (s.walked).done f.here in omega arith);
-    }
-
-    -- one that bounds a gap
-    pub through_bound : bounds_gap z.heap.table counted (f.here).kind ≡ true → run_has (bounds_gap z.heap.table counted) (counts counted) k 0 b.blocks ≡ (nat_le k room || run_has (bounds_gap z.heap.table counted) (counts counted) k 0 f.after)
-    through_bound bounding = through_step
-        ∙ ap (λ c. cond c (nat_le k room || run_has (bounds_gap z.heap.table counted) (counts counted) k 0 f.after) (run_has (bounds_gap z.heap.table counted) (counts counted) k (room + size_if (counts counted) f.here) f.after)) bounding
-
-    pub through_found : bounds_gap z.heap.table counted (f.here).kind ≡ true → nat_le k room ≡ true → run_has (bounds_gap z.heap.table counted) (counts counted) k 0 b.blocks ≡ true
-    through_found bounding enough = through_bound bounding ∙ ap (λ c. c || run_has (bounds_gap z.heap.table counted) (counts counted) k 0 f.after) enough
-
-    pub through_next : bounds_gap z.heap.table counted (f.here).kind ≡ true → nat_le k room ≡ false → Through z b k counted (at + (f.here).size) 0
-    through_next bounding less = record {
-      walked = walked_on z b at s.walked f;
-      so_far = through_bound bounding ∙ ap (λ c. c || run_has (bounds_gap z.heap.table counted) (counts counted) k 0 f.after) less;
-      few = omega arith;
-    }
-
-    -- one that does neither
-    pub through_on : counts counted (f.here).kind ≡ false → bounds_gap z.heap.table counted (f.here).kind ≡ false → Through z b k counted (at + (f.here).size) room
-    through_on other moves = record {
-      walked = walked_on z b at s.walked f;
-      so_far = through_step
-          ∙ ap (λ c. cond c (nat_le k room || run_has (bounds_gap z.heap.table counted) (counts counted) k 0 f.after) (run_has (bounds_gap z.heap.table counted) (counts counted) k (room + size_if (counts counted) f.here) f.after)) moves
-          ∙ ap (λ c. run_has (bounds_gap z.heap.table counted) (counts counted) k (room + cond c (f.here).size 0) f.after) other
-          ∙ ap (λ n. run_has (bounds_gap z.heap.table counted) (counts counted) k n f.after) (let e : room + 0 ≡ room = omega arith in e);
-      few = (let was = s.few in let all = total_size-push (s.walked).done f.here in omega arith);
-    }
-
-    -- the room fits
-    pub within_through : room + (f.here).size ≤ end
-    within_through = let few = s.few in let here = (s.walked).at_is in let within = within_facing z b at s.walked f in omega arith
+        -- and is enough
+        pub sought_found : nat_le k (whole + (freed + (f.here).size)) ≡ true → wider.enough ≡ true → IsLimit (bounds_gap z.heap.table counted) (counts counted) (may_purge z.heap.table protected) k b.blocks start wider
+        sought_found enough is =
+            let w = walked_on z b at s.walked f in
+            limit_here (bounds_gap z.heap.table counted) (counts counted) k (may_purge z.heap.table protected) (counts-free counted) (bounds-free z.heap.table counted) (s.walked).done f.here f.after s.run here_swept start wider
+            may (run_purged ∙ enough) b.blocks w.parts wide is

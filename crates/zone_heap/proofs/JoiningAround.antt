@@ -1,5 +1,5 @@
 -- A walk by which free neighbours are joined around the blocks between two addresses.
-use Rattle.std.proofs.Common.{◌≡◌, ℕ, ◌+◌, ◌<◌, ◌≤◌, Bool, true, false, not, List, [], ◌∷◌, ◌++◌, length, refl, ap, sym, ◌∙◌, arith, append_assoc, append-nil, subst, IsTrue}
+use Rattle.std.proofs.Common.{◌≡◌, ℕ, ◌+◌, ◌<◌, ◌≤◌, Bool, true, false, not, List, [], ◌∷◌, ◌++◌, refl, ap, sym, ◌∙◌, arith, append_assoc, IsTrue}
 use Rattle.std.specs.Prelude.{◌&&◌, Option, Some, None, IfSome, IfNone}
 use Rattle.std.specs.Option.{unwrap_or}
 use Rattle.mac_base.specs.declared.block.Entry.{Entry}
@@ -21,7 +21,7 @@ use Rattle.zone_heap.specs.Purge.{ApartBeside, BlocksAt, freed_where, may_purge,
 use Rattle.zone_heap.proofs.EmptyingBlocks.{sizes-purged}
 use Rattle.zone_heap.proofs.FreedBlocks.{total_size-freed}
 use Rattle.zone_heap.proofs.Places.{same_head}
-use Rattle.zone_heap.proofs.JoiningAll.{JoinedBelow, JoinedTo, TwoFree, joined_more, pair_joined, map_pair}
+use Rattle.zone_heap.proofs.JoiningAll.{JoinedBelow, JoinedTo, TwoFree, pair_joined, map_pair}
 
 -- where free blocks are apart, none end the first part while others begin the second
 apart-bound : (a b : ZoneMap) → free_apart (a ++ b) ≡ true → (ends_free a && starts_free b) ≡ false

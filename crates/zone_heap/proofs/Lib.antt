@@ -38,5 +38,6 @@ pub mod Grows
 pub mod Replacing
 pub mod Limits
 pub mod Counting
+pub mod Barren
 pub mod Behind
 pub mod RunWalks

@@ -1,5 +1,5 @@
 -- What is purged for a request, where a walk says how far.
-use Rattle.std.proofs.Common.{◌≡◌, ℕ, ◌+◌, Bool, true, false, not, cond, eqb, List, [], ◌∷◌, ◌++◌, refl, ap, sym, ◌∙◌, subst, Contains}
+use Rattle.std.proofs.Common.{◌≡◌, ℕ, ◌+◌, Bool, true, false, not, cond, eqb, List, [], ◌∷◌, ◌++◌, append-nil, refl, ap, sym, ◌∙◌, subst, Contains}
 use Rattle.std.specs.Prelude.{◌&&◌, ◌||◌, nat_le, Some, None}
 use Rattle.std.specs.Option.{option_map_or}
 use Rattle.mac_base.specs.declared.block.Kind.{Kind}
@@ -14,7 +14,7 @@ use Rattle.mac_base.specs.Request.{can_grow, candidates, candidates_in, fits, is
 use Rattle.mac_base.specs.Sound.{Sound}
 use Rattle.mac_base.specs.Suits.{Suits}
 use Rattle.zone_laws.proofs.Maps.{both_true}
-use Rattle.mac_base.specs.ZoneMap.{ZoneMap, address_behind, is_named, released, sizes, total_size}
+use Rattle.mac_base.specs.ZoneMap.{ZoneMap, address_behind, is_named, released, sizes}
 use Rattle.mac_base.specs.ZoneState.{ZoneState}
 use Rattle.gap_laws.proofs.FittingResize.{one_size, some_named}
 use Rattle.gap_laws.proofs.SoundPurged.{candidate-handle, sound-all_emptied}
@@ -29,7 +29,7 @@ use Rattle.zone_heap.proofs.FreedBlocks.{Once, candidate_here, candidates-cons, 
 use Rattle.zone_heap.proofs.EmptyingBlocks.{same-live}
 use Rattle.zone_heap.proofs.Grows.{grows-elsewhere}
 use Rattle.zone_heap.proofs.Purging.{candidate-parts, may_purge-parts}
-use Rattle.zone_heap.proofs.Until.{gap-means, until-limit, until-enough_then}
+use Rattle.zone_heap.proofs.Until.{gap-means, limit-blocks, limit-candidates, until-limit, until-enough_then}
 
 -- where handles that are not locked become empty, the same are locked and the same are pointers
 pub record SameFixed (t u : HandleTable) : Type 0 where
@@ -176,8 +176,8 @@ module _ (z : ZoneState) (protected : List ℕ) (sound : SoundZone z) where
         ap (λ hs. purged_until test hs z.heap.map) (request_candidates r stay)
         ∙ until-limit (bounds_gap z.heap.table (operand r)) (counts (operand r)) (size_needed z.shape r) z.heap.table protected z.heap.map start limit l test z.heap.map (request_means r ready kept stay less) in
         record {
-          between = record { before = []; blocks = l.below; behind = l.above; map = l.parts; place = l.start ∙ first; long = l.end ∙ ap (λ n. n + total_size l.below) (sym l.start) };
-          these = sym these;
+          between = limit-blocks (bounds_gap z.heap.table (operand r)) (counts (operand r)) (size_needed z.shape r) z.heap.table protected z.heap.map start limit l z [] [] (sym (append-nil z.heap.map)) first;
+          these = limit-candidates (bounds_gap z.heap.table (operand r)) (counts (operand r)) (size_needed z.shape r) z.heap.table protected z.heap.map start limit l ∙ sym these;
           enough = until-enough_then (bounds_gap z.heap.table (operand r)) (counts (operand r)) (size_needed z.shape r) z.heap.table protected z.heap.map start limit l test z.heap.map (request_means r ready kept stay less)
               ∙ ap (λ hs. test (all_released hs z.heap.map)) (sym these);
         }

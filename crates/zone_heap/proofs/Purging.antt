@@ -8,7 +8,7 @@ use Rattle.mac_base.specs.HandleTable.{HandleTable, flags_of, is_full, is_lent, 
 use Rattle.mac_base.specs.Heap.{Heap, all_purged, with_emptied, with_all_emptied}
 use Rattle.mac_base.specs.Loans.{LoansAreFixed}
 use Rattle.mac_base.specs.Purging.{purged, purged_for}
-use Rattle.mac_base.specs.Request.{blocks_to_purge, candidates_in, fits, is_among, purged_until}
+use Rattle.mac_base.specs.Request.{blocks_to_purge, candidates, candidates_in, fits, is_among, purged_until}
 use Rattle.mac_base.specs.declared.request.Request.{Request}
 use Rattle.mac_base.specs.ZoneMap.{ZoneMap, handle_of, largest_free}
 use Rattle.mac_base.specs.ZoneState.{ZoneState, with_heap}
@@ -129,6 +129,10 @@ module _ (z : ZoneState) (none : NonePurgeable z.heap.table) where
   pub unpurged-to : (n : ℕ) → z ≡ with_heap (purged_for n z.heap) z
   unpurged-to n = ap (λ hs. with_heap (with_all_emptied (purged_until (λ (m : ZoneMap). nat_le n (largest_free m)) hs z.heap.map) z.heap) z) (sym (none-to_purge z.heap.table [] z.heap.map (none-unprotected z.heap.table [] none)))
 
+-- or after one for a request
+pub unpurged-none : (z : ZoneState) (protected : List ℕ) (r : Request) → candidates z.heap.table protected r z.heap.map ≡ [] → z ≡ with_heap (purged z.shape protected r z.heap) z
+unpurged-none z protected r none = ap (λ hs. with_heap (with_all_emptied (purged_until (fits z.shape z.heap.table r) hs z.heap.map) z.heap) z) (sym none)
+
 pub unpurged-for : (z : ZoneState) (protected : List ℕ) (r : Request) → NoneToPurge z.heap.table protected → z ≡ with_heap (purged z.shape protected r z.heap) z
 unpurged-for z protected r none =
-    ap (λ hs. with_heap (with_all_emptied (purged_until (fits z.shape z.heap.table r) hs z.heap.map) z.heap) z) (sym (none-to_purge z.heap.table protected (blocks_to_purge z.heap.table r z.heap.map) none))
+    unpurged-none z protected r (none-to_purge z.heap.table protected (blocks_to_purge z.heap.table r z.heap.map) none)

@@ -1,5 +1,5 @@
 -- Walks by which runs of free blocks are measured.
-use Rattle.std.proofs.Common.{◌≡◌, ℕ, ◌+◌, ◌<◌, ◌≤◌, Bool, true, false, not, cond, List, [], ◌∷◌, ◌++◌, refl, ap, sym, ◌∙◌, arith, subst, None, Some, Option, max}
+use Rattle.std.proofs.Common.{◌≡◌, ℕ, ◌+◌, ◌<◌, ◌≤◌, Bool, true, false, not, cond, List, [], ◌∷◌, ◌++◌, append-nil, refl, ap, sym, ◌∙◌, arith, subst, None, Some, Option, max}
 use Rattle.std.specs.Prelude.{◌&&◌, ◌||◌, ◌==◌, nat_le, is_some, IfSome, IfNone}
 use Rattle.std.specs.List.{list_all}
 use Rattle.std.proofs.lemmas.Bool.{le-leb, leb-true}
@@ -25,8 +25,8 @@ use Rattle.zone_heap.specs.declared.purge.Limit.{Limit}
 use Rattle.zone_heap.proofs.FreedBlocks.{Once, once-suits, released-candidates}
 use Rattle.zone_heap.proofs.GapWalks.{too-many}
 use Rattle.zone_heap.proofs.Grows.{absorb}
-use Rattle.zone_heap.proofs.Runs.{Swept, bound_swept, bytes-within, limit_here, limit_last, more-run, none_behind, none_swept, pass_swept, purge_swept}
-use Rattle.zone_heap.proofs.Until.{run-joined, until-enough, until-limit, until-enough_then}
+use Rattle.zone_heap.proofs.Runs.{Swept, bound_swept, bytes-within, limit_here, limit_last, more-run, none_behind, none_swept, pass_swept, purge_swept, spanned_all}
+use Rattle.zone_heap.proofs.Until.{limit-blocks, limit-candidates, run-joined, until-enough, until-limit, until-enough_then}
 use Rattle.zone_heap.proofs.Walks.{Walked, Facing, end_walked, none_walked, walked_end, walked_on}
 
 run_apart : (k r : ℕ) (m : ZoneMap) → starts_free m ≡ false → run_has bounds_free (counts None) k r m ≡ (nat_le k r || run_has bounds_free (counts None) k 0 m)
@@ -79,8 +79,8 @@ purges-to z k start limit sound first l =
     let means = largest-means t k [] m (once-suits z.shape t m sound.sound.suits) sound.sound.suits.apart in
     let these : purged_until test (candidates_in t [] m) m ≡ candidates_in t [] l.below = until-limit bounds_free (counts None) k t [] m start limit l test m means in
     record {
-      between = record { before = []; blocks = l.below; behind = l.above; map = l.parts; place = l.start ∙ first; long = l.end ∙ ap (λ n. n + total_size l.below) (sym l.start) };
-      these = sym these;
+      between = limit-blocks bounds_free (counts None) k t [] m start limit l z [] [] (sym (append-nil m)) first;
+      these = limit-candidates bounds_free (counts None) k t [] m start limit l ∙ sym these;
       enough = until-enough_then bounds_free (counts None) k t [] m start limit l test m means ∙ ap (λ hs. test (all_released hs m)) (sym these);
     }
 
@@ -137,9 +137,9 @@ module _ {start end : ℕ} (z : ZoneState) (b : BlocksAt z start end) (k : ℕ) 
   pub measured_all : (at run : ℕ) → SoundZone z → Measured z b k protected at run → end ≤ at → IsLimit bounds_free (counts None) (may_purge z.heap.table protected) k b.blocks start (record { start = start; end = at; enough = false })
   measured_all at run sound s above =
       let none = walked_end z b at s.walked sound above in
-      limit_last bounds_free (counts None) k (may_purge z.heap.table protected) refl refl (s.walked).done run start at
+      limit_last bounds_free (counts None) k (may_purge z.heap.table protected) refl refl (s.walked).done run start (record { start = start; end = at; enough = false })
       (subst (λ m. Swept bounds_free (counts None) k (may_purge z.heap.table protected) refl refl (s.walked).done m run) none s.swept)
-      b.blocks ((s.walked).parts ∙ ap (λ m. (s.walked).done ++ m) none) (s.walked).at_is
+      b.blocks ((s.walked).parts ∙ ap (λ m. (s.walked).done ++ m) none) (spanned_all (may_purge z.heap.table protected) (s.walked).done start at (s.walked).at_is) refl
 
   module _ (at run : ℕ) (s : Measured z b k protected at run) (f : Facing z b at s.walked) where
     here_measured : Swept bounds_free (counts None) k (may_purge z.heap.table protected) refl refl (s.walked).done (f.here ∷ f.after) run
@@ -179,7 +179,8 @@ module _ {start end : ℕ} (z : ZoneState) (b : BlocksAt z start end) (k : ℕ) 
           → IsLimit bounds_free (counts None) (may_purge z.heap.table protected) k b.blocks start (record { start = start; end = at + (f.here).size; enough = true })
       measured_found enough =
           let w = walked_on z b at s.walked f in
-          limit_here bounds_free (counts None) k (may_purge z.heap.table protected) refl refl (s.walked).done f.here f.after run here_measured start (at + (f.here).size) may (run_measured ∙ enough) b.blocks w.parts w.at_is
+          limit_here bounds_free (counts None) k (may_purge z.heap.table protected) refl refl (s.walked).done f.here f.after run here_measured start (record { start = start; end = at + (f.here).size; enough = true }) may (run_measured ∙ enough) b.blocks w.parts
+          (spanned_all (may_purge z.heap.table protected) ((s.walked).done ++ f.here ∷ []) start (at + (f.here).size) w.at_is) refl
 
     -- the run fits, with the free bytes behind it
     pub within_measured : run + (f.here).size + bytes_before bounds_free (counts None) f.after ≤ end

@@ -1,14 +1,16 @@
 -- Bytes that count between blocks that bound them, and how they grow where blocks become free.
-use Rattle.std.proofs.Common.{◌≡◌, ℕ, ◌+◌, ◌≤◌, Bool, true, false, cond, [], ◌∷◌, ◌++◌, refl, ap, sym, ◌∙◌, arith, append_assoc, subst, inl, inr}
-use Rattle.std.specs.Prelude.{◌||◌, nat_le}
-use Rattle.std.proofs.lemmas.Bool.{or_parts}
+use Rattle.std.proofs.Common.{◌≡◌, ℕ, ◌+◌, ◌<◌, ◌≤◌, Bool, true, false, cond, eqb, [], ◌∷◌, ◌++◌, refl, ap, sym, ◌∙◌, arith, append_assoc, append-nil, subst, inl, inr}
+use Rattle.std.specs.Prelude.{◌||◌, ◌⊎◌, nat_le}
+use Rattle.std.proofs.lemmas.Bool.{eqb-true, or_parts}
 use Rattle.std.proofs.lemmas.List.{map-append}
 use Rattle.mac_base.specs.declared.block.Entry.{Entry}
 use Rattle.mac_base.specs.declared.block.Kind.{Kind}
 use Rattle.mac_base.specs.declared.block.Kind.TheVariants.{Free}
 use Rattle.mac_base.specs.ZoneMap.{ZoneMap, block, total_size}
+use Rattle.zone_laws.proofs.GapAppend.{total_size-append}
 use Rattle.zone_gaps.proofs.Sizes.{total_size-push}
-use Rattle.zone_heap.specs.Purge.{IsLimit, bytes_before, freed_where, run_has, size_if}
+use Rattle.zone_heap.specs.Purge.{AllStay, IsLimit, Spanned, bytes_before, freed_where, run_has, size_if}
+use Rattle.zone_heap.specs.declared.purge.Limit.{Limit}
 
 -- a list that ends with an element, in two parts: what holds where the second begins with it, and where it begins before, holds
 split_push : (P : ZoneMap → Entry → ZoneMap → Type 0) (done : ZoneMap) (e : Entry) (a : ZoneMap) (f : Entry) (b : ZoneMap) → done ++ e ∷ [] ≡ a ++ f ∷ b
@@ -121,17 +123,16 @@ module _ (bounds counted : Kind → Bool) (k : ℕ) where
       purge_swept goes none = record { swept = purge_eq goes; none = none; least = least_on; few = (let was = s.few in let all = total_size-push done e in omega arith) }
 
       -- purging ends with it where it is enough
-      pub limit_here : (from at : ℕ) → purged e.kind ≡ true → run_has bounds counted k (run + e.size) es ≡ true → (blocks : ZoneMap) → blocks ≡ (done ++ e ∷ []) ++ es → at ≡ from + total_size (done ++ e ∷ [])
-          → IsLimit bounds counted purged k blocks from (record { start = from; end = at; enough = true })
-      limit_here from at goes enough blocks parts place = record {
+      pub limit_here : (from : ℕ) (limit : Limit) → purged e.kind ≡ true → run_has bounds counted k (run + e.size) es ≡ true → (blocks : ZoneMap) → blocks ≡ (done ++ e ∷ []) ++ es → Spanned purged (done ++ e ∷ []) from limit.start limit.end
+          → limit.enough ≡ true → IsLimit bounds counted purged k blocks from limit
+      limit_here from limit goes enough blocks parts within is = record {
         below = done ++ e ∷ [];
         above = es;
         parts = parts;
-        start = refl;
-        end = place;
+        within = within;
         least = least_on;
-        enough = sym (purge_eq goes es ∙ enough);
-        last = inl refl;
+        enough = is ∙ sym (purge_eq goes es ∙ enough);
+        last = inl is;
       }
 
       -- k bytes count nowhere behind it
@@ -140,14 +141,90 @@ module _ (bounds counted : Kind → Bool) (k : ℕ) where
       none_behind false open_here = sym (ap (λ c. cond c (nat_le k run || run_has bounds counted k 0 es) (run_has bounds counted k (run + size_if counted e) es)) open_here) ∙ s.none
 
     -- or with the last block
-    pub limit_last : (done : ZoneMap) (run from at : ℕ) → Swept done [] run → (blocks : ZoneMap) → blocks ≡ done ++ [] → at ≡ from + total_size done → IsLimit bounds counted purged k blocks from (record { start = from; end = at; enough = false })
-    limit_last done run from at s blocks parts place = record {
+    pub limit_last : (done : ZoneMap) (run from : ℕ) (limit : Limit) → Swept done [] run → (blocks : ZoneMap) → blocks ≡ done ++ [] → Spanned purged done from limit.start limit.end → limit.enough ≡ false → IsLimit bounds counted purged k blocks from limit
+    limit_last done run from limit s blocks parts within is = record {
       below = done;
       above = [];
       parts = parts;
-      start = refl;
-      end = place;
+      within = within;
       least = s.least;
-      enough = sym (s.swept [] ∙ s.none);
+      enough = is ∙ sym (s.swept [] ∙ s.none);
       last = inr refl;
     }
+
+-- blocks of which none passes a test, one more, and more of them
+pub all_stay-append : (test : Kind → Bool) (a b : ZoneMap) → AllStay test a → AllStay test b → AllStay test (a ++ b)
+all_stay-append test [] b stay also = also
+all_stay-append test (e ∷ a) b stay also = (stay.0, all_stay-append test a b stay.1 also)
+
+-- all blocks between their ends
+abbrev pub spanned_all : (test : Kind → Bool) (done : ZoneMap) (from at : ℕ) → at ≡ from + total_size done → Spanned test done from from at
+spanned_all test done from at is = record {
+  front = [];
+  between = done;
+  back = [];
+  parts = sym (append-nil done);
+  start = (let e : from ≡ from + 0 = omega arith in e);
+  end = is;
+  front_stays = tt;
+  back_stays = tt;
+}
+
+module _ (test : Kind → Bool) (done : ZoneMap) (from first last : ℕ) (s : Spanned test done from first last) (e : Entry) where
+  pub parts_stay : done ++ e ∷ [] ≡ s.front ++ (s.between ++ (s.back ++ e ∷ []))
+  parts_stay = ap (λ d. d ++ e ∷ []) s.parts ∙ simp append_assoc
+
+  -- one more block that doesn't pass
+  abbrev pub spanned_stay : test e.kind ≡ false → Spanned test (done ++ e ∷ []) from first last
+  spanned_stay stays = record {
+    front = s.front;
+    between = s.between;
+    back = s.back ++ e ∷ [];
+    parts = parts_stay;
+    start = s.start;
+    end = s.end;
+    front_stays = s.front_stays;
+    back_stays = all_stay-append test s.back (e ∷ []) s.back_stays (stays, tt);
+  }
+
+  -- those that pass begin no higher than one more block stands
+  pub spanned-low : first ≤ from + total_size done
+  spanned-low = let start = s.start in let all = ap total_size s.parts ∙ total_size-append s.front (s.between ++ s.back) in omega arith
+
+  -- one more that passes: the first is the lowest
+  pub spanned_go : (s.between ≡ []) ⊎ (first < last) → (at : ℕ) → at ≡ from + total_size done → (low high : ℕ) → low ≡ cond (eqb first last) at first → high ≡ at + e.size → Spanned test (done ++ e ∷ []) from low high
+  spanned_go some at at_is low high low_is high_is = by_test (eqb first last) refl some low_is
+    where
+      by_test : (c : Bool) → eqb first last ≡ c → (s.between ≡ []) ⊎ (first < last) → low ≡ cond c at first → Spanned test (done ++ e ∷ []) from low high
+      by_test true same (inr less) is = let one = eqb-true first last same in absurd (omega arith)
+      by_test true same (inl none) is =
+          let whole : done ≡ s.front ++ s.back = s.parts ∙ ap (λ b. s.front ++ (b ++ s.back)) none in
+          record {
+            front = s.front ++ s.back;
+            between = e ∷ [];
+            back = [];
+            parts = ap (λ d. d ++ e ∷ []) whole;
+            start = is ∙ at_is ∙ ap (λ d. from + total_size d) whole;
+            end = (let size : total_size (e ∷ []) ≡ e.size + 0 = refl in omega arith);
+            front_stays = all_stay-append test s.front s.back s.front_stays s.back_stays;
+            back_stays = tt;
+          }
+      by_test false apart _ is = record {
+        front = s.front;
+        between = s.between ++ (s.back ++ e ∷ []);
+        back = [];
+        parts = ap (λ d. d ++ e ∷ []) s.parts ∙ simp (append_assoc, append-nil);
+        start = is ∙ s.start;
+        end = (let start = s.start in let all = ap total_size s.parts ∙ total_size-append s.front (s.between ++ s.back) ∙ ap (λ n. total_size s.front + n) (total_size-append s.between s.back) in
+            let here = total_size-append s.between (s.back ++ e ∷ []) in let push = total_size-push s.back e in omega arith);
+        front_stays = s.front_stays;
+        back_stays = tt;
+      }
+
+  -- and stands behind the last
+  pub spanned-high : (at low high : ℕ) → at ≡ from + total_size done → low ≡ cond (eqb first last) at first → high ≡ at + e.size → 0 < e.size → low < high
+  spanned-high at low high at_is low_is high_is bytes = by_test (eqb first last) low_is
+    where
+      by_test : (c : Bool) → low ≡ cond c at first → low < high
+      by_test true is = omega arith
+      by_test false is = let most = spanned-low in omega arith

@@ -10,12 +10,14 @@ use Rattle.mac_base.specs.HeadKind.{Shape}
 use Rattle.mac_base.specs.HandleTable.{HandleTable, is_locked, is_purgeable}
 use Rattle.mac_base.specs.Request.{candidates_in, is_among, purged_until}
 use Rattle.mac_base.specs.Suits.{Suits, free_apart}
-use Rattle.mac_base.specs.ZoneMap.{ZoneMap, block, free_size, is_free, is_named, joined, released}
+use Rattle.mac_base.specs.ZoneMap.{ZoneMap, address_behind, block, free_size, is_free, is_named, joined, released}
+use Rattle.mac_base.specs.ZoneState.{ZoneState}
+use Rattle.zone_laws.proofs.GapAppend.{total_size-append}
 use Rattle.zone_laws.proofs.GapParts.{first_gap, later_gaps}
 use Rattle.zone_laws.proofs.GapRoom.{list_any-gaps}
 use Rattle.zone_laws.proofs.JoinedBlocks.{join_cases}
 use Rattle.linked_zone.specs.Changes.{freed}
-use Rattle.zone_heap.specs.Purge.{IsLimit, all_released, bounds_gap, counts, freed_where, may_purge, released_if, run_has, size_if}
+use Rattle.zone_heap.specs.Purge.{AllStay, BlocksAt, IsLimit, all_released, bounds_gap, counts, freed_where, may_purge, released_if, run_has, size_if}
 use Rattle.zone_heap.specs.declared.purge.Limit.{Limit}
 use Rattle.zone_heap.proofs.FreedBlocks.{Once, once-suits, candidate_here, candidates-append, candidates-cons, joined-freed, released-candidates}
 
@@ -28,6 +30,38 @@ until-enough test (h ∷ hs) m enough = ap (λ c. cond c [] (h ∷ purged_until 
 released-append : (hs : List ℕ) (h : ℕ) (m : ZoneMap) → all_released (hs ++ h ∷ []) m ≡ released h (all_released hs m)
 released-append [] h m = refl
 released-append (g ∷ hs) h m = released-append hs h (released g m)
+
+-- blocks that stay have no handles to purge
+none-candidates : (t : HandleTable) (protected : List ℕ) (m : ZoneMap) → AllStay (may_purge t protected) m → candidates_in t protected m ≡ []
+none-candidates t protected [] stay = refl
+none-candidates t protected (e ∷ es) stay = candidates-cons t protected e es ∙ by_kind e.kind stay.0 (none-candidates t protected es stay.1)
+  where
+    by_kind : (kind : Kind) → may_purge t protected kind ≡ false → candidates_in t protected es ≡ [] → candidate_here t protected kind ++ candidates_in t protected es ≡ []
+    by_kind Free stays rest = rest
+    by_kind Master stays rest = rest
+    by_kind (Ptr p) stays rest = rest
+    by_kind (Rel g) stays rest = ap (λ c. cond c (g ∷ []) [] ++ candidates_in t protected es) stays ∙ rest
+
+module _ (bounds counted : Kind → Bool) (k : ℕ) (t : HandleTable) (protected : List ℕ) (blocks : ZoneMap) (from : ℕ) (limit : Limit) (l : IsLimit bounds counted (may_purge t protected) k blocks from limit) where
+  -- all that are purged have their blocks between the addresses
+  pub limit-candidates : candidates_in t protected (l.within).between ≡ candidates_in t protected l.below
+  limit-candidates =
+      let w = l.within in
+      sym (ap (candidates_in t protected) w.parts ∙ candidates-append t protected w.front (w.between ++ w.back)
+      ∙ ap (λ hs. hs ++ candidates_in t protected (w.between ++ w.back)) (none-candidates t protected w.front w.front_stays)
+      ∙ candidates-append t protected w.between w.back ∙ ap (λ hs. candidates_in t protected w.between ++ hs) (none-candidates t protected w.back w.back_stays)
+      ∙ append-nil (candidates_in t protected w.between))
+
+  module _ (z : ZoneState) (before behind : ZoneMap) (map : z.heap.map ≡ before ++ (blocks ++ behind)) (first : from ≡ address_behind z.shape before) where
+    pub limit-map : z.heap.map ≡ (before ++ (l.within).front) ++ ((l.within).between ++ ((l.within).back ++ (l.above ++ behind)))
+    limit-map = map ∙ ap (λ b. before ++ (b ++ behind)) (l.parts ∙ ap (λ b. b ++ l.above) (l.within).parts) ∙ simp append_assoc
+
+    pub limit-place : limit.start ≡ address_behind z.shape (before ++ (l.within).front)
+    limit-place = let start = (l.within).start in let all = total_size-append before (l.within).front in omega arith
+
+    -- they stand there
+    abbrev pub limit-blocks : BlocksAt z limit.start limit.end
+    limit-blocks = record { before = before ++ (l.within).front; blocks = (l.within).between; behind = (l.within).back ++ (l.above ++ behind); map = limit-map; place = limit-place; long = (l.within).end }
 
 module _ (bounds counted : Kind → Bool) (k : ℕ) (t : HandleTable) (protected : List ℕ) (blocks : ZoneMap) (from : ℕ) (limit : Limit) (l : IsLimit bounds counted (may_purge t protected) k blocks from limit) (test : ZoneMap → Bool) (m : ZoneMap)
     (means : (a b : ZoneMap) → blocks ≡ a ++ b → test (all_released (candidates_in t protected a) m) ≡ run_has bounds counted k 0 (freed_where (may_purge t protected) a ++ b)) where

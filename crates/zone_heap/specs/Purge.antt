@@ -8,11 +8,12 @@ use Rattle.mac_base.specs.declared.request.Request.TheVariants.{Resize, Replace}
 use Rattle.mac_base.specs.Gap.{Gap, gap_behind, gaps, is_fixed}
 use Rattle.std.specs.Option.{option_map_or}
 use Rattle.mac_base.specs.HandleTable.{HandleTable, emptied, has_block, is_handle, is_locked, is_purgeable}
-use Rattle.mac_base.specs.Request.{candidates, candidates_in, fits, is_among, purged_until, stays}
+use Rattle.mac_base.specs.Request.{blocks_to_purge, candidates, candidates_in, fits, is_among, purged_until, stays}
 use Rattle.std.specs.List.{list_all}
 use Rattle.mac_base.specs.Suits.{free_apart, is_block_size}
 use Rattle.mac_base.specs.ZoneMap.{ZoneMap, block, handle_of, is_free, is_named, address_behind, largest_free, released, total_size}
 use Rattle.mac_base.specs.ZoneState.{ZoneState, with_heap}
+use Rattle.zone_heap.specs.declared.purge.Barren.{Barren}
 use Rattle.zone_heap.specs.declared.purge.Limit.{Limit}
 
 -- whether what a request resizes or replaces is among the protected
@@ -154,14 +155,29 @@ purged_between z at protected = with_heap (record {
   free_slots = z.heap.free_slots;
 }) z
 
+-- no block of these passes a test
+abbrev pub AllStay : (Kind → Bool) → ZoneMap → Type 0
+AllStay test [] = ⊤
+AllStay test (e ∷ es) = IsFalse (test e.kind) × AllStay test es
+
+-- of blocks that begin at an address, all that pass a test stand between two others
+pub record Spanned (test : Kind → Bool) (blocks : ZoneMap) (from first last : ℕ) : Type 0 where
+  pub front : ZoneMap
+  pub between : ZoneMap
+  pub back : ZoneMap
+  pub parts : blocks ≡ front ++ (between ++ back)
+  pub start : first ≡ from + total_size front
+  pub end : last ≡ first + total_size between
+  pub front_stays : AllStay test front
+  pub back_stays : AllStay test back
+
 -- Purging goes as far as an address: where the blocks below are purged k bytes count somewhere, or none are left to purge; and
 -- where fewer are, they don't.
 pub record IsLimit (bounds counted purged : Kind → Bool) (k : ℕ) (blocks : ZoneMap) (from : ℕ) (limit : Limit) : Type 0 where
   pub below : ZoneMap
   pub above : ZoneMap
   pub parts : blocks ≡ below ++ above
-  pub start : limit.start ≡ from
-  pub end : limit.end ≡ from + total_size below
+  pub within : Spanned purged below from limit.start limit.end
   pub least : (a : ZoneMap) (e : Entry) (b : ZoneMap) → below ≡ a ++ e ∷ b → IsTrue (purged e.kind) → IsFalse (run_has bounds counted k 0 (freed_where purged a ++ e ∷ (b ++ above)))
   pub enough : limit.enough ≡ run_has bounds counted k 0 (freed_where purged below ++ above)
   pub last : IsTrue limit.enough ⊎ (above ≡ [])
@@ -179,3 +195,13 @@ PurgesFor z protected r limit = Purges z protected (fits z.shape z.heap.table r)
 -- those that are purged for k free bytes in one block
 abbrev pub PurgesTo : ZoneState → ℕ → Limit → Type 0
 PurgesTo z k limit = Purges z [] (λ (m : ZoneMap). nat_le k (largest_free m)) (candidates_in z.heap.table [] z.heap.map) limit
+
+-- no block of the gap right behind a block may be purged but those of two handles, where something is remembered
+abbrev pub IsBarren : ZoneState → Option Barren → Type 0
+IsBarren z None = ⊤
+IsBarren z (Some b) = candidates_in z.heap.table (b.first ∷ b.last ∷ []) (blocks_behind z.heap.table b.block z.heap.map) ≡ []
+
+-- it is what is to be remembered of a request: it may purge in that gap, and protects those handles
+pub record IsBarrenFor (z : ZoneState) (protected : List ℕ) (r : Request) (b : Barren) : Type 0 where
+  pub behind : blocks_to_purge z.heap.table r z.heap.map ≡ blocks_behind z.heap.table b.block z.heap.map
+  pub same : (h : ℕ) → is_among protected h ≡ is_among (b.first ∷ b.last ∷ []) h

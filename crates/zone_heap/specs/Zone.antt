@@ -1,12 +1,14 @@
--- What a zone's field means, and what it keeps true.
+-- What a zone's fields mean, and what they keep true.
 use Rattle.mac_base.specs.ZoneState.{ZoneState}
 use Rattle.zone_heap.specs.declared.zone.Zone.TheInside.{Inside}
 use Rattle.zone_heap.specs.Attempts.{SoundZone}
+use Rattle.zone_heap.specs.Purge.{IsBarren}
 
--- the zone that the field shows
+-- the zone that they show
 abbrev pub zone_of : Inside → ZoneState
 zone_of z = z.pointers
 
--- it is sound
-abbrev pub IsZone : Inside → Type 0
-IsZone z = SoundZone z.pointers
+-- it is sound, and what is remembered of a block is so
+pub record IsZone (z : Inside) : Type 0 where
+  pub zone : SoundZone z.pointers
+  pub barren : IsBarren z.pointers z.barren

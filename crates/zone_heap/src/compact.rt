@@ -37,6 +37,7 @@ impl Zone {
         if needed <= largest {
             return largest;
         }
+        self.barren = None;
         squeeze(&mut self.pointers, needed);
         largest_free(self.pointers.linked())
     }
@@ -47,6 +48,7 @@ impl Zone {
         ensures zone { self.new ≡ with_heap (with_map (all_down self.old.heap.table self.old.heap.map) self.old.heap) self.old }
         ensures loans { KeepsLoans self.old self.new }
     {
+        self.barren = None;
         squeeze_all_down(&mut self.pointers);
     }
 
@@ -58,6 +60,7 @@ impl Zone {
         ensures zone { self.new ≡ with_heap (with_map (moved_high self.old.heap.table handle self.old.heap.map) self.old.heap) self.old }
         ensures loans { KeepsLoans self.old self.new }
     {
+        self.barren = None;
         raise(&mut self.pointers, handle);
     }
 

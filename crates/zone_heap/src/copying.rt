@@ -20,6 +20,7 @@ impl Zone {
         ensures zone { self.new ≡ copied from start to offset count self.old }
         ensures loans { KeepsLoans self.old self.new }
     {
+        self.barren = None;
         self.pointers.copy(from, start, to, offset, count);
     }
 }

@@ -26,9 +26,10 @@ impl Zone {
         ensures loans { KeepsLoans self.old self.new }
     {
         let spec = self.pointers.linked().spec();
-        let end = spec.base() + spec.size();
-        self.pointers.extend();
         if spec.size() < spec.limit() {
+            let end = spec.base() + spec.size();
+            self.barren = None;
+            self.pointers.extend();
             join(&mut self.pointers, end);
         }
     }

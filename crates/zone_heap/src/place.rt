@@ -24,6 +24,7 @@ impl Zone {
         ensures attempt { Attempts (NewBlock length) self.old result self.new }
         ensures loans { KeepsLoans self.old self.new }
     {
+        self.barren = None;
         new_block(&mut self.pointers, length)
     }
 
@@ -33,6 +34,7 @@ impl Zone {
         ensures attempt { Attempts NewEmpty self.old result self.new }
         ensures loans { KeepsLoans self.old self.new }
     {
+        self.barren = None;
         new_empty(&mut self.pointers)
     }
 
@@ -44,6 +46,7 @@ impl Zone {
         ensures attempt { Attempts (NewPointer length) self.old result self.new }
         ensures loans { KeepsLoans self.old self.new }
     {
+        self.barren = None;
         new_pointer(&mut self.pointers, length)
     }
 
@@ -54,6 +57,7 @@ impl Zone {
         ensures attempt { Attempts NewMaster self.old result self.new }
         ensures loans { KeepsLoans self.old self.new }
     {
+        self.barren = None;
         new_master(&mut self.pointers)
     }
 
@@ -65,6 +69,7 @@ impl Zone {
         ensures attempt { MatchResult result (λ _. IsServed (Reserve length) self.old 0 self.new) (λ why. IsRefused (Reserve length) self.old why self.new) }
         ensures loans { KeepsLoans self.old self.new }
     {
+        self.barren = None;
         reserve(&mut self.pointers, length)
     }
 }

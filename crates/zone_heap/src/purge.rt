@@ -25,7 +25,7 @@ impl Zone {
         ensures fits { result ≡ fits self.new.shape self.new.heap.table request self.new.heap.map }
         ensures loans { KeepsLoans self.old self.new }
     {
-        purge_for(&mut self.pointers, request, protected)
+        purge_for(&mut self.pointers, &mut self.barren, request, protected)
     }
 
     /// Purges relocatable blocks that are unlocked and purgeable, in order of address, until `needed` bytes are free in one
@@ -36,6 +36,7 @@ impl Zone {
         ensures enough { result ≡ nat_le needed (largest_free self.new.heap.map) }
         ensures loans { KeepsLoans self.old self.new }
     {
+        self.barren = None;
         purge_to(&mut self.pointers, needed)
     }
 
@@ -45,11 +46,12 @@ impl Zone {
         ensures zone { self.new ≡ with_heap (all_purged self.old.heap) self.old }
         ensures loans { KeepsLoans self.old self.new }
     {
+        self.barren = None;
         purge_all(&mut self.pointers);
     }
 }
 
-ghost use Rattle.std.specs.Prelude.{◌≡◌, ◌&&◌, nat_le, IsTrue, IsFalse, [], None};
+ghost use Rattle.std.specs.Prelude.{◌≡◌, ◌≢◌, ◌&&◌, ◌==◌, if◌then◌else◌, is_some, nat_le, true, IfSome, IsTrue, IsFalse, [], None};
 ghost use Rattle.mac_base.specs.HandleTable.{has_block};
 ghost use Rattle.mac_base.specs.Heap.{all_purged, with_all_emptied};
 ghost use Rattle.mac_base.specs.Purging.{purged, purged_for};
@@ -62,7 +64,7 @@ ghost use Rattle.linked_zone.specs.Fit.{HasSizes};
 ghost use Rattle.linked_zone.specs.Places.{EntryAt, HasOwner};
 ghost use Rattle.zone_heap.specs.Attempts.{CanAsk, SoundZone};
 ghost use Rattle.zone_heap.specs.Joins.{all_joined};
-ghost use Rattle.zone_heap.specs.Purge.{ApartBeside, BlocksAt, IsLimit, ShortBlocks, ShortGaps, Purges, PurgesFor, PurgesTo, blocks_behind, bounds_gap, bounds_free, bytes_before, counts, handle_to_purge, is_kept, is_protected, may_purge, purged_between, staying_block, HasBlockIf, NoneToPurge};
+ghost use Rattle.zone_heap.specs.Purge.{ApartBeside, BlocksAt, IsLimit, ShortBlocks, ShortGaps, IsBarren, IsBarrenFor, Purges, PurgesFor, PurgesTo, blocks_behind, bounds_gap, bounds_free, bytes_before, counts, handle_to_purge, is_kept, is_protected, may_purge, purged_between, staying_block, HasBlockIf, NoneToPurge};
 
 use crate::zone::Zone;
 use gap_index::GapZone;
@@ -74,8 +76,8 @@ use mac_base::size::{MASTER_LENGTH, ZONE_HEADER, need_for};
 use mac_base::zone_spec::ADDRESS_END;
 use zone_gaps::{is_fixed, zone_end};
 
-/// Which blocks are purged: those between two addresses that may be.
-#[derive(Clone, Copy, Debug, PartialEq, Eq)]
+/// Which blocks are purged: those between two addresses that may be. Where the addresses are one, none is.
+#[derive(Clone, Copy)]
 pub(crate) struct Limit {
     pub(crate) start: u32,
     pub(crate) end: u32,
@@ -192,8 +194,42 @@ fn gap_room(zone: &LinkedZone, start: u32, end: u32, counted: Option<u32>) -> u3
     room
 }
 
+/// The room of a gap that begins at an address: as it is known once some of its bytes were freed, and else by its blocks.
+fn whole_room(
+    zone: &LinkedZone,
+    from: u32,
+    end: u32,
+    counted: Option<u32>,
+    freed: u32,
+    room: u32,
+) -> u32
+    requires blocks { BlocksAt zone.now from end }
+    requires sound { SoundZone zone.now }
+    requires known { freed ≢ 0 → (blocks : BlocksAt zone.now from end) → room ≡ bytes_before (bounds_gap zone.now.heap.table counted) (counts counted) blocks.blocks }
+    ensures { (blocks : BlocksAt zone.now from end) → result ≡ bytes_before (bounds_gap zone.now.heap.table counted) (counts counted) blocks.blocks }
+{
+    if freed == 0 {
+        return gap_room(zone, from, end, counted);
+    }
+    room
+}
+
+/// A limit for one block more, at an address and up to another.
+fn widened(limit: Limit, at: u32, end: u32, enough: bool) -> Limit
+    ensures start { result.start ≡ (if limit.start == limit.end then at else limit.start) }
+    ensures end { result.end ≡ end }
+    ensures enough { result.enough ≡ enough }
+{
+    let start = if limit.start == limit.end {
+        at
+    } else {
+        limit.start
+    };
+    Limit { start, end, enough }
+}
+
 /// How far to purge between two addresses so that a gap has room for `needed` bytes: as few blocks as serve, and all where
-/// none do. Each gap is read twice at most.
+/// none do. Each block is read once, and once more in a gap of which some block may be purged.
 fn gap_limit(
     zone: &LinkedZone,
     start: u32,
@@ -208,28 +244,31 @@ fn gap_limit(
     ensures { (gaps : ShortGaps zone.now start end counted needed) → IsLimit (bounds_gap zone.now.heap.table counted) (counts counted) (may_purge zone.now.heap.table protected.now) needed gaps.at.blocks start result }
 {
     let mut at = start;
-    let mut room = gap_room(zone, start, end, counted);
+    let mut from = start;
+    let mut freed = 0;
+    let mut room = 0;
+    let mut limit = Limit {
+        start,
+        end: start,
+        enough: false,
+    };
     while at < end {
         let here = zone.entry_at(at);
-        at += here.size;
+        let next = at + here.size;
         if handle_to_purge(zone, here.kind, protected).is_some() {
-            room += here.size;
-            if needed <= room {
-                return Limit {
-                    start,
-                    end: at,
-                    enough: true,
-                };
+            room = whole_room(zone, from, end, counted, freed, room);
+            freed += here.size;
+            limit = widened(limit, at, next, needed <= room + freed);
+            if limit.enough {
+                return limit;
             }
         } else if !counts(counted, here.kind) && is_fixed(zone, here.kind) {
-            room = gap_room(zone, at, end, counted);
+            from = next;
+            freed = 0;
         }
+        at = next;
     }
-    Limit {
-        start,
-        end: at,
-        enough: false,
-    }
+    limit
 }
 
 /// The address of a zone's first block.
@@ -256,7 +295,7 @@ pub(crate) fn purge_all(zone: &mut GapZone)
 }
 
 /// What a request asks for.
-#[derive(Clone, Copy, Debug, PartialEq, Eq)]
+#[derive(Clone, Copy)]
 pub(crate) struct Asked {
     /// The bytes of contents.
     pub(crate) length: u32,
@@ -362,22 +401,76 @@ fn may_purge_some(zone: &LinkedZone, protected: &[u32]) -> bool
     zone.has_purgeable_beside(protected[0], protected[protected.len() - 1])
 }
 
+/// A block that stays, where no block of the gap right behind it may be purged but those of two protected handles.
+#[derive(Clone, Copy)]
+pub(crate) struct Barren {
+    pub(crate) block: u32,
+    pub(crate) first: u32,
+    pub(crate) last: u32,
+}
+
+/// What is to be remembered where no block may be purged for a request: nothing where the block that is to grow may move, or more
+/// than two are protected.
+fn barren_for(zone: &LinkedZone, request: &Request, protected: &[u32]) -> Option<Barren>
+    requires ready { CanAsk zone.now request.now }
+    ensures { IfSome result (λ b. IsBarrenFor zone.now protected.now request.now b) }
+{
+    let block = staying(zone, Asked::of(*request).resized)?;
+    if protected.is_empty() || protected.len() > 2 {
+        return None;
+    }
+    Some(Barren {
+        block,
+        first: protected[0],
+        last: protected[protected.len() - 1],
+    })
+}
+
+/// Whether what is to be remembered is known already.
+fn is_known(known: &Option<Barren>, barren: &Option<Barren>) -> bool
+    ensures some { IsTrue result → is_some barren.now ≡ true }
+    ensures same { IsTrue result → known.now ≡ barren.now }
+{
+    match (known, barren) {
+        (Some(old), Some(new)) => {
+            old.block == new.block && old.first == new.first && old.last == new.last
+        }
+        _ => false,
+    }
+}
+
 /// Empties as few handles that may be purged as serve a request, in order of address, and all where none do. Gives whether
-/// the request fits then.
-pub(crate) fn purge_for(zone: &mut GapZone, request: Request, protected: &[u32]) -> bool
+/// the request fits then. What was remembered of a block behind which none may be purged spares a walk through its gap.
+pub(crate) fn purge_for(
+    zone: &mut GapZone,
+    known: &mut Option<Barren>,
+    request: Request,
+    protected: &[u32],
+) -> bool
     requires sound { SoundZone zone.old }
+    requires known { IsBarren zone.old known.old }
     requires ready { CanAsk zone.old request }
     requires protects { IsTrue (is_protected protected.now request) }
     requires no_room { IsFalse (fits zone.old.shape zone.old.heap.table request zone.old.heap.map) }
     ensures zone { zone.new ≡ with_heap (purged zone.old.shape protected.now request zone.old.heap) zone.old }
     ensures fits { result ≡ fits zone.new.shape zone.new.heap.table request zone.new.heap.map }
     ensures loans { KeepsLoans zone.old zone.new }
+    ensures known { IsBarren zone.new known.new }
     ensures sound { SoundZone zone.new }
 {
     if !may_purge_some(zone.linked(), protected) {
         return false;
     }
+    let barren = barren_for(zone.linked(), &request, protected);
+    if is_known(known, &barren) {
+        return false;
+    }
     let limit = limit_for(zone, request, protected);
+    if limit.start == limit.end {
+        *known = barren;
+        return false;
+    }
+    *known = None;
     purge_between(zone, limit.start, limit.end, protected);
     limit.enough
 }

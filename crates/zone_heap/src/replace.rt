@@ -73,6 +73,7 @@ impl Zone {
         ensures attempt { MatchResult result (λ _. IsServed (Replace handle length) self.old handle self.new) (λ why. IsRefused (Replace handle length) self.old why self.new) }
         ensures loans { KeepsLoans self.old self.new }
     {
+        self.barren = None;
         replace(&mut self.pointers, handle, length)
     }
 }

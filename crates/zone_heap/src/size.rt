@@ -187,6 +187,8 @@ impl Zone {
         ensures attempt { MatchResult result (λ _. IsServed (Resize block length) self.old block self.new) (λ why. IsRefused (Resize block length) self.old why self.new) }
         ensures loans { KeepsLoans self.old self.new }
     {
-        resize_block(&mut self.pointers, block, length)
+        resize_block(&mut self.pointers, block, length)?;
+        self.barren = None;
+        Ok(())
     }
 }

@@ -1,5 +1,6 @@
 //! The zone.
 
+use crate::purge::Barren;
 use gap_index::GapZone;
 use linked_zone::LinkedZone;
 use mac_base::block::{Block, Flags, HeadKind, Status};
@@ -15,6 +16,8 @@ use std::marker::Model;
 /// All host memory is taken by `create`.
 pub struct Zone {
     pub(crate) pointers: GapZone,
+    /// A block behind which no block may be purged, as a refused request found it.
+    pub(crate) barren: Option<Barren>,
 }
 
 impl Model for Zone {
@@ -36,7 +39,10 @@ impl Drop for Zone {
     fn drop(self)
         requires nothing_lent { self.heap.table.lent ≡ [] }
     {
-        let Zone { pointers } = self;
+        let Zone {
+            pointers,
+            barren: _,
+        } = self;
         drop(pointers);
     }
 }
@@ -70,7 +76,10 @@ impl Zone {
         let first = spec.base() + ZONE_HEADER;
         pointers.split(first, need_for(spec.heads(), MASTER_LENGTH));
         pointers.build_master(first);
-        Ok(Zone { pointers })
+        Ok(Zone {
+            pointers,
+            barren: None,
+        })
     }
 
     /// Whether a handle is live: the address of a slot that isn't free.
@@ -123,6 +132,7 @@ impl Zone {
         ensures bytes { result.bytes ≡ bytes_of self.old.heap.table block }
         ensures loans { KeepsLoans self.old self.new }
     {
+        self.barren = None;
         self.pointers.lend(block)
     }
 
@@ -132,6 +142,7 @@ impl Zone {
         ensures zone { self.new ≡ with_heap (returned block loan.bytes self.old.heap) self.old }
         ensures loans { KeepsOtherLoans block self.old self.new }
     {
+        self.barren = None;
         self.pointers.give_back(block, loan);
     }
 
@@ -145,6 +156,7 @@ impl Zone {
         ensures loans { KeepsLoans self.old self.new }
     {
         self.empty(handle);
+        self.barren = None;
         self.pointers.release(handle);
     }
 
@@ -157,6 +169,7 @@ impl Zone {
         ensures loans { KeepsLoans self.old self.new }
     {
         let at = self.pointers.linked().place_of(pointer.number());
+        self.barren = None;
         self.pointers.unfix(pointer);
         join(&mut self.pointers, at);
     }
@@ -170,6 +183,7 @@ impl Zone {
         ensures shape { self.new.shape ≡ self.old.shape }
         ensures loans { KeepsLoans self.old self.new }
     {
+        self.barren = None;
         empty(&mut self.pointers, handle);
     }
 
@@ -189,6 +203,7 @@ impl Zone {
         ensures shape { self.new.shape ≡ self.old.shape }
         ensures loans { KeepsLoans self.old self.new }
     {
+        self.barren = None;
         self.pointers.set_flags(handle, flags);
     }
 
@@ -226,6 +241,7 @@ impl Zone {
         ensures* writes_back { sem 𝓛 (WritesBackBytes self.entry block result) }
         ensures value { result.now ≡ bytes_of self.old.heap.table block }
     {
+        self.barren = None;
         self.pointers.contents_mut(block)
     }
 

@@ -1,7 +1,5 @@
-use Rattle.std.proofs.Common.{◌≡◌, ◌+◌, ◌≤◌, ◌∙◌, refl, sym, ap, subst, arith, [], length}
+use Rattle.std.proofs.Common.{◌≡◌, ◌+◌, ◌≤◌, ◌∙◌, refl, sym, ap, subst, arith, length}
 use Rattle.mac_base.specs.declared.block.Entry.{Entry}
-use Rattle.mac_base.specs.ZoneMap.{address_behind}
-use Rattle.mac_base.specs.ZoneSizes.{ZoneSizes}
 use Rattle.mac_base.specs.ZoneState.{ZoneState}
 use Rattle.zone_heap.proofs.JoiningAround.{JoinedAround, around-all, around-first, around-more}
 use Rattle.zone_heap.proofs.JoiningAll.{JoinedTo, entry_joined_to, bytes_joined, sizes_joined, within_joined, joined_on, two_joined, pair_joined, joined_more, fewer_joined, split_joined, passed_to, passed_all}
