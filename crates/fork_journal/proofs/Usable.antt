@@ -1,10 +1,10 @@
 -- Whether a journal is usable, read off its first bytes and its length.
-use Rattle.std.proofs.Common.{◌≡◌, ℕ, ◌+◌, ◌≤◌, ◌<◌, ◌==◌, ◌&&◌, Bool, true, false, List, [], ◌∷◌, length, take, drop, get_or, refl, sym, ◌∙◌, ap, arith}
+use Rattle.std.proofs.Common.{◌≡◌, ◌≢◌, ℕ, ◌+◌, ◌≤◌, ◌<◌, ◌==◌, ◌&&◌, ◌||◌, Bool, true, false, List, [], ◌∷◌, length, take, drop, get_or, refl, sym, ◌∙◌, ap, arith}
 use Rattle.std.proofs.lemmas.Bool.Decides.{nat_tests}
 use Rattle.std.proofs.lemmas.List.{drop-drop, length-drop}
 use Rattle.fork_disk.specs.Disk.{bytes_at}
 use Rattle.byteorder.specs.Endian.{big_number}
-use Rattle.fork_journal.specs.Form.{is_whole, fork_in, is_open, is_usable}
+use Rattle.fork_journal.specs.Form.{is_whole, fork_in, is_open, is_usable, must_shut}
 use Rattle.fork_journal.proofs.Settling.{unusable_short}
 
 abbrev Bytes : Type 0
@@ -46,6 +46,15 @@ both false b first second = absurd (cc)
 
 gate_open : (gate : ℕ) → gate ≡ 1 → (gate == 1) ≡ true
 gate_open gate is = grind (arith, nat_tests)
+
+isn't_zero : (n : ℕ) → n ≢ 0 → (n == 0) ≡ false
+isn't_zero n some = grind (arith, nat_tests)
+
+-- the gate that was read tells whether it has to be shut
+pub must_shut_read : (journal gate : Bytes) (n : ℕ) → n ≡ length journal → n ≢ 0 → gate ≡ bytes_at 1 0 journal → (get_or gate 0 0 == 1) ≡ must_shut journal
+must_shut_read [] gate n is some reads = absurd (some is)
+must_shut_read (g ∷ rest) gate n is some reads =
+    ap (λ (h : Bytes). get_or h 0 0 == 1) reads ∙ ap (λ (none : Bool). none || (g == 1)) (sym (isn't_zero (length (g ∷ rest)) (λ zero. some (is ∙ zero))))
 
 pub unusable_under : (journal : Bytes) (n : ℕ) → n ≡ length journal → n < 5 → is_usable journal ≡ false
 unusable_under journal n is few = unusable_short journal (under_four_of journal (omega arith))

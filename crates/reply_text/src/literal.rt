@@ -64,22 +64,18 @@ pub(crate) fn push_address(text: &mut Vec<u8>, address: u32) -> Result<(), HostF
     Ok(())
 }
 
-/// Whether a byte stands for itself between these quotes.
-fn is_plain(quote: u8, byte: u8) -> bool
-    ensures { result ≡ texts.is_plain quote byte }
-{
-    matches!(byte, b' '..=b'~') && byte != quote
-}
-
-/// Whether all bytes stand for themselves between these quotes.
+/// Whether all bytes stand for themselves between these quotes. Each byte takes a largest and an `or`, so that a compiler can do sixteen
+/// at once.
 fn are_plain(quote: u8, bytes: &[u8]) -> bool
     ensures { result ≡ list_all (texts.is_plain quote) bytes.now }
 {
-    let mut all = true;
+    let mut most = 0;
+    let mut has_quote = false;
     for byte in bytes {
-        all &= is_plain(quote, *byte);
+        most = byte.wrapping_sub(b' ').max(most);
+        has_quote |= *byte == quote;
     }
-    all
+    most <= b'~' - b' ' && !has_quote
 }
 
 /// Adds bytes between these quotes where each can stand there, else as `$"`, hexadecimal digits and `"`.

@@ -1,4 +1,4 @@
-use Rattle.std.proofs.Common.{◌∙◌, ap, arith}
+use Rattle.std.proofs.Common.{◌≡◌, ◌+◌, ◌≤◌, length, ◌∙◌, sym, ap, subst, arith}
 use Rattle.fork_disk.specs.Disk.{bytes_at}
 use Rattle.fork_journal.specs.Crash.{Contents}
 use Rattle.fork_journal.proofs.Usable.{unusable_under, unusable_cut, usable_whole, fork_read}
@@ -25,3 +25,12 @@ returns-clause-value g c honest =
       c.in_ok-fork.ensures.value later ∙ ap (λ (d : Contents). bytes_at c.told_length-told.result 5 d.journal) same
           ∙ fork_read journal c.read_at.new.buffer c.in_ok-len.len c.told_length-told.result (c.in_ok-len.ensures.value honest) c.if-len-lt5.false reads c.told_length-told.ensures.value,
     )
+
+pub read_journal-requires : goal.read_journal-requires
+read_journal-requires g c later =
+    let then = c.read_at.ensures.honest.1 later in
+    let honest = c.len.ensures.honest.1 then in
+    let here = g.P.PairDisk.contents c.args.pair.now in
+    let long : c.in_ok-len.len ≡ length here.journal = c.in_ok-len.ensures.value honest in
+    let enough : 5 + c.told_length-told.result ≤ length here.journal = omega (arith, long, c.if-len-told.false) in
+    subst (λ (d : Contents). 5 + c.told_length-told.result ≤ length d.journal) (sym (c.read_at.ensures.same then ∙ c.len.ensures.same honest)) enough

@@ -1,5 +1,8 @@
-use Rattle.std.proofs.Common.{sym, ◌∙◌}
+use Rattle.std.proofs.Common.{sym, ap, ◌∙◌}
+use Rattle.fork_journal.specs.Crash.{Contents}
+use Rattle.fork_journal.specs.Form.{is_usable}
 use Rattle.fork_journal.proofs.Along.{leaves_now}
+use Rattle.fork_journal.proofs.Readying.{leaves_journal, readies}
 use Rattle.fork_journal.proofs.Updating.{chooses, syncs, recovers, settled_read, one_fork}
 use Rattle.fork_journal.proofs.recovery.recover.Goals as goal
 
@@ -52,3 +55,17 @@ returns-in_err-finish-clause-same g c honest =
     let found = rw c.in-Some.is at (c.in_ok-fork.ensures.value then) in
     let gives = settled_read (g.P.PairDisk.contents c.args.pair.now) (g.P.PairDisk.contents c.sync.new.self) c.deref.result.now (c.sync.ensures.same honest) found.0 (c.deref.ensures.value ∙ found.1) in
     leaves_now _ _ _ (c.finish.ensures.any_moment later) _ (g.met.P.PairDisk.reads_is_outcome c.finish.new.pair (c.finish.ensures.honest.0 later)) ∙ sym gives
+
+pub finish-requires-clause-stable : goal.finish-requires-clause-stable
+finish-requires-clause-stable g c later =
+    let then = c.usable_fork.ensures.honest.1 later in
+    let honest = c.sync.ensures.honest.1 then in
+    leaves_journal (g.P.PairDisk.contents c.args.pair.now) (g.P.PairDisk.contents c.usable_fork.new.pair) _ _
+    (c.usable_fork.ensures.calm then ∙ c.in_ok-sync.ensures.durable honest) (c.usable_fork.ensures.same then ∙ c.sync.ensures.same honest)
+
+pub returns-in_default-clause-ready : goal.returns-in_default-clause-ready
+returns-in_default-clause-ready g c honest =
+    let then = c.sync.ensures.honest.0 honest in
+    readies (g.P.PairDisk.contents c.args.pair.now) (g.P.PairDisk.contents c.usable_fork.new.pair) _ _
+    (c.usable_fork.ensures.calm then ∙ c.in_ok-sync.ensures.durable honest) (c.usable_fork.ensures.same then ∙ c.sync.ensures.same honest) (c.requires honest)
+    (ap (λ (d : Contents). is_usable d.journal) (c.usable_fork.ensures.same then) ∙ rw c.in_default.is at (c.in_ok-fork.ensures.value then))

@@ -45,3 +45,17 @@ returns-clause-put g c honest =
     let then = c.write_at.ensures.honest.0 honest in
     let reads = cut_behind _ c.args.fork.now 0 _ _ _ (omega arith) (omega arith) (c.in_ok-write_at.ensures.written honest).0 (c.in_ok-cut.ensures.cut then).0 in
     ap (λ (d : Contents). d.fork) (c.sync.ensures.same (c.cut.ensures.honest.0 then)) ∙ reads
+
+pub returns-in_err-cut-clause-kept : goal.returns-in_err-cut-clause-kept
+returns-in_err-cut-clause-kept g c honest =
+    (c.in_err-cut.ensures.torn (c.write_at.ensures.honest.0 honest)).1 ∙ (c.in_ok-write_at.ensures.written honest).1
+
+pub returns-in_err-sync-clause-kept : goal.returns-in_err-sync-clause-kept
+returns-in_err-sync-clause-kept g c honest =
+    let then = c.write_at.ensures.honest.0 honest in
+    ap (λ (d : Contents). d.journal) (c.sync.ensures.same (c.cut.ensures.honest.0 then)) ∙ (c.in_ok-cut.ensures.cut then).1 ∙ (c.in_ok-write_at.ensures.written honest).1
+
+pub returns-clause-kept : goal.returns-clause-kept
+returns-clause-kept g c honest =
+    let then = c.write_at.ensures.honest.0 honest in
+    ap (λ (d : Contents). d.journal) (c.sync.ensures.same (c.cut.ensures.honest.0 then)) ∙ (c.in_ok-cut.ensures.cut then).1 ∙ (c.in_ok-write_at.ensures.written honest).1

@@ -1,5 +1,5 @@
-use Rattle.std.proofs.Common.{rules, ◌++◌, ◌∷◌, [], List}
-use Rattle.std.proofs.Output.{has_written_append}
+use Rattle.std.proofs.Common.{rules, refl, ◌++◌, ◌∷◌, [], List}
+use Rattle.std.proofs.Output.{has_written_append, writes_in_calls_nil}
 use Rattle.fork_text.specs.declared.attribute.Attribute.{Attribute}
 use Rattle.fork_text.specs.declared.attribute.Attribute.TheVariants.{Bit7, SysHeap, Purgeable, Locked, Protected, Preload, Changed, Bit0}
 use Rattle.fork_text.proofs.Words.{skipped, said}
@@ -8,6 +8,9 @@ use Rattle.fork_text.proofs.attribute.AttributesDisplay.fmt.Goals.{then-bits-bit
 
 abbrev all : List Attribute
 all = Bit7 ∷ SysHeap ∷ Purgeable ∷ Locked ∷ Protected ∷ Preload ∷ Changed ∷ Bit0 ∷ []
+
+pub loop-attribute-init : goal.loop-attribute-init
+loop-attribute-init g c = (search rules, λ plain. ([], record { wrote = writes_in_calls_nil _ _; plain = plain }, refl))
 
 pub loop-attribute-preserved : goal.loop-attribute-preserved
 loop-attribute-preserved g c =
