@@ -6,7 +6,7 @@
 #include <stdio.h>
 #include <time.h>
 
-enum { ROUNDS = 15, CALLS = 400000 };
+enum { ROUNDS = 200, CALLS = 50000 };
 
 static MhZone zone = MH_NO_ZONE;
 static uint32_t handle, number;
@@ -20,7 +20,7 @@ static MhErr deref(void) { return mh_deref(&zone, handle, &number); }
 
 static double now(void) {
     struct timespec time;
-    clock_gettime(CLOCK_MONOTONIC, &time);
+    clock_gettime(CLOCK_PROCESS_CPUTIME_ID, &time);
     return time.tv_sec * 1e9 + time.tv_nsec;
 }
 

@@ -7,12 +7,13 @@
 #include <stdlib.h>
 #include <string.h>
 
-enum { KEPT = 48, BYTES = 8 };
+enum { KEPT = 48, LENT = 8, BYTES = 8 };
 
 static MhZone zone = MH_NO_ZONE;
 static FILE *script, *replies;
 static uint64_t state;
 static uint32_t kept[KEPT]; /* handles and pointers, some of which are dead */
+static uint32_t lent[LENT]; /* some that were lent */
 static int line;
 
 static uint32_t below(uint32_t limit) {
@@ -22,6 +23,9 @@ static uint32_t below(uint32_t limit) {
 
 /* A block, mostly one that was given. */
 static uint32_t block(void) { return below(40) ? kept[below(KEPT)] : below(0x2000) + 0xFF000; }
+
+/* A block, mostly one that was lent. */
+static uint32_t lent_block(void) { return below(8) ? lent[below(LENT)] : block(); }
 
 static uint32_t size(void) { return below(60) ? below(below(4) ? 60 : 900) : 8388600 + below(16); }
 
@@ -42,12 +46,22 @@ static void one_operand(void) {
         {"DisposeHandle", mh_dispose_handle}, {"DisposePtr", mh_dispose_ptr}, {"EmptyHandle", mh_empty_handle},
         {"HLock", mh_hlock}, {"HUnlock", mh_hunlock}, {"HPurge", mh_hpurge}, {"HNoPurge", mh_hno_purge},
         {"HSetRBit", mh_hset_rbit}, {"HClrRBit", mh_hclr_rbit}, {"MoveHHi", mh_move_hhi}, {"HLockHi", mh_hlock_hi},
-        {"Lend", mh_lend}, {"Return", mh_return}, {"Return", mh_return}, {"HUnlock", mh_hunlock},
+        {"HUnlock", mh_hunlock},
         {"DisposeHandle", mh_dispose_handle}, {"DisposePtr", mh_dispose_ptr},
     };
     uint32_t which = below(sizeof calls / sizeof calls[0]), x = block();
     fprintf(script, "%s %" PRIu32 "\n", calls[which].name, x);
     told(calls[which].name, calls[which].call(&zone, x), NULL, 0);
+}
+
+/* A block is lent or comes back. */
+static void lends(void) {
+    bool back = !below(4);
+    uint32_t x = back ? lent_block() : block();
+    fprintf(script, "%s %" PRIu32 "\n", back ? "Return" : "Lend", x);
+    MhErr code = (back ? mh_return : mh_lend)(&zone, x);
+    told(back ? "Return" : "Lend", code, NULL, 0);
+    if (code == MH_NO_ERR && !back) lent[below(LENT)] = x;
 }
 
 static void two_operands(void) {
@@ -79,8 +93,23 @@ static void looks_around(void) {
     told(calls[which].name, code, "", number);
 }
 
-/* A block that comes: its number is kept. */
+/* A block that was kept goes, if it can. */
+static MhErr goes(const char *name, OneOperand *call, uint32_t x) {
+    fprintf(script, "%s %" PRIu32 "\n", name, x);
+    MhErr code = call(&zone, x);
+    told(name, code, NULL, 0);
+    return code;
+}
+
+/* A block that comes: its number is kept, in a place from which another goes before. */
 static void comes(void) {
+    uint32_t place = below(KEPT);
+    if (kept[place]) {
+        MhErr gone = goes("DisposeHandle", mh_dispose_handle, kept[place]);
+        if (gone == MH_MEM_WZ_ERR) line++, gone = goes("DisposePtr", mh_dispose_ptr, kept[place]);
+        if (gone != MH_MEM_LOCKED_ERR) kept[place] = 0;
+        return;
+    }
     static const struct { const char *name; Looks *call; } calls[] = {
         {"NewHandle", mh_new_handle}, {"NewHandle", mh_new_handle}, {"NewPtr", mh_new_ptr}, {"HandToHand", mh_hand_to_hand},
     };
@@ -88,7 +117,7 @@ static void comes(void) {
     fprintf(script, "%s %" PRIu32 "\n", calls[which].name, operand);
     MhErr code = calls[which].call(&zone, operand, &number);
     told(calls[which].name, code, "$", number);
-    if (code == MH_NO_ERR) kept[below(KEPT)] = number;
+    if (code == MH_NO_ERR) kept[place] = number;
 }
 
 /* The window on bytes of a lent block, or the code of its refusal. */
@@ -117,20 +146,20 @@ static MhErr window_peek(MhZone *it, uint32_t x, uint32_t at, uint8_t *bytes, si
 
 /* Bytes go in and come out, of a block or of one that is lent, half of these through a window. Each begins with a byte over $7E, so that it is shown in digits. */
 static void bytes(void) {
-    bool lent = !below(4);
-    uint32_t x = block(), at = below(6), count = 1 + below(BYTES);
+    bool is_lent = !below(3);
+    uint32_t x = is_lent ? lent_block() : block(), at = below(6), count = 1 + below(BYTES);
     uint8_t some[BYTES] = {0};
     if (below(2)) {
-        const char *name = lent ? "LentPoke" : "Poke";
+        const char *name = is_lent ? "LentPoke" : "Poke";
         fprintf(script, "%s %" PRIu32 " %" PRIu32 " $\"", name, x, at);
         for (uint32_t n = 0; n < count; n++) fprintf(script, "%02X", some[n] = (uint8_t)(0x80 + below(128)));
         fprintf(script, "\"\n");
-        told(name, (!lent ? mh_poke : below(2) ? mh_lent_poke : window_poke)(&zone, x, at, some, count), NULL, 0);
+        told(name, (!is_lent ? mh_poke : below(2) ? mh_lent_poke : window_poke)(&zone, x, at, some, count), NULL, 0);
         return;
     }
-    const char *name = lent ? "LentPeek" : "Peek";
+    const char *name = is_lent ? "LentPeek" : "Peek";
     fprintf(script, "%s %" PRIu32 " %" PRIu32 " %" PRIu32 "\n", name, x, at, count);
-    MhErr code = (!lent ? mh_peek : below(2) ? mh_lent_peek : window_peek)(&zone, x, at, some, count);
+    MhErr code = (!is_lent ? mh_peek : below(2) ? mh_lent_peek : window_peek)(&zone, x, at, some, count);
     fprintf(replies, "%d %s", line, name);
     if (code == MH_NO_ERR) {
         fprintf(replies, " $\"");
@@ -145,7 +174,7 @@ int main(int count, char **words) {
     state = strtoull(words[3], NULL, 10);
     int calls = atoi(words[4]);
     if (mh_make_zone(&zone, 0x100000, 4096, 8192, 24) != MH_NO_ERR) return 1;
-    static void (*const kinds[])(void) = {one_operand, one_operand, one_operand, two_operands, looks, looks_around, comes, comes, comes, bytes, bytes};
+    static void (*const kinds[])(void) = {one_operand, one_operand, one_operand, two_operands, looks, looks_around, lends, comes, comes, comes, bytes, bytes};
     for (line = 1; line <= calls; line++) kinds[below(sizeof kinds / sizeof kinds[0])]();
     return mh_end_zone(&zone) != MH_NO_ERR || fclose(script) || fclose(replies);
 }

@@ -1,4 +1,4 @@
-//! Exchanges of neighbouring blocks, many times over, for a program that measures them (`bench/region.sh`).
+//! Exchanges of neighbouring blocks, and calls on a session, many times over, for programs that measure them (`bench/region.sh`, `bench/border.sh`).
 #![tactic(auto)]
 
 ghost use Rattle.std.specs.Prelude.{◌≡◌, ◌<◌, ◌≤◌, ◌^◌, [], IfSome, IsTrue};
@@ -6,6 +6,8 @@ ghost use Rattle.mac_base.specs.HeadKind.{max_size};
 ghost use Rattle.mac_base.specs.Suits.{is_block_size};
 ghost use Rattle.linked_zone.specs.Places.{MovablePair};
 ghost use Rattle.zone_bench.specs.Cut.{CutAt};
+
+mod session;
 
 use linked_zone::LinkedZone;
 use mac_base::block::HeadKind;
