@@ -100,3 +100,52 @@ pub returns-clause-grouped : goal.returns-clause-grouped
 returns-clause-grouped g c =
     let P : List PlacedRow → Type 0 = AreGrouped in
     subst P (sym c.new.ensures) (grouped_in c.deref.result.now c.in_ok-rows.rows.items (c.in_ok-read_map.ensures.holds Types) (c.in_ok-rows.ensures.kinds ∙ ap (λ (rows : List MapRow). kinds_in rows) c.in_ok-read_map.ensures.rows))
+
+-- the store is as it was, whatever was read
+pub returns-clause-same : goal.returns-clause-same
+returns-clause-same g c = λ honest. (
+    let h1 = c.len.ensures.honest.0 honest in let h2 = c.read_front.ensures.honest.0 h1 in let h3 = c.read_part.ensures.honest.0 h2 in
+    c.find_rows.ensures.same h3 ∙ c.read_part.ensures.same h2 ∙ c.read_front.ensures.same h1 ∙ c.len.ensures.same honest)
+
+pub returns-clause-ready : goal.returns-clause-ready
+returns-clause-ready g c = λ honest. c.find_rows.ensures.ready (c.read_part.ensures.honest.0 (c.read_front.ensures.honest.0 (c.len.ensures.honest.0 honest)))
+
+pub returns-clause-stable : goal.returns-clause-stable
+returns-clause-stable g c = λ honest stable. (
+    let h1 = c.len.ensures.honest.0 honest in let h2 = c.read_front.ensures.honest.0 h1 in let h3 = c.read_part.ensures.honest.0 h2 in
+    c.find_rows.ensures.stable h3 (c.read_part.ensures.stable h2 (c.read_front.ensures.stable h1 (c.len.ensures.stable honest stable))))
+
+pub returns-clause-calm : goal.returns-clause-calm
+returns-clause-calm g c = λ honest. (
+    let h1 = c.len.ensures.honest.0 honest in let h2 = c.read_front.ensures.honest.0 h1 in let h3 = c.read_part.ensures.honest.0 h2 in
+    c.find_rows.ensures.calm h3 ∙ c.read_part.ensures.calm h2 ∙ c.read_front.ensures.calm h1 ∙ c.len.ensures.calm honest)
+
+pub returns-clause-honest : goal.returns-clause-honest
+returns-clause-honest g c = (
+  λ honest. c.find_rows.ensures.honest.0 (c.read_part.ensures.honest.0 (c.read_front.ensures.honest.0 (c.len.ensures.honest.0 honest))),
+  λ honest. c.len.ensures.honest.1 (c.read_front.ensures.honest.1 (c.read_part.ensures.honest.1 (c.find_rows.ensures.honest.1 honest))),
+)
+
+pub returns-in_err-check_bytes-clause-same : goal.returns-in_err-check_bytes-clause-same
+returns-in_err-check_bytes-clause-same g c = λ honest. (
+    let h1 = c.len.ensures.honest.0 honest in let h2 = c.read_front.ensures.honest.0 h1 in let h3 = c.read_part.ensures.honest.0 h2 in
+    c.find_rows.ensures.same h3 ∙ c.read_part.ensures.same h2 ∙ c.read_front.ensures.same h1 ∙ c.len.ensures.same honest)
+
+pub returns-in_err-check_bytes-clause-ready : goal.returns-in_err-check_bytes-clause-ready
+returns-in_err-check_bytes-clause-ready g c = λ honest. c.find_rows.ensures.ready (c.read_part.ensures.honest.0 (c.read_front.ensures.honest.0 (c.len.ensures.honest.0 honest)))
+
+pub returns-in_err-check_bytes-clause-stable : goal.returns-in_err-check_bytes-clause-stable
+returns-in_err-check_bytes-clause-stable g c = λ honest stable. (
+    let h1 = c.len.ensures.honest.0 honest in let h2 = c.read_front.ensures.honest.0 h1 in let h3 = c.read_part.ensures.honest.0 h2 in
+    c.find_rows.ensures.stable h3 (c.read_part.ensures.stable h2 (c.read_front.ensures.stable h1 (c.len.ensures.stable honest stable))))
+
+pub returns-in_err-check_bytes-clause-calm : goal.returns-in_err-check_bytes-clause-calm
+returns-in_err-check_bytes-clause-calm g c = λ honest. (
+    let h1 = c.len.ensures.honest.0 honest in let h2 = c.read_front.ensures.honest.0 h1 in let h3 = c.read_part.ensures.honest.0 h2 in
+    c.find_rows.ensures.calm h3 ∙ c.read_part.ensures.calm h2 ∙ c.read_front.ensures.calm h1 ∙ c.len.ensures.calm honest)
+
+pub returns-in_err-check_bytes-clause-honest : goal.returns-in_err-check_bytes-clause-honest
+returns-in_err-check_bytes-clause-honest g c = (
+  λ honest. c.find_rows.ensures.honest.0 (c.read_part.ensures.honest.0 (c.read_front.ensures.honest.0 (c.len.ensures.honest.0 honest))),
+  λ honest. c.len.ensures.honest.1 (c.read_front.ensures.honest.1 (c.read_part.ensures.honest.1 (c.find_rows.ensures.honest.1 honest))),
+)
