@@ -1,6 +1,5 @@
-use Rattle.std.proofs.Common.{◌≡◌, ◌∙◌, sym, ap, arith}
-use Rattle.std.specs.Prelude.{is_some}
-use Rattle.zone_heap.specs.Purge.{ShortGaps, may_purge}
+use Rattle.std.proofs.Common.{◌∙◌, sym, arith}
+use Rattle.zone_heap.specs.Purge.{ShortGaps}
 use Rattle.zone_heap.proofs.GapWalks.{none_sought, sought_all, sought_bound, sought_on, sought_more, sought_found, within_sought, bounds-counts, bounds-moving, bounds-other, part-fixed, part-goes, part-stays}
 use Rattle.zone_heap.proofs.Walks.{Facing, bytes_facing, entry_facing, facing, facing_read, owner_facing, within_facing}
 use Rattle.zone_heap.proofs.purge.gap_limit.Goals as goal
