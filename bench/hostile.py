@@ -115,6 +115,11 @@ def below_others(lines, request):
     return ["h=NewHandle 8"] + lines + handles(20000, 8) + request * LINES
 
 
+def above_others(request):
+    """The highest of 20,001 handles, above which all other bytes are free, and requests."""
+    return ["MoreMasters"] * 313 + handles(20000, 8) + ["h=NewHandle 8"] + request * LINES
+
+
 def below_free_blocks(lines, request):
     """10,000 free blocks in the gap of the lowest handle, and a request for more bytes than its gap has, though as many are free."""
     low = ["MoreMasters"] * 313 + ["h=NewHandle 8"] + [line for it in range(10000) for line in ("NewHandle 8", f"q{it:X}=NewHandle 8")] + ["s=NewHandle 300000", "k=NewHandle 8", "HLock k", "DisposeHandle s"]
@@ -171,13 +176,20 @@ RUNS = [
     ("a handle among 10,000 free blocks is to be reallocated", [], below_free_blocks([], ["ReallocateHandle h 600000"])),
     ("a locked handle below 10,000 free blocks is to grow", [], below_free_blocks(["HLock h"], ["SetHandleSize h 600000"])),
     ("a locked handle is to grow, and one below it is purgeable", [], ["MoreMasters"] * 313 + ["g=NewHandle 8", "HPurge g"] + below_others(["HLock h"], ["SetHandleSize h 900000"])),
+    ("a locked handle is to grow, one below it is purgeable, and flags are set", [], ["MoreMasters"] * 313 + ["g=NewHandle 8", "HPurge g"] + below_others(["HLock h"], ["HNoPurge h", "SetHandleSize h 900000"])),
+    ("two locked handles are to grow, and one below them is purgeable", [], ["MoreMasters"] * 313 + ["g=NewHandle 8", "HPurge g", "h=NewHandle 8", "HLock h"] + handles(10000, 8) + ["i=NewHandle 8", "HLock i"] + handles(10000, 8) + ["SetHandleSize i 900000", "SetHandleSize h 900000"] * LINES),
     ("the lowest handle is to be reallocated", [], below_others([], ["ReallocateHandle h 900000"])),
     ("bytes are to be added to the lowest handle", [], below_others(["b=NewHandle 500000"], ["HandAndHand b h"])),
     ("bytes of a purgeable handle are to be added to another", [], below_others(["b=NewHandle 500000", "HPurge b", "HPurge h"], ["HandAndHand b h"])),
     ("the lowest handle, purged and filled again", [], below_others([], ["HPurge h", "NewHandle 900000", "ReallocateHandle h 8"])),
+    ("the lowest handle, purged by PurgeMem and filled again", [], below_others([], ["HPurge h", "PurgeMem 2000000", "ReallocateHandle h 8"])),
+    ("the highest handle, purged and filled again", [], above_others(["HPurge h", "NewHandle 900000", "ReallocateHandle h 8"])),
+    ("the highest handle makes way and comes back", [], above_others(["HPurge h", "x=NewHandle 645620", "DisposeHandle x", "ReallocateHandle h 8"])),
     ("HLockHi among 20,000 blocks", [], below_others([], ["HLockHi h", "HUnlock h"])),
     ("10,000 free blocks in a gap that a lock cuts in two", [], locked_by_turns()),
     ("MaxBlock and PurgeSpace among 20,000 blocks", [], handles(20000, 8) + ["MaxBlock", "PurgeSpace"] * LINES),
+    ("MaxBlock among 20,000 blocks, free ones at both ends", [], ["h=NewHandle 8"] + handles(20000, 8) + ["DisposeHandle h"] + ["MaxBlock"] * LINES),
+    ("PurgeSpace among 20,000 blocks, the highest purgeable", [], handles(20000, 8) + ["h=NewHandle 8", "HPurge h"] + ["PurgeSpace"] * LINES),
     ("CompactMem among 20,000 blocks", [], handles(20000, 8) + ["CompactMem 1000000"] * LINES),
     ("RecoverHandle among 20,000 blocks", [], named(20000, 8) + ["a=Deref h4E1F"] + ["RecoverHandle a"] * LINES),
     ("a last handle that grows and shrinks", [], named(20000, 8) + ["SetHandleSize h1 300", "SetHandleSize h1 8"] * LINES),

@@ -68,8 +68,9 @@ pub(crate) fn is_lent(zone: &Zone, block: u32) -> bool
     ensures { result ≡ is_lent zone.now.heap.table block }
 {
     // The zone's count of loans says so.
-    prove!(zone.lent_count() <= MOST_LOANS);
-    zone.has_block(block) && zone.is_lent(block)
+    let loans = zone.lent_count();
+    prove!(loans <= MOST_LOANS);
+    loans > 0 && zone.has_block(block) && zone.is_lent(block)
 }
 
 /// Tests that a number isn't lent: memLockedErr where it is.

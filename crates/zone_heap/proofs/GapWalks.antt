@@ -12,8 +12,9 @@ use Rattle.mac_base.specs.ZoneState.{ZoneState}
 use Rattle.zone_laws.proofs.Tables.{eqb-true-is}
 use Rattle.zone_gaps.proofs.Sizes.{total_size-push}
 use Rattle.zone_heap.specs.Attempts.{SoundZone}
-use Rattle.zone_heap.specs.Purge.{BlocksAt, IsLimit, Spanned, bounds_gap, bytes_before, counts, handle_to_purge, is_kept, may_purge, run_has, size_if}
+use Rattle.zone_heap.specs.Purge.{BlocksAt, IsLimit, Spanned, bounds_gap, bytes_before, counts, handle_to_purge, is_kept, may_purge, part_of, run_has, size_if}
 use Rattle.zone_heap.specs.declared.purge.Limit.{Limit}
+use Rattle.zone_heap.specs.declared.purge.Part.TheVariants.{Goes, Fixed, Stays}
 use Rattle.zone_heap.proofs.Purging.{may_purge-parts}
 use Rattle.zone_heap.proofs.Runs.{Swept, bytes-within, bound_swept, limit_here, limit_last, more-run, none_behind, none_swept, pass_swept, purge_swept, spanned-high, spanned_all, spanned_go, spanned_stay}
 use Rattle.zone_heap.proofs.Walks.{Walked, Facing, bytes_facing, none_walked, end_walked, rest_walked, walked_end, walked_on, within_facing}
@@ -42,6 +43,39 @@ some-purged t protected Free = refl
 some-purged t protected Master = refl
 some-purged t protected (Ptr p) = refl
 some-purged t protected (Rel g) = elim (is_purgeable t g && not (is_among protected g)) as (λ c. is_some (cond c (Some g) None) ≡ c) [ true ↦ refl | false ↦ refl ]
+
+-- what purging does with a block tells whether it is purged, and whether it may move
+pub part-goes : (t : HandleTable) (protected : List ℕ) (kind : Kind) → part_of t protected kind ≡ Goes → may_purge t protected kind ≡ true
+part-goes t protected kind is = by_tests (may_purge t protected kind) (is_fixed t kind) is
+  where
+    by_tests : (may fixed : Bool) → cond may Goes (cond fixed Fixed Stays) ≡ Goes → may ≡ true
+    by_tests true fixed is = refl
+    by_tests false true is = absurd (cc is)
+    by_tests false false is = absurd (cc is)
+
+pub part-fixed : (t : HandleTable) (protected : List ℕ) (kind : Kind) → part_of t protected kind ≡ Fixed → (may_purge t protected kind ≡ false) × (is_fixed t kind ≡ true)
+part-fixed t protected kind is = by_tests (may_purge t protected kind) (is_fixed t kind) is
+  where
+    by_tests : (may fixed : Bool) → cond may Goes (cond fixed Fixed Stays) ≡ Fixed → (may ≡ false) × (fixed ≡ true)
+    by_tests true fixed is = absurd (cc is)
+    by_tests false true is = (refl, refl)
+    by_tests false false is = absurd (cc is)
+
+pub part-stays : (t : HandleTable) (protected : List ℕ) (kind : Kind) → part_of t protected kind ≡ Stays → (may_purge t protected kind ≡ false) × (is_fixed t kind ≡ false)
+part-stays t protected kind is = by_tests (may_purge t protected kind) (is_fixed t kind) is
+  where
+    by_tests : (may fixed : Bool) → cond may Goes (cond fixed Fixed Stays) ≡ Stays → (may ≡ false) × (fixed ≡ false)
+    by_tests true fixed is = absurd (cc is)
+    by_tests false true is = absurd (cc is)
+    by_tests false false is = (refl, refl)
+
+-- a block that may move bounds no gap
+pub bounds-moving : (t : HandleTable) (counted : Option ℕ) (kind : Kind) → is_fixed t kind ≡ false → bounds_gap t counted kind ≡ false
+bounds-moving t counted kind moves = ap (λ f. not (counts counted kind) && f) moves ∙ none (not (counts counted kind))
+  where
+    none : (b : Bool) → (b && false) ≡ false
+    none true = refl
+    none false = refl
 
 -- more bytes than there are
 pub too-many : (k n : ℕ) → n < k → nat_le k n ≡ false

@@ -15,6 +15,8 @@ use Rattle.mac_base.specs.ZoneMap.{ZoneMap, block, handle_of, is_free, is_named,
 use Rattle.mac_base.specs.ZoneState.{ZoneState, with_heap}
 use Rattle.zone_heap.specs.declared.purge.Barren.{Barren}
 use Rattle.zone_heap.specs.declared.purge.Limit.{Limit}
+use Rattle.zone_heap.specs.declared.purge.Part.{Part}
+use Rattle.zone_heap.specs.declared.purge.Part.TheVariants.{Goes, Fixed, Stays}
 
 -- whether what a request resizes or replaces is among the protected
 abbrev pub is_protected : List ℕ → Request → Bool
@@ -41,6 +43,10 @@ NoneToPurge t protected = (h : ℕ) → IsFalse (is_purgeable t h && not (is_amo
 -- the handle of such a block
 abbrev pub handle_to_purge : HandleTable → List ℕ → Kind → Option ℕ
 handle_to_purge t protected kind = if may_purge t protected kind then handle_of kind else None
+
+-- what purging does with a block
+abbrev pub part_of : HandleTable → List ℕ → Kind → Part
+part_of t protected kind = if may_purge t protected kind then Goes else (if is_fixed t kind then Fixed else Stays)
 
 -- whether a block counts as free: it is, or it is that of this handle
 abbrev pub counts : Option ℕ → Kind → Bool

@@ -64,7 +64,7 @@ ghost use Rattle.linked_zone.specs.Fit.{HasSizes};
 ghost use Rattle.linked_zone.specs.Places.{EntryAt, HasOwner};
 ghost use Rattle.zone_heap.specs.Attempts.{CanAsk, SoundZone};
 ghost use Rattle.zone_heap.specs.Joins.{all_joined};
-ghost use Rattle.zone_heap.specs.Purge.{ApartBeside, BlocksAt, IsLimit, ShortBlocks, ShortGaps, IsBarren, IsBarrenFor, Purges, PurgesFor, PurgesTo, blocks_behind, bounds_gap, bounds_free, bytes_before, counts, handle_to_purge, is_kept, is_protected, may_purge, purged_between, staying_block, HasBlockIf, NoneToPurge};
+ghost use Rattle.zone_heap.specs.Purge.{ApartBeside, BlocksAt, IsLimit, ShortBlocks, ShortGaps, IsBarren, IsBarrenFor, Purges, PurgesFor, PurgesTo, blocks_behind, bounds_gap, bounds_free, bytes_before, counts, handle_to_purge, is_kept, is_protected, may_purge, part_of, purged_between, staying_block, HasBlockIf, NoneToPurge};
 
 use crate::zone::Zone;
 use gap_index::GapZone;
@@ -99,6 +99,37 @@ fn handle_to_purge(zone: &LinkedZone, kind: Kind, protected: &[u32]) -> Option<H
     } else {
         None
     }
+}
+
+/// What purging does with a block.
+#[derive(Clone, Copy)]
+pub(crate) enum Part {
+    /// It is purged: its handle is purgeable, not locked and not protected.
+    Goes,
+    /// It may not move.
+    Fixed,
+    /// It is free, or that of a handle that is neither.
+    Stays,
+}
+
+/// What purging does with a block of this kind. Flags are read once.
+fn part_of(zone: &LinkedZone, kind: Kind, protected: &[u32]) -> Part
+    requires { HasOwner zone.now kind }
+    ensures { result ≡ part_of zone.now.heap.table protected.now kind }
+{
+    let handle = match kind {
+        Kind::Rel(handle) => handle,
+        Kind::Free => return Part::Stays,
+        Kind::Master | Kind::Ptr(_) => return Part::Fixed,
+    };
+    let flags = zone.flags(handle);
+    if flags.lock {
+        return Part::Fixed;
+    }
+    if flags.purge && !protected.contains(&handle.number()) {
+        return Part::Goes;
+    }
+    Part::Stays
 }
 
 /// Whether a block counts as free: it is, or it is that of the handle of this number.
@@ -255,16 +286,22 @@ fn gap_limit(
     while at < end {
         let here = zone.entry_at(at);
         let next = at + here.size;
-        if handle_to_purge(zone, here.kind, protected).is_some() {
-            room = whole_room(zone, from, end, counted, freed, room);
-            freed += here.size;
-            limit = widened(limit, at, next, needed <= room + freed);
-            if limit.enough {
-                return limit;
+        match part_of(zone, here.kind, protected) {
+            Part::Goes => {
+                room = whole_room(zone, from, end, counted, freed, room);
+                freed += here.size;
+                limit = widened(limit, at, next, needed <= room + freed);
+                if limit.enough {
+                    return limit;
+                }
             }
-        } else if !counts(counted, here.kind) && is_fixed(zone, here.kind) {
-            from = next;
-            freed = 0;
+            Part::Fixed => {
+                if !counts(counted, here.kind) {
+                    from = next;
+                    freed = 0;
+                }
+            }
+            Part::Stays => {}
         }
         at = next;
     }

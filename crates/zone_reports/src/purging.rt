@@ -6,18 +6,26 @@ ghost use Rattle.linked_zone.specs.Places.{HasOwner};
 ghost use Rattle.zone_gaps.specs.Gaps.{Settled};
 ghost use Rattle.zone_reports.specs.Rooms.{is_space};
 
+use crate::rooms::largest_room;
 use linked_zone::LinkedZone;
 use mac_base::block::Kind;
 use mac_base::purge_space::PurgeSpace;
 use mac_base::size::ZONE_HEADER;
 use zone_gaps::{is_fixed, zone_end};
 
-/// The bytes of the blocks that are free or may be purged: of all, and the most that one gap has.
+/// The bytes of the blocks that are free or may be purged: of all, and the most that one gap has. Where no handle may be purged
+/// only free blocks count.
 pub fn purge_space(zone: &LinkedZone) -> PurgeSpace
     requires { Settled zone.now }
     ensures total { result.total ≡ purge_space zone.now.heap.table zone.now.heap.map }
     ensures contiguous { result.contiguous ≡ largest_purge_space zone.now.heap.table zone.now.heap.map }
 {
+    if !zone.has_purgeable() {
+        return PurgeSpace {
+            total: zone.free_bytes(),
+            contiguous: largest_room(zone),
+        };
+    }
     let top = zone_end(zone);
     let mut at = zone.spec().base() + ZONE_HEADER;
     let mut total = 0;

@@ -3,10 +3,21 @@ use Rattle.mac_base.specs.ZoneMap.{address_behind}
 use Rattle.mac_base.specs.ZoneSizes.{ZoneSizes}
 use Rattle.zone_gaps.proofs.Entries.{entry_size, entry_within, entry_owner}
 use Rattle.zone_gaps.proofs.Settling.{owners-settled}
+use Rattle.zone_reports.proofs.Space.{unpurged-largest, unpurged-space}
 use Rattle.zone_reports.proofs.Standing.{Next, next, none_next, entry_next, read_next}
 use Rattle.zone_reports.proofs.Totals.{Summed, none_summed, all_summed, space_below, space_summed, fixed_summed, other_summed}
 use Rattle.zone_reports.proofs.purging.purge_space.Goals as goal
 use Rattle.zone_reports.proofs.purging.purge_space.Goals.{After-entry_at-here, then-is_space, else-is_space+then-is_fixed, else-is_space+else-is_fixed}
+
+pub returns-then-not-has_purgeable-clause-total : goal.returns-then-not-has_purgeable-clause-total
+returns-then-not-has_purgeable-clause-total c =
+    let z = c.args.zone.now in
+    c.free_bytes.ensures ∙ sym (unpurged-space z.heap.table (c.has_purgeable.ensures c.if-not-has_purgeable.true) z.heap.map)
+
+pub returns-then-not-has_purgeable-clause-contiguous : goal.returns-then-not-has_purgeable-clause-contiguous
+returns-then-not-has_purgeable-clause-contiguous c =
+    let z = c.args.zone.now in
+    c.largest_room.ensures ∙ sym (unpurged-largest z.heap.table (c.has_purgeable.ensures c.if-not-has_purgeable.true) z.heap.map)
 
 -- a block stands there
 abbrev coming : (c : After-entry_at-here) → Next c.args.zone.now c.loop-at.invariant.split
