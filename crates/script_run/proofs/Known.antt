@@ -1,5 +1,5 @@
 -- What several reads and writes do to the known bytes.
-use Rattle.std.proofs.Common.{◌≡◌, ℕ, ◌-◌, ◌<◌, ◌≤◌, arith, Bool, take, drop, length, length-drop, List, [], ◌++◌, Option, Some, None, refl, sym, ap, ◌∙◌, append_assoc}
+use Rattle.std.proofs.Common.{◌≡◌, ℕ, ◌-◌, ◌<◌, ◌≤◌, arith, Bool, take, drop, length, length-drop, List, [], ◌++◌, Option, Some, None, refl, sym, ap, ◌∙◌, append_assoc, length-append}
 use Rattle.std.specs.Prelude.{IfSome}
 use Rattle.std.specs.Io.KnownBytes.{Appends, Keeps, Consumes, IsAtEnd}
 use Rattle.script_text.specs.Script.{max_script}
@@ -50,6 +50,12 @@ read_all (Some xs) (Some ys) (Some zs) text none small p q e done =
     let nothing : ys ≡ [] = q ∙ ap (λ (t : List ℕ). t ++ zs) e ∙ done in
     let whole : xs ≡ text = p ∙ ap (λ (t : List ℕ). text ++ t) nothing ∙ append-nil text in
     (sym whole, rw whole small)
+
+-- and what was read is no more than all
+pub read_more : (a b : Option (List ℕ)) (text : List ℕ) → max_script < length text → Consumes a b text → IfSome a (λ input. max_script < length input)
+read_more None b text long p = tt
+read_more (Some xs) None text long p = absurd p
+read_more (Some xs) (Some ys) text long p = rw p (omega (arith, length-append text ys))
 
 -- a write that took something counts as no failure
 pub taken-counts : (n before now : ℕ) (bytes : List ℕ) → 0 < n → now ≡ counted (n == 0 && not (is_empty bytes)) before → now ≡ before
