@@ -29,4 +29,5 @@ def main():
 
 
 if __name__ == "__main__":
+    os.chdir(f"{os.path.dirname(os.path.abspath(__file__))}/..")
     sys.exit(main())
