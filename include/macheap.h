@@ -9,7 +9,8 @@
  *    zone is never passed to them.
  *  - A pointer is not null, is aligned, and leads to what its type says, to be read, or where it isn't const, written.
  *    Those of one call don't overlap. This holds where a count is 0, too.
- *  - Bytes behind a window (mh_window) are read and written only while their block is lent, and not beyond its length.
+ *  - Bytes behind a window (mh_window) are read and written only while their block is lent, not beyond its length, and not
+ *    while a call on their zone runs, by another thread, say. No pointer into a window is passed to a call on its zone.
  *  - One call at a time on one zone, on one thread, and none from a signal handler. Two zones are independent.
  *  - malloc, realloc and free of the program are those of one C library.
  *

@@ -1,7 +1,8 @@
 -- The rows that C gives, one after the other.
-use Rattle.std.proofs.Common.{◌≡◌, ℕ, ◌∷◌, ◌++◌, Bool, true, false, List, [], take, drop, refl, sym, ap, ◌∙◌}
-use Rattle.std.specs.Prelude.{Option, Some, None, option_map, if◌then◌else◌}
-use Rattle.std.proofs.lemmas.List.{append_assoc}
+use Rattle.std.proofs.Common.{◌≡◌, ℕ, ◌≤◌, ◌==◌, ◌&&◌, ◌∷◌, ◌++◌, Bool, true, false, List, [], length, take, drop, arith, refl, sym, ap, ◌∙◌}
+use Rattle.std.specs.Prelude.{nat_le, Option, Some, None, option_map, if◌then◌else◌}
+use Rattle.std.proofs.lemmas.Bool.Decides.{nat_tests}
+use Rattle.std.proofs.lemmas.List.{append_assoc, append-nil, drop_all}
 use Rattle.fork_bytes.specs.declared.table.Table.{Table}
 use Rattle.fork_bytes.specs.Rows.{Row}
 use Rattle.fork_c.specs.declared.given.MfExtra.{MfExtra}
@@ -44,6 +45,53 @@ given_more all left row rows before names contents parts is so_far after given n
     so_far ∙ (ap (behind before) here
     ∙ (behind_one before (first_given row names contents) (left_behind row rows names contents)
     ∙ (ap (λ (rest : List Row). behind rest (left_behind row rows names contents)) more ∙ ap (behind after) others)))
+
+-- what rows without bytes give, where none are left over
+abbrev if_none_left : Bool → Option (List Row)
+if_none_left none = if none then Some [] else None
+
+-- the rows are all that C gives
+pub all_given : (all : Option (List Row)) (rows : List MfRow) (n : ℕ) (before given : List Row) (names contents : List ℕ) → length rows ≤ n → all ≡ behind before (rows_given (drop n rows) names contents) →
+    (length names == 0) ≡ true → (length contents == 0) ≡ true → given ≡ before → Some given ≡ all
+all_given all rows n before given names contents end so_far no_names no_contents is =
+    let here : rows_given (drop n rows) names contents ≡ if_none_left true =
+    ap (λ (rs : List MfRow). rows_given rs names contents) (drop_all n rows end) ∙ (ap (λ a. if_none_left (a && (length contents == 0))) no_names ∙ ap if_none_left no_contents)
+    in
+    ap Some (is ∙ sym (append-nil before)) ∙ (sym (ap (behind before) here) ∙ sym so_far)
+
+-- bytes are left over behind all rows
+pub left_over : (all : Option (List Row)) (rows : List MfRow) (n : ℕ) (before : List Row) (names contents : List ℕ) → length rows ≤ n → all ≡ behind before (rows_given (drop n rows) names contents) →
+    ((length names == 0) && (length contents == 0)) ≡ false → None ≡ all
+left_over all rows n before names contents end so_far some =
+    let here : rows_given (drop n rows) names contents ≡ if_none_left false = ap (λ (rs : List MfRow). rows_given rs names contents) (drop_all n rows end) ∙ ap if_none_left some in
+    sym (so_far ∙ ap (behind before) here)
+
+-- a row lacks one of its parts
+pub parts_missing : (all : Option (List Row)) (left : List MfRow) (row : MfRow) (rows : List MfRow) (before : List Row) (names contents : List ℕ) → has_parts row names contents ≡ false →
+    left ≡ row ∷ rows → all ≡ behind before (rows_given left names contents) → None ≡ all
+parts_missing all left row rows before names contents missing is so_far =
+    let here : rows_given left names contents ≡ if_parts false row rows names contents = ap (λ (ls : List MfRow). rows_given ls names contents) is ∙ ap (λ b. if_parts b row rows names contents) missing in
+    sym (so_far ∙ ap (behind before) here)
+
+three : (a b c : Bool) → (a && b && c) ≡ true → (a ≡ true) × (b ≡ true) × (c ≡ true)
+three true true true is = (refl, refl, refl)
+three true true false is = absurd (cc is)
+three true false c is = absurd (cc is)
+three false b c is = absurd (cc is)
+
+le_from : (a b : ℕ) → nat_le a b ≡ true → a ≤ b
+le_from a b is = grind (arith, nat_tests)
+
+at_most : (b : Bool) → (if b then 255 else 0) ≤ 255
+at_most true = omega arith
+at_most false = omega arith
+
+-- the parts that a row has, the first of those that are left
+pub parts_fit : (left : List MfRow) (row : MfRow) (rows : List MfRow) (names contents : List ℕ) → left ≡ row ∷ rows → has_parts row names contents ≡ true → (row.name_length ≤ 255) × (row.name_length ≤ length names) × (row.data_length ≤ length contents)
+parts_fit left row rows names contents is has =
+    let tests = three (nat_le row.name_length (if row.has_name then 255 else 0)) (nat_le row.name_length (length names)) (nat_le row.data_length (length contents)) has in
+    let short = le_from row.name_length (if row.has_name then 255 else 0) tests.0 in let most = at_most row.has_name in
+    (omega arith, le_from row.name_length (length names) tests.1, le_from row.data_length (length contents) tests.2)
 
 -- the rows of a table that is given stand together
 pub given_together : (extra : MfExtra) (rows : Option (List Row)) (table : Table) → table_given extra rows ≡ Some table → are_grouped table.rows ≡ true
