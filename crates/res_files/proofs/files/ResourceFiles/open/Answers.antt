@@ -1,9 +1,11 @@
-use Rattle.std.proofs.Common.{◌-◌, ◌∙◌, sym, ap, subst, map, set}
+use Rattle.std.proofs.Common.{◌-◌, ◌∙◌, length, sym, ap, subst, map, set}
 use Rattle.fork_reader.specs.declared.place.Place.{Place}
 use Rattle.res_table.specs.OpenFiles.{OpenFiles}
 use Rattle.res_files.specs.Standing.{StandOn, files_on}
 use Rattle.res_files.proofs.Crash.{found_always, others_calm, found_there}
 use Rattle.res_files.proofs.Opened.{within, stand_kept, stand_more, closed_there, files_kept, forks_kept, honest_kept, seen_more, seen_refused, on_err}
+use Rattle.std.proofs.lemmas.List.{length-set}
+use Rattle.res_files.specs.FilesOn.{FilesOn}
 use Rattle.res_files.proofs.files.ResourceFiles.open.Goals as goal
 
 pub invariant_of-self : goal.invariant_of-self
@@ -103,3 +105,15 @@ pub returns-clause-settled : goal.returns-clause-settled
 returns-clause-settled g c = λ honest journalled.
     found_there g.S.ForkStore.fork g.S.ForkStore.is_honest g.S.ForkStore.history c.self.inside.chain c.self.inside.loads c.self.inside.stores.items c.args.self.now c.self.view_is c.args.number (within g.S.ForkStore.fork g.S.ForkStore.is_ready g.S.ForkStore.is_honest c.self.inside.chain c.self.inside.loads c.self.inside.stores.items c.args.self.now c.self.view_is c.args.number c.requires.there.0 c.requires.there.1 c.index_mut-store.result.now c.read_table.new.store c.index_mut-store.ensures.value c.read_table.ensures.honest c.read_table.ensures.same) c.index_mut-store.result.now c.read_table.new.store c.index_mut-store.ensures.value g.S.ForkStore.may_find
     (λ here. g.S.ForkStore.ready_finds c.read_table.new.store journalled (c.read_table.ensures.honest.0 here) (c.in-Ok.ensures.ready here)) honest
+
+pub returns-in_err-open-clause-count : goal.returns-in_err-open-clause-count
+returns-in_err-open-clause-count g c = length-set c.self.inside.stores.items (c.args.number - 1) c.read_table.new.store ∙ ap (λ (on : FilesOn _). length on.stores) c.self.view_is
+
+pub returns-in_err-code_of-in-Err-clause-count : goal.returns-in_err-code_of-in-Err-clause-count
+returns-in_err-code_of-in-Err-clause-count g c = length-set c.self.inside.stores.items (c.args.number - 1) c.read_table.new.store ∙ ap (λ (on : FilesOn _). length on.stores) c.self.view_is
+
+pub returns-clause-count : goal.returns-clause-count
+returns-clause-count g c = length-set c.self.inside.stores.items (c.args.number - 1) c.read_table.new.store ∙ ap (λ (on : FilesOn _). length on.stores) c.self.view_is
+
+pub returns-in-Err-clause-count : goal.returns-in-Err-clause-count
+returns-in-Err-clause-count g c = length-set c.self.inside.stores.items (c.args.number - 1) c.read_table.new.store ∙ ap (λ (on : FilesOn _). length on.stores) c.self.view_is

@@ -7,6 +7,8 @@ use Rattle.res_files.proofs.RowBytes.{none_read, empty_read, all_read}
 use Rattle.res_files.proofs.On.{ok_then}
 use Rattle.res_files.proofs.Using.{match_then, mine, same_forks, same_files, same_honest, stand_still, none_failed, some_failed}
 use Rattle.res_files.proofs.files.ResourceFiles.read.Goals.{then-bytes-eq0-via-then-bytes-eq0, then-bytes-eq0-via-else-bytes-eq0+then-buffer-bytes}
+use Rattle.std.proofs.lemmas.List.{length-set}
+use Rattle.res_files.specs.FilesOn.{FilesOn}
 use Rattle.res_files.proofs.files.ResourceFiles.read.Goals as goal
 
 pub overflow_sub-place : goal.overflow_sub-place
@@ -82,3 +84,6 @@ returns-clause-calm g c =
     let stands = row_stands g.S.ForkStore.fork g.S.ForkStore.is_ready g.S.ForkStore.is_honest c.self.inside.stores.items c.args.place c.self.inside.chain c.in-Some.row.now c.self.invariant c.in-Some.ensures.some in
     let within : c.args.place.file - 1 < length c.self.inside.stores.items = omega (arith, stands.0, stands.1) in
     all_calm g.S.ForkStore.fork g.S.ForkStore.is_honest g.S.ForkStore.history c.self.inside.chain c.self.inside.loads c.self.inside.stores.items c.args.self.now c.self.view_is (c.args.place.file - 1) within c.index_mut-store.result.now c.read_at.new.self c.index_mut-store.ensures.value c.read_at.ensures.calm
+
+pub returns-clause-count : goal.returns-clause-count
+returns-clause-count g c = length-set c.self.inside.stores.items (c.args.place.file - 1) c.read_at.new.self ∙ ap (λ (on : FilesOn _). length on.stores) c.self.view_is

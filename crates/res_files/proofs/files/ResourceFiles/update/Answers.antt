@@ -1,5 +1,5 @@
-use Rattle.std.proofs.Common.{◌-◌, ◌∙◌, sym, ap, arith, List}
-use Rattle.std.specs.Prelude.{IsFalse}
+use Rattle.std.proofs.Common.{◌-◌, ◌∙◌, Ok, length, sym, ap, arith, List}
+use Rattle.std.specs.Prelude.{IsErrOf, IsFalse}
 use Rattle.std.proofs.lemmas.Bool.{false≢true}
 use Rattle.fork_bytes.specs.Written.{written}
 use Rattle.fork_disk.specs.Crash.{FoundBeforeOr}
@@ -10,11 +10,14 @@ use Rattle.res_calls.specs.Changes.{saved_table}
 use Rattle.res_calls.specs.Updates.{fits_fork}
 use Rattle.res_update.specs.Placed.{table_on}
 use Rattle.res_update.specs.Selected.{updated}
+use Rattle.res_update.specs.declared.fault.UpdateFault.{UpdateFault}
 use Rattle.res_update.specs.declared.fault.UpdateFault.TheVariants.{Device}
 use Rattle.res_files.specs.Updating.{rows_placed}
 use Rattle.res_files.proofs.Crash.{no_table, found_always, others_calm, this_calm, found_there}
 use Rattle.res_files.proofs.Rewritten.{low, within, of_table, small, unlent, held, fits_ok, fits_err, written_seen, stands_seen, rows_seen, left_seen, stand_written, stand_left, stand_unwritten, of_none, fault_as, rose}
 use Rattle.res_files.proofs.Using.{same_files, same_forks, same_honest, none_failed, some_failed}
+use Rattle.std.proofs.lemmas.List.{length-set}
+use Rattle.res_files.specs.FilesOn.{FilesOn}
 use Rattle.res_files.proofs.files.ResourceFiles.update.Goals as goal
 
 pub returns-in_default-clause-rows : goal.returns-in_default-clause-rows
@@ -153,3 +156,19 @@ returns-else-later-clause-others g c = λ honest. others_calm g.S.ForkStore.fork
 
 pub returns-else-later-clause-calm : goal.returns-else-later-clause-calm
 returns-else-later-clause-calm g c = λ honest is. this_calm g.S.ForkStore.fork g.S.ForkStore.is_honest g.S.ForkStore.history c.self.inside.chain c.self.inside.loads c.self.inside.stores.items c.args.self.now c.self.view_is c.args.number (within g.S.ForkStore.fork g.S.ForkStore.is_ready g.S.ForkStore.is_honest c.self.inside.chain c.self.inside.loads c.self.inside.stores.items c.args.self.now c.self.view_is c.self.invariant c.args.number c.in-Some.table.now c.in-Some.ensures.some) c.index_mut-store.result.now c.write_table.new.store c.index_mut-store.ensures.value (λ here. c.in-Err.ensures.calm here (fault_as c.in-Err.fault (Device BeforeFirstWrite) is)) honest
+
+pub returns-in-Ok-clause-count : goal.returns-in-Ok-clause-count
+returns-in-Ok-clause-count g c = length-set c.self.inside.stores.items (c.args.number - 1) c.write_table.new.store ∙ ap (λ (on : FilesOn _). length on.stores) c.self.view_is
+
+pub returns-then-later-clause-count : goal.returns-then-later-clause-count
+returns-then-later-clause-count g c = length-set c.self.inside.stores.items (c.args.number - 1) c.write_table.new.store ∙ ap (λ (on : FilesOn _). length on.stores) c.self.view_is
+
+pub returns-else-later-clause-count : goal.returns-else-later-clause-count
+returns-else-later-clause-count g c = length-set c.self.inside.stores.items (c.args.number - 1) c.write_table.new.store ∙ ap (λ (on : FilesOn _). length on.stores) c.self.view_is
+
+-- an update that succeeded has no fault
+no_fault : {A P : Type 0} (x : A) (fault : UpdateFault) → IsErrOf {T = A} {E = UpdateFault} (Ok x) fault → P
+no_fault x fault told = absurd (cc told)
+
+pub returns-in-Ok-clause-later : goal.returns-in-Ok-clause-later
+returns-in-Ok-clause-later g c = λ honest told. no_fault _ _ told
