@@ -11,7 +11,7 @@ use std::alloc::{AllocError, Global};
 use std::io::Read;
 
 /// Why there is no script.
-#[derive(Clone, Copy, Debug, PartialEq, Eq)]
+#[derive(Clone, Copy)]
 pub enum ReadEnd {
     /// The host had no memory.
     Memory,

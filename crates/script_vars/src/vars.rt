@@ -8,7 +8,7 @@ use std::alloc::Global;
 use std::marker::Model;
 
 /// The values of the variables, in order of the names. A contract sees the list.
-#[derive(Debug, Drop)]
+#[derive(Drop)]
 pub struct Vars {
     values: Vec<u32>,
 }

@@ -8,8 +8,8 @@ use Rattle.fork_bytes.specs.declared.fault.ForkFault.TheVariants.{BadMap}
 use Rattle.fork_reader.proofs.Faults.{fault_known}
 use Rattle.fork_bytes.specs.Rows.{MapRow}
 use Rattle.fork_bytes.specs.Fork.{data_of, HasData}
-use Rattle.fork_reader.specs.Reading.{placed_row}
-use Rattle.fork_reader.proofs.Placing.{data_fails}
+use Rattle.fork_reader.specs.Reading.{placed_row, HasDatum}
+use Rattle.fork_reader.proofs.Placing.{all_push, data_fails, map_push}
 use Rattle.fork_reader.proofs.read.find_rows.Goals as goal
 
 pub returns-in_err-find_row-clause-refuses : goal.returns-in_err-find_row-clause-refuses
@@ -30,3 +30,11 @@ returns-clause-has c =
     let all : c.loop-row.yielded ≡ c.args.rows.items =
     sym (map-id _) ∙ (YieldsList-end (YieldsList-from_vec c.args.rows.items (search rules) (search rules)) c.loop-row.yielded _ c.loop-row.yielded_by _ c.next.new.self c.in-None.is c.next.ensures.steps).0 in
     let P : List MapRow → Type 0 = HasData (data_of c.args.fork.now) in subst P all c.loop-row.invariant.3
+
+pub loop-row-preserved : goal.loop-row-preserved
+loop-row-preserved c = (
+  tt,
+  tt,
+  map_push (placed_row c.args.fork.now) c.loop-row.yielded c.in-Some.row _ _ _ c.loop-row.invariant.2 c.in_ok-find_row.ensures.row c.in_ok-push.ensures.added,
+  all_push (HasDatum (data_of c.args.fork.now)) c.loop-row.yielded c.in-Some.row c.loop-row.invariant.3 c.in_ok-find_row.ensures.has,
+)
