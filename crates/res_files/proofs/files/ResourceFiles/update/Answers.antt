@@ -1,4 +1,4 @@
-use Rattle.std.proofs.Common.{◌-◌, ◌∙◌, Ok, length, sym, ap, arith, List}
+use Rattle.std.proofs.Common.{◌≡◌, ◌-◌, ◌∙◌, Ok, Err, length, sym, ap, arith, List}
 use Rattle.std.specs.Prelude.{IsErrOf, IsFalse}
 use Rattle.std.proofs.lemmas.Bool.{false≢true}
 use Rattle.fork_bytes.specs.Written.{written}
@@ -11,7 +11,7 @@ use Rattle.res_calls.specs.Updates.{fits_fork}
 use Rattle.res_update.specs.Placed.{table_on}
 use Rattle.res_update.specs.Selected.{updated}
 use Rattle.res_update.specs.declared.fault.UpdateFault.{UpdateFault}
-use Rattle.res_update.specs.declared.fault.UpdateFault.TheVariants.{Device}
+use Rattle.res_update.specs.declared.fault.UpdateFault.TheVariants.{Device, HostFull, TooBig}
 use Rattle.res_files.specs.Updating.{rows_placed}
 use Rattle.res_files.proofs.Crash.{no_table, found_always, others_calm, this_calm, found_there}
 use Rattle.res_files.proofs.Rewritten.{low, within, of_table, small, unlent, held, fits_ok, fits_err, written_seen, stands_seen, rows_seen, left_seen, stand_written, stand_left, stand_unwritten, of_none, fault_as, rose}
@@ -172,3 +172,23 @@ no_fault x fault told = absurd (cc told)
 
 pub returns-in-Ok-clause-later : goal.returns-in-Ok-clause-later
 returns-in-Ok-clause-later g c = λ honest told. no_fault _ _ told
+
+-- the fault that is told is the one that there was
+err_is : {A : Type 0} (fault told : UpdateFault) → IsErrOf {T = A} {E = UpdateFault} (Err fault) told → fault ≡ told
+err_is fault told is = cc
+
+pub returns-else-later-clause-later : goal.returns-else-later-clause-later
+returns-else-later-clause-later g c = λ honest told. absurd (false≢true (sym c.if-later.false ∙ c.is_later-later.ensures.1 (err_is _ (Device Later) told)))
+
+-- a fault behind the first write is none of the others
+too_big_isnt : {A P : Type 0} (fault : UpdateFault) → fault ≡ Device Later → IsErrOf {T = A} {E = UpdateFault} (Err fault) TooBig → P
+too_big_isnt fault later told = let e : Device Later ≡ TooBig = sym later ∙ err_is fault TooBig told in absurd (cc e)
+
+host_full_isnt : {A P : Type 0} (fault : UpdateFault) → fault ≡ Device Later → IsErrOf {T = A} {E = UpdateFault} (Err fault) HostFull → P
+host_full_isnt fault later told = let e : Device Later ≡ HostFull = sym later ∙ err_is fault HostFull told in absurd (cc e)
+
+pub returns-then-later-clause-untouched : goal.returns-then-later-clause-untouched
+returns-then-later-clause-untouched g c = λ told. too_big_isnt _ (c.is_later-later.ensures.0 c.if-later.true) told
+
+pub returns-then-later-clause-unasked : goal.returns-then-later-clause-unasked
+returns-then-later-clause-unasked g c = λ told. host_full_isnt _ (c.is_later-later.ensures.0 c.if-later.true) told
