@@ -2,7 +2,8 @@
 """Times calls on resource files: resources.py PROGRAM [RUNS].
 
 First a fork of 744 KB with 500 resources is opened, listed, loaded and updated, beside a plain program (bench/plain_file.rs) that
-reads the same bytes from a file, or writes them to one and syncs it. Then calls are made on each of so many resources, with the time of one call; where it
+reads the same bytes from a file, or writes them to one and syncs it: once by the processor time behind the start of both, and once by the clock,
+with it, on a disk, and beside a plain program that makes the same calls on the file, too. Then calls are made on each of so many resources, with the time of one call; where it
 doubles with their number, the calls together take four times as long. A fork that was written has 5,458 resources of one type
 at most, so the calls that add and write are timed up to there.
 
@@ -14,6 +15,7 @@ import struct
 import subprocess
 import sys
 import tempfile
+import time
 
 HERE = os.path.dirname(os.path.abspath(__file__))
 ZONE = 1048576
@@ -105,6 +107,43 @@ def whole(bench):
         print(f"{title:34} {taken * 1e3:8.2f} {plain * 1e3:10.2f} {taken / plain:7.1f}")
 
 
+def clocked(words, script, fork, path):
+    """Milliseconds by the clock of a whole run over a fresh copy of the fork: the least of many."""
+    least = float("inf")
+    for _ in range(TURNS):
+        with open(path, "wb") as file:
+            file.write(fork)
+        with open(script, "rb") as given, open(os.devnull, "wb") as output:
+            start = time.perf_counter()
+            if subprocess.run(words, stdin=given, stdout=output).returncode != 0:
+                sys.exit(f"{words} failed")
+            least = min(least, time.perf_counter() - start)
+    return least * 1e3
+
+
+def by_clock(bench):
+    """The whole program by the clock, with its start, on a disk: beside plain programs."""
+    fork = fork_of(COUNT, LENGTH, True)
+    each = [f"GetIndResource 'TEXT' {it}" for it in range(1, COUNT + 1)]
+    change = ["h = GetResource 'TEXT' 1", "Poke h 0 \"y\"", "ChangedResource h", "UpdateResFile"]
+    rows = [
+        ("opened and listed", ["SetResLoad 0", *each], ("read", "0"), "list"),
+        ("opened, and all loaded", each, ("read", "0"), "load"),
+        ("one changed, and updated", change, ("write", "1"), "update"),
+        ("all loaded, one changed, updated", [*each, *change], ("write", "1"), "update"),
+    ]
+    print(f"\n{'the whole program, by the clock':34} {'ms':>8} {'plain, ms':>10} {'ratio':>7} {'same calls':>11} {'ratio':>7}")
+    with tempfile.TemporaryDirectory(dir=HERE) as folder:
+        script, path = os.path.join(folder, "script"), os.path.join(folder, "fork")
+        for title, lines, (what, turns), calls_made in rows:
+            with open(script, "w") as file:
+                file.write("".join(f"{line}\n" for line in lines))
+            taken = clocked([bench.program, "--zone", str(ZONE), "--fork", path], script, fork, path)
+            plain = clocked([bench.plain, what, path, turns], script, fork, path)
+            same = clocked([bench.plain, calls_made, path, "1"], script, fork, path)
+            print(f"{title:34} {taken:8.2f} {plain:10.2f} {taken / plain:7.2f} {same:11.2f} {taken / same:7.2f}", flush=True)
+
+
 def calls(bench):
     """Calls on each of so many resources: what is timed, how many there are, the fork, the lines before and the lines."""
     def numbered(count, line):
@@ -161,6 +200,7 @@ def main():
         bench = Bench(os.path.realpath(sys.argv[1]), runs, folder)
         subprocess.run(["rustc", "-O", os.path.join(HERE, "plain_file.rs"), "-o", bench.plain], check=True)
         whole(bench)
+        by_clock(bench)
         calls(bench)
 
 
