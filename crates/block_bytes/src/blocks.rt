@@ -26,7 +26,7 @@ use std::marker::Model;
 const LENT_MARK: u32 = 2;
 
 /// Where the first of some blocks has as many bytes, few of their numbers in the index are thought to be above 0.
-const SPARSE_SIZE: u32 = 4096;
+const SPARSE_SIZE: u32 = 1024;
 
 /// The blocks of a zone in one run of bytes, from the zone's start to its limit. A contract sees the list of the
 /// blocks, each with all bytes behind its header, beside the bytes up to the limit and the number in the zone's header that
@@ -441,7 +441,7 @@ impl Blocks {
     fn is_sparse(&self, start: u32, end: u32) -> bool
         requires { start < end → BlockAt self.now start }
         ensures none { end ≤ start → IsFalse result }
-        ensures first { (b : BlockAt self.now start) → start < end → IsTrue result ↔ 4096 ≤ size_of self.now.heads b.here }
+        ensures first { (b : BlockAt self.now start) → start < end → IsTrue result ↔ 1024 ≤ size_of self.now.heads b.here }
     {
         start < end && self.entry_at(start).size >= SPARSE_SIZE
     }

@@ -26,7 +26,8 @@ use Rattle.mac_calls.specs.declared.reply.Results.TheVariants.{Nothing}
 use Rattle.mac_calls.specs.Loans.{Loans, held_bytes, loan_refusal, with_held, without_loan}
 use Rattle.mac_calls.specs.Tests.{IsBlock, NotEmpty, NotLent, MayBeLent, first_refusal, unless_passed}
 use Rattle.raw_region.specs.State.{Loan}
-use Rattle.held_loans.specs.Holding.{Holds, EachIsLoan, EachOnce, is_held, loans_of, LoanSteps, TakenOut, held_written, loan_written}
+use Rattle.held_loans.specs.Holding.{Holds, EachIsLoan, EachOnce, is_held, loans_of, LoanSteps, TakenOut, held_written, loan_written, IsOnLoan, IsWindow}
+use Rattle.held_loans.specs.declared.window.Window.{Window}
 use Rattle.held_loans.specs.declared.loans.Held.{Held}
 
 le_test : (a b : ℕ) → a ≤ b → nat_le a b ≡ true
@@ -376,3 +377,12 @@ return_step old new x held loan rest taken is live holds =
 -- a lent block may be returned
 pub held_returns : (zone : ZoneState) (held : List Held) (x : ℕ) → Holds zone held → first_refusal zone.shape zone.heap (IsBlock x ∷ []) ≡ None → is_held x held ≡ true → loan_refusal zone.shape zone.heap (Return x) ≡ None
 held_returns zone held x holds live is = rw ((first_passed zone.shape zone.heap (IsBlock x) [] live).0, holds.all x, is) refl
+
+-- the window on a loan that is held
+pub window_of : (zone : ZoneState) (x : ℕ) (held : List Held) (window : Window) → IsOnLoan x held window → Holds zone held → IsWindow zone (loans_of held) x window
+window_of zone x held window on holds = record {
+  loan = on.0;
+  is = taken_is_loan zone x held on.0 on.1 on.2 holds.each;
+  bytes = sym (bytes_of-taken x held on.0 on.1 on.2);
+  on = on.3;
+}

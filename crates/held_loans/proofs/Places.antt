@@ -205,7 +205,3 @@ part_of_loan loan at bytes contents copied within whole all =
     ap (λ (bs : List ℕ). raw_written old 0 bs) new ∙ all_written old (take at old ++ (bytes ++ drop (at + length bytes) old)) size ∙ sym (append_assoc (take at old) bytes (drop (at + length bytes) old))
     in
     ap (λ (bs : List ℕ). let l : Loan = record { name = loan.name; at = loan.at; bytes = bs } in l) bytes_now
-
--- a loan whose bytes stay
-pub loan_kept : (loan : Loan) (bytes : List ℕ) → bytes ≡ loan.bytes → with_loan loan bytes ≡ loan
-loan_kept loan bytes same = ap (λ (bs : List ℕ). let l : Loan = record { name = loan.name; at = loan.at; bytes = bs } in l) (all_written loan.bytes bytes (ap length same) ∙ same)

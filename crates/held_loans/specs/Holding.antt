@@ -1,16 +1,15 @@
 -- The loans that a program holds.
 use Rattle.std.specs.Prelude.{◌≡◌, ℕ, ◌==◌, Bool, if◌then◌else◌, List, [], ◌∷◌, ◌++◌, length, map, Option, Some, None, IsFalse}
 use Rattle.std.specs.List.{list_any, flat_map}
-use Rattle.std.specs.Borrow.{MutBor}
 use Rattle.std.specs.Option.{option_to_list}
-use Rattle.std.specs.Ptr.{as_mut_ptr}
 use Rattle.mac_base.specs.HandleTable.{is_lent}
 use Rattle.mac_base.specs.ZoneState.{ZoneState, written}
 use Rattle.linked_zone.specs.Loans.{IsLoanOf}
 use Rattle.mac_calls.specs.declared.loan_call.LoanCall.{LoanCall}
-use Rattle.mac_calls.specs.Loans.{Loans, LoanStep}
+use Rattle.mac_calls.specs.Loans.{Loans, LoanStep, held_bytes}
 use Rattle.mac_calls.specs.Outcomes.{Outcome}
 use Rattle.raw_region.specs.State.{Loan}
+use denote.RawPtr.{◌+ₚ◌}
 use Rattle.held_loans.specs.declared.loans.Held.{Held}
 use Rattle.held_loans.specs.declared.window.Window.{Window}
 
@@ -86,6 +85,17 @@ pub record TakenOut (x : ℕ) (old : List Held) (loan : Loan) (new : List Held) 
 abbrev pub LoanSteps : ZoneState → List Held → LoanCall → Outcome → ZoneState → List Held → Type 0
 LoanSteps old held call outcome new new_held = LoanStep old.shape (loans_of held) old.heap call outcome (loans_of new_held) new.heap × (new.shape ≡ old.shape)
 
--- the window is on these bytes: as many, where a slice of them stands
-abbrev pub IsOn : Window → List ℕ → Type 0
-IsOn window bytes = (window.length ≡ length bytes) × ((slice : MutBor (List ℕ)) × (slice.now ≡ bytes) × (window.start ≡ as_mut_ptr slice))
+-- the window is on the bytes of a loan: it begins where they stand in the memory of the host, and has as many
+abbrev pub IsOn : Loan → Window → Type 0
+IsOn loan window = (window.start ≡ loan.name +ₚ loan.at) × (window.length ≡ length loan.bytes)
+
+-- the window is on the loan of x, which could be taken out
+abbrev pub IsOnLoan : ℕ → List Held → Window → Type 0
+IsOnLoan x held window = (loan : Loan) × (rest : List Held) × TakenOut x held loan rest × IsOn loan window
+
+-- the window is on the bytes that the holder has of x: where the loan of x stands in the memory of the zone
+pub record IsWindow (zone : ZoneState) (loans : Loans) (x : ℕ) (window : Window) : Type 0 where
+  pub loan : Loan
+  pub is : IsLoanOf zone x loan
+  pub bytes : loan.bytes ≡ held_bytes x loans
+  pub on : IsOn loan window

@@ -5,7 +5,7 @@ ghost use Rattle.std.specs.Result.{result_err};
 ghost use Rattle.mac_calls.specs.declared.loan_call.LoanCall.TheVariants as call;
 ghost use Rattle.mac_calls.specs.Loans.{all_returned, held_bytes, loan_refusal};
 ghost use Rattle.mac_calls.specs.Tests.{IsBlock, first_refusal};
-ghost use Rattle.held_loans.specs.Holding.{Holds, IsOn, LoanSteps, loans_of};
+ghost use Rattle.held_loans.specs.Holding.{Holds, IsWindow, LoanSteps, loans_of};
 
 use crate::loans::{Held, Loans};
 use crate::window::Window;
@@ -18,6 +18,7 @@ use mem_calls::MemoryManager;
 pub fn lend(memory: &mut MemoryManager, loans: &mut Loans, block: u32) -> Outcome
     requires { Holds memory.old loans.old }
     ensures step { LoanSteps memory.old loans.old (call.Lend block) result memory.new loans.new }
+    ensures memory { memory.new.memory ≡ memory.old.memory }
     ensures holds { Holds memory.new loans.new }
 {
     let loan = memory.lend(block)?;
@@ -46,6 +47,7 @@ pub fn lent_poke(
 pub fn take_back(memory: &mut MemoryManager, loans: &mut Loans, block: u32) -> Outcome
     requires { Holds memory.old loans.old }
     ensures step { LoanSteps memory.old loans.old (call.Return block) result memory.new loans.new }
+    ensures memory { memory.new.memory ≡ memory.old.memory }
     ensures holds { Holds memory.new loans.new }
 {
     test_live(memory, block)?;
@@ -84,11 +86,10 @@ pub fn lent_bytes<'a>(
 }
 
 /// The window on a lent block's bytes. It is refused as Return is.
-pub fn window(memory: &MemoryManager, loans: &mut Loans, block: u32) -> Result<Window, OsErr>
-    requires { Holds memory.now loans.old }
+pub fn window(memory: &MemoryManager, loans: &Loans, block: u32) -> Result<Window, OsErr>
+    requires { Holds memory.now loans.now }
     ensures refusal { result_err result ≡ loan_refusal memory.now.shape memory.now.heap (call.Return block) }
-    ensures window { IfOk result (λ window. IsOn window (held_bytes block (loans_of loans.old))) }
-    ensures loans { loans.new ≡ loans.old }
+    ensures window { IfOk result (λ window. IsWindow memory.now (loans_of loans.now) block window) }
 {
     test_live(memory, block)?;
     let Some(window) = loans.window(block) else {

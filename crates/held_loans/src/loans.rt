@@ -44,7 +44,7 @@ impl Drop for Loans {
 impl Loans {
     ghost use Rattle.std.specs.Prelude.{◌≡◌, ◌+◌, ◌<◌, ◌≤◌, [], ◌∷◌, ◌++◌, length, is_some, IfSome, IfNone, IsFalse};
     ghost use Rattle.mac_calls.specs.Loans.{held_bytes};
-    ghost use Rattle.held_loans.specs.Holding.{is_held, held_written, loans_of, IsOn, TakenOut};
+    ghost use Rattle.held_loans.specs.Holding.{is_held, held_written, loans_of, IsOnLoan, TakenOut};
 
     /// No loans.
     pub fn new() -> Loans
@@ -87,14 +87,13 @@ impl Loans {
     }
 
     /// The window on the loan of a block, if it is held.
-    pub fn window(&mut self, block: u32) -> Option<Window>
-        ensures held { is_some result ≡ is_held block self.old }
-        ensures window { IfSome result (λ window. IsOn window (held_bytes block (loans_of self.old))) }
-        ensures unchanged { self.new ≡ self.old }
+    pub fn window(&self, block: u32) -> Option<Window>
+        ensures held { is_some result ≡ is_held block self.now }
+        ensures window { IfSome result (λ window. IsOnLoan block self.now window) }
     {
         let place = place_of(&self.places, block)?;
-        let held = self.places[place].as_mut()?;
-        Some(window_on(&mut held.loan))
+        let held = self.places[place].as_ref()?;
+        Some(window_on(&held.loan))
     }
 
     /// Takes out the loan of a block, if it is held.

@@ -3,7 +3,9 @@ use Rattle.std.specs.Prelude.{◌≡◌, ℕ, ℤ, pos, List, [], Result, Bool, 
 use Rattle.mac_base.specs.Codes.{code_of, minus}
 use Rattle.mac_base.specs.declared.error.OsErr.{OsErr}
 use Rattle.held_loans.specs.declared.window.Window.{Window}
-use Rattle.held_loans.specs.Holding.{IsOn}
+use Rattle.held_loans.specs.Holding.{IsWindow}
+use Rattle.linked_zone.specs.Loans.{KeepsLoans}
+use Rattle.mac_base.specs.ZoneState.{ZoneState}
 use Rattle.mac_calls.specs.declared.loan_call.LoanCall.{LoanCall}
 use Rattle.mac_calls.specs.declared.loan_call.LoanCall.TheVariants.{Return}
 use Rattle.mac_calls.specs.declared.memory_call.MemoryCall.{MemoryCall}
@@ -11,7 +13,7 @@ use Rattle.mac_calls.specs.declared.memory_call.MemoryCall.TheVariants as memory
 use Rattle.mac_calls.specs.declared.reply.Results.{Results}
 use Rattle.mac_calls.specs.declared.reply.Results.TheVariants.{Handle, Pointer, Address, Number, TwoNumbers, Bytes}
 use Rattle.mac_calls.specs.ExactStep.{exact_step}
-use Rattle.mac_calls.specs.Loans.{LoanStep, held_bytes, loan_refusal}
+use Rattle.mac_calls.specs.Loans.{Loans, LoanStep, loan_refusal}
 use Rattle.mac_calls.specs.Outcomes.{Outcome}
 use Rattle.held_zone.specs.State.{State, with_no_asks}
 
@@ -94,15 +96,15 @@ abbrev pub shown_outcome : Result (Unit {0}) OsErr → List ℕ → Outcome
 shown_outcome (Ok u) bytes = Ok (Bytes bytes)
 shown_outcome (Err code) bytes = Err code
 
--- From a state, the call ends so and leaves this one: just as the Memory Manager makes it, where the procedure gives the answers that are left, first in, first out.
+-- From a state, the call ends so and leaves this one: just as the Memory Manager makes it, where the procedure gives the answers that are left, first in, first out. What is lent stays where it is in the memory of the host.
 abbrev pub Makes : State → MemoryCall → Outcome → State → Type 0
 Makes old call outcome new = (exact_step old.zone.shape old.left old.zone.heap call ≡ record { outcome = outcome; heap = new.zone.heap; asks = new.asks; left = new.left })
-    × (new.zone.shape ≡ old.zone.shape) × (new.loans ≡ old.loans)
+    × (new.zone.shape ≡ old.zone.shape) × (new.loans ≡ old.loans) × KeepsLoans old.zone new.zone
 
--- The same for a call on a block that is lent or is to be lent, which asks nothing.
+-- The same for a call on a block that is lent or is to be lent, which asks nothing. The zone stays where it is in the memory of the host.
 abbrev pub MakesLoan : State → LoanCall → Outcome → State → Type 0
 MakesLoan old call outcome new = LoanStep old.zone.shape old.loans old.zone.heap call outcome new.loans new.zone.heap
-    × (new.zone.shape ≡ old.zone.shape) × (new.left ≡ old.left) × (new.asks ≡ [])
+    × (new.zone.shape ≡ old.zone.shape) × (new.zone.memory ≡ old.zone.memory) × (new.left ≡ old.left) × (new.asks ≡ [])
 
 -- The same where there may be no zone: then there is no outcome.
 abbrev pub Called : Option State → MemoryCall → Option Outcome → Option State → Type 0
@@ -140,12 +142,12 @@ LoanTold old call code new = (outcome : Option Outcome) × (code ≡ code_told o
 abbrev pub LoanToldBytes : Option State → LoanCall → ℤ → List ℕ → List ℕ → Option State → Type 0
 LoanToldBytes old call code before bytes new = (outcome : Option Outcome) × (code ≡ code_told outcome) × (bytes ≡ bytes_told before outcome) × LoanCalled old call outcome new
 
--- the window is on these bytes, unless the call is refused: then there is the refusal's code, and what was there stays
-abbrev pub ShowsWindow : Option OsErr → List ℕ → ℤ → Window → Window → Type 0
-ShowsWindow None bytes code before window = (code ≡ pos 0) × IsOn window bytes
-ShowsWindow (Some refusal) bytes code before window = (code ≡ code_of refusal) × (window ≡ before)
+-- the window is on the bytes that C has of x, unless the call is refused: then there is the refusal's code, and what was there stays
+abbrev pub ShowsWindow : Option OsErr → ZoneState → Loans → ℕ → ℤ → Window → Window → Type 0
+ShowsWindow None zone loans x code before window = (code ≡ pos 0) × IsWindow zone loans x window
+ShowsWindow (Some refusal) zone loans x code before window = (code ≡ code_of refusal) × (window ≡ before)
 
 -- C is shown the window on the bytes that it has of a block, unless it is refused as a Return of the block is. All stays but what was asked.
 abbrev pub WindowTold : Option State → ℕ → ℤ → Window → Window → Option State → Type 0
 WindowTold None block code before window new = (code ≡ no_zone) × (window ≡ before) × (new ≡ None)
-WindowTold (Some old) block code before window new = ShowsWindow (loan_refusal old.zone.shape old.zone.heap (Return block)) (held_bytes block old.loans) code before window × (new ≡ Some (with_no_asks old))
+WindowTold (Some old) block code before window new = ShowsWindow (loan_refusal old.zone.shape old.zone.heap (Return block)) old.zone old.loans block code before window × (new ≡ Some (with_no_asks old))

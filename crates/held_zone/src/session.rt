@@ -55,9 +55,9 @@ impl Session {
     ghost use Rattle.mac_base.specs.ZoneMap.{address_behind};
     ghost use Rattle.mac_calls.specs.declared.loan_call.LoanCall.TheVariants as loan_call;
     ghost use Rattle.mac_calls.specs.declared.memory_call.MemoryCall.TheVariants as call;
-    ghost use Rattle.mac_calls.specs.Loans.{held_bytes, loan_refusal};
+    ghost use Rattle.mac_calls.specs.Loans.{loan_refusal};
     ghost use Rattle.mac_calls.specs.Outcomes.{done_outcome};
-    ghost use Rattle.held_loans.specs.Holding.{IsOn};
+    ghost use Rattle.held_loans.specs.Holding.{IsWindow};
     ghost use Rattle.held_zone.specs.State.{IsNew, queue_refusal, with_no_asks};
     ghost use Rattle.held_zone.specs.Told.{Makes, MakesLoan, is_plain, shown_outcome};
 
@@ -139,11 +139,11 @@ impl Session {
     /// The window on the bytes that C has of a block. It is refused as Return is.
     pub fn window(&mut self, block: u32) -> Result<Window, OsErr>
         ensures refusal { result_err result ≡ loan_refusal self.old.zone.shape self.old.zone.heap (loan_call.Return block) }
-        ensures window { IfOk result (λ window. IsOn window (held_bytes block self.old.loans)) }
+        ensures window { IfOk result (λ window. IsWindow self.old.zone self.old.loans block window) }
         ensures state { self.new ≡ with_no_asks self.old }
     {
         self.answers.begin();
-        lending::window(&self.memory, &mut self.loans, block)
+        lending::window(&self.memory, &self.loans, block)
     }
 
     /// The address of the zone's first block header.

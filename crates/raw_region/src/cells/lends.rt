@@ -2,6 +2,7 @@
 
 ghost use Rattle.std.specs.Prelude.{◌≡◌, ◌+◌, ◌≤◌, length};
 ghost use Rattle.std.specs.Borrow.{sem};
+ghost use denote.RawPtr.{◌+ₚ◌};
 ghost use Rattle.raw_region.specs.Bytes.{part};
 ghost use Rattle.raw_region.specs.Span.{IsFree};
 ghost use Rattle.raw_region.specs.CellsWritingBack.{WritesBackPart};
@@ -15,6 +16,13 @@ impl Cells {
         ensures { result ≡ length self.now.bytes }
     {
         self.len
+    }
+
+    /// Where the first of them stands in the memory of the host.
+    pub(crate) fn start(&self) -> *mut u8
+        ensures { result ≡ self.now.home +ₚ self.now.from }
+    {
+        self.at
     }
 
     /// The `n` bytes from `at` on.

@@ -2,6 +2,7 @@
 
 ghost use Rattle.std.specs.Prelude.{◌≡◌, length};
 ghost use Rattle.std.specs.Borrow.{sem};
+ghost use denote.RawPtr.{◌+ₚ◌};
 ghost use Rattle.raw_region.specs.WritingBack.{WritesBackLoan};
 
 use super::Lent;
@@ -12,6 +13,14 @@ impl Lent {
         ensures { result ≡ length self.now.bytes }
     {
         self.cells.len()
+    }
+
+    /// Where the first of its bytes stands in the memory of the host: as far behind the region's first byte as the range
+    /// begins in the region. Whoever writes there by the pointer holds no slice of the loan meanwhile.
+    pub fn start(&self) -> *mut u8
+        ensures { result ≡ self.now.name +ₚ self.now.at }
+    {
+        self.cells.start()
     }
 
     /// The bytes.

@@ -1,4 +1,4 @@
-use Rattle.std.proofs.Common.{◌≡◌, ℕ, List, ap, sym, ◌∙◌, refl, length, take}
+use Rattle.std.proofs.Common.{ap, ◌∙◌, refl, take}
 use Rattle.raw_region.specs.Bytes.{part, written}
 use Rattle.raw_region.specs.State.{Loan, with_loan}
 use Rattle.raw_region.proofs.Fronts.{written-within, part-all}
