@@ -96,10 +96,14 @@ abbrev pub shown_outcome : Result (Unit {0}) OsErr → List ℕ → Outcome
 shown_outcome (Ok u) bytes = Ok (Bytes bytes)
 shown_outcome (Err code) bytes = Err code
 
--- From a state, the call ends so and leaves this one: just as the Memory Manager makes it, where the procedure gives the answers that are left, first in, first out. What is lent stays where it is in the memory of the host.
+-- What is lent stays so, and where it is in the memory of the host.
+pub record StaysLent (old new : ZoneState) : Type 0 where
+  pub keeps : KeepsLoans old new
+
+-- From a state, the call ends so and leaves this one: just as the Memory Manager makes it, where the procedure gives the answers that are left, first in, first out. What is lent stays where it is.
 abbrev pub Makes : State → MemoryCall → Outcome → State → Type 0
 Makes old call outcome new = (exact_step old.zone.shape old.left old.zone.heap call ≡ record { outcome = outcome; heap = new.zone.heap; asks = new.asks; left = new.left })
-    × (new.zone.shape ≡ old.zone.shape) × (new.loans ≡ old.loans) × KeepsLoans old.zone new.zone
+    × (new.zone.shape ≡ old.zone.shape) × (new.loans ≡ old.loans) × StaysLent old.zone new.zone
 
 -- The same for a call on a block that is lent or is to be lent, which asks nothing. The zone stays where it is in the memory of the host.
 abbrev pub MakesLoan : State → LoanCall → Outcome → State → Type 0

@@ -87,6 +87,7 @@ impl Session {
     }
 
     /// Peek: copies bytes of a block, from an offset on, over as many others.
+    #[tactic(auto, using(crate::proofs::Made::stays_lent, crate::proofs::Made::same_lent))]
     pub fn peek(&mut self, block: u32, offset: u32, bytes: &mut [u8]) -> Result<(), OsErr>
         ensures makes { Makes self.old (call.Peek block offset (length bytes.old)) (shown_outcome result bytes.new) self.new }
         ensures kept { OnErr result (bytes.new ≡ bytes.old) }
@@ -96,6 +97,7 @@ impl Session {
     }
 
     /// Poke: copies bytes over those of a block, from an offset on.
+    #[tactic(auto, using(crate::proofs::Made::stays_lent, crate::proofs::Made::same_lent))]
     pub fn poke(&mut self, block: u32, offset: u32, bytes: &[u8]) -> Result<(), OsErr>
         ensures { Makes self.old (call.Poke block offset bytes.now) (done_outcome result) self.new }
     {

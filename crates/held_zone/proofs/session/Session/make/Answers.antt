@@ -16,4 +16,4 @@ returns c =
     let new : State = record { zone = c.make-outcome.new.memory; loans = loans_of c.self.inside.loans; left = c.make-outcome.new.procedure.left; asks = c.make-outcome.new.procedure.asks } in
     let took = c.make-outcome.ensures.source ∙ ap (λ (q : Queue). taken q.asks q.left) c.begin.ensures in
     subst (λ (old : State). Makes old c.args.call.now c.make-outcome.result new) c.self.view_is
-    (exact-queued c.self.inside.memory.shape c.self.inside.memory.heap c.args.call.now c.make-outcome.result c.make-outcome.new.memory.heap new.asks new.left c.self.inside.answers.left c.make-outcome.ensures.exact took c.end.ensures, c.make-outcome.ensures.shape, refl, c.make-outcome.ensures.loans)
+    (exact-queued c.self.inside.memory.shape c.self.inside.memory.heap c.args.call.now c.make-outcome.result c.make-outcome.new.memory.heap new.asks new.left c.self.inside.answers.left c.make-outcome.ensures.exact took c.end.ensures, c.make-outcome.ensures.shape, refl, record { keeps = c.make-outcome.ensures.loans })
