@@ -504,14 +504,14 @@ static void put(uint8_t *bytes, uint32_t at, uint32_t word) {
     for (int n = 0; n < 4; n++) bytes[at + n] = (uint8_t)(word >> (24 - 8 * n));
 }
 
-/* The zone has 4096 bytes: these words, the 63 free slots from `first` on, of which each but the last says `more` and its own offset, and
+/* The zone has 4096 bytes: these words, so many free slots from `first` on, of which each but the last says `more` and its own offset, and
  * zeros. */
-static void has_bytes(int line, MhZone *zone, const Word *words, uint32_t count, uint32_t first, uint32_t more, uint32_t last) {
+static void has_bytes(int line, MhZone *zone, const Word *words, uint32_t count, uint32_t first, uint32_t slots, uint32_t more, uint32_t last) {
     static uint8_t wanted[4096], bytes[4097];
     size_t size = 0;
     memset(wanted, 0, sizeof wanted);
     for (uint32_t n = 0; n < count; n++) put(wanted, words[n].at, words[n].says);
-    for (uint32_t n = 0; n < 63; n++) put(wanted, first + 4 * n, n < 62 ? more + first + 4 * n : last);
+    for (uint32_t n = 0; n < slots; n++) put(wanted, first + 4 * n, n + 1 < slots ? more + first + 4 * n : last);
     same(line, "the code of mh_image_size", mh_image_size(zone, &size), MH_NO_ERR);
     same(line, "the size of the zone's bytes", (int64_t)size, 4096);
     memset(bytes, 0xEE, sizeof bytes);
@@ -524,23 +524,38 @@ static void has_bytes(int line, MhZone *zone, const Word *words, uint32_t count,
     }
     same(line, "the byte behind", bytes[4096], 0xEE);
 }
-#define HAS_BYTES(zone, first, more, last, ...) \
+#define HAS_BYTES(zone, first, slots, more, last, ...) \
     do { \
         const Word words[] = {__VA_ARGS__}; \
-        has_bytes(__LINE__, zone, words, sizeof words / sizeof words[0], first, more, last); \
+        has_bytes(__LINE__, zone, words, sizeof words / sizeof words[0], first, slots, more, last); \
     } while (0)
 
-/* The bytes of a zone with one handle, of 24-bit blocks and of 32-bit blocks. While a block is lent there are none. */
+/* The bytes of a zone with one handle, of 24-bit blocks and of 32-bit blocks, before and after it is locked. While a block is lent there are none. */
 static void images(void) {
     MhZone zone = fresh();
-    new_handle(&zone, 100);
-    HAS_BYTES(&zone, 0x40, 0x01100004, 0x01000000, {0x00, 0x00101000}, {0x08, 0x00100040}, {0x0C, 0x00000E58}, {0x14, 0x00400000},
+    IS(mh_hlock(&zone, new_handle(&zone, 100)), MH_NO_ERR);
+    HAS_BYTES(&zone, 0x40, 63, 0x01100004, 0x01000000, {0x00, 0x00101000}, {0x08, 0x00100040}, {0x0C, 0x00000E58}, {0x14, 0x00400000},
+              {0x30, 0x001001A8}, {0x34, 0x50000108}, {0x38, 0x00100000}, {0x3C, 0x80100144}, {0x13C, 0x8000006C}, {0x140, 0x0000003C},
+              {0x1A8, 0x00000E58});
+    IS(mh_hunlock(&zone, 0x10003C), MH_NO_ERR);
+    HAS_BYTES(&zone, 0x40, 63, 0x01100004, 0x01000000, {0x00, 0x00101000}, {0x08, 0x00100040}, {0x0C, 0x00000E58}, {0x14, 0x00400000},
               {0x30, 0x001001A8}, {0x34, 0x50000108}, {0x38, 0x00100000}, {0x3C, 0x00100144}, {0x13C, 0x8000006C}, {0x140, 0x0000003C},
               {0x1A8, 0x00000E58});
     ended(&zone);
+    /* Of three handles the first is disposed of: its slot is the next to be given, and its block the lowest free one. */
+    zone = fresh();
+    uint32_t first = new_handle(&zone, 1000), second = new_handle(&zone, 1000);
+    new_handle(&zone, 1000);
+    IS(mh_poke(&zone, second, 0, (const uint8_t *)"BB", 2), MH_NO_ERR);
+    IS(mh_dispose_handle(&zone, first), MH_NO_ERR);
+    HAS_BYTES(&zone, 0x48, 61, 0x01100004, 0x01000000, {0x00, 0x00101000}, {0x08, 0x0010003C}, {0x0C, 0x000006E4}, {0x14, 0x00400000},
+              {0x30, 0x0010013C}, {0x34, 0x50000108}, {0x38, 0x00100000}, {0x3C, 0x01100048}, {0x40, 0x00100534}, {0x44, 0x00100924},
+              {0x13C, 0x000003F0}, {0x52C, 0x800003F0}, {0x530, 0x00000040}, {0x534, 0x42420000}, {0x91C, 0x800003F0}, {0x920, 0x00000044},
+              {0xD0C, 0x000002F4});
+    ended(&zone);
     zone = sized(4096, 4096, 32);
     uint32_t h = new_handle(&zone, 100), p = 0;
-    HAS_BYTES(&zone, 0x44, 0x00100005, 0x00000001, {0x00, 0x00101000}, {0x08, 0x00100044}, {0x0C, 0x00000E50}, {0x14, 0x00400000},
+    HAS_BYTES(&zone, 0x44, 63, 0x00100005, 0x00000001, {0x00, 0x00101000}, {0x08, 0x00100044}, {0x0C, 0x00000E50}, {0x14, 0x00400000},
               {0x30, 0x001001B0}, {0x34, 0x50000000}, {0x38, 0x0000010C}, {0x3C, 0x00100000}, {0x40, 0x0010014C}, {0x140, 0x80000000},
               {0x144, 0x00000070}, {0x148, 0x00000040}, {0x1B4, 0x00000E50});
     IS(mh_hlock(&zone, h), MH_NO_ERR);
