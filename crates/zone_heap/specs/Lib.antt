@@ -1,4 +1,5 @@
 pub mod Joins
+pub mod Known
 pub mod WritingBack
 pub mod Placed
 pub mod Attempts

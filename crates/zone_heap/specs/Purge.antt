@@ -166,6 +166,15 @@ abbrev pub AllStay : (Kind → Bool) → ZoneMap → Type 0
 AllStay test [] = ⊤
 AllStay test (e ∷ es) = IsFalse (test e.kind) × AllStay test es
 
+-- of blocks that begin at an address, those up to another bound no gap, and none of them may be purged
+pub record IsClear (bounds purged : Kind → Bool) (blocks : ZoneMap) (from at : ℕ) : Type 0 where
+  pub front : ZoneMap
+  pub back : ZoneMap
+  pub parts : blocks ≡ front ++ back
+  pub place : at ≡ from + total_size front
+  pub moves : AllStay bounds front
+  pub stays : AllStay purged front
+
 -- of blocks that begin at an address, all that pass a test stand between two others
 pub record Spanned (test : Kind → Bool) (blocks : ZoneMap) (from first last : ℕ) : Type 0 where
   pub front : ZoneMap

@@ -1,5 +1,6 @@
 //! Blocks moved on a program's own demand, and the handle of a block by its address.
 
+use crate::known::Known;
 use crate::zone::Zone;
 use gap_index::GapZone;
 use linked_zone::LinkedZone;
@@ -37,7 +38,7 @@ impl Zone {
         if needed <= largest {
             return largest;
         }
-        self.barren = None;
+        self.known = Known::NOTHING;
         squeeze(&mut self.pointers, needed);
         largest_free(self.pointers.linked())
     }
@@ -48,7 +49,7 @@ impl Zone {
         ensures zone { self.new ≡ with_heap (with_map (all_down self.old.heap.table self.old.heap.map) self.old.heap) self.old }
         ensures loans { KeepsLoans self.old self.new }
     {
-        self.barren = None;
+        self.known = Known::NOTHING;
         squeeze_all_down(&mut self.pointers);
     }
 
@@ -60,7 +61,7 @@ impl Zone {
         ensures zone { self.new ≡ with_heap (with_map (moved_high self.old.heap.table handle self.old.heap.map) self.old.heap) self.old }
         ensures loans { KeepsLoans self.old self.new }
     {
-        self.barren = None;
+        self.known = Known::NOTHING;
         raise(&mut self.pointers, handle);
     }
 

@@ -1,5 +1,6 @@
 //! Bytes copied from one block to another.
 
+use crate::known::Known;
 use crate::zone::Zone;
 
 impl Zone {
@@ -20,7 +21,7 @@ impl Zone {
         ensures zone { self.new ≡ copied from start to offset count self.old }
         ensures loans { KeepsLoans self.old self.new }
     {
-        self.barren = None;
+        self.known = Known::NOTHING;
         self.pointers.copy(from, start, to, offset, count);
     }
 }

@@ -1,5 +1,6 @@
 //! Growth of the zone to its limit.
 
+use crate::known::Known;
 use crate::zone::{Zone, join};
 
 impl Zone {
@@ -28,7 +29,7 @@ impl Zone {
         let spec = self.pointers.linked().spec();
         if spec.size() < spec.limit() {
             let end = spec.base() + spec.size();
-            self.barren = None;
+            self.known = Known::NOTHING;
             self.pointers.extend();
             join(&mut self.pointers, end);
         }

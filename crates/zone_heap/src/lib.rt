@@ -5,6 +5,7 @@ mod attempt;
 mod compact;
 mod copying;
 mod growth;
+mod known;
 mod place;
 mod purge;
 mod replace;

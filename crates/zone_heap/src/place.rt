@@ -1,5 +1,6 @@
 //! New blocks, each where its definition places it.
 
+use crate::known::Known;
 use crate::shortage::Shortage;
 use crate::zone::{Zone, cut};
 use gap_index::GapZone;
@@ -24,7 +25,7 @@ impl Zone {
         ensures attempt { Attempts (NewBlock length) self.old result self.new }
         ensures loans { KeepsLoans self.old self.new }
     {
-        self.barren = None;
+        self.known = Known::NOTHING;
         new_block(&mut self.pointers, length)
     }
 
@@ -34,7 +35,7 @@ impl Zone {
         ensures attempt { Attempts NewEmpty self.old result self.new }
         ensures loans { KeepsLoans self.old self.new }
     {
-        self.barren = None;
+        self.known = Known::NOTHING;
         new_empty(&mut self.pointers)
     }
 
@@ -46,7 +47,7 @@ impl Zone {
         ensures attempt { Attempts (NewPointer length) self.old result self.new }
         ensures loans { KeepsLoans self.old self.new }
     {
-        self.barren = None;
+        self.known = Known::NOTHING;
         new_pointer(&mut self.pointers, length)
     }
 
@@ -57,7 +58,7 @@ impl Zone {
         ensures attempt { Attempts NewMaster self.old result self.new }
         ensures loans { KeepsLoans self.old self.new }
     {
-        self.barren = None;
+        self.known = Known::NOTHING;
         new_master(&mut self.pointers)
     }
 
@@ -69,7 +70,7 @@ impl Zone {
         ensures attempt { MatchResult result (λ _. IsServed (Reserve length) self.old 0 self.new) (λ why. IsRefused (Reserve length) self.old why self.new) }
         ensures loans { KeepsLoans self.old self.new }
     {
-        self.barren = None;
+        self.known = Known::NOTHING;
         reserve(&mut self.pointers, length)
     }
 }

@@ -25,7 +25,14 @@ impl Zone {
         ensures fits { result ≡ fits self.new.shape self.new.heap.table request self.new.heap.map }
         ensures loans { KeepsLoans self.old self.new }
     {
-        purge_for(&mut self.pointers, &mut self.barren, request, protected)
+        self.known.room = None;
+        self.known.space = None;
+        purge_for(
+            &mut self.pointers,
+            &mut self.known.barren,
+            request,
+            protected,
+        )
     }
 
     /// Purges relocatable blocks that are unlocked and purgeable, in order of address, until `needed` bytes are free in one
@@ -36,7 +43,7 @@ impl Zone {
         ensures enough { result ≡ nat_le needed (largest_free self.new.heap.map) }
         ensures loans { KeepsLoans self.old self.new }
     {
-        self.barren = None;
+        self.known = Known::NOTHING;
         purge_to(&mut self.pointers, needed)
     }
 
@@ -46,12 +53,12 @@ impl Zone {
         ensures zone { self.new ≡ with_heap (all_purged self.old.heap) self.old }
         ensures loans { KeepsLoans self.old self.new }
     {
-        self.barren = None;
+        self.known = Known::NOTHING;
         purge_all(&mut self.pointers);
     }
 }
 
-ghost use Rattle.std.specs.Prelude.{◌≡◌, ◌≢◌, ◌&&◌, ◌==◌, if◌then◌else◌, is_some, nat_le, true, IfSome, IsTrue, IsFalse, [], None};
+ghost use Rattle.std.specs.Prelude.{◌≡◌, ◌≢◌, ◌+◌, ◌≤◌, ◌&&◌, ◌==◌, if◌then◌else◌, is_some, nat_le, true, IfSome, IsTrue, IsFalse, [], None};
 ghost use Rattle.mac_base.specs.HandleTable.{has_block};
 ghost use Rattle.mac_base.specs.Heap.{all_purged, with_all_emptied};
 ghost use Rattle.mac_base.specs.Purging.{purged, purged_for};
@@ -64,12 +71,13 @@ ghost use Rattle.linked_zone.specs.Fit.{HasSizes};
 ghost use Rattle.linked_zone.specs.Places.{EntryAt, HasOwner};
 ghost use Rattle.zone_heap.specs.Attempts.{CanAsk, SoundZone};
 ghost use Rattle.zone_heap.specs.Joins.{all_joined};
-ghost use Rattle.zone_heap.specs.Purge.{ApartBeside, BlocksAt, IsLimit, ShortBlocks, ShortGaps, IsBarren, IsBarrenFor, Purges, PurgesFor, PurgesTo, blocks_behind, bounds_gap, bounds_free, bytes_before, counts, handle_to_purge, is_kept, is_protected, may_purge, part_of, purged_between, staying_block, HasBlockIf, NoneToPurge};
+ghost use Rattle.zone_heap.specs.Purge.{ApartBeside, BlocksAt, IsLimit, ShortBlocks, ShortGaps, IsBarren, IsBarrenFor, IsClear, Purges, PurgesFor, PurgesTo, blocks_behind, bounds_gap, bounds_free, bytes_before, counts, handle_to_purge, is_kept, is_protected, may_purge, part_of, purged_between, size_if, staying_block, HasBlockIf, NoneToPurge};
 
+use crate::known::Known;
 use crate::zone::Zone;
 use gap_index::GapZone;
 use linked_zone::LinkedZone;
-use mac_base::block::Kind;
+use mac_base::block::{Entry, Kind};
 use mac_base::handle::{Handle, Ptr};
 use mac_base::request::Request;
 use mac_base::size::{MASTER_LENGTH, ZONE_HEADER, need_for};
@@ -205,44 +213,89 @@ fn purge_between(zone: &mut GapZone, start: u32, end: u32, protected: &[u32])
     join_around(zone, start, end);
 }
 
-/// The bytes that count between an address and the first block that stays where it is, or the end.
-fn gap_room(zone: &LinkedZone, start: u32, end: u32, counted: Option<u32>) -> u32
+/// What a gap has from an address on.
+#[derive(Clone, Copy)]
+pub(crate) struct Ahead {
+    /// The bytes that count, up to the gap's end.
+    pub(crate) room: u32,
+    /// An address up to which no block may be purged, and none stays where it is.
+    pub(crate) clear: u32,
+}
+
+/// The bytes that count between an address and the first block that stays where it is, or the end; and that block's address, if none
+/// of those before it may be purged.
+fn gap_ahead(
+    zone: &LinkedZone,
+    start: u32,
+    end: u32,
+    counted: Option<u32>,
+    protected: &[u32],
+) -> Ahead
     requires blocks { BlocksAt zone.now start end }
     requires sound { SoundZone zone.now }
-    ensures { (blocks : BlocksAt zone.now start end) → result ≡ bytes_before (bounds_gap zone.now.heap.table counted) (counts counted) blocks.blocks }
+    requires kept { IsTrue (is_kept protected.now counted) }
+    ensures room { (blocks : BlocksAt zone.now start end) → result.room ≡ bytes_before (bounds_gap zone.now.heap.table counted) (counts counted) blocks.blocks }
+    ensures clear { (blocks : BlocksAt zone.now start end) → IsClear (bounds_gap zone.now.heap.table counted) (may_purge zone.now.heap.table protected.now) blocks.blocks start result.clear }
 {
     let mut at = start;
     let mut room = 0;
+    let mut goes = false;
     while at < end {
         let here = zone.entry_at(at);
         if counts(counted, here.kind) {
             room += here.size;
-        } else if is_fixed(zone, here.kind) {
-            return room;
+        } else {
+            match part_of(zone, here.kind, protected) {
+                Part::Goes => goes = true,
+                Part::Fixed => break,
+                Part::Stays => {}
+            }
         }
         at += here.size;
     }
-    room
+    let clear = if goes { start } else { at };
+    Ahead { room, clear }
 }
 
-/// The room of a gap that begins at an address: as it is known once some of its bytes were freed, and else by its blocks.
-fn whole_room(
+/// The room of a gap of which `run` bytes count before an address: as it is known once some of its bytes were freed, and else by the
+/// blocks from there on. Those up to the address that is given with it are clear.
+fn room_ahead(
     zone: &LinkedZone,
     from: u32,
     end: u32,
     counted: Option<u32>,
+    protected: &[u32],
+    run: u32,
     freed: u32,
     room: u32,
-) -> u32
+) -> Ahead
     requires blocks { BlocksAt zone.now from end }
     requires sound { SoundZone zone.now }
-    requires known { freed ≢ 0 → (blocks : BlocksAt zone.now from end) → room ≡ bytes_before (bounds_gap zone.now.heap.table counted) (counts counted) blocks.blocks }
-    ensures { (blocks : BlocksAt zone.now from end) → result ≡ bytes_before (bounds_gap zone.now.heap.table counted) (counts counted) blocks.blocks }
+    requires kept { IsTrue (is_kept protected.now counted) }
+    requires few { run ≤ from }
+    ensures known { freed ≢ 0 → result.room ≡ room }
+    ensures new { freed ≡ 0 → (blocks : BlocksAt zone.now from end) → result.room ≡ run + bytes_before (bounds_gap zone.now.heap.table counted) (counts counted) blocks.blocks }
+    ensures clear { (blocks : BlocksAt zone.now from end) → IsClear (bounds_gap zone.now.heap.table counted) (may_purge zone.now.heap.table protected.now) blocks.blocks from result.clear }
 {
-    if freed == 0 {
-        return gap_room(zone, from, end, counted);
+    if freed != 0 {
+        return Ahead { room, clear: from };
     }
-    room
+    let ahead = gap_ahead(zone, from, end, counted, protected);
+    Ahead {
+        room: run + ahead.room,
+        clear: ahead.clear,
+    }
+}
+
+/// The bytes of a block that count.
+fn counted_size(counted: Option<u32>, entry: Entry) -> u32
+    ensures { result ≡ size_if (counts counted) entry }
+{
+    if counts(counted, entry.kind) {
+        entry.size
+    } else {
+        0
+    }
 }
 
 /// A limit for one block more, at an address and up to another.
@@ -260,7 +313,7 @@ fn widened(limit: Limit, at: u32, end: u32, enough: bool) -> Limit
 }
 
 /// How far to purge between two addresses so that a gap has room for `needed` bytes: as few blocks as serve, and all where
-/// none do. Each block is read once, and once more in a gap of which some block may be purged.
+/// none do. Where one may be purged the rest of its gap is read at once; its blocks are read once more only where another may be.
 fn gap_limit(
     zone: &LinkedZone,
     start: u32,
@@ -275,7 +328,7 @@ fn gap_limit(
     ensures { (gaps : ShortGaps zone.now start end counted needed) → IsLimit (bounds_gap zone.now.heap.table counted) (counts counted) (may_purge zone.now.heap.table protected.now) needed gaps.at.blocks start result }
 {
     let mut at = start;
-    let mut from = start;
+    let mut run = 0;
     let mut freed = 0;
     let mut room = 0;
     let mut limit = Limit {
@@ -288,22 +341,29 @@ fn gap_limit(
         let next = at + here.size;
         match part_of(zone, here.kind, protected) {
             Part::Goes => {
-                room = whole_room(zone, from, end, counted, freed, room);
+                let ahead = room_ahead(zone, next, end, counted, protected, run, freed, room);
+                room = ahead.room;
                 freed += here.size;
                 limit = widened(limit, at, next, needed <= room + freed);
                 if limit.enough {
                     return limit;
                 }
+                at = ahead.clear;
             }
             Part::Fixed => {
-                if !counts(counted, here.kind) {
-                    from = next;
+                if counts(counted, here.kind) {
+                    run += here.size;
+                } else {
+                    run = 0;
                     freed = 0;
                 }
+                at = next;
             }
-            Part::Stays => {}
+            Part::Stays => {
+                run += counted_size(counted, here);
+                at = next;
+            }
         }
-        at = next;
     }
     limit
 }

@@ -8,6 +8,7 @@ ghost use Rattle.mac_base.specs.ZoneMap.{released};
 ghost use Rattle.zone_heap.specs.Attempts.{CanAsk, IsRefused, IsServed, SoundZone};
 ghost use Rattle.zone_heap.specs.Purge.{CanCount};
 
+use crate::known::Known;
 use crate::place::open_lowest;
 use crate::shortage::Shortage;
 use crate::size::{gap_to_grow, grows_to};
@@ -73,7 +74,7 @@ impl Zone {
         ensures attempt { MatchResult result (λ _. IsServed (Replace handle length) self.old handle self.new) (λ why. IsRefused (Replace handle length) self.old why self.new) }
         ensures loans { KeepsLoans self.old self.new }
     {
-        self.barren = None;
+        self.known = Known::NOTHING;
         replace(&mut self.pointers, handle, length)
     }
 }

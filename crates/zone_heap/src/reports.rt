@@ -18,18 +18,34 @@ impl Zone {
 
     /// MaxBlock: the most free bytes that moving blocks would bring together, in one gap (Inside Macintosh: Memory, "Assessing Memory
     /// Conditions").
-    pub fn largest_room(&self) -> u32
-        ensures { result ≡ largest_room self.now.heap.table self.now.heap.map }
+    ///
+    /// It is remembered until the zone changes.
+    pub fn largest_room(&mut self) -> u32
+        ensures room { result ≡ largest_room self.old.heap.table self.old.heap.map }
+        ensures zone { self.new ≡ self.old }
     {
-        largest_room(self.pointers.linked())
+        if let Some(room) = self.known.room {
+            return room;
+        }
+        let room = largest_room(self.pointers.linked());
+        self.known.room = Some(room);
+        room
     }
 
     /// PurgeSpace: the bytes that would be free if all blocks that may be purged were (Inside Macintosh: Memory, "Assessing
     /// Memory Conditions").
-    pub fn purge_space(&self) -> PurgeSpace
-        ensures total { result.total ≡ purge_space self.now.heap.table self.now.heap.map }
-        ensures contiguous { result.contiguous ≡ largest_purge_space self.now.heap.table self.now.heap.map }
+    ///
+    /// It is remembered until the zone changes.
+    pub fn purge_space(&mut self) -> PurgeSpace
+        ensures total { result.total ≡ purge_space self.old.heap.table self.old.heap.map }
+        ensures contiguous { result.contiguous ≡ largest_purge_space self.old.heap.table self.old.heap.map }
+        ensures zone { self.new ≡ self.old }
     {
-        purge_space(self.pointers.linked())
+        if let Some(space) = self.known.space {
+            return space;
+        }
+        let space = purge_space(self.pointers.linked());
+        self.known.space = Some(space);
+        space
     }
 }

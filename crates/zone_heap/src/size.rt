@@ -14,6 +14,7 @@ ghost use Rattle.zone_heap.specs.Placed.{resized_there};
 ghost use Rattle.zone_heap.specs.Resized.{resized_away, way_made};
 ghost use Rattle.zone_heap.specs.declared.shortage.Shortage.TheVariants.{NoRoom};
 
+use crate::known::Known;
 use crate::place::open_lowest;
 use crate::shortage::Shortage;
 use crate::zone::{Zone, cut, free_behind, front, join, shrink};
@@ -188,7 +189,7 @@ impl Zone {
         ensures loans { KeepsLoans self.old self.new }
     {
         resize_block(&mut self.pointers, block, length)?;
-        self.barren = None;
+        self.known = Known::NOTHING;
         Ok(())
     }
 }

@@ -1,6 +1,6 @@
 //! The zone.
 
-use crate::purge::Barren;
+use crate::known::Known;
 use gap_index::GapZone;
 use linked_zone::LinkedZone;
 use mac_base::block::{Block, Flags, HeadKind, Status};
@@ -16,8 +16,7 @@ use std::marker::Model;
 /// All host memory is taken by `create`.
 pub struct Zone {
     pub(crate) pointers: GapZone,
-    /// A block behind which no block may be purged, as a refused request found it.
-    pub(crate) barren: Option<Barren>,
+    pub(crate) known: Known,
 }
 
 impl Model for Zone {
@@ -39,10 +38,7 @@ impl Drop for Zone {
     fn drop(self)
         requires nothing_lent { self.heap.table.lent ≡ [] }
     {
-        let Zone {
-            pointers,
-            barren: _,
-        } = self;
+        let Zone { pointers, known: _ } = self;
         drop(pointers);
     }
 }
@@ -78,7 +74,7 @@ impl Zone {
         pointers.build_master(first);
         Ok(Zone {
             pointers,
-            barren: None,
+            known: Known::NOTHING,
         })
     }
 
@@ -132,7 +128,7 @@ impl Zone {
         ensures bytes { result.bytes ≡ bytes_of self.old.heap.table block }
         ensures loans { KeepsLoans self.old self.new }
     {
-        self.barren = None;
+        self.known = Known::NOTHING;
         self.pointers.lend(block)
     }
 
@@ -142,7 +138,7 @@ impl Zone {
         ensures zone { self.new ≡ with_heap (returned block loan.bytes self.old.heap) self.old }
         ensures loans { KeepsOtherLoans block self.old self.new }
     {
-        self.barren = None;
+        self.known = Known::NOTHING;
         self.pointers.give_back(block, loan);
     }
 
@@ -156,7 +152,7 @@ impl Zone {
         ensures loans { KeepsLoans self.old self.new }
     {
         self.empty(handle);
-        self.barren = None;
+        self.known = Known::NOTHING;
         self.pointers.release(handle);
     }
 
@@ -169,7 +165,7 @@ impl Zone {
         ensures loans { KeepsLoans self.old self.new }
     {
         let at = self.pointers.linked().place_of(pointer.number());
-        self.barren = None;
+        self.known = Known::NOTHING;
         self.pointers.unfix(pointer);
         join(&mut self.pointers, at);
     }
@@ -183,7 +179,7 @@ impl Zone {
         ensures shape { self.new.shape ≡ self.old.shape }
         ensures loans { KeepsLoans self.old self.new }
     {
-        self.barren = None;
+        self.known = Known::NOTHING;
         empty(&mut self.pointers, handle);
     }
 
@@ -203,7 +199,7 @@ impl Zone {
         ensures shape { self.new.shape ≡ self.old.shape }
         ensures loans { KeepsLoans self.old self.new }
     {
-        self.barren = None;
+        self.known = Known::NOTHING;
         self.pointers.set_flags(handle, flags);
     }
 
@@ -241,7 +237,7 @@ impl Zone {
         ensures* writes_back { sem 𝓛 (WritesBackBytes self.entry block result) }
         ensures value { result.now ≡ bytes_of self.old.heap.table block }
     {
-        self.barren = None;
+        self.known = Known::NOTHING;
         self.pointers.contents_mut(block)
     }
 
