@@ -1,80 +1,90 @@
--- The walk to the end of a gap, and from gap to gap.
-use Rattle.std.proofs.Common.{◌≡◌, ℕ, ◌+◌, ◌-◌, ◌<◌, ◌≤◌, true, false, not, [], ◌∷◌, ◌++◌, refl, ap, sym, ◌∙◌, append_assoc, append-nil, arith}
+-- The walk from free block to free block.
+use Rattle.std.proofs.Common.{◌≡◌, ℕ, ◌+◌, ◌<◌, ◌≤◌, true, [], ◌∷◌, ◌++◌, refl, ap, sym, ◌∙◌, append_assoc, append-nil, arith}
 use Rattle.std.specs.Prelude.{max}
 use Rattle.std.proofs.lemmas.Bool.{and_from}
 use Rattle.mac_base.specs.declared.block.Entry.{Entry}
 use Rattle.mac_base.specs.declared.block.Kind.TheVariants.{Free}
-use Rattle.mac_base.specs.Gap.{is_fixed}
 use Rattle.mac_base.specs.Reports.{largest_room}
-use Rattle.mac_base.specs.ZoneMap.{ZoneMap, block, free_bytes, free_size, is_free, total_size, address_behind}
+use Rattle.mac_base.specs.ZoneMap.{ZoneMap, block, free_bytes, free_size, total_size, address_behind}
 use Rattle.mac_base.specs.ZoneState.{ZoneState}
-use Rattle.zone_laws.proofs.Arranging.{total_size-used}
-use Rattle.zone_laws.proofs.GapAppend.{total_size-append}
+use Rattle.zone_laws.proofs.Arranging.{free_bytes-all_used}
+use Rattle.zone_laws.proofs.GapAppend.{free_bytes-append, total_size-append}
 use Rattle.linked_zone.specs.Fit.{HasSizes}
 use Rattle.linked_zone.specs.Places.{EntryAt, SplitAt, FirstFree, none_free}
-use Rattle.fixed_index.specs.Runs.{begins_fixed}
+use Rattle.fixed_index.specs.Runs.{RestAt}
+use Rattle.gap_index.proofs.Rooms.{free-among}
+use Rattle.gap_index.proofs.Splits.{first_run}
 use Rattle.zone_gaps.proofs.Entries.{entry_size}
-use Rattle.zone_gaps.proofs.Pressing.{free-push_free, free-push_used}
-use Rattle.zone_gaps.proofs.Sizes.{all_both, total_size-push}
-use Rattle.zone_reports.specs.declared.rooms.GapRest.{GapRest}
-use Rattle.zone_reports.specs.Rooms.{AreMovable, IsGapRest}
+use Rattle.zone_gaps.proofs.Sizes.{all_parts, total_size-push}
 use Rattle.zone_reports.proofs.Most.{most, most-front, most-gaps, most-used}
-use Rattle.zone_reports.proofs.Standing.{Next, end_split}
+use Rattle.zone_reports.proofs.Standing.{split_first}
 
-module _ (z : ZoneState) (start : ℕ) (s : SplitAt z start) where
-  -- at first no block is passed
-  pub none_movable : AreMovable z.heap.table s.behind start start 0
-  none_movable = record { front = []; behind = s.behind; parts = refl; moves = refl; end_is = (let e : start ≡ start + 0 = omega arith in e); room_is = refl }
+-- The gaps below an address are measured, and of the gap that ends at another the blocks below the first: the largest of these
+-- rooms is known.
+pub record Measured (z : ZoneState) (from end room largest : ℕ) : Type 0 where
+  pub split : SplitAt z from
+  pub front : ZoneMap
+  pub rest : ZoneMap
+  pub parts : split.behind ≡ front ++ rest
+  pub end_is : end ≡ from + total_size front
+  pub most_is : max (max largest (room + free_bytes front)) (most z.heap.table free_size 0 rest) ≡ most z.heap.table free_size 0 z.heap.map
+  pub low : room ≤ from
+  pub within : room ≤ largest
 
-  module _ (at room : ℕ) (m : AreMovable z.heap.table s.behind start at room) where
-    -- the walk stands behind those that are
-    abbrev pub split_movable : SplitAt z at
-    split_movable = record {
-      before = s.before ++ m.front;
-      behind = m.behind;
-      map = s.map ∙ ap (λ b. s.before ++ b) m.parts ∙ sym (append_assoc s.before m.front m.behind);
-      place = (let first = s.place in let all = total_size-append s.before m.front in let here = m.end_is in omega arith);
-    }
+-- The same, where a free block stands at the first address, which is the gap's.
+pub record Facing (z : ZoneState) (free size end room largest : ℕ) : Type 0 where
+  pub before : ZoneMap
+  pub front : ZoneMap
+  pub rest : ZoneMap
+  pub map : z.heap.map ≡ before ++ block Free size ∷ (front ++ rest)
+  pub place : free ≡ address_behind z.shape before
+  pub end_is : end ≡ free + (size + total_size front)
+  pub most_is : max (max largest (room + (size + free_bytes front))) (most z.heap.table free_size 0 rest) ≡ most z.heap.table free_size 0 z.heap.map
+  pub low : room ≤ free
 
-    -- their free bytes are some of those below
-    pub room_below : room ≤ at
-    room_below = let all = total_size-used m.front in let free = m.room_is in let here = m.end_is in omega arith
+-- at first none is measured
+pub none_measured : (z : ZoneState) (at : ℕ) → at ≡ address_behind z.shape [] → Measured z at at 0 0
+none_measured z at place = record { split = split_first z at place; front = []; rest = z.heap.map; parts = refl; end_is = omega arith; most_is = omega arith; low = omega arith; within = omega arith }
 
-    module _ (n : Next z split_movable) where
-      more_movable : is_fixed z.heap.table (n.here).kind ≡ false → (now : ℕ) → now ≡ free_bytes (m.front ++ n.here ∷ []) → AreMovable z.heap.table s.behind start (at + (n.here).size) now
-      more_movable moves now room_is = record {
-        front = m.front ++ n.here ∷ [];
-        behind = n.after;
-        parts = m.parts ∙ ap (λ b. m.front ++ b) n.is ∙ sym (append_assoc m.front (n.here ∷ []) n.after);
-        moves = all_both _ m.front (n.here ∷ []) m.moves (and_from _ _ (ap not moves) refl);
-        end_is = (let all = total_size-push m.front n.here in let here = m.end_is in omega arith);
-        room_is = room_is;
-      }
+-- a free block begins behind these
+record Beyond (front rest passed : ZoneMap) (size : ℕ) (behind : ZoneMap) : Type 0 where
+  pub more : ZoneMap
+  pub passed_is : passed ≡ front ++ more
+  pub rest_is : rest ≡ more ++ block Free size ∷ behind
 
-      -- a free one is passed
-      pub free_movable : is_fixed z.heap.table (n.here).kind ≡ false → is_free (n.here).kind ≡ true → AreMovable z.heap.table s.behind start (at + (n.here).size) (room + (n.here).size)
-      free_movable moves free = more_movable moves (room + (n.here).size) (ap (λ r. r + (n.here).size) m.room_is ∙ sym (free-push_free m.front n.here free))
+-- with one more block in front
+further_beyond : (e p : Entry) (es rest passed : ZoneMap) (size : ℕ) (behind : ZoneMap) → e ≡ p → Beyond es rest passed size behind → Beyond (e ∷ es) rest (p ∷ passed) size behind
+further_beyond e p es rest passed size behind same b =
+    record { more = b.more; passed_is = ap (λ m. p ∷ m) b.passed_is ∙ ap (λ e. e ∷ (es ++ b.more)) (sym same); rest_is = b.rest_is }
 
-      -- or one that isn't
-      pub used_movable : is_fixed z.heap.table (n.here).kind ≡ false → is_free (n.here).kind ≡ false → AreMovable z.heap.table s.behind start (at + (n.here).size) room
-      used_movable moves used = more_movable moves room (m.room_is ∙ sym (free-push_used m.front n.here used))
+-- one does that begins where they end, or above
+beyond : (front rest passed : ZoneMap) (size : ℕ) (behind : ZoneMap) → 0 < size → front ++ rest ≡ passed ++ block Free size ∷ behind → total_size front ≤ total_size passed → Beyond front rest passed size behind
+beyond [] rest passed size behind some is high = record { more = passed; passed_is = refl; rest_is = is }
+beyond (e ∷ es) rest [] size behind some is high =
+    let same : e ≡ block Free size = cc is in
+    let bytes = ap (λ (e : Entry). e.size) same in
+    absurd (omega arith)
+beyond (e ∷ es) rest (p ∷ passed) size behind some is high =
+    let same : e ≡ p = cc is in
+    let others : es ++ rest ≡ passed ++ block Free size ∷ behind = cc is in
+    let bytes = ap (λ (e : Entry). e.size) same in
+    further_beyond e p es rest passed size behind same (beyond es rest passed size behind some others (omega arith))
 
-      -- a fixed one ends the gap
-      pub gap_rest-fixed : is_fixed z.heap.table (n.here).kind ≡ true → IsGapRest z.heap.table s.behind start (record { end = at; room = room })
-      gap_rest-fixed fixed = record { movable = m; above = ap (begins_fixed z.heap.table) n.is ∙ fixed }
+module _ (z : ZoneState) (from end room largest : ℕ) (d : Measured z from end room largest) where
+  -- where no block is free any more the largest is found
+  pub measured_all : none_free (d.split).behind ≡ true → largest ≡ largest_room z.heap.table z.heap.map
+  measured_all used =
+      let t = z.heap.table in
+      let both = all_parts _ d.front d.rest (ap none_free (sym d.parts) ∙ used) in
+      let first = free_bytes-all_used d.front both.0 in
+      let none : most t free_size 0 d.rest ≡ 0 = ap (most t free_size 0) (sym (append-nil d.rest)) ∙ most-used t d.rest [] both.1 in
+      let whole = d.most_is in
+      let within = d.within in
+      let all : largest ≡ most t free_size 0 z.heap.map = omega arith in
+      all ∙ sym (most-gaps t free_size free_bytes refl (λ e es. refl) z.heap.map)
 
-    -- and so does the zone's end
-    pub gap_rest-last : m.behind ≡ [] → IsGapRest z.heap.table s.behind start (record { end = at; room = room })
-    gap_rest-last none = record { movable = m; above = ap (begins_fixed z.heap.table) none }
-
--- the gaps below an address are measured
-pub record Measured (z : ZoneState) (at largest : ℕ) : Type 0 where
-  pub split : SplitAt z at
-  pub is : max largest (most z.heap.table free_size 0 split.behind) ≡ most z.heap.table free_size 0 z.heap.map
-
-module _ (z : ZoneState) (from largest : ℕ) (d : Measured z from largest) where
   module _ (free : ℕ) (f : FirstFree (d.split).behind from free) where
-    -- the walk stands at the next free block
+    -- the blocks from the next free one on
     abbrev pub split_free : SplitAt z free
     split_free = record {
       before = (d.split).before ++ f.passed;
@@ -83,44 +93,81 @@ module _ (z : ZoneState) (from largest : ℕ) (d : Measured z from largest) wher
       place = (let first = (d.split).place in let all = total_size-append (d.split).before f.passed in let here = f.place in omega arith);
     }
 
-    module _ (rest : GapRest) (r : IsGapRest z.heap.table (block Free f.size ∷ f.behind) free rest) where
-      -- its gap is measured
-      pub measured_on : Measured z rest.end (max rest.room largest)
-      measured_on =
-          let t = z.heap.table in
-          let m = r.movable in
-          let whole = d.is in
-          let next = ap (most t free_size 0) f.splits ∙ most-used t f.passed (block Free f.size ∷ f.behind) f.used in
-          let gap = ap (most t free_size 0) m.parts ∙ most-front t free_size free_bytes refl (λ e es. refl) 0 m.front m.behind m.moves r.above in
-          let room = m.room_is in
-          record { split = split_movable z free split_free rest.end rest.room m; is = omega arith }
+    -- it is read
+    abbrev pub entry_free : EntryAt z free
+    entry_free = record { before = (split_free).before; here = block Free f.size; behind = f.behind; map = (split_free).map; place = (split_free).place }
 
-      -- and has bytes
-      pub measured_more : HasSizes z → address_behind z.shape z.heap.map - rest.end < address_behind z.shape z.heap.map - from
-      measured_more sizes = by_front (r.movable).front refl
-        where
-          by_front : (front : ZoneMap) → (r.movable).front ≡ front → address_behind z.shape z.heap.map - rest.end < address_behind z.shape z.heap.map - from
-          by_front [] none =
-              let is : block Free f.size ∷ f.behind ≡ (r.movable).behind = (r.movable).parts ∙ ap (λ b. b ++ (r.movable).behind) none in
-              let free_fixed : false ≡ true = ap (begins_fixed z.heap.table) is ∙ r.above in
-              absurd (cc free_fixed)
-          by_front (e ∷ es) some =
-              let is : block Free f.size ∷ f.behind ≡ e ∷ (es ++ (r.movable).behind) = (r.movable).parts ∙ ap (λ b. b ++ (r.movable).behind) some in
-              let same : block Free f.size ≡ e = cc is in
-              let size = ap (λ (e : Entry). e.size) same in
-              let long = ap total_size some in
-              let entry : EntryAt z free = record { before = (split_free).before; here = block Free f.size; behind = f.behind; map = (split_free).map; place = (split_free).place } in
-              let bytes = entry_size z free entry sizes in
-              let end = (r.movable).end_is in
-              let below = end_split z rest.end (split_movable z free split_free rest.end rest.room r.movable) in
-              let passed = f.place in
-              omega arith
+    -- and the gap from there on
+    abbrev pub rest_free : RestAt z free
+    rest_free = record {
+      before = (split_free).before;
+      blocks = block Free f.size ∷ (first_run z.heap.table f.behind).blocks;
+      behind = (first_run z.heap.table f.behind).behind;
+      map = (split_free).map ∙ ap (λ m. (split_free).before ++ block Free f.size ∷ m) (first_run z.heap.table f.behind).parts;
+      place = (split_free).place;
+      moves = and_from _ _ refl (first_run z.heap.table f.behind).moves;
+      above = (first_run z.heap.table f.behind).above;
+    }
 
-  -- where no block is free any more the largest is found
-  pub measured_all : none_free (d.split).behind ≡ true → largest ≡ largest_room z.heap.table z.heap.map
-  measured_all used =
-      let t = z.heap.table in
-      let none : most t free_size 0 (d.split).behind ≡ 0 = ap (most t free_size 0) (sym (append-nil (d.split).behind)) ∙ most-used t (d.split).behind [] used in
-      let whole = d.is in
-      let all : largest ≡ most t free_size 0 z.heap.map = omega arith in
-      all ∙ sym (most-gaps t free_size free_bytes refl (λ e es. refl) z.heap.map)
+    -- below the end it is the gap's
+    pub facing_same : free < end → Facing z free f.size end room largest
+    facing_same below =
+        let s = d.split in
+        let end_is = d.end_is in
+        let here = f.place in
+        let among = free-among d.front d.rest f.passed f.size f.behind (sym d.parts ∙ f.splits) (omega arith) in
+        let bytes = ap total_size among.parts ∙ total_size-append f.passed (block Free f.size ∷ among.rest) in
+        let room_is = ap free_bytes among.parts ∙ free_bytes-append f.passed (block Free f.size ∷ among.rest) in
+        let none = free_bytes-all_used f.passed f.used in
+        let whole = d.most_is in
+        let low = d.low in
+        record {
+          before = s.before ++ f.passed;
+          front = among.rest;
+          rest = d.rest;
+          map = s.map ∙ ap (λ m. s.before ++ m) (d.parts ∙ ap (λ m. m ++ d.rest) among.parts ∙ append_assoc f.passed (block Free f.size ∷ among.rest) d.rest) ∙ sym (append_assoc s.before f.passed (block Free f.size ∷ (among.rest ++ d.rest)));
+          place = (split_free).place;
+          end_is = omega arith;
+          most_is = omega arith;
+          low = omega arith;
+        }
+
+    -- else that of the next
+    pub facing_next : HasSizes z → end ≤ free → (next : ℕ) → ((rest : RestAt z free) → next ≡ free + total_size rest.blocks) → Facing z free f.size next 0 largest
+    facing_next sizes above next ends =
+        let t = z.heap.table in
+        let end_is = d.end_is in
+        let here = f.place in
+        let over = beyond d.front d.rest f.passed f.size f.behind (entry_size z free entry_free sizes) (sym d.parts ∙ f.splits) (omega arith) in
+        let used = all_parts _ d.front over.more (ap none_free (sym over.passed_is) ∙ f.used) in
+        let none = free_bytes-all_used d.front used.0 in
+        let r = rest_free in
+        let run = first_run t f.behind in
+        let skipped = ap (most t free_size 0) over.rest_is ∙ most-used t over.more (block Free f.size ∷ f.behind) used.1 in
+        let gap = ap (λ m. most t free_size 0 (block Free f.size ∷ m)) run.parts ∙ most-front t free_size free_bytes refl (λ e es. refl) 0 r.blocks r.behind r.moves r.above in
+        let whole = d.most_is in
+        let within = d.within in
+        record { before = r.before; front = run.blocks; rest = run.behind; map = r.map; place = r.place; end_is = ends r; most_is = omega arith; low = omega arith }
+
+module _ (z : ZoneState) (free size end room largest : ℕ) (d : Facing z free size end room largest) where
+  -- it is measured
+  pub facing_on : (bytes : ℕ) → bytes ≡ size → Measured z (free + bytes) end (room + bytes) (max (room + bytes) largest)
+  facing_on bytes is =
+      let end_is = d.end_is in
+      let low = d.low in
+      let whole = d.most_is in
+      record {
+        split = record {
+          before = d.before ++ block Free size ∷ [];
+          behind = d.front ++ d.rest;
+          map = d.map ∙ sym (append_assoc d.before (block Free size ∷ []) (d.front ++ d.rest));
+          place = (let all = total_size-push d.before (block Free size) in let place = d.place in omega arith);
+        };
+        front = d.front;
+        rest = d.rest;
+        parts = refl;
+        end_is = omega arith;
+        most_is = omega arith;
+        low = omega arith;
+        within = omega arith;
+      }

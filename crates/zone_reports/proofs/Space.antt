@@ -20,7 +20,7 @@ use Rattle.zone_laws.proofs.GapAppend.{sizes-append}
 use Rattle.zone_laws.proofs.GapParts.{IsGap, gaps-IsGap}
 use Rattle.zone_laws.proofs.Tables.{eqb_same}
 use Rattle.zone_gaps.proofs.Owning.{named_alone}
-use Rattle.zone_reports.specs.Rooms.{is_space}
+use Rattle.zone_reports.specs.Shares.{is_space}
 use Rattle.zone_reports.proofs.Most.{most, most-gaps}
 
 -- the size of a block that is free or may be purged, and 0 of any other

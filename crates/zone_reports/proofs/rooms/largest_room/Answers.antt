@@ -1,42 +1,92 @@
-use Rattle.std.proofs.Common.{◌≡◌, ◌+◌, ◌∙◌, sym, ap, subst, arith, []}
+use Rattle.std.specs.Prelude.{IsTrue}
+use Rattle.std.proofs.Common.{◌≡◌, ◌+◌, ◌<◌, ◌^◌, ◌∙◌, sym, ap, subst, arith, []}
+use Rattle.mac_base.specs.declared.block.Entry.{Entry}
 use Rattle.mac_base.specs.ZoneMap.{address_behind}
-use Rattle.mac_base.specs.ZoneSizes.{ZoneSizes}
-use Rattle.zone_gaps.proofs.Settling.{owners-settled}
-use Rattle.zone_reports.proofs.Measuring.{Measured, split_free, measured_on, measured_more, measured_all}
-use Rattle.zone_reports.proofs.Standing.{split_first}
+use Rattle.mac_base.specs.ZoneState.{ZoneState}
+use Rattle.linked_zone.specs.Places.{EntryAt, SplitAt, FirstFree, none_free}
+use Rattle.gap_index.proofs.Known.{base-known, end-fits}
+use Rattle.zone_gaps.proofs.Entries.{entry_size, entry_within}
+use Rattle.zone_reports.proofs.Measuring.{Facing, Measured, none_measured, entry_free, rest_free, facing_same, facing_next, facing_on, measured_all}
 use Rattle.zone_reports.proofs.rooms.largest_room.Goals as goal
+use Rattle.zone_reports.proofs.rooms.largest_room.Goals.{In-Some, After-entry_at-size, then-end-free, else-end-free}
+
+-- the next free block
+abbrev found : (c : In-Some) → FirstFree (c.loop-free.invariant.split).behind c.loop-free.from c.in-Some.free
+found c =
+    subst (λ (z : ZoneState). (split : SplitAt z c.loop-free.from) → FirstFree split.behind c.loop-free.from c.in-Some.free) c.linked-linked.ensures
+    c.in-Some.ensures.next c.loop-free.invariant.split
+
+-- its header
+abbrev entry : (c : In-Some) → EntryAt c.args.zone.now c.in-Some.free
+entry c = entry_free c.args.zone.now c.loop-free.from c.loop-free.end c.loop-free.room c.loop-free.largest c.loop-free.invariant c.in-Some.free (found c)
+
+-- it is read
+size : (c : After-entry_at-size) (e : EntryAt c.args.zone.now c.in-Some.free) → c.entry_at-size.result.size ≡ e.here.size
+size c e = ap (λ (e : Entry). e.size) (subst (λ (z : ZoneState). (e : EntryAt z c.in-Some.free) → c.entry_at-size.result ≡ e.here) c.linked-linked.ensures c.entry_at-size.ensures e)
+
+-- its block ends where 32 bits reach
+fits : (c : After-entry_at-size) → EntryAt c.args.zone.now c.in-Some.free → c.in-Some.free + c.entry_at-size.result.size < 2 ^ 32
+fits c e =
+    end-fits c.args.zone.now c.linked-linked.result.now c.spec.result c.linked-linked.ensures c.spec.ensures.sizes c.base-from.ensures.possible c.spec.ensures.fits c.spec.ensures.possible c.in-Some.free e
+    c.entry_at-size.result c.entry_at-size.ensures
+
+-- and lies in a gap whose end is known
+facing : (c : After-entry_at-size) (f : FirstFree (c.loop-free.invariant.split).behind c.loop-free.from c.in-Some.free) → Facing c.args.zone.now c.in-Some.free f.size c.if-end-free.end c.if-end-free.room c.loop-free.largest
+facing c f =
+    let z = c.args.zone.now in
+    let l = c.loop-free in
+    let at = c.in-Some.free in
+    elim c.if-end-free.branch [
+      | then-end-free w ↦ subst (λ end. Facing z at f.size end c.if-end-free.room l.largest) (sym w.end-is) (subst (λ room. Facing z at f.size w.gap_end-end.result room l.largest) (sym w.room-is)
+          (facing_next z l.from l.end l.room l.largest l.invariant at f c.requires.sizes w.if-end-free.true w.gap_end-end.result w.gap_end-end.ensures))
+      | else-end-free w ↦ subst (λ end. Facing z at f.size end c.if-end-free.room l.largest) (sym w.end-is) (subst (λ room. Facing z at f.size l.end room l.largest) (sym w.room-is)
+          (facing_same z l.from l.end l.room l.largest l.invariant at f w.if-end-free.false))
+    ]
 
 pub loop-free-init : goal.loop-free-init
 loop-free-init c =
     let z = c.args.zone.now in
-    let base = c.base-from.ensures.value ∙ ap (λ (s : ZoneSizes). s.base) c.spec.ensures.sizes in
-    record { split = split_first z (c.base-from.result + 52) (let e : c.base-from.result + 52 ≡ address_behind z.shape [] = omega (arith, base) in e); is = omega arith }
+    let base = c.base-from.ensures.value ∙ base-known z c.linked-linked.result.now c.spec.result c.linked-linked.ensures c.spec.ensures.sizes c.base-from.ensures.possible c.spec.ensures.fits c.spec.ensures.possible in
+    none_measured z (c.base-from.result + 52) (let e : c.base-from.result + 52 ≡ address_behind z.shape [] = omega (arith, base) in e)
 
-pub rest_of_gap-rest-requires-clause-start : goal.rest_of_gap-rest-requires-clause-start
-rest_of_gap-rest-requires-clause-start c =
-    let d = c.loop-free.invariant in
-    split_free c.args.zone.now c.loop-free.from c.loop-free.largest d c.in-Some.free (c.in-Some.ensures.next d.split)
+pub gap_end-end-requires : goal.gap_end-end-requires
+gap_end-end-requires c =
+    let l = c.loop-free in
+    record { rest = rest_free c.args.zone.now l.from l.end l.room l.largest l.invariant c.in-Some.free (found (goal.at.gap_end-end-requires c).In-Some) }
 
-pub rest_of_gap-rest-requires-clause-owners : goal.rest_of_gap-rest-requires-clause-owners
-rest_of_gap-rest-requires-clause-owners c = owners-settled c.args.zone.now c.requires
+pub entry_at-size-requires : goal.entry_at-size-requires
+entry_at-size-requires c = subst (λ (z : ZoneState). EntryAt z c.in-Some.free) (sym c.linked-linked.ensures) (entry (goal.at.entry_at-size-requires c).In-Some)
+
+pub overflow_add-room : goal.overflow_add-room
+overflow_add-room c =
+    let here = (goal.at.overflow_add-room c).In-Some in
+    let w = (goal.at.overflow_add-room c).After-entry_at-size in
+    let low = (facing w (found here)).low in
+    omega (arith, low, fits w (entry here))
+
+pub overflow_add-from-in-Some : goal.overflow_add-from-in-Some
+overflow_add-from-in-Some c = omega (arith, fits (goal.at.overflow_add-from-in-Some c).After-entry_at-size (entry (goal.at.overflow_add-from-in-Some c).In-Some))
 
 pub loop-free-smaller : goal.loop-free-smaller
 loop-free-smaller c =
     let z = c.args.zone.now in
-    let l = c.loop-free in
-    let f = c.in-Some.ensures.next l.invariant.split in
-    measured_more z l.from l.largest l.invariant c.in-Some.free f c.rest_of_gap-rest.result (c.rest_of_gap-rest.ensures (split_free z l.from l.largest l.invariant c.in-Some.free f)) c.requires.sizes
+    let here = (goal.at.loop-free-smaller c).In-Some in
+    let e = entry here in
+    let passed = (found here).place in
+    omega (arith, size (goal.at.loop-free-smaller c).After-entry_at-size e, entry_size z c.in-Some.free e c.requires.sizes, entry_within z c.in-Some.free e, passed)
 
 pub loop-free-preserved : goal.loop-free-preserved
 loop-free-preserved c =
     let z = c.args.zone.now in
-    let l = c.loop-free in
-    let f = c.in-Some.ensures.next l.invariant.split in
-    let rest = c.rest_of_gap-rest.result in
-    subst (Measured z rest.end) (sym c.max-largest.ensures)
-    (measured_on z l.from l.largest l.invariant c.in-Some.free f rest (c.rest_of_gap-rest.ensures (split_free z l.from l.largest l.invariant c.in-Some.free f)))
+    let here = (goal.at.loop-free-preserved c).In-Some in
+    let w = (goal.at.loop-free-preserved c).After-entry_at-size in
+    let f = found here in
+    let n = c.entry_at-size.result.size in
+    subst (Measured z (c.in-Some.free + n) c.if-end-free.end (c.if-end-free.room + n)) (sym c.max-largest.ensures)
+    (facing_on z c.in-Some.free f.size c.if-end-free.end c.if-end-free.room c.loop-free.largest (facing w f) n (size w (entry here)))
 
 pub returns : goal.returns
 returns c =
     let l = c.loop-free in
-    measured_all c.args.zone.now l.from l.largest l.invariant (c.in_default.ensures.none l.invariant.split)
+    measured_all c.args.zone.now l.from l.end l.room l.largest l.invariant
+    (subst (λ (z : ZoneState). (split : SplitAt z l.from) → IsTrue (none_free split.behind)) c.linked-linked.ensures c.in_default.ensures.none l.invariant.split)

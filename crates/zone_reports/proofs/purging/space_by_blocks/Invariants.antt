@@ -1,6 +1,6 @@
 use Rattle.std.proofs.Common.{◌-◌}
 use Rattle.zone_reports.proofs.Totals.{Summed}
-use Rattle.zone_reports.proofs.purging.purge_space.Given as goal
+use Rattle.zone_reports.proofs.purging.space_by_blocks.Given as goal
 
 -- the blocks below are summed
 abbrev pub invariant-loop-at : goal.invariant-loop-at
