@@ -17,7 +17,7 @@ use Rattle.block_bytes.specs.declared.blocks.Blocks.TheInside.{Inside}
 use Rattle.block_bytes.specs.Head.{head_bytes}
 use Rattle.block_bytes.specs.ZoneHead.{end_field, free_field, lowest_field, zone_head}
 use Rattle.block_bytes.specs.Layout.{RawBlock, Layout, free_raw_block, free_block_of, extended, size_of, total_of, free_total, first_free, is_possible, rendered, header_bytes, image_of, address_behind}
-use Rattle.block_bytes.specs.Starts.{marks_of, starts_of, first_marked}
+use Rattle.block_bytes.specs.Starts.{marks_of, starts_of, first_marked, NoneLower}
 use Rattle.block_bytes.specs.Reading.{layout_of, IsLayout, lent_spans, times}
 use Rattle.block_bytes.proofs.Heads.{length-head_bytes}
 use Rattle.block_bytes.proofs.Rendered.{total_of-append, length-rendered, rendered-append, written-middle}
@@ -26,7 +26,7 @@ use Rattle.block_bytes.proofs.Starts.{unmarked, length-unmarked, length-marks_of
 use Rattle.block_bytes.proofs.Spans.{apart-above, apart-below, free-same, spans-append, count-append}
 use Rattle.block_bytes.proofs.Parts.{IsRead, image-read, length-header, total-ends, possible-with}
 use Rattle.block_bytes.proofs.Settled.{counted, free-append, front-fits}
-use Rattle.block_bytes.proofs.Counting.{CanCount, kept-first, kept-written, can-count_more}
+use Rattle.block_bytes.proofs.Counting.{CanCount, kept-first, kept-written, can-count_more, none-lower, set-behind}
 use Rattle.block_bytes.proofs.Walking.{is_possible-from}
 
 -- no header has more than 12 bytes, and no smallest block more than 16
@@ -74,6 +74,13 @@ module _ (z : Inside) (heads : HeadKind) (base size limit : ℕ) (are : AreRead 
       can-count_more z whole are.possible m index base (limit - size) 0
       (kept-written z z.memory m z.spec.size _ (kept-first z whole are.possible) (headed-read m headed) whole.low)
       (ap length marked ∙ length-set z.index _ _) are.base_is (omega arith) (omega arith)
+
+  -- no free block lies below the lowest one before
+  pub low-extend : IsLayout z → (m : State) (index : List ℕ) → m ≡ with_bytes z.memory size (head_bytes heads base (record { size = limit - size; role = Free; correction = 0 }))
+      → index ≡ set z.index (size / 4) (limit - size) → NoneLower base (big_number 4 (part m.bytes lowest_field 4)) (size / 4) index
+  low-extend whole m index headed marked = none-lower z m index base (size / 4)
+      (kept-written z z.memory m z.spec.size _ (kept-first z whole are.possible) (headed-read m headed) whole.low)
+      are.base_is (set-behind z.index index (size / 4) (limit - size) (size / 4) marked (omega arith))
 
 module _ (z : Inside) (whole : IsLayout z) where
   -- how many bytes there are up to the limit

@@ -1,7 +1,7 @@
 -- Two neighbouring parts of a list that change places: bytes that turn or slide, and numbers that are moved down or up.
-use Rattle.std.proofs.Common.{◌≡◌, ℕ, suc, ◌+◌, ◌-◌, ◌≤◌, List, ◌∷◌, ◌++◌, length, take, drop, replicate, sym, ap, ◌∙◌, arith, append_assoc, length-append, length-take-le, length-drop, take-append-drop, take_at, drop_at}
+use Rattle.std.proofs.Common.{◌≡◌, ℕ, suc, ◌+◌, ◌-◌, ◌<◌, ◌≤◌, List, ◌∷◌, ◌++◌, length, take, drop, replicate, sym, ap, ◌∙◌, arith, append_assoc, length-append, length-take-le, length-drop, take-append-drop, take_at, drop_at, slice_index}
 use Rattle.std.proofs.Math.ListN.{set}
-use Rattle.std.proofs.lemmas.List.{set_at}
+use Rattle.std.proofs.lemmas.List.{set_at, get_or-take, get_or_append_left}
 use Rattle.raw_region.specs.Bytes.{part, written}
 use Rattle.place_numbers.specs.Shifted.{shifted_down, shifted_up}
 use Rattle.block_bytes.proofs.Rendered.{part-middle, written-middle}
@@ -55,6 +55,13 @@ length-shifted_up from to n xs order inside =
     let a = length-take-le from xs (omega arith) in let b = length-drop from xs in let c = length-take-le n (drop from xs) (omega arith) in let d = length-unmarked (to - from) in let e = length-drop (to + n) xs in
     let f = length-append (take from xs) (unmarked (to - from)) in let g = length-append (take from xs ++ unmarked (to - from)) (take n (drop from xs)) in
     let h = length-append (take from xs ++ unmarked (to - from) ++ take n (drop from xs)) (drop (to + n) xs) in omega arith
+
+-- the numbers before a place stay, where those from it on are others
+pub shifted-before : (place : ℕ) (xs first second third : List ℕ) → place ≤ length xs → (j : ℕ) → j < place → slice_index (take place xs ++ first ++ second ++ third) j ≡ slice_index xs j
+shifted-before place xs first second third inside j before =
+    let long = length-take-le place xs inside in let a = length-append (take place xs) first in let b = length-append (take place xs ++ first) second in
+    get_or_append_left (take place xs ++ first ++ second) third 0 j (omega arith) ∙ get_or_append_left (take place xs ++ first) second 0 j (omega arith)
+    ∙ get_or_append_left (take place xs) first 0 j (omega arith) ∙ get_or-take place xs j 0 before
 
 module _ (before others behind : List ℕ) (x y j : ℕ) where
   -- numbers move down over a number and those of none behind it, and one is written behind them

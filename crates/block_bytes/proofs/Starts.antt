@@ -313,3 +313,28 @@ first_marked-missing (x ∷ xs) at none = let is : nat_lt 2 x ≡ false = below 
   where
     below : (x : ℕ) → x < 3 → nat_lt 2 x ≡ false
     below x small = grind (arith, nat_tests)
+
+-- a free block's number is the first
+first_marked-here : (x : ℕ) (xs : List ℕ) (at : ℕ) → 2 < x → first_marked at (x ∷ xs) ≡ at
+first_marked-here x xs at large = ap (λ (t : Bool). if t then at else first_marked (at + 4) xs) (let is : nat_lt 2 x ≡ true = grind (arith, nat_tests) in is)
+
+-- another is not
+first_marked-further : (x : ℕ) (xs : List ℕ) (at : ℕ) → x ≤ 2 → first_marked at (x ∷ xs) ≡ first_marked (at + 4) xs
+first_marked-further x xs at few = ap (λ (t : Bool). if t then at else first_marked (at + 4) xs) (let is : nat_lt 2 x ≡ false = grind (arith, nat_tests) in is)
+
+-- the first lies among them, if there is one
+pub first_marked-few : (xs : List ℕ) (at : ℕ) → first_marked at xs ≤ at + 4 * length xs
+first_marked-few [] at = omega arith
+first_marked-few (x ∷ xs) at = either (nat_lt 2 x) (first_marked-few xs (at + 4))
+  where
+    either : (t : Bool) → first_marked (at + 4) xs ≤ at + 4 + 4 * length xs → (if t then at else first_marked (at + 4) xs) ≤ at + 4 * suc (length xs)
+    either true more = omega arith
+    either false more = omega arith
+
+-- before it there is none
+pub first_marked-lower : (xs : List ℕ) (at j : ℕ) → (at ≤ first_marked at xs → at + 4 * j < first_marked at xs) → slice_index xs j ≤ 2
+first_marked-lower [] at j low = omega arith
+first_marked-lower (x ∷ xs) at zero low = ⊎_elim (λ large. let is = first_marked-here x xs at large in absurd (let b = low (omega arith) in omega arith)) (λ few. omega arith) (cases_lt 2 x)
+first_marked-lower (x ∷ xs) at (suc j) low = ⊎_elim
+    (λ large. let is = first_marked-here x xs at large in absurd (let b = low (omega arith) in omega arith))
+    (λ few. let is = first_marked-further x xs at few in first_marked-lower xs (at + 4) j (λ above. let b = low (omega arith) in omega arith)) (cases_lt 2 x)

@@ -59,6 +59,18 @@ module _ (end front free lowest : ℕ) (rest : List ℕ) where
       ∙ ap (big_number 4) (part-middle (before_front ++ big_bytes 4 front) (big_bytes 4 free) (behind_free ++ (big_bytes 4 lowest ++ rest)) free_field 4 (omega arith) (omega arith))
       ∙ number-bytes 4 free (omega arith)
 
+  -- the lowest free block's address is read
+  pub lowest-read : lowest < 2 ^ 32 → big_number 4 (part (zone_head end front free lowest ++ rest) lowest_field 4) ≡ lowest
+  lowest-read small = let long = length-big_bytes 4 lowest in let before = length-before_front in
+      let one = length-big_bytes 4 front in let two = length-big_bytes 4 free in let three = length-behind_free in
+      let pre = before_front ++ (big_bytes 4 front ++ (big_bytes 4 free ++ behind_free)) in
+      let a = length-append before_front (big_bytes 4 front ++ (big_bytes 4 free ++ behind_free)) in let b = length-append (big_bytes 4 front) (big_bytes 4 free ++ behind_free) in
+      let c = length-append (big_bytes 4 free) behind_free in
+      let parts : zone_head end front free lowest ++ rest ≡ pre ++ (big_bytes 4 lowest ++ rest) = simp append_assoc in
+      ap (λ (l : List ℕ). big_number 4 (part l lowest_field 4)) parts
+      ∙ ap (big_number 4) (part-middle pre (big_bytes 4 lowest) rest lowest_field 4 (omega arith) (omega arith))
+      ∙ number-bytes 4 lowest (omega arith)
+
   -- the end is written
   pub end-written : (n : ℕ) → written (zone_head end front free lowest ++ rest) end_field (big_bytes 4 n) ≡ zone_head n front free lowest ++ rest
   end-written n = let long = length-big_bytes 4 end in let long' = length-big_bytes 4 n in

@@ -1,5 +1,5 @@
 -- What the index holds: a number for each four bytes of a zone, which says what block begins with them, or that none does.
-use Rattle.std.specs.Prelude.{ℕ, ◌+◌, ◌-◌, ◌/◌, nat_lt, if◌then◌else◌, List, [], ◌∷◌, ◌++◌, length, replicate}
+use Rattle.std.specs.Prelude.{ℕ, ◌+◌, ◌-◌, ◌*◌, ◌/◌, ◌<◌, ◌≤◌, nat_lt, if◌then◌else◌, List, [], ◌∷◌, ◌++◌, length, replicate, slice_index}
 use Rattle.mac_base.specs.declared.block.HeadKind.{HeadKind}
 use Rattle.mac_base.specs.HeadKind.{zone_header}
 use Rattle.block_bytes.specs.declared.header.Header.{Header}
@@ -34,3 +34,8 @@ starts_of l = replicate (zone_header / 4) 0 ++ (marks_of l.heads l.blocks ++ rep
 abbrev pub first_marked : ℕ → List ℕ → ℕ
 first_marked at [] = 0
 first_marked at (m ∷ ms) = if nat_lt lent_mark m then at else first_marked (at + 4) ms
+
+-- no number of a free block stands before a place and below an address; where the address is below the first number's, none
+-- stands before the place
+abbrev pub NoneLower : ℕ → ℕ → ℕ → List ℕ → Type 0
+NoneLower at lowest place ms = (j : ℕ) → j < place → (at ≤ lowest → at + 4 * j < lowest) → slice_index ms j ≤ lent_mark

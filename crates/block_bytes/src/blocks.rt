@@ -9,7 +9,7 @@ ghost use Rattle.raw_region.specs.Bytes.{part, written};
 ghost use Rattle.raw_region.specs.Span.{IsFree};
 ghost use Rattle.raw_region.specs.State.{with_bytes};
 ghost use Rattle.block_bytes.specs.declared.header.Role.TheVariants.{Free};
-ghost use Rattle.block_bytes.specs.Starts.{first_marked};
+ghost use Rattle.block_bytes.specs.Starts.{first_marked, NoneLower};
 ghost use Rattle.block_bytes.specs.ZoneHead.{free_field, lowest_field};
 
 use crate::header::{Header, Role};
@@ -73,20 +73,46 @@ impl Drop for Blocks {
     }
 }
 
-/// Writes in the zone's header how many bytes are free, where `gained` came to them and `lost` went, and the address of the
-/// lowest free block, by the index.
+/// Where the search for the lowest free block begins, once the index has changed from a place on: there, or where the
+/// lowest one was before, by the zone's header.
 #[tactic(auto, using(raw_region::proofs::Rules::upkeep))]
-fn count_free(memory: &mut Memory, index: &Numbers, base: u32, gained: u32, lost: u32)
+fn search_start(memory: &Memory, base: u32, changed: usize) -> usize
+    requires inside { zone_header ≤ length memory.now.bytes }
+    requires unlent { IsFree memory.now.lent 0 zone_header }
+    ensures changed { result ≤ changed }
+    ensures before { base ≤ big_number 4 (part memory.now.bytes lowest_field 4) → base + 4 * result ≤ big_number 4 (part memory.now.bytes lowest_field 4) }
+{
+    let before = memory.lowest();
+    if before < base {
+        changed
+    } else {
+        changed.min((before - base) as usize / 4)
+    }
+}
+
+/// Writes in the zone's header how many bytes are free, where `gained` came to them and `lost` went, and the address of the
+/// lowest free block, by the index, which has changed from a place on.
+#[tactic(auto, using(raw_region::proofs::Rules::upkeep))]
+fn count_free(
+    memory: &mut Memory,
+    index: &Numbers,
+    base: u32,
+    changed: usize,
+    gained: u32,
+    lost: u32,
+)
     requires inside { zone_header ≤ length memory.old.bytes }
     requires unlent { IsFree memory.old.lent 0 zone_header }
     requires few { big_number 4 (part memory.old.bytes free_field 4) + gained < 2 ^ 32 }
     requires counted { lost ≤ big_number 4 (part memory.old.bytes free_field 4) + gained }
     requires small { base + 4 * length index.now < 2 ^ 32 }
+    requires low { NoneLower base (big_number 4 (part memory.old.bytes lowest_field 4)) changed index.now }
     ensures { memory.new ≡ with_bytes (with_bytes memory.old free_field (big_bytes 4 (big_number 4 (part memory.old.bytes free_field 4) + gained - lost)))
         lowest_field (big_bytes 4 (first_marked base index.now)) }
 {
     let _len = index.len();
-    let lowest = match index.first_at_least(LENT_MARK + 1, 0) {
+    let from = search_start(memory, base, changed);
+    let lowest = match index.first_at_least(LENT_MARK + 1, from) {
         Some(place) => base + 4 * place as u32,
         None => 0,
     };
@@ -270,6 +296,7 @@ impl Blocks {
             &mut self.memory,
             &self.index,
             base,
+            offset as usize / 4,
             header.free_bytes(),
             old.free_bytes(),
         );
@@ -342,6 +369,7 @@ impl Blocks {
             &mut self.memory,
             &self.index,
             base,
+            offset / 4,
             front.free_bytes() + rest.size,
             whole.free_bytes(),
         );
@@ -373,6 +401,7 @@ impl Blocks {
             &mut self.memory,
             &self.index,
             base,
+            offset / 4,
             header.free_bytes(),
             first.free_bytes() + second.free_bytes(),
         );
@@ -393,7 +422,7 @@ impl Blocks {
         self.index.set(start / 4, second.mark());
         self.index
             .set(start / 4 + second.size as usize / 4, first.mark());
-        count_free(&mut self.memory, &self.index, base, 0, 0);
+        count_free(&mut self.memory, &self.index, base, start / 4, 0, 0);
     }
 
     /// The block at an address changes places with those behind it up to an address. The bytes of a free one aren't kept: the
@@ -413,7 +442,7 @@ impl Blocks {
         self.index
             .shift_down((start + size) / 4, start / 4, count / 4, sparse);
         self.index.set(start / 4 + count / 4, header.mark());
-        count_free(&mut self.memory, &self.index, base, 0, 0);
+        count_free(&mut self.memory, &self.index, base, start / 4, 0, 0);
     }
 
     /// The block at an address changes places with those before it, which begin at `start`. The bytes of a free one aren't kept: the
@@ -433,7 +462,7 @@ impl Blocks {
         self.index
             .shift_up(first / 4, (first + size) / 4, count / 4, sparse);
         self.index.set(first / 4, header.mark());
-        count_free(&mut self.memory, &self.index, base, 0, 0);
+        count_free(&mut self.memory, &self.index, base, first / 4, 0, 0);
     }
 
     /// Whether there are blocks between two addresses, and the first is so large that few numbers of the index are thought to be
@@ -489,7 +518,14 @@ impl Blocks {
         };
         self.memory.set_header(heads, size as usize, base, free);
         self.index.set(size as usize / 4, free.size);
-        count_free(&mut self.memory, &self.index, base, free.size, 0);
+        count_free(
+            &mut self.memory,
+            &self.index,
+            base,
+            size as usize / 4,
+            free.size,
+            0,
+        );
         self.memory.set_end(base + limit);
         self.spec = self.spec.at_limit();
     }

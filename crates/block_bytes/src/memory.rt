@@ -333,6 +333,15 @@ impl Memory {
         self.word(FREE_FIELD)
     }
 
+    /// The address of the lowest free block, as the zone's header has it.
+    pub fn lowest(&self) -> u32
+        requires inside { lowest_field + 4 ≤ length self.now.bytes }
+        requires free { IsFree self.now.lent lowest_field 4 }
+        ensures { result ≡ big_number 4 (part self.now.bytes lowest_field 4) }
+    {
+        self.word(LOWEST_FIELD)
+    }
+
     /// Writes in the zone's header how many bytes are free, and the address of the lowest free block.
     pub fn set_free(&mut self, free: u32, lowest: u32)
         requires inside { lowest_field + 4 ≤ length self.old.bytes }

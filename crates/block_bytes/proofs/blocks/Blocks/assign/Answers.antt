@@ -12,7 +12,7 @@ use Rattle.block_bytes.proofs.ReadBlocks.{IsPossible-from, head_size-positive}
 use Rattle.block_bytes.proofs.Parts.{IsRead, rear, IsIn-from}
 use Rattle.block_bytes.proofs.Changes.{body-raw_block, size-body, header-raw_block, head-written, head-changed}
 use Rattle.block_bytes.proofs.Here.{IsHere-from}
-use Rattle.block_bytes.proofs.Counting.{kept-first, kept-written, free_in-small, can-count}
+use Rattle.block_bytes.proofs.Counting.{kept-first, kept-written, free_in-small, can-count, none-lower, set-behind}
 use Rattle.block_bytes.proofs.blocks.Blocks.assign.Goals as goal
 
 -- how many bytes are over then
@@ -93,6 +93,15 @@ count_free-requires-clause-small c = (let z = c.self.inside in let small = c.bas
     can-count z c.self.invariant small c.set_header.new.self c.set.new.self c.base-base.result c.free_bytes.result c.free_bytes-2.result
     (kept-written z z.memory c.set_header.new.self (c.args.at - c.base-base.result) (head_bytes c.heads-heads.result c.base-base.result header) (kept-first z c.self.invariant small) c.set_header.ensures (omega arith))
     (ap length c.set.ensures ∙ length-set z.index _ _) c.base-base.ensures.value (omega arith) (omega arith)).small
+
+pub count_free-requires-clause-low : goal.count_free-requires-clause-low
+count_free-requires-clause-low c = let z = c.self.inside in let small = c.base-base.ensures.possible in let r = c.entry_at-old.result in
+    let h = IsHere-from z c.self.invariant c.args.self.now c.self.view_is c.args.at r c.requires.block (c.entry_at-old.ensures c.requires.block) in
+    let header : Header = record { size = r.size; role = c.args.role; correction = r.size - c.head_size.result - c.args.length } in
+    let gained = c.free_bytes.ensures in let lost = c.free_bytes-2.ensures in let few = free_in-small header in let among = h.counted in
+    none-lower z c.set_header.new.self c.set.new.self c.base-base.result ((c.args.at - c.base-base.result) / 4)
+    (kept-written z z.memory c.set_header.new.self (c.args.at - c.base-base.result) (head_bytes c.heads-heads.result c.base-base.result header) (kept-first z c.self.invariant small) c.set_header.ensures (omega arith))
+    c.base-base.ensures.value (set-behind z.index c.set.new.self _ _ ((c.args.at - c.base-base.result) / 4) c.set.ensures (omega arith))
 
 -- what the fields stand for then
 assigned : (c : goal.After-count_free) (can : CanBe c.args.self.now c.args.at c.args.role c.args.length)

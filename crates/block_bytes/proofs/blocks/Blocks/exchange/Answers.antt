@@ -17,7 +17,7 @@ use Rattle.block_bytes.proofs.ReadBlocks.{head_size-positive}
 use Rattle.block_bytes.proofs.Parts.{IsRead}
 use Rattle.block_bytes.proofs.Here.{IsHere, IsHere-from, first-block, next-block, ArePair, ArePair-from}
 use Rattle.block_bytes.proofs.Settled.{counted}
-use Rattle.block_bytes.proofs.Counting.{IsKept, can-count}
+use Rattle.block_bytes.proofs.Counting.{IsKept, can-count, none-lower, set-behind}
 use Rattle.block_bytes.proofs.Exchanging.{HasMoved, first-down, first-up, turned, exchange-changed}
 use Rattle.block_bytes.proofs.blocks.Blocks.exchange.Goals as goal
 
@@ -172,6 +172,15 @@ count_free-requires-clause-small c = (can-count c.self.inside c.self.invariant c
     c.args.self.now c.self.view_is c.requires c.entry_at-first.ensures c.entry_at-second.ensures)
     (ap length c.set-3.ensures ∙ length-set c.set-2.new.self _ _ ∙ ap length c.set-2.ensures ∙ length-set c.set.new.self _ _ ∙ ap length c.set.ensures ∙ length-set c.self.inside.index _ _)
     c.base-base.ensures.value (omega arith) (omega arith)).small
+
+pub count_free-requires-clause-low : goal.count_free-requires-clause-low
+count_free-requires-clause-low c = let place = (c.args.at - c.base-base.result) / 4 in
+    none-lower c.self.inside c.exchange.new.self c.set-3.new.self c.base-base.result place
+    (is_kept c.self.inside c.self.invariant c.base-base.ensures.possible c.args.at c.heads-heads.result c.base-base.result c.entry_at-first.result c.entry_at-second.result c.exchange.new.self
+    (record { heads_is = c.heads-heads.ensures; base_is = c.base-base.ensures.value; down = c.exchange.ensures.first_free; up = c.exchange.ensures.second_free; turn = c.exchange.ensures.none_free })
+    c.args.self.now c.self.view_is c.requires c.entry_at-first.ensures c.entry_at-second.ensures) c.base-base.ensures.value
+    (λ j before. set-behind c.set-2.new.self c.set-3.new.self _ _ place c.set-3.ensures (omega arith) j before ∙ set-behind c.set.new.self c.set-2.new.self _ _ place c.set-2.ensures (omega arith) j before
+    ∙ set-behind c.self.inside.index c.set.new.self _ _ place c.set.ensures (omega arith) j before)
 
 -- so the call is done
 done : (c : goal.After-count_free) (pair : PairAt c.args.self.now c.args.at)

@@ -8,7 +8,7 @@ use Rattle.block_bytes.specs.ZoneHead.{end_field}
 use Rattle.block_bytes.proofs.Parts.{IsRead}
 use Rattle.block_bytes.proofs.Counting.{CanCount}
 use Rattle.block_bytes.proofs.Settled.{counted}
-use Rattle.block_bytes.proofs.Extending.{AreRead, below, headed-read, marked-read, can-extend, extended-same, spare-free, end-free, room-marked, extends}
+use Rattle.block_bytes.proofs.Extending.{AreRead, below, headed-read, marked-read, can-extend, low-extend, extended-same, spare-free, end-free, room-marked, extends}
 use Rattle.block_bytes.proofs.blocks.Blocks.extend.Goals as goal
 
 pub returns-then-size-limit : goal.returns-then-size-limit
@@ -46,6 +46,11 @@ count_free-requires-clause-few c = (can c).few
 
 pub count_free-requires-clause-small : goal.count_free-requires-clause-small
 count_free-requires-clause-small c = (can c).small
+
+pub count_free-requires-clause-low : goal.count_free-requires-clause-low
+count_free-requires-clause-low c = low-extend c.self.inside c.heads-heads.result c.base-base.result c.size-size.result c.limit-limit.result
+    (record { heads_is = c.heads-heads.ensures; base_is = c.base-base.ensures.value; size_is = c.size-size.ensures.value; limit_is = c.limit-limit.ensures.value; possible = c.base-base.ensures.possible; other = c.if-size-limit.false })
+    c.self.invariant c.set_header.new.self c.set.new.self c.set_header.ensures c.set.ensures
 
 pub set_end-requires-clause-free : goal.set_end-requires-clause-free
 set_end-requires-clause-free c = end-free c.self.inside c.self.invariant c.count_free.new.memory.lent (ap (λ (m : State). m.lent) c.count_free.ensures ∙ ap (λ (m : State). m.lent) c.set_header.ensures)

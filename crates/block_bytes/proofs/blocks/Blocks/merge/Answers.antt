@@ -11,7 +11,7 @@ use Rattle.block_bytes.proofs.ReadBlocks.{head_size-positive}
 use Rattle.block_bytes.proofs.Parts.{IsRead, rear, IsIn-from}
 use Rattle.block_bytes.proofs.Changes.{body-raw_block, header-raw_block, head-written, merge-changed}
 use Rattle.block_bytes.proofs.Here.{IsHere-from, ArePair-from, next-block, first-block, size-joint, IsMerge-from}
-use Rattle.block_bytes.proofs.Counting.{kept-first, kept-written, free_in-small, can-count}
+use Rattle.block_bytes.proofs.Counting.{kept-first, kept-written, free_in-small, can-count, none-lower, set-behind}
 use Rattle.block_bytes.proofs.blocks.Blocks.merge.Goals as goal
 
 pub overflow_add-next : goal.overflow_add-next
@@ -150,6 +150,20 @@ count_free-requires-clause-small c = (let z = c.self.inside in let small = c.bas
     can-count z c.self.invariant small c.set_header.new.self c.set-2.new.self c.base-base.result c.free_bytes.result (c.free_bytes-2.result + c.free_bytes-3.result)
     (kept-written z z.memory c.set_header.new.self (c.args.at - c.base-base.result) (head_bytes c.heads-heads.result c.base-base.result header) (kept-first z c.self.invariant small) c.set_header.ensures (omega arith))
     (ap length c.set-2.ensures ∙ length-set c.set.new.self _ _ ∙ ap length c.set.ensures ∙ length-set z.index _ _) c.base-base.ensures.value (omega arith) (omega arith)).small
+
+pub count_free-requires-clause-low : goal.count_free-requires-clause-low
+count_free-requires-clause-low c = let z = c.self.inside in let small = c.base-base.ensures.possible in let r = c.entry_at-first.result in let s = c.entry_at-second.result in
+    let first = first-block c.args.self.now c.args.at c.requires.pair in let one = c.entry_at-first.ensures first in
+    let h = IsHere-from z c.self.invariant c.args.self.now c.self.view_is c.args.at c.entry_at-first.result first one in
+    let next = next-block c.args.self.now c.args.at (c.args.at + c.entry_at-first.result.size) c.requires.pair (ap (λ (h : Header). c.args.at + h.size) one) in let two = c.entry_at-second.ensures next in
+    let h' = IsHere-from z c.self.invariant c.args.self.now c.self.view_is (c.args.at + c.entry_at-first.result.size) c.entry_at-second.result next two in
+    let header : Header = record { size = r.size + s.size; role = r.role; correction = r.size + s.size - c.head_size.result - c.args.length } in
+    let gained = c.free_bytes.ensures in let lost = c.free_bytes-2.ensures in let lost' = c.free_bytes-3.ensures in let few = free_in-small header in
+    let among = (ArePair-from z c.self.invariant c.args.self.now c.self.view_is c.args.at r s c.requires.pair one two).counted in
+    none-lower z c.set_header.new.self c.set-2.new.self c.base-base.result ((c.args.at - c.base-base.result) / 4)
+    (kept-written z z.memory c.set_header.new.self (c.args.at - c.base-base.result) (head_bytes c.heads-heads.result c.base-base.result header) (kept-first z c.self.invariant small) c.set_header.ensures (omega arith))
+    c.base-base.ensures.value (λ j before. set-behind c.set.new.self c.set-2.new.self _ _ ((c.args.at - c.base-base.result) / 4) c.set-2.ensures (omega arith) j before
+    ∙ set-behind z.index c.set.new.self _ _ ((c.args.at - c.base-base.result) / 4) c.set.ensures (omega arith) j before)
 
 pub set_header-requires-clause-free : goal.set_header-requires-clause-free
 set_header-requires-clause-free c = let z = c.self.inside in let first = first-block c.args.self.now c.args.at c.requires.pair in let one = c.entry_at-first.ensures first in

@@ -1,4 +1,4 @@
-use Rattle.std.proofs.Common.{◌≡◌, ℕ, ◌+◌, ◌-◌, ◌/◌, ◌<◌, List, [], ◌∷◌, ◌++◌, length, ap, sym, ◌∙◌, subst, arith, append_assoc, length-set, IsTrue, IsFalse}
+use Rattle.std.proofs.Common.{◌≡◌, ℕ, ◌+◌, ◌-◌, ◌/◌, ◌<◌, List, [], ◌∷◌, ◌++◌, length, take, drop, replicate, slice_index, ap, sym, ◌∙◌, subst, arith, append_assoc, length-set, IsTrue, IsFalse}
 use Rattle.std.proofs.Math.ListN.{set}
 use Rattle.mac_base.specs.declared.block.HeadKind.{HeadKind}
 use Rattle.mac_base.specs.HeadKind.{head_size}
@@ -18,9 +18,9 @@ use Rattle.block_bytes.proofs.Rendered.{total_of-append}
 use Rattle.block_bytes.proofs.Parts.{IsRead}
 use Rattle.block_bytes.proofs.Settled.{counted}
 use Rattle.block_bytes.proofs.Changes.{mark-unlent}
-use Rattle.block_bytes.proofs.Counting.{IsKept, CanCount, can-count}
+use Rattle.block_bytes.proofs.Counting.{IsKept, CanCount, can-count, none-lower, set-behind}
 use Rattle.block_bytes.proofs.Carrying.{HasMoved, AreUnlent, LiesFrom, with-first, more-unlent, unlent-last, lies-from, sunk-used, sunk-free, sunk-marks, sunk-read}
-use Rattle.block_bytes.proofs.Rotated.{length-shifted_up}
+use Rattle.block_bytes.proofs.Rotated.{length-shifted_up, shifted-before}
 use Rattle.block_bytes.proofs.blocks.Blocks.sink.Goals as goal
 use Rattle.block_bytes.proofs.blocks.Blocks.sink.Goals.{After-set}
 
@@ -162,6 +162,23 @@ count_free-requires-clause-few c = (counts (goal.at.count_free-requires-clause-f
 
 pub count_free-requires-clause-small : goal.count_free-requires-clause-small
 count_free-requires-clause-small c = (counts (goal.at.count_free-requires-clause-small c).After-set).small
+
+-- the index is as before up to the place where they begin
+same_before : (z : Inside) (start : ℕ) (header : Header) (count base : ℕ) (index : List ℕ) → LiesFrom z start header count → base ≡ z.spec.base
+    → index ≡ shifted_up ((start - base) / 4) ((start - base + header.size) / 4) (count / 4) z.index → (j : ℕ) → j < (start - base) / 4 → slice_index index j ≡ slice_index z.index j
+same_before z start header count base index f base_is is j before = let marks = f.marks in let above = f.above in let below = f.below in
+    ap (λ (l : List ℕ). slice_index l j) is
+    ∙ shifted-before ((start - base) / 4) z.index (replicate ((start - base + header.size) / 4 - (start - base) / 4) 0) (take (count / 4) (drop ((start - base) / 4) z.index))
+    (drop ((start - base + header.size) / 4 + count / 4) z.index) (omega arith) j before
+
+pub count_free-requires-clause-low : goal.count_free-requires-clause-low
+count_free-requires-clause-low c = let f = lies c.self.inside c.self.invariant c.args.self.now c.self.view_is c.args.start c.args.at c.entry_at-header.result c.requires c.entry_at-header.ensures in
+    let place = (c.args.start - c.base-base.result) / 4 in
+    none-lower c.self.inside c.sink.new.self c.set.new.self c.base-base.result place
+    (is_kept c.self.inside c.self.invariant c.base-base.ensures.possible c.args.start c.args.at c.heads-heads.result c.base-base.result c.entry_at-header.result c.sink.new.self
+    (record { heads_is = c.heads-heads.ensures; base_is = c.base-base.ensures.value; free = c.sink.ensures.free; used = c.sink.ensures.used }) c.args.self.now c.self.view_is c.requires c.entry_at-header.ensures)
+    c.base-base.ensures.value (λ j before. set-behind c.shift_up.new.self c.set.new.self _ _ place c.set.ensures (omega arith) j before
+    ∙ same_before c.self.inside c.args.start c.entry_at-header.result (c.args.at - c.args.start) c.base-base.result c.shift_up.new.self f c.base-base.ensures.value c.shift_up.ensures j before)
 
 -- so the call is done
 done : (c : goal.After-count_free) (parcel : ParcelUpTo c.args.self.now c.args.start c.args.at)

@@ -14,7 +14,7 @@ use Rattle.block_bytes.proofs.ReadBlocks.{head_size-positive, IsPossible-from}
 use Rattle.block_bytes.proofs.Parts.{IsRead, front, rear, head, IsIn-from}
 use Rattle.block_bytes.proofs.Changes.{body-raw_block, size-body, header-raw_block, head-written, split-written, split-changed}
 use Rattle.block_bytes.proofs.Here.{IsHere-from, unlent-here}
-use Rattle.block_bytes.proofs.Counting.{kept-first, kept-written, free_in-small, can-count}
+use Rattle.block_bytes.proofs.Counting.{kept-first, kept-written, free_in-small, can-count, none-lower, set-behind}
 use Rattle.block_bytes.proofs.blocks.Blocks.split.Goals as goal
 
 pub set_header-requires-clause-inside : goal.set_header-requires-clause-inside
@@ -108,6 +108,19 @@ count_free-requires-clause-small c = (let z = c.self.inside in let small = c.bas
     (kept-written z z.memory c.set_header.new.self (c.args.at - c.base-base.result) (head_bytes c.heads-heads.result c.base-base.result front) (kept-first z c.self.invariant small) c.set_header.ensures (omega arith))
     c.set_header-2.ensures (omega arith))
     (ap length c.set-2.ensures ∙ length-set c.set.new.self _ _ ∙ ap length c.set.ensures ∙ length-set z.index _ _) c.base-base.ensures.value (omega arith) (omega arith)).small
+
+pub count_free-requires-clause-low : goal.count_free-requires-clause-low
+count_free-requires-clause-low c = let z = c.self.inside in let small = c.base-base.ensures.possible in let r = c.entry_at-whole.result in
+    let h = IsHere-from c.self.inside c.self.invariant c.args.self.now c.self.view_is c.args.at c.entry_at-whole.result c.requires.block (c.entry_at-whole.ensures c.requires.block) in let size : c.entry_at-whole.result.size ≡ size_of c.args.self.now.heads c.requires.block.here = ap (λ (h : Header). h.size) (c.entry_at-whole.ensures c.requires.block) in let smaller = c.requires.smaller in let large = c.requires.large in let heads = c.heads-heads.ensures ∙ ap (λ (l : Layout). l.heads) c.self.view_is in let e = ap head_size heads in let e' = ap head_size c.heads-heads.ensures in let e'' = ap head_size (ap (λ (l : Layout). l.heads) c.self.view_is) in let some = head_size-positive c.args.self.now.heads in
+    let front : Header = record { size = c.args.size; role = r.role; correction = c.args.size - c.head_size.result - c.args.length } in
+    let rest : Header = record { size = r.size - c.args.size; role = Free; correction = 0 } in
+    let gained = c.free_bytes.ensures in let lost = c.free_bytes-2.ensures in let few = free_in-small front in let among = h.counted in
+    none-lower z c.set_header-2.new.self c.set-2.new.self c.base-base.result ((c.args.at - c.base-base.result) / 4)
+    (kept-written z c.set_header.new.self c.set_header-2.new.self (c.args.at - c.base-base.result + c.args.size) (head_bytes c.heads-heads.result c.base-base.result rest)
+    (kept-written z z.memory c.set_header.new.self (c.args.at - c.base-base.result) (head_bytes c.heads-heads.result c.base-base.result front) (kept-first z c.self.invariant small) c.set_header.ensures (omega arith))
+    c.set_header-2.ensures (omega arith))
+    c.base-base.ensures.value (λ j before. set-behind c.set.new.self c.set-2.new.self _ _ ((c.args.at - c.base-base.result) / 4) c.set-2.ensures (omega arith) j before
+    ∙ set-behind z.index c.set.new.self _ _ ((c.args.at - c.base-base.result) / 4) c.set.ensures (omega arith) j before)
 
 -- what the fields stand for then
 cut_apart : (c : goal.After-count_free) (can : CanSplit c.args.self.now c.args.at c.args.size c.args.length)
