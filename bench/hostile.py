@@ -116,8 +116,8 @@ def below_others(lines, request):
 
 
 def above_others(request):
-    """The highest of 20,001 handles, above which all other bytes are free, and requests."""
-    return ["MoreMasters"] * 313 + handles(20000, 8) + ["h=NewHandle 8"] + request * LINES
+    """The lowest and the highest of 20,002 handles, above which all other bytes are free, and requests."""
+    return ["MoreMasters"] * 313 + ["g=NewHandle 8"] + handles(20000, 8) + ["h=NewHandle 8"] + request * LINES
 
 
 def below_free_blocks(lines, request):
@@ -126,11 +126,11 @@ def below_free_blocks(lines, request):
     return low + [f"DisposeHandle q{it:X}" for it in range(10000)] + lines + request * LINES
 
 
-def locked_by_turns():
-    """A lock cuts a gap with 10,000 free blocks in two, a request fails, and the gap is one again."""
+def locked_by_turns(request):
+    """Requests over a gap with 10,000 free blocks, in whose middle a handle stands: where it is locked it cuts the gap in two."""
     lines = [line for it in range(10000) for line in ("h=NewHandle 8" if it == 5000 else "NewHandle 8", f"q{it:X}=NewHandle 8")]
     lines += [f"DisposeHandle q{it:X}" for it in range(10000)]
-    return lines + ["HLock h", "NewHandle 760000", "HUnlock h"] * LINES
+    return lines + request * LINES
 
 
 def answers():
@@ -184,12 +184,18 @@ RUNS = [
     ("the lowest handle, purged and filled again", [], below_others([], ["HPurge h", "NewHandle 900000", "ReallocateHandle h 8"])),
     ("the lowest handle, purged by PurgeMem and filled again", [], below_others([], ["HPurge h", "PurgeMem 2000000", "ReallocateHandle h 8"])),
     ("the highest handle, purged and filled again", [], above_others(["HPurge h", "NewHandle 900000", "ReallocateHandle h 8"])),
+    ("the lowest and the highest handle, purged and filled again", [], above_others(["HPurge h", "HPurge g", "NewHandle 900000", "ReallocateHandle g 8", "ReallocateHandle h 8"])),
+    ("a handle, purged for another that is to grow, and filled again", [], above_others(["HPurge g", "SetHandleSize h 900000", "ReallocateHandle g 8"])),
     ("the highest handle makes way and comes back", [], above_others(["HPurge h", "x=NewHandle 645620", "DisposeHandle x", "ReallocateHandle h 8"])),
     ("HLockHi among 20,000 blocks", [], below_others([], ["HLockHi h", "HUnlock h"])),
-    ("10,000 free blocks in a gap that a lock cuts in two", [], locked_by_turns()),
+    ("10,000 free blocks in a gap that a lock cuts in two", [], locked_by_turns(["HLock h", "NewHandle 760000", "HUnlock h"])),
     ("MaxBlock and PurgeSpace among 20,000 blocks", [], handles(20000, 8) + ["MaxBlock", "PurgeSpace"] * LINES),
     ("MaxBlock among 20,000 blocks, free ones at both ends", [], ["h=NewHandle 8"] + handles(20000, 8) + ["DisposeHandle h"] + ["MaxBlock"] * LINES),
     ("PurgeSpace among 20,000 blocks, the highest purgeable", [], handles(20000, 8) + ["h=NewHandle 8", "HPurge h"] + ["PurgeSpace"] * LINES),
+    ("MaxBlock and PurgeSpace among 20,000 blocks, one purgeable, and a lock that comes and goes", [], below_others(["HPurge h"], ["HLock h", "MaxBlock", "PurgeSpace", "HUnlock h", "PurgeSpace", "MaxBlock"])),
+    ("PurgeSpace among 32,000 blocks of no bytes, and a flag that is set", [], ["h=NewHandle 8"] + handles(32000, 0) + ["HPurge h", "PurgeSpace"] * LINES),
+    ("MaxBlock among 10,000 free blocks, and a lock that comes and goes", [], locked_by_turns(["HLock h", "MaxBlock", "HUnlock h", "MaxBlock"])),
+    ("PurgeSpace among 10,000 free blocks, and a flag that is set", [], locked_by_turns(["HPurge h", "PurgeSpace"])),
     ("CompactMem among 20,000 blocks", [], handles(20000, 8) + ["CompactMem 1000000"] * LINES),
     ("RecoverHandle among 20,000 blocks", [], named(20000, 8) + ["a=Deref h4E1F"] + ["RecoverHandle a"] * LINES),
     ("a last handle that grows and shrinks", [], named(20000, 8) + ["SetHandleSize h1 300", "SetHandleSize h1 8"] * LINES),

@@ -46,8 +46,6 @@ abbrev pub only_looks : MemoryCall → Bool
 only_looks (memory_call.GetHandleSize handle) = true
 only_looks (memory_call.GetPtrSize pointer) = true
 only_looks (memory_call.HGetState handle) = true
-only_looks memory_call.PurgeSpace = true
-only_looks memory_call.MaxBlock = true
 only_looks memory_call.FreeMem = true
 only_looks (memory_call.RecoverHandle address) = true
 only_looks (memory_call.Deref handle) = true

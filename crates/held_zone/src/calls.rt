@@ -82,6 +82,8 @@ fn make_quiet(memory: &mut MemoryManager, call: &MemoryCall<'_>) -> Outcome
         MemoryCall::CompactMem(size) => number(memory.compact_mem(size)),
         MemoryCall::PurgeMem(size) => done(memory.purge_mem(size)),
         MemoryCall::MaxMem => two_numbers(memory.max_mem()),
+        MemoryCall::PurgeSpace => two_sizes(memory.purge_space()),
+        MemoryCall::MaxBlock => number(Ok(memory.max_block())),
         MemoryCall::MaxApplZone => {
             memory.max_appl_zone();
             Ok(Results::Nothing)
@@ -107,8 +109,6 @@ fn look(memory: &MemoryManager, call: &MemoryCall<'_>) -> Outcome
         MemoryCall::GetHandleSize(handle) => number(memory.get_handle_size(handle)),
         MemoryCall::GetPtrSize(pointer) => number(memory.get_ptr_size(pointer)),
         MemoryCall::HGetState(handle) => number(memory.hget_state(handle)),
-        MemoryCall::PurgeSpace => two_sizes(memory.purge_space()),
-        MemoryCall::MaxBlock => number(Ok(memory.max_block())),
         MemoryCall::FreeMem => number(Ok(memory.free_mem())),
         MemoryCall::RecoverHandle(address) => handle(memory.recover_handle(address)),
         MemoryCall::Deref(handle) => address(memory.deref(handle)),

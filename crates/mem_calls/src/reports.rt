@@ -21,18 +21,24 @@ impl MemoryManager {
 
     /// MaxBlock: the most free bytes that moving blocks would bring together (Inside Macintosh: Memory, Assessing Memory
     /// Conditions).
-    pub fn max_block(&self) -> u32
-        ensures exact { IsExactStep self.now.shape self.now.heap call.MaxBlock [] (Ok (Number result)) self.now.heap }
-        ensures step { MemoryStep self.now.shape self.now.heap call.MaxBlock [] (Ok (Number result)) self.now.heap }
+    ///
+    /// It is counted once, until the zone changes.
+    pub fn max_block(&mut self) -> u32
+        ensures exact { IsExactStep self.old.shape self.old.heap call.MaxBlock [] (Ok (Number result)) self.new.heap }
+        ensures step { MemoryStep self.old.shape self.old.heap call.MaxBlock [] (Ok (Number result)) self.new.heap }
+        ensures same { self.new ≡ self.old }
     {
         self.zone.largest_room()
     }
 
     /// PurgeSpace: the bytes that would be free if all blocks that may be purged were, in all and in one block (Inside
     /// Macintosh: Memory, Assessing Memory Conditions).
-    pub fn purge_space(&self) -> PurgeSpace
-        ensures exact { IsExactStep self.now.shape self.now.heap call.PurgeSpace [] (Ok (TwoNumbers result.total result.contiguous)) self.now.heap }
-        ensures step { MemoryStep self.now.shape self.now.heap call.PurgeSpace [] (Ok (TwoNumbers result.total result.contiguous)) self.now.heap }
+    ///
+    /// It is counted once, until the zone changes.
+    pub fn purge_space(&mut self) -> PurgeSpace
+        ensures exact { IsExactStep self.old.shape self.old.heap call.PurgeSpace [] (Ok (TwoNumbers result.total result.contiguous)) self.new.heap }
+        ensures step { MemoryStep self.old.shape self.old.heap call.PurgeSpace [] (Ok (TwoNumbers result.total result.contiguous)) self.new.heap }
+        ensures same { self.new ≡ self.old }
     {
         self.zone.purge_space()
     }

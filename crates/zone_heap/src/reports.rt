@@ -27,7 +27,7 @@ impl Zone {
         if let Some(room) = self.known.room {
             return room;
         }
-        let room = largest_room(self.pointers.linked());
+        let room = largest_room(&self.pointers);
         self.known.room = Some(room);
         room
     }
@@ -44,7 +44,7 @@ impl Zone {
         if let Some(space) = self.known.space {
             return space;
         }
-        let space = purge_space(self.pointers.linked());
+        let space = purge_space(&self.pointers);
         self.known.space = Some(space);
         space
     }
