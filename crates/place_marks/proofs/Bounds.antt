@@ -167,3 +167,12 @@ module _ (xs ys : List ℕ) (end : ℕ) (is : ys ≡ xs ++ replicate (end - leng
   -- there is room for them and the bounds over them
   pub extended : (count room : ℕ) → length xs ≤ count → end ≤ count → count ≤ room → length ys ≤ room
   extended count room fits inside covers = let so = long in omega arith
+
+-- those that were written, as a slice of them has them, are what is seen, but for the zeros behind
+module _ (x : Inside) (now xs : List ℕ) (view : numbers_of x ≡ now) (slice : xs ≡ x.numbers.items) where
+  pub slice-same : (j : ℕ) → get_or now j 0 ≡ get_or xs j 0
+  slice-same j = ap (λ (l : List ℕ). get_or l j 0) (sym view) ∙ padded-at x.numbers.items (x.count - length x.numbers.items) j ∙ ap (λ (l : List ℕ). get_or l j 0) (sym slice)
+
+  pub slice-within : IsBounded x → length xs ≤ length now
+  slice-within bounded =
+      let whole = ap length (sym view) ∙ length-numbers x bounded in let short = ap length slice in let fits = bounded.fits in omega arith

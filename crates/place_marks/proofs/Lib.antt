@@ -1,3 +1,4 @@
 pub mod Bounds
 pub mod Copied
 pub mod Moved
+pub mod Runs

@@ -8,7 +8,10 @@ ghost use Rattle.place_sizes.specs.Bounds.{AreBounds, AreBoundsBut};
 use std::alloc::{AllocError, Global};
 use std::marker::Model;
 
+mod searches;
 mod shifts;
+
+use searches::{first_in, last_in};
 
 /// So many numbers, each at its place from 0 on. A contract sees their list. After `create` no call takes memory of the
 /// host.
@@ -62,6 +65,7 @@ fn extend(numbers: &mut Vec<u32>, end: usize)
 }
 
 /// The largest of the 32 numbers that have one bound. Behind the last number there may be less of them.
+#[inline(never)]
 fn bound_over(numbers: &[u32], chunk: usize) -> u32
     requires { chunk * 32 < length numbers.now }
     ensures { (j : ℕ) → j / 32 ≡ chunk → slice_index numbers.now j ≤ result }
@@ -89,6 +93,39 @@ fn cover(bounds: &mut [u32], numbers: &[u32], place: usize, before: u32)
     } else if before == bound {
         bounds[chunk] = bound_over(numbers, chunk);
     }
+}
+
+/// Makes the bounds of all levels over a place right again, where another number stood before. Where a bound stays what it was,
+/// those above it are right already.
+fn cover_levels(
+    numbers: &[u32],
+    low: &mut [u32],
+    middle: &mut [u32],
+    high: &mut [u32],
+    place: usize,
+    before: u32,
+)
+    requires inside { place < length numbers.now }
+    requires others { AreBoundsBut low.old numbers.now place }
+    requires low_bounds { AreBounds middle.old low.old }
+    requires middle_bounds { AreBounds high.old middle.old }
+    ensures low { AreBounds low.new numbers.now }
+    ensures middle { AreBounds middle.new low.new }
+    ensures high { AreBounds high.new middle.new }
+{
+    let chunk = place / 32;
+    let low_before = low[chunk];
+    cover(low, numbers, place, before);
+    if low[chunk] == low_before {
+        return;
+    }
+    let group = chunk / 32;
+    let middle_before = middle[group];
+    cover(middle, low, chunk, low_before);
+    if middle[group] == middle_before {
+        return;
+    }
+    cover(high, middle, group, middle_before);
 }
 
 impl Sizes {
@@ -134,15 +171,16 @@ impl Sizes {
         ensures { self.new ≡ set self.old place number }
     {
         extend(&mut self.numbers, place + 1);
-        let chunk = place / 32;
-        let group = chunk / 32;
-        let first = self.numbers[place];
-        let second = self.low[chunk];
-        let third = self.middle[group];
+        let before = self.numbers[place];
         self.numbers[place] = number;
-        cover(&mut self.low, &self.numbers, place, first);
-        cover(&mut self.middle, &self.low, chunk, second);
-        cover(&mut self.high, &self.middle, group, third);
+        cover_levels(
+            &self.numbers,
+            &mut self.low,
+            &mut self.middle,
+            &mut self.high,
+            place,
+            before,
+        );
     }
 
     /// The first place, `from` or behind it, whose number is at least `least`.
@@ -155,10 +193,11 @@ impl Sizes {
         let mut at = from;
         while at < len {
             if least <= self.low[at / 32] {
-                if least <= self.numbers[at] {
-                    return Some(at);
+                let end = (at + 32).min(len);
+                if let Some(ahead) = first_in(&self.numbers[at..end], least) {
+                    return Some(at + ahead);
                 }
-                at += 1;
+                at = end;
             } else if least <= self.middle[at / 0x400] {
                 at += 32 - at % 32;
             } else if least <= self.high[at / 0x8000] {
@@ -182,10 +221,11 @@ impl Sizes {
         while 0 < behind {
             let at = behind - 1;
             if least <= self.low[at / 32] {
-                if least <= self.numbers[at] {
-                    return Some(at);
+                let start = behind.saturating_sub(32);
+                if let Some(ahead) = last_in(&self.numbers[start..behind], least) {
+                    return Some(start + ahead);
                 }
-                behind = at;
+                behind = start;
             } else if least <= self.middle[at / 0x400] {
                 behind = at - at % 32;
             } else if least <= self.high[at / 0x8000] {

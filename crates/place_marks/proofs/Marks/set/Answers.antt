@@ -6,18 +6,8 @@ pub returns : goal.returns
 returns c = set-padded c.self.inside.numbers.items c.extend.new.numbers.items c.args.self.now c.args.place c.args.number c.self.inside.count c.extend.ensures.zeros c.requires
     (ap length (sym c.self.view_is) ∙ length-numbers c.self.inside c.self.invariant) c.self.invariant.fits c.self.view_is
 
-pub index-second-requires : goal.index-second-requires
-index-second-requires c =
-    let whole = ap length (sym c.self.view_is) ∙ length-numbers c.self.inside c.self.invariant in
-    omega (arith, whole, c.requires, c.self.invariant.covers)
-
-pub index-third-requires : goal.index-third-requires
-index-third-requires c =
-    let whole = ap length (sym c.self.view_is) ∙ length-numbers c.self.inside c.self.invariant in
-    omega (arith, whole, c.requires, c.self.invariant.covers, c.self.invariant.middle.count)
-
-pub cover-requires-clause-others : goal.cover-requires-clause-others
-cover-requires-clause-others c =
+pub cover_levels-requires-clause-others : goal.cover_levels-requires-clause-others
+cover_levels-requires-clause-others c =
     let whole = ap length (sym c.self.view_is) ∙ length-numbers c.self.inside c.self.invariant in
     but-written c.deref_mut.result.now c.self.inside.low.items c.self.inside.numbers.items c.extend.new.numbers.items c.deref.result.now _ c.args.place c.args.number c.self.invariant.low c.deref_mut.ensures.value c.extend.ensures.zeros c.deref.ensures.value
     (extended c.self.inside.numbers.items c.extend.new.numbers.items (c.args.place + 1) c.extend.ensures.zeros c.self.inside.count (32 * length c.self.inside.low.items) c.self.invariant.fits (omega (arith, whole, c.requires)) c.self.invariant.covers)
