@@ -1,43 +1,151 @@
--- Ids that rows of a type have, and the first that none has.
-use Rattle.std.proofs.Common.{◌≡◌, refl, subst, sym, ap, ◌∙◌, arith, ℕ, zero, suc, ◌+◌, ◌<◌, ◌≤◌, pos, ◌+ℤ◌, to_z, of_z, w16, List, [], ◌∷◌, length, get_or, set, take, replicate, Bool, true, false, ◌||◌, ◌&&◌, ◌==◌, if◌then◌else◌}
-use Rattle.std.proofs.lemmas.Bool.Decides.{Decides-eqb, Decides-int_eq, not_from_Decides}
+-- Keys that pairs have, ids that rows of a type have, and the first that none has.
+use Rattle.std.proofs.Common.{◌≡◌, refl, sym, ap, ◌∙◌, subst, arith, ℕ, ℤ, zero, suc, ◌+◌, ◌-◌, ◌*◌, ◌<◌, ◌≤◌, pos, ◌+ℤ◌, to_z, of_z, w16, List, [], ◌∷◌, length, get_or, take, drop, Bool, true, false, ◌||◌, ◌&&◌, ◌==◌, if◌then◌else◌}
+use Rattle.std.specs.Prelude.{nat_lt, ◌/◌, ◌%◌, All}
+use Rattle.std.specs.Int.{w32, cast_signed, from_be_bytes, to_be_bytes}
 use Rattle.std.specs.List.{list_any}
-use Rattle.std.specs.Ordering.{int_eq}
-use Rattle.std.proofs.lemmas.Int.{to_z-of_z}
-use Rattle.std.proofs.lemmas.List.{length-set, get_or-set_same, get_or-set_other}
+use Rattle.std.proofs.lemmas.Bool.Decides.{nat_tests}
+use Rattle.std.proofs.lemmas.Int.{ints, to_z-of_z}
+use Rattle.std.proofs.lemmas.List.{drop_all, drop_more, length-drop, take_all}
+use Rattle.std.proofs.lemmas.List.Elements.{All-head, All-tail}
 use Rattle.res_table.specs.declared.row.Row.{Row}
-use Rattle.res_table.specs.Rows.{is_of_type, is_resource, free_id_from}
-use Rattle.res_table.specs.Marks.{marked}
+use Rattle.res_table.specs.declared.keyed.Pair.{Pair}
+use Rattle.res_table.specs.Keyed.{key_of_resource, resource_key, is_before, rank, with_pair, pairs_from, pairs_of, has_pair, IsTold, NoneBefore, AreInOrder}
+use Rattle.res_table.specs.Rows.{is_resource, free_id_from, unique_id}
+use Rattle.res_table.proofs.Pairs.{starts, has_key, order_dropped, few_pairs}
+use Rattle.res_table.proofs.Resources.{told_by_key}
 
--- none is set of new ones
-pub none_marked : (n : ℕ) → marked (replicate n false) ≡ 0
-none_marked zero = refl
-none_marked (suc n) = none_marked n
+-- another key
+smaller : (g h k : ℕ) → nat_lt g h ≡ true → h ≤ k → (g == k) ≡ false
+smaller g h k less least = grind (arith, nat_tests)
 
--- one more, at most
-pub marked-set : (marks : List Bool) (i : ℕ) → marked (set marks i true) ≤ marked marks + 1
-marked-set [] i = omega arith
-marked-set (mark ∷ marks) zero = by mark
-  where
-    by : (b : Bool) → marked marks + 1 ≤ (if b then marked marks + 1 else marked marks) + 1
-    by true = omega arith
-    by false = omega arith
-marked-set (mark ∷ marks) (suc i) = by mark (marked-set marks i)
-  where
-    by : (b : Bool) → marked (set marks i true) ≤ marked marks + 1
-        → (if b then marked (set marks i true) + 1 else marked (set marks i true)) ≤ (if b then marked marks + 1 else marked marks) + 1
-    by true deeper = omega arith
-    by false deeper = deeper
+larger : (g h k a b : ℕ) → (nat_lt g h || (g == h && nat_lt a b)) ≡ false → k < h → (g == k) ≡ false
+larger g h k a b first less = grind (arith, nat_tests)
 
--- where the first ones are all set, there are at least as many
-pub at_least : (marks : List Bool) (n : ℕ) → n ≤ length marks → ((k : ℕ) → k < n → get_or marks k false ≡ true) → n ≤ marked marks
-at_least marks zero within all = omega arith
-at_least [] (suc n) within all = absurd (omega arith)
-at_least (mark ∷ marks) (suc n) within all = by mark (all 0 (omega arith)) (at_least marks n (omega arith) (λ k below. all (suc k) (omega arith)))
+below : (g k : ℕ) → g < k → (g == k) ≡ false
+below g k less = grind (arith, nat_tests)
+
+above : (g k : ℕ) → k < g → (g == k) ≡ false
+above g k less = grind (arith, nat_tests)
+
+alike : (g k : ℕ) → g ≡ k → (g == k) ≡ true
+alike g k same = grind (arith, nat_tests)
+
+-- no pair before the first one of a key has it, or a larger one
+behind_rank : (h k : ℕ) (ps : List Pair) → h ≤ k → has_pair k ps ≡ has_pair k (drop (rank (record { key = h; place = 0 }) ps) ps)
+behind_rank h k [] least = refl
+behind_rank h k (p ∷ ps) least = by (is_before p (record { key = h; place = 0 })) refl (behind_rank h k ps least)
   where
-    by : (b : Bool) → b ≡ true → n ≤ marked marks → suc n ≤ (if b then marked marks + 1 else marked marks)
-    by true is deeper = omega arith
-    by false is deeper = absurd (cc is)
+    r : ℕ
+    r = rank (record { key = h; place = 0 }) ps
+
+    by : (b : Bool) → is_before p (record { key = h; place = 0 }) ≡ b → has_pair k ps ≡ has_pair k (drop r ps)
+        → ((p.key == k) || has_pair k ps) ≡ has_pair k (drop (if b then suc r else 0) (p ∷ ps))
+    by true e deeper = ap (λ (t : Bool). t || has_pair k ps) (smaller p.key h k (sym (starts p h) ∙ e) least) ∙ deeper
+    by false e deeper = refl
+
+-- nor does one behind a pair with a larger one
+none_has : (p : Pair) (ps : List Pair) (k : ℕ) → NoneBefore p ps → k < p.key → has_pair k ps ≡ false
+none_has p [] k none less = refl
+none_has p (q ∷ qs) k none less = ap (λ (t : Bool). t || has_pair k qs) (larger q.key p.key k q.place p.place none.0 less) ∙ none_has p qs k none.1 less
+
+-- pairs have the keys up to this one, and from it on those that are left tell
+abbrev pub AreTaken : ℕ → ℕ → List Pair → List Pair → Type 0
+AreTaken key free ps rest = ((k : ℕ) → key ≤ k → k < free → has_pair k ps ≡ true) × ((k : ℕ) → free ≤ k → has_pair k ps ≡ has_pair k rest)
+
+pub taken_first : (h start : ℕ) (ps rest : List Pair) → start ≡ rank (record { key = h; place = 0 }) ps → rest ≡ drop start ps → AreTaken h h ps rest
+taken_first h start ps rest is left =
+    (λ k least less. absurd (omega arith), λ k least. behind_rank h k ps least ∙ ap (λ (n : ℕ). has_pair k (drop n ps)) (sym is) ∙ ap (has_pair k) (sym left))
+
+-- one more pair is looked at
+looked_at : (i k : ℕ) (d : Pair) (rest : List Pair) → i < length rest → has_pair k (drop i rest) ≡ (((get_or rest i d).key == k) || has_pair k (drop (i + 1) rest))
+looked_at i k d rest within = ap (has_pair k) (drop_more rest i d within)
+
+-- it has a smaller key
+pub taken_same : (key free i : ℕ) (d : Pair) (ps rest : List Pair) → i < length rest → (get_or rest i d).key < free → AreTaken key free ps (drop i rest) → AreTaken key free ps (drop (i + 1) rest)
+taken_same key free i d ps rest within less before =
+    (before.0, λ k least. before.1 k least ∙ looked_at i k d rest within ∙ ap (λ (t : Bool). t || has_pair k (drop (i + 1) rest)) (below (get_or rest i d).key k (omega arith)))
+
+-- or the next one
+pub taken_more : (key free i : ℕ) (d : Pair) (ps rest : List Pair) → i < length rest → (get_or rest i d).key ≡ free → AreTaken key free ps (drop i rest) → AreTaken key (free + 1) ps (drop (i + 1) rest)
+taken_more key free i d ps rest within same before =
+    (λ k least less. by k least (k == free) refl less, λ k least. before.1 k (omega arith) ∙ looked_at i k d rest within ∙ ap (λ (t : Bool). t || has_pair k (drop (i + 1) rest)) (below (get_or rest i d).key k (omega arith)))
+  where
+    here : has_pair free ps ≡ true
+    here = before.1 free (omega arith) ∙ looked_at i free d rest within ∙ ap (λ (t : Bool). t || has_pair free (drop (i + 1) rest)) (alike (get_or rest i d).key free same)
+
+    last : (k : ℕ) → (k == free) ≡ true → k ≡ free
+    last k e = grind (arith, nat_tests)
+
+    other : (k : ℕ) → (k == free) ≡ false → k < free + 1 → k < free
+    other k e less = grind (arith, nat_tests)
+
+    by : (k : ℕ) → key ≤ k → (b : Bool) → (k == free) ≡ b → k < free + 1 → has_pair k ps ≡ true
+    by k least true e less = ap (λ (n : ℕ). has_pair n ps) (last k e) ∙ here
+    by k least false e less = before.0 k least (other k e less)
+
+-- or a larger one, as all that are left
+pub free_before : (key free i : ℕ) (d : Pair) (ps rest : List Pair) → i < length rest → AreInOrder rest → free < (get_or rest i d).key → AreTaken key free ps (drop i rest) → has_pair free ps ≡ false
+free_before key free i d ps rest within order less before =
+    let behind = subst AreInOrder (drop_more rest i d within) (order_dropped rest i order) in
+    before.1 free (omega arith) ∙ looked_at i free d rest within ∙ ap (λ (t : Bool). t || has_pair free (drop (i + 1) rest)) (above (get_or rest i d).key free less)
+    ∙ none_has (get_or rest i d) (drop (i + 1) rest) free behind.0 less
+
+-- or there is none
+pub free_last : (key free i : ℕ) (ps rest : List Pair) → length rest ≤ i → AreTaken key free ps (drop i rest) → has_pair free ps ≡ false
+free_last key free i ps rest past before = before.1 free (omega arith) ∙ ap (has_pair free) (drop_all i rest past)
+
+-- a part up to the end
+pub part_is : (start : ℕ) (ps all : List Pair) → all ≡ ps → take (length all - start) (drop start all) ≡ drop start ps
+part_is start ps all is = let long = length-drop start all in take_all (length all - start) (drop start all) (omega arith) ∙ ap (drop start) is
+
+pub part_few : (start : ℕ) (ps part : List Pair) → part ≡ drop start ps → length part ≤ length ps
+part_few start ps part is = let long = length-drop start ps in let same = ap (λ (qs : List Pair). length qs) is in omega arith
+
+-- a pair of rows has the key of one of them
+one_of_two : (a b c : Bool) → (a || (b || c)) ≡ (b || (a || c))
+one_of_two true true c = refl
+one_of_two true false c = refl
+one_of_two false b c = refl
+
+has_with : (k : ℕ) (p : Pair) (ps : List Pair) → has_pair k (with_pair p ps) ≡ ((p.key == k) || has_pair k ps)
+has_with k p [] = refl
+has_with k p (q ∷ qs) = by (is_before q p) (has_with k p qs)
+  where
+    by : (b : Bool) → has_pair k (with_pair p qs) ≡ ((p.key == k) || has_pair k qs) → has_pair k (if b then q ∷ with_pair p qs else p ∷ q ∷ qs) ≡ ((p.key == k) || ((q.key == k) || has_pair k qs))
+    by true deeper = ap (λ (t : Bool). (q.key == k) || t) deeper ∙ one_of_two (q.key == k) (p.key == k) (has_pair k qs)
+    by false deeper = refl
+
+has_from : {D : Type 0} (k at : ℕ) (rows : List (Row D)) → has_pair k (pairs_from resource_key at rows) ≡ list_any (has_key resource_key k) rows
+has_from k at [] = refl
+has_from k at (r ∷ rows) =
+    has_with k (record { key = key_of_resource r.resource.kind r.resource.id; place = at }) (pairs_from resource_key (at + 1) rows) ∙ ap (λ (t : Bool). has_key resource_key k r || t) (has_from k (at + 1) rows)
+
+-- and so that row's type and id
+told_any : {D : Type 0} (kind : List ℕ) (id : ℤ) (k : ℕ) (rows : List (Row D)) → k ≡ key_of_resource kind id → to_be_bytes w32 (k / 65536) ≡ kind → cast_signed w16 (k % 65536) ≡ id → All IsTold rows
+    → list_any (has_key resource_key k) rows ≡ list_any (is_resource kind id) rows
+told_any kind id k [] is kinds ids all = refl
+told_any kind id k (r ∷ rows) is kinds ids all =
+    let told = All-head IsTold r rows all in
+    ap (λ (t : Bool). t || list_any (has_key resource_key k) rows) (told_by_key kind id r _ k refl is told.0 told.1 kinds ids)
+    ∙ ap (λ (t : Bool). is_resource kind id r || t) (told_any kind id k rows is kinds ids (All-tail IsTold r rows all))
+
+-- the keys of ids from 128 on follow one another
+high : (n first k : ℕ) → first ≡ n * 65536 + 128 → k ≤ 8192 → (first + k) / 65536 ≡ first / 65536
+high n first k is small = omega arith
+
+low : (n first k : ℕ) → first ≡ n * 65536 + 128 → k ≤ 8192 → (first + k) % 65536 ≡ 128 + k
+low n first k is small = omega arith
+
+as_signed : (n : ℕ) → n < 32768 → cast_signed w16 n ≡ pos n
+as_signed n small = omega (arith, ints)
+
+id_taken : {D : Type 0} (kind : List ℕ) (rows : List (Row D)) (ps : List Pair) (first k : ℕ) → ps ≡ pairs_of resource_key rows → All IsTold rows → first ≡ key_of_resource kind (pos 128) → to_be_bytes w32 (first / 65536) ≡ kind → k ≤ 8192
+    → list_any (is_resource kind (pos (128 + k))) rows ≡ has_pair (first + k) ps
+id_taken kind rows ps first k is all start kinds small =
+    let key : first + k ≡ key_of_resource kind (pos (128 + k)) = omega arith in
+    let its = ap (to_be_bytes w32) (high (from_be_bytes w32 kind) first k start small) ∙ kinds in
+    let ids = ap (cast_signed w16) (low (from_be_bytes w32 kind) first k start small) ∙ as_signed (128 + k) (omega arith) in
+    sym (ap (has_pair (first + k)) is ∙ has_from (first + k) 0 rows ∙ told_any kind (pos (128 + k)) (first + k) rows key its ids all)
 
 -- the first id that isn't taken, where those before it are
 pub free_after : {D : Type 0} (kind : List ℕ) (rows : List (Row D)) (n first place : ℕ) → place ≤ n
@@ -56,107 +164,20 @@ free_after kind rows (suc n) first (suc place) few taken free =
     (ap (λ (at : ℕ). list_any (is_resource kind (pos at)) rows) next ∙ free)
     ∙ next
 
--- one more row is looked at
-pub any_more : {X : Type 0} (test : X → Bool) (xs : List X) (i : ℕ) (x : X) → i < length xs → x ≡ get_or xs i x → list_any test (take (i + 1) xs) ≡ (list_any test (take i xs) || test x)
-any_more test [] i x within is = absurd (omega arith)
-any_more test (y ∷ ys) zero x within is = ap (λ (z : _). test z || false) (sym is) ∙ by (test x)
-  where
-    by : (b : Bool) → (b || false) ≡ b
-    by true = refl
-    by false = refl
-any_more test (y ∷ ys) (suc i) x within is =
-    let e : suc i + 1 ≡ suc (i + 1) = omega arith in
-    ap (λ (n : ℕ). list_any test (take n (y ∷ ys))) e ∙ ap (λ (b : Bool). test y || b) (any_more test ys i x (omega arith) is) ∙ by (test y)
-  where
-    by : (b : Bool) → (b || (list_any test (take i ys) || test x)) ≡ ((b || list_any test (take i ys)) || test x)
-    by true = refl
-    by false = refl
+-- the first key that no pair has is that of the first id that no row has
+pub unique_is : {D : Type 0} (kind : List ℕ) (rows : List (Row D)) (ps : List Pair) (first free : ℕ) → ps ≡ pairs_of resource_key rows → All IsTold rows → length rows ≤ 8192 → first ≡ key_of_resource kind (pos 128) → to_be_bytes w32 (first / 65536) ≡ kind
+    → first ≤ free → free ≤ first + length ps → ((k : ℕ) → first ≤ k → k < free → has_pair k ps ≡ true) → has_pair free ps ≡ false
+    → (free ≤ first + 8192) × (unique_id kind rows ≡ 128 + (free - first))
+unique_is kind rows ps first free is all few start kinds least most taken none =
+    let count = ap (λ (qs : List Pair). length qs) is in let less = few_pairs resource_key 0 rows in
+    let end : first + (free - first) ≡ free = omega arith in
+    let within : free - first ≤ length rows = omega arith in (
+      omega arith,
+      free_after kind rows (length rows) 128 (free - first) within
+          (λ k below. id_taken kind rows ps first k is all start kinds (omega arith) ∙ taken (first + k) (omega arith) (omega arith))
+          (id_taken kind rows ps first (free - first) is all start kinds (omega arith) ∙ ap (λ (k : ℕ). has_pair k ps) end ∙ none),
+    )
 
--- the marks are those of one more row
-abbrev pub AreMarks : {D : Type 0} → List ℕ → List (Row D) → List Bool → Type 0
-AreMarks kind rows marks = (k : ℕ) → k < 8193 → get_or marks k false ≡ list_any (is_resource kind (pos (128 + k))) rows
-
-pub marks_more : {D : Type 0} (kind : List ℕ) (rows : List (Row D)) (i : ℕ) (r : Row D) (old new : List Bool) → i < length rows → r ≡ get_or rows i r
-    → AreMarks kind (take i rows) old → ((k : ℕ) → k < 8193 → get_or new k false ≡ (get_or old k false || is_resource kind (pos (128 + k)) r))
-    → AreMarks kind (take (i + 1) rows) new
-marks_more kind rows i r old new within is before step k below =
-    step k below ∙ ap (λ (b : Bool). b || is_resource kind (pos (128 + k)) r) (before k below) ∙ sym (any_more (is_resource kind (pos (128 + k))) rows i r within is)
-
-or_none : (b : Bool) → b ≡ (b || false)
-or_none true = refl
-or_none false = refl
-
--- a row of another type sets no mark
-pub other_type : {D : Type 0} (kind : List ℕ) (r : Row D) (marks : List Bool) → is_of_type kind r ≡ false
-    → (k : ℕ) → k < 8193 → get_or marks k false ≡ (get_or marks k false || is_resource kind (pos (128 + k)) r)
-other_type kind r marks other k below = rw other (or_none (get_or marks k false))
-
--- nor does one whose id has no mark
-pub no_mark : {D : Type 0} (kind : List ℕ) (r : Row D) (marks : List Bool) → ((k : ℕ) → k < 8193 → int_eq r.resource.id (pos (128 + k)) ≡ false)
-    → (k : ℕ) → k < 8193 → get_or marks k false ≡ (get_or marks k false || is_resource kind (pos (128 + k)) r)
-no_mark kind r marks none k below = rw (none k below) (by (is_of_type kind r))
-  where
-    by : (b : Bool) → get_or marks k false ≡ (get_or marks k false || (b && false))
-    by true = or_none (get_or marks k false)
-    by false = or_none (get_or marks k false)
-
--- two ids differ
-differ : {place : ℕ} (k : ℕ) → (k ≡ place → ⊥) → int_eq (pos (128 + place)) (pos (128 + k)) ≡ false
-differ {place} k other = by (int_eq (pos (128 + place)) (pos (128 + k))) refl
-  where
-    same : pos (128 + place) ≡ pos (128 + k) → k ≡ place
-    same e = let n : 128 + place ≡ 128 + k = cc in omega arith
-
-    by : (b : Bool) → int_eq (pos (128 + place)) (pos (128 + k)) ≡ b → b ≡ false
-    by true is = absurd (other (same ((Decides-int_eq (pos (128 + place)) (pos (128 + k))).0 is)))
-    by false is = refl
-
--- the mark of an id is set
-pub one_mark : {D : Type 0} (kind : List ℕ) (r : Row D) (marks : List Bool) (place : ℕ) → length marks ≡ 8193 → place < 8193 → is_of_type kind r ≡ true → r.resource.id ≡ pos (128 + place)
-    → (k : ℕ) → k < 8193 → get_or (set marks place true) k false ≡ (get_or marks k false || is_resource kind (pos (128 + k)) r)
-one_mark kind r marks place long within mine id k below = by (place == k) refl
-  where
-    or_true : (b : Bool) → true ≡ (b || true)
-    or_true true = refl
-    or_true false = refl
-
-    by : (same : Bool) → (place == k) ≡ same → get_or (set marks place true) k false ≡ (get_or marks k false || is_resource kind (pos (128 + k)) r)
-    by true is = let e = (Decides-eqb place k).0 is in
-        rw (mine, id, (Decides-int_eq (pos (128 + place)) (pos (128 + k))).1 (ap (λ (n : ℕ). pos (128 + n)) e))
-        (ap (λ (n : ℕ). get_or (set marks place true) n false) (sym e) ∙ get_or-set_same marks place true false (omega arith) ∙ or_true (get_or marks k false))
-    by false is =
-        let other : k ≡ place → ⊥ = λ e. not_from_Decides (place == k) (Decides-eqb place k) is (sym e) in
-        rw (mine, id, differ {place = place} k other) (get_or-set_other marks place k true false other ∙ or_none (get_or marks k false))
-
--- the id of a mark
-pub id_of : (place : ℕ) → place < 8193 → to_z w16 (of_z w16 (pos 128 +ℤ to_z w16 place)) ≡ pos (128 + place)
+-- the id so many behind the first one
+pub id_of : (place : ℕ) → place ≤ 8192 → to_z w16 (of_z w16 (pos 128 +ℤ to_z w16 place)) ≡ pos (128 + place)
 id_of place small = grind (arith, to_z-of_z)
-
--- new marks: none is set
-pub none_set : (n k : ℕ) → get_or (replicate n false) k false ≡ false
-none_set zero k = refl
-none_set (suc n) zero = refl
-none_set (suc n) (suc k) = none_set n k
-
-pub length-none : (n : ℕ) → length (replicate n false) ≡ n
-length-none zero = refl
-length-none (suc n) = ap suc (length-none n)
-
--- what is kept of the marks from row to row
-abbrev pub AreMarked : {D : Type 0} → List ℕ → List (Row D) → ℕ → List Bool → Type 0
-AreMarked kind rows i marks = (length marks ≡ 8193) × AreMarks kind (take i rows) marks × (marked marks ≤ i)
-
-pub first_marks : {D : Type 0} (kind : List ℕ) (rows : List (Row D)) (marks : List Bool) → marks ≡ replicate 8193 false → AreMarked kind rows 0 marks
-first_marks kind rows marks is = subst (AreMarked kind rows 0) (sym is) (length-none 8193, λ k below. none_set 8193 k, let e = none_marked 8193 in omega arith)
-
-pub marks_set : {D : Type 0} (kind : List ℕ) (rows : List (Row D)) (i : ℕ) (r : Row D) (old new : List Bool) (place : ℕ) → i < length rows → r ≡ get_or rows i r
-    → length old ≡ 8193 → AreMarks kind (take i rows) old → marked old ≤ i → place < 8193 → is_of_type kind r ≡ true → r.resource.id ≡ pos (128 + place) → new ≡ set old place true → AreMarked kind rows (i + 1) new
-marks_set kind rows i r old new place within is long before few small mine id now =
-    let more = marked-set old place in
-    subst (AreMarked kind rows (i + 1)) (sym now)
-    (length-set old place true ∙ long, marks_more kind rows i r old (set old place true) within is before (one_mark kind r old place long small mine id), omega arith)
-
-pub marks_same : {D : Type 0} (kind : List ℕ) (rows : List (Row D)) (i : ℕ) (r : Row D) (old new : List Bool) → i < length rows → r ≡ get_or rows i r
-    → length old ≡ 8193 → AreMarks kind (take i rows) old → marked old ≤ i → ((k : ℕ) → k < 8193 → get_or old k false ≡ (get_or old k false || is_resource kind (pos (128 + k)) r)) → new ≡ old → AreMarked kind rows (i + 1) new
-marks_same kind rows i r old new within is long before few none now =
-    subst (AreMarked kind rows (i + 1)) (sym now) (long, marks_more kind rows i r old old within is before none, omega arith)

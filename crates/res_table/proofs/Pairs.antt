@@ -389,7 +389,7 @@ first_some h (p ∷ ps) d within = by (is_before p (record { key = h; place = 0 
 starts_at : (g h a : ℕ) → (nat_lt g h || (g == h && nat_lt a 0)) ≡ nat_lt g h
 starts_at g h a = grind (arith, nat_tests)
 
-starts : (p : Pair) (h : ℕ) → is_before p (record { key = h; place = 0 }) ≡ nat_lt p.key h
+pub starts : (p : Pair) (h : ℕ) → is_before p (record { key = h; place = 0 }) ≡ nat_lt p.key h
 starts p h = starts_at p.key h p.place
 
 less_or_same : (g h : ℕ) → nat_lt g h ≡ true → (g == h) ≡ true → ⊥

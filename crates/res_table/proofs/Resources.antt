@@ -1,16 +1,17 @@
 -- A row is found by the key of its type and id.
-use Rattle.std.proofs.Common.{◌≡◌, refl, sym, ap, ◌∙◌, arith, ℕ, ℤ, zero, suc, ◌+◌, ◌<◌, List, [], ◌∷◌, length, get_or, Bool, true, false, Some, None, position, bytes_eq, if◌then◌else◌}
-use Rattle.std.specs.Prelude.{◌&&◌, ◌==◌, ◌/◌, ◌%◌}
+use Rattle.std.proofs.Common.{◌≡◌, refl, sym, ap, ◌∙◌, arith, ℕ, ℤ, zero, suc, ◌+◌, ◌<◌, subst, List, [], ◌∷◌, length, get_or, set, take, drop, remove, Bool, true, false, Some, None, position, bytes_eq, if◌then◌else◌}
+use Rattle.std.specs.Prelude.{◌&&◌, ◌==◌, ◌/◌, ◌%◌, All, insert}
 use Rattle.std.specs.Int.{w16, w32, cast_signed, to_be_bytes}
 use Rattle.std.specs.List.{position_from}
 use Rattle.std.specs.Ordering.{int_eq}
 use Rattle.std.proofs.lemmas.Bool.Decides.{nat_tests, Decides-eqb, Decides-int_eq}
+use Rattle.std.proofs.lemmas.List.Elements.{All-append, All-cons, All-drop, All-set, All-take}
 use Rattle.std.proofs.lemmas.List.Quantifiers.{position-Some}
 use Rattle.std.proofs.lemmas.Iterator.Adapters.{position_from-zero}
 use Rattle.std.proofs.lemmas.Slice.Eq.{bytes_eq-Decides}
 use Rattle.res_table.specs.declared.row.Row.{Row}
 use Rattle.res_table.specs.Rows.{is_resource}
-use Rattle.res_table.specs.Keyed.{key_of_resource, resource_key, first_place, pairs_of}
+use Rattle.res_table.specs.Keyed.{key_of_resource, resource_key, first_place, pairs_of, IsTold}
 use Rattle.res_table.proofs.Pairs.{has_key, first_is}
 
 -- a test that is passed only where another is
@@ -99,3 +100,14 @@ told_by_key kind id r k l is is' kinds ids kinds' ids' = by (k == l) (is_resourc
         let one_kind : r.resource.kind ≡ kind = sym kinds ∙ ap (λ (n : ℕ). to_be_bytes w32 (n / 65536)) same ∙ kinds' in
         let one_id : r.resource.id ≡ id = sym ids ∙ ap (λ (n : ℕ). cast_signed w16 (n % 65536)) same ∙ ids' in
         sym (ap (λ (b : Bool). b && int_eq r.resource.id id) ((bytes_eq-Decides r.resource.kind kind).1 one_kind) ∙ (Decides-int_eq r.resource.id id).1 one_id) ∙ f
+
+-- types and ids are told by their keys where a row is put in, taken out, or changed in other ways
+pub told_inserted : {D : Type 0} (i : ℕ) (r : Row D) (rows : List (Row D)) → IsTold r → All IsTold rows → All IsTold (insert rows i r)
+told_inserted i r rows told all =
+    All-append IsTold (take i rows) (r ∷ drop i rows) (All-take IsTold i rows all) (All-cons IsTold r (drop i rows) told (All-drop IsTold i rows all))
+
+pub told_removed : {D : Type 0} (i : ℕ) (rows : List (Row D)) → All IsTold rows → All IsTold (remove rows i)
+told_removed i rows all = All-append IsTold (take i rows) (drop (suc i) rows) (All-take IsTold i rows all) (All-drop IsTold (suc i) rows all)
+
+pub told_kept : {D : Type 0} (i : ℕ) (r new : Row D) (rows : List (Row D)) → i < length rows → r ≡ get_or rows i r → (IsTold r → IsTold new) → All IsTold rows → All IsTold (set rows i new)
+told_kept i r new rows within is same all = All-set IsTold rows i new (same (subst IsTold (sym is) (all i r within))) all

@@ -1,6 +1,7 @@
 -- The rows that have a key, in the order of keys, and among those with the same key in the order of rows.
-use Rattle.std.specs.Prelude.{ℕ, ℤ, suc, ◌+◌, ◌-◌, ◌*◌, ◌%◌, ◌==◌, nat_lt, nat_le, Bool, ◌||◌, ◌&&◌, if◌then◌else◌, List, [], ◌∷◌, remove, Option, Some, None, option_map, false, ◌≡◌}
-use Rattle.std.specs.Int.{w16, w32, cast_unsigned, from_be_bytes}
+use Rattle.std.specs.Prelude.{ℕ, ℤ, suc, ◌+◌, ◌-◌, ◌*◌, ◌/◌, ◌%◌, ◌==◌, nat_lt, nat_le, Bool, ◌||◌, ◌&&◌, if◌then◌else◌, List, [], ◌∷◌, remove, Option, Some, None, option_map, false, ◌≡◌}
+use Rattle.std.specs.Int.{w16, w32, cast_signed, cast_unsigned, from_be_bytes, to_be_bytes}
+use Rattle.std.specs.List.{list_any}
 use Rattle.res_table.specs.declared.row.Row.{Row}
 use Rattle.res_table.specs.declared.keyed.Pair.{Pair}
 
@@ -74,6 +75,15 @@ pulled_up at p = if nat_lt at p.place then record { key = p.key; place = p.place
 abbrev pub first_place : ℕ → List Pair → Option ℕ
 first_place k [] = None
 first_place k (p ∷ ps) = if is_before p (record { key = k; place = 0 }) then first_place k ps else if p.key == k then Some p.place else None
+
+-- whether a pair has the key
+abbrev pub has_pair : ℕ → List Pair → Bool
+has_pair k ps = list_any (λ p. p.key == k) ps
+
+-- the type and the id of a row can be read from their key again
+abbrev pub IsTold : {D : Type 0} → Row D → Type 0
+IsTold r = (to_be_bytes w32 (key_of_resource r.resource.kind r.resource.id / 65536) ≡ r.resource.kind)
+    × (cast_signed w16 (key_of_resource r.resource.kind r.resource.id % 65536) ≡ r.resource.id)
 
 -- no pair stands before this one
 abbrev pub NoneBefore : Pair → List Pair → Type 0

@@ -2,7 +2,6 @@ pub mod Attributes
 pub mod Rows
 pub mod Saved
 pub mod Behind
-pub mod Marks
 pub mod OpenFiles
 pub mod Keyed
 pub mod Kinds

@@ -1,7 +1,7 @@
 //! Where the rows stand that have a key.
 
-ghost use Rattle.std.specs.Prelude.{◌≡◌, ◌<◌, ◌≤◌, ◌+◌, ◌^◌, ◌↔◌, [], length, map, All, OnOk, IfSome, IsTrue, vec_len, vec_capacity};
-ghost use Rattle.res_table.specs.Keyed.{in_order, is_before, rank, with_pair, without_pair, with_key, without_key, pushed_back, pulled_up, first_place, AreInOrder};
+ghost use Rattle.std.specs.Prelude.{◌≡◌, ◌<◌, ◌≤◌, ◌+◌, ◌^◌, ◌↔◌, ℕ, true, false, [], length, map, All, OnOk, IfSome, IsTrue, vec_len, vec_capacity};
+ghost use Rattle.res_table.specs.Keyed.{in_order, is_before, rank, with_pair, without_pair, with_key, without_key, pushed_back, pulled_up, first_place, has_pair, AreInOrder};
 
 use mac_base::error::HostFull;
 use std::alloc::Global;
@@ -213,6 +213,28 @@ impl Keyed {
         } else {
             None
         }
+    }
+
+    /// The least key from this one on that no row has.
+    pub(crate) fn first_free_key(&self, key: u64) -> u64
+        requires order { AreInOrder self.now.pairs.items }
+        requires room { key + length self.now.pairs.items < 2 ^ 64 }
+        ensures from { key ≤ result }
+        ensures few { result ≤ key + length self.now.pairs.items }
+        ensures taken { (k : ℕ) → key ≤ k → k < result → has_pair k self.now.pairs.items ≡ true }
+        ensures free { has_pair result self.now.pairs.items ≡ false }
+    {
+        let first = self.rank(Pair { key, place: 0 });
+        let mut free = key;
+        for pair in &self.pairs[first..] {
+            if pair.key > free {
+                return free;
+            }
+            if pair.key == free {
+                free += 1;
+            }
+        }
+        free
     }
 
     /// Adds the pair of the row at a place, which has this key, or none.

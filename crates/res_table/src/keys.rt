@@ -1,6 +1,6 @@
 //! The keys by which rows are found.
 
-ghost use Rattle.std.specs.Prelude.{◌≡◌, ◌/◌, ◌%◌};
+ghost use Rattle.std.specs.Prelude.{◌≡◌, ◌<◌, ◌/◌, ◌%◌, ◌^◌};
 ghost use Rattle.std.specs.Int.{w16, w32, cast_signed, from_be_bytes, to_be_bytes};
 ghost use Rattle.res_table.specs.Keyed.{key_of_handle, key_of_resource};
 
@@ -31,6 +31,7 @@ pub(crate) fn key_of_resource(kind: ResType, id: i16) -> u64
     ensures key { result ≡ key_of_resource kind id }
     ensures kind { to_be_bytes w32 (result / 65536) ≡ kind }
     ensures id { cast_signed w16 (result % 65536) ≡ id }
+    ensures few { result < 2 ^ 48 }
 {
     u64::from(number_of(kind)) * 65536 + u64::from(id.cast_unsigned())
 }

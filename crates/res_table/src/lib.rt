@@ -2,7 +2,6 @@
 #![tactic(auto)]
 
 pub mod chain;
-mod ids;
 mod keyed;
 mod keys;
 mod kinds;

@@ -15,7 +15,7 @@ pub struct Row<D> {
 
 impl<D> Row<D> {
     ghost use Rattle.std.specs.Prelude.{◌≡◌, ◌==◌, ◌+◌, IfOk};
-    ghost use Rattle.res_table.specs.Keyed.{handle_key, key_of_resource};
+    ghost use Rattle.res_table.specs.Keyed.{handle_key, key_of_resource, IsTold};
     ghost use Rattle.res_table.specs.Rows.{is_of_type, is_resource, is_changed, name_size, opened_row};
 
     /// The row of a resource that was read: it has no handle and is not changed.
@@ -58,7 +58,8 @@ impl<D> Row<D> {
 
     /// The key of the row's type and id.
     pub(crate) fn resource_key(&self) -> u64
-        ensures { result ≡ key_of_resource self.now.resource.kind self.now.resource.id }
+        ensures key { result ≡ key_of_resource self.now.resource.kind self.now.resource.id }
+        ensures told { IsTold self.now }
     {
         key_of_resource(self.resource.kind, self.resource.id)
     }

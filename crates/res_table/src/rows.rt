@@ -1,6 +1,5 @@
 //! The rows of an open file, in order.
 
-use crate::ids::{first_free, mark_taken};
 use crate::keyed::{Keyed, Pair};
 use crate::keys::{key_of_handle, key_of_resource};
 use crate::kinds::Kinds;
@@ -12,6 +11,9 @@ use mac_base::handle::Handle;
 use res_base::resource::{ResAttrs, ResType, Resource};
 use std::alloc::Global;
 use std::marker::Model;
+
+/// The first id that is looked at for a new row.
+const FIRST_ID: i16 = 128;
 
 /// The rows of an open file, in order. A contract sees the list. A row is found by its handle, or by its type and id, without going
 /// through the rows, what is asked of a type goes through the runs of rows of one type alone, and the size of the names is kept.
@@ -25,9 +27,9 @@ pub struct Rows<D> {
 }
 
 impl<D> Model for Rows<D> {
-    ghost use Rattle.std.specs.Prelude.{◌≡◌, ◌≤◌, List, length, vec_capacity};
+    ghost use Rattle.std.specs.Prelude.{◌≡◌, ◌≤◌, List, length, vec_capacity, All};
     ghost use Rattle.res_table.specs.declared.row.Row.{Row};
-    ghost use Rattle.res_table.specs.Keyed.{pairs_of, handle_key, resource_key};
+    ghost use Rattle.res_table.specs.Keyed.{pairs_of, handle_key, resource_key, IsTold};
     ghost use Rattle.res_table.specs.Kinds.{expanded, kinds_of};
     ghost use Rattle.res_table.specs.Rows.{names_size};
 
@@ -37,7 +39,7 @@ impl<D> Model for Rows<D> {
 
     ghost invariant = { λ r. (r.handles.pairs.items ≡ pairs_of handle_key r.rows.items) × (length r.rows.items ≤ vec_capacity r.handles.pairs)
         × (expanded r.kinds.runs.items ≡ kinds_of r.rows.items) × (r.resources.pairs.items ≡ pairs_of resource_key r.rows.items)
-        × (r.names ≡ names_size r.rows.items) };
+        × (r.names ≡ names_size r.rows.items) × All IsTold r.rows.items };
 }
 
 impl<D> Rows<D> {
@@ -261,9 +263,9 @@ impl<D> Rows<D> {
         requires { length self.now ≤ max_rows }
         ensures { result ≡ pos (unique_id kind self.now) }
     {
-        let mut taken = [false; MAX_ROWS + 1];
-        mark_taken(&mut taken, &self.rows, kind);
-        first_free(&taken, &self.rows, kind)
+        let first = key_of_resource(kind, FIRST_ID);
+        let free = self.resources.first_free_key(first);
+        FIRST_ID + (free - first) as i16
     }
 
     /// Whether the table of these rows fits a fork: there are at most 8,192, and two bytes hold each offset in the map.

@@ -4,8 +4,9 @@ use Rattle.std.proofs.lemmas.List.Edits.{length-insert}
 use Rattle.std.proofs.lemmas.List.Sums.{sum_by-insert}
 use Rattle.res_table.specs.declared.row.Row.{Row}
 use Rattle.res_table.specs.declared.keyed.Pair.{Pair}
-use Rattle.res_table.specs.Keyed.{handle_key, resource_key, pairs_of, pushed_back, with_key, AreInOrder}
+use Rattle.res_table.specs.Keyed.{handle_key, resource_key, pairs_of, pushed_back, with_key, IsTold, AreInOrder}
 use Rattle.res_table.proofs.Pairs.{places_below, order_pushed, pushed_is, few_pairs}
+use Rattle.res_table.proofs.Resources.{told_inserted}
 use Rattle.res_table.specs.Behind.{end_of_type}
 use Rattle.res_table.specs.Rows.{name_size, names_size}
 use Rattle.res_table.proofs.Adding.{insert-at-end, end-within}
@@ -72,7 +73,7 @@ pub add-requires-3-clause-room : goal.add-requires-3-clause-room
 add-requires-3-clause-room g c =
     let rows = c.self.inside.rows.items in let at = c.end_of_type-at.result in let r = c.args.row in
     let inside = within c.kind-kind.result at rows c.args.self.now c.self.view_is c.end_of_type-at.ensures in
-    let is = with_new resource_key (Some c.resource_key-key.result) at r rows _ c.push_back-2.new.self.pairs.items (ap Some c.resource_key-key.ensures) inside c.push_back-2.ensures.pairs (c.reserve-3.ensures.same ∙ c.self.invariant.3) in
+    let is = with_new resource_key (Some c.resource_key-key.result) at r rows _ c.push_back-2.new.self.pairs.items (ap Some c.resource_key-key.ensures.key) inside c.push_back-2.ensures.pairs (c.reserve-3.ensures.same ∙ c.self.invariant.3) in
     let len = c.len-count.ensures in let ok = c.self.inside.rows.ok.0 in let room = c.in_ok-reserve-3.ensures.room in let then = c.push_back-2.ensures.room in
     room_for_new resource_key at _ r rows _ inside is (omega (arith, len, ok, room, then))
 
@@ -81,7 +82,7 @@ invariant_of-self-2 g c =
     let rows = c.self.inside.rows.items in let at = c.end_of_type-at.result in let r = c.args.row in
     let inside = within c.kind-kind.result at rows c.args.self.now c.self.view_is c.end_of_type-at.ensures in
     let is = with_new handle_key c.handle_key-handle.result at r rows _ c.push_back.new.self.pairs.items c.handle_key-handle.ensures inside c.push_back.ensures.pairs (c.reserve.ensures.same ∙ c.self.invariant.0) in
-    let keyed = with_new resource_key (Some c.resource_key-key.result) at r rows _ c.push_back-2.new.self.pairs.items (ap Some c.resource_key-key.ensures) inside c.push_back-2.ensures.pairs (c.reserve-3.ensures.same ∙ c.self.invariant.3) in
+    let keyed = with_new resource_key (Some c.resource_key-key.result) at r rows _ c.push_back-2.new.self.pairs.items (ap Some c.resource_key-key.ensures.key) inside c.push_back-2.ensures.pairs (c.reserve-3.ensures.same ∙ c.self.invariant.3) in
     let new = c.in_ok-insert.ensures.items in
     let count = ap (λ (rs : List (Row _)). length rs) new in let n = length-insert rows at r inside in
     let len = c.len-count.ensures in let ok = c.self.inside.rows.ok.0 in let room = c.in_ok-reserve.ensures.room in
@@ -93,6 +94,7 @@ invariant_of-self-2 g c =
           ∙ ap kinds_of (sym (new ∙ ap (λ (i : ℕ). insert rows i r) (c.end_of_type-at.ensures ∙ ap (λ (k : List ℕ). end_of_type k c.args.self.now) c.kind-kind.ensures ∙ ap (end_of_type r.resource.kind) (sym c.self.view_is)) ∙ insert-at-end r rows)),
       c.add-3.ensures.pairs ∙ keyed ∙ ap (pairs_of resource_key) (sym new),
       c.in_ok-names.ensures ∙ ap (λ (n : ℕ). n + name_size r) c.self.invariant.4 ∙ sym (sum_by-insert name_size rows at r) ∙ ap names_size (sym new),
+      subst (λ (rs : List (Row _)). All IsTold rs) (sym new) (told_inserted at r rows c.resource_key-key.ensures.told c.self.invariant.5),
     )
 
 pub add-requires-2-clause-small : goal.add-requires-2-clause-small
@@ -101,3 +103,16 @@ add-requires-2-clause-small g c =
     let many = ap (λ (runs : List TypeCount). length (expanded runs)) c.reserve-2.ensures.same ∙ ap (λ (kinds : List (List ℕ)). length kinds) c.self.invariant.2 ∙ as_many rows ∙ sym c.self.inside.rows.ok.0 in
     let small = c.self.inside.rows.small in
     omega (arith, many, small)
+
+-- without memory for the row the others stand as they stood
+pub invariant_of-self-in_err-insert : goal.invariant_of-self-in_err-insert
+invariant_of-self-in_err-insert g c =
+    let same = sym c.in_err-insert.ensures.items in
+    let count = ap (λ (rs : List (Row _)). length rs) same in let few = c.self.invariant.1 in let more = c.reserve.ensures.more in (
+      c.reserve.ensures.same ∙ c.self.invariant.0 ∙ ap (pairs_of handle_key) same,
+      omega arith,
+      ap (λ (runs : List TypeCount). expanded runs) c.reserve-2.ensures.same ∙ c.self.invariant.2 ∙ ap kinds_of same,
+      c.reserve-3.ensures.same ∙ c.self.invariant.3 ∙ ap (pairs_of resource_key) same,
+      c.self.invariant.4 ∙ ap names_size same,
+      subst (λ (rs : List (Row _)). All IsTold rs) same c.self.invariant.5,
+    )

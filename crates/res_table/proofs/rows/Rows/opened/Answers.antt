@@ -1,10 +1,12 @@
-use Rattle.std.proofs.Common.{◌++◌, ◌∷◌, [], ◌+◌, ℕ, List, length, map, sym, ap, ◌∙◌, ◌≡◌, arith}
+use Rattle.std.proofs.Common.{◌++◌, ◌∷◌, [], ◌+◌, ℕ, List, length, map, subst, sym, ap, ◌∙◌, ◌≡◌, arith}
 use Rattle.std.proofs.lemmas.List.{map-append}
+use Rattle.std.specs.Prelude.{All}
+use Rattle.std.proofs.lemmas.List.Elements.{All-push}
 use Rattle.std.proofs.lemmas.List.Sums.{sum_by_push}
 use Rattle.res_table.specs.declared.row.Row.{Row}
 use Rattle.res_table.specs.declared.keyed.Pair.{Pair}
 use Rattle.res_table.specs.Rows.{opened_row, name_size, names_size}
-use Rattle.res_table.specs.Keyed.{handle_key, key_of_resource, in_order, pairs_of}
+use Rattle.res_table.specs.Keyed.{handle_key, key_of_resource, in_order, pairs_of, IsTold}
 use Rattle.res_table.specs.Kinds.{kinds_of}
 use Rattle.res_table.proofs.Pairs.{opened_pairs}
 use Rattle.res_table.proofs.Sorting.{listed, listed_more, listed_are}
@@ -26,8 +28,9 @@ loop-resource-preserved g c =
       c.in_ok-push.ensures ∙ ap (λ (ks : List (List ℕ)). ks ++ c.kind.result ∷ []) c.loop-resource.invariant.1
           ∙ ap (λ (k : List ℕ). kinds_of rows ++ k ∷ []) c.kind.ensures ∙ sym (kinds_more rows row) ∙ ap kinds_of (sym items),
       c.in_ok-push-2.ensures.items ∙ ap (λ (ps : List Pair). ps ++ record { key = c.resource_key.result; place = c.len-in-loop-resource.result } ∷ []) c.loop-resource.invariant.2
-          ∙ with_last c.resource_key.result c.len-in-loop-resource.result row rows c.resource_key.ensures (c.len-in-loop-resource.ensures ∙ c.loop-resource.rows.ok.0) ∙ ap (listed 0) (sym items),
+          ∙ with_last c.resource_key.result c.len-in-loop-resource.result row rows c.resource_key.ensures.key (c.len-in-loop-resource.ensures ∙ c.loop-resource.rows.ok.0) ∙ ap (listed 0) (sym items),
       c.in_ok-names.ensures ∙ ap (λ (n : ℕ). n + name_size row) c.loop-resource.invariant.3 ∙ sym (sum_by_push name_size rows row) ∙ ap names_size (sym items),
+      subst (λ (rs : List (Row _)). All IsTold rs) (sym items) (All-push IsTold rows row c.loop-resource.invariant.4 c.resource_key.ensures.told),
     )
 
 pub invariant_of-result : goal.invariant_of-result
@@ -38,6 +41,7 @@ invariant_of-result g c =
       c.loop-resource.invariant.1,
       c.sorted.ensures ∙ ap in_order c.loop-resource.invariant.2 ∙ listed_are 0 c.loop-resource.rows.items,
       c.loop-resource.invariant.3,
+      c.loop-resource.invariant.4,
     )
 
 pub push-requires : goal.push-requires

@@ -1,10 +1,12 @@
 use Rattle.std.proofs.Common.{ℕ, Option, Some, remove, subst, ◌≡◌, ◌+◌, ◌-◌, ◌<◌, List, length, sym, ap, ◌∙◌, arith, map, slice_get}
+use Rattle.std.specs.Prelude.{All}
 use Rattle.res_table.specs.declared.row.Row.{Row}
-use Rattle.res_table.specs.Keyed.{handle_key, resource_key, pulled_up, without_key, pairs_of}
+use Rattle.res_table.specs.Keyed.{handle_key, resource_key, pulled_up, without_key, pairs_of, IsTold}
 use Rattle.res_table.proofs.Pairs.{order_kept, pairs_removed, row_is}
 use Rattle.res_table.specs.Kinds.{kinds_of}
 use Rattle.res_table.specs.Rows.{name_size, names_size}
 use Rattle.res_table.proofs.Expanded.{removed_are, as_many}
+use Rattle.res_table.proofs.Resources.{told_removed}
 use Rattle.res_table.proofs.Types.{names_less}
 use Rattle.res_table.proofs.rows.Rows.remove.Goals as goal
 
@@ -25,9 +27,10 @@ invariant_of-self g c =
           ∙ pairs_removed handle_key i r rows within c.remove-row.ensures.value ∙ ap (pairs_of handle_key) (sym c.remove-row.ensures.items),
       omega arith,
       c.remove-2.ensures ∙ ap (λ (ks : List (List ℕ)). remove ks i) c.self.invariant.2 ∙ removed_are i rows ∙ ap kinds_of (sym c.remove-row.ensures.items),
-      c.pull_up-2.ensures.pairs ∙ ap (map (pulled_up i)) (c.remove-3.ensures.pairs ∙ ap (λ (k : ℕ). without_key (Some k) i c.self.inside.resources.pairs.items) c.resource_key.ensures ∙ ap (without_key (resource_key r) i) c.self.invariant.3)
+      c.pull_up-2.ensures.pairs ∙ ap (map (pulled_up i)) (c.remove-3.ensures.pairs ∙ ap (λ (k : ℕ). without_key (Some k) i c.self.inside.resources.pairs.items) c.resource_key.ensures.key ∙ ap (without_key (resource_key r) i) c.self.invariant.3)
           ∙ pairs_removed resource_key i r rows within c.remove-row.ensures.value ∙ ap (pairs_of resource_key) (sym c.remove-row.ensures.items),
       ap (λ (n : ℕ). c.self.inside.names - n) c.name_size.ensures ∙ left_over c.self.inside.names (names_size (remove rows i)) (name_size r) (c.self.invariant.4 ∙ sym (names_less i r rows within c.remove-row.ensures.value)) ∙ ap names_size (sym c.remove-row.ensures.items),
+      subst (λ (rs : List (Row _)). All IsTold rs) (sym c.remove-row.ensures.items) (told_removed i rows c.self.invariant.5),
     )
 
 -- the name of the row is among those that are counted

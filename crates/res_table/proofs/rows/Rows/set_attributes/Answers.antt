@@ -4,6 +4,7 @@ use Rattle.res_table.specs.declared.row.Row.{Row}
 use Rattle.res_table.specs.Rows.{changed_at, with_attributes}
 use Rattle.res_table.proofs.Pairs.{kept, resources_kept, changed_is}
 use Rattle.res_table.proofs.Expanded.{kinds_kept}
+use Rattle.res_table.proofs.Resources.{told_kept}
 use Rattle.res_table.proofs.Types.{names_kept}
 use Rattle.res_table.proofs.rows.Rows.set_attributes.Goals as goal
 
@@ -19,6 +20,7 @@ invariant_of-self g c =
       c.self.invariant.2 ∙ sym (kinds_kept c.args.index r new rows c.index_mut.ensures.value refl),
       resources_kept c.args.index r new rows c.self.inside.resources.pairs.items c.index_mut.ensures.value refl refl c.self.invariant.3,
       c.self.invariant.4 ∙ sym (names_kept c.args.index r new rows within c.index_mut.ensures.value refl),
+      told_kept c.args.index r new rows within c.index_mut.ensures.value (λ told. told) c.self.invariant.5,
     )
 
 pub returns : goal.returns

@@ -7,6 +7,7 @@ use Rattle.res_table.specs.Rows.{changed_at, with_handle}
 use Rattle.res_table.specs.Keyed.{AreInOrder, handle_key, with_key, without_key, pairs_of}
 use Rattle.res_table.proofs.Pairs.{order_kept, order_without, replaced_is, replaced_few, resources_kept, changed_is}
 use Rattle.res_table.proofs.Expanded.{kinds_kept}
+use Rattle.res_table.proofs.Resources.{told_kept}
 use Rattle.res_table.proofs.Types.{names_kept}
 use Rattle.res_table.proofs.rows.Rows.set_handle.Goals as goal
 
@@ -50,6 +51,7 @@ invariant_of-self g c =
       c.self.invariant.2 ∙ sym (kinds_kept i c.index_mut.result.now new rows c.index_mut.ensures.value refl),
       resources_kept i c.index_mut.result.now new rows c.self.inside.resources.pairs.items c.index_mut.ensures.value refl refl c.self.invariant.3,
       c.self.invariant.4 ∙ sym (names_kept i c.index_mut.result.now new rows within c.index_mut.ensures.value refl),
+      told_kept i c.index_mut.result.now new rows within c.index_mut.ensures.value (λ told. told) c.self.invariant.5,
     )
 
 pub returns : goal.returns
