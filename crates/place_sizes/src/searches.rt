@@ -19,14 +19,7 @@ fn first_of_few(numbers: &[u32], least: u32) -> Option<usize>
     ensures first { IfSome result (λ at. FirstAtLeast numbers.now least 0 at) }
     ensures none { IfNone result ((j : ℕ) → j < length numbers.now → slice_index numbers.now j < least) }
 {
-    let mut at = 0;
-    while at < numbers.len() {
-        if least <= numbers[at] {
-            return Some(at);
-        }
-        at += 1;
-    }
-    None
+    numbers.iter().position(|number| least <= *number)
 }
 
 /// The last of a few numbers that is at least `least`.
@@ -34,14 +27,7 @@ fn last_of_few(numbers: &[u32], least: u32) -> Option<usize>
     ensures last { IfSome result (λ at. LastAtLeast numbers.now least (length numbers.now) at) }
     ensures none { IfNone result ((j : ℕ) → j < length numbers.now → slice_index numbers.now j < least) }
 {
-    let mut behind = numbers.len();
-    while 0 < behind {
-        behind -= 1;
-        if least <= numbers[behind] {
-            return Some(behind);
-        }
-    }
-    None
+    numbers.iter().rposition(|number| least <= *number)
 }
 
 /// The place before which only zeros stand, from a place on, as far as they are seen eight at a time.

@@ -1,8 +1,0 @@
-use Rattle.std.proofs.Common.{ℕ, ◌-◌, ◌≤◌, ◌<◌, get_or, length}
-use Rattle.place_marks.proofs.searches.first_of_few.Given as goal
-
-abbrev pub invariant-loop-at : goal.invariant-loop-at
-invariant-loop-at l = (j : ℕ) → j < l.at → get_or l.numbers j 0 < l.least
-
-abbrev pub decreases-loop-at : goal.decreases-loop-at
-decreases-loop-at l = length l.numbers - l.at
