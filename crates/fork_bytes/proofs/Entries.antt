@@ -2,9 +2,10 @@
 use Rattle.std.proofs.Common.{◌≡◌, ℕ, ◌+◌, ◌-◌, ◌*◌, ◌%◌, ◌<◌, ◌≤◌, List, ◌∷◌, ◌++◌, length, get_or, drop, IfSome, slice_get, subst, sym, ap, ◌∙◌, arith}
 use Rattle.std.proofs.lemmas.List.{append_assoc, length-append}
 use Rattle.byteorder.specs.Endian.{big_bytes}
+use Rattle.res_base.specs.declared.resource.Resource.{Resource}
 use Rattle.fork_bytes.specs.Rows.{Row}
 use Rattle.fork_bytes.specs.Fork.{max_rows}
-use Rattle.fork_bytes.specs.Written.{types_of, entries_text, datum, name_text, reference_text, references_text, NamesFit}
+use Rattle.fork_bytes.specs.Written.{types_of, entries_text, datum, NamesFit}
 use Rattle.fork_bytes.proofs.Steps.{drop_item, length-big_bytes}
 use Rattle.fork_bytes.proofs.Counted.{said_at}
 
@@ -13,14 +14,14 @@ count_less_one : (n : ℕ) → 0 < n → n ≤ max_rows → (n + 65535) % 65536 
 count_less_one n some few = omega arith
 
 -- the entry of the rows from one place to another, and the entries behind it
-pub entry_step : (rows : List Row) (i j first : ℕ) (d : Row) → i < length rows → i < j → j ≤ length rows → length rows ≤ max_rows →
+pub entry_step : {X : Type 0} (rows : List (Resource X)) (i j first : ℕ) (d : Resource X) → i < length rows → i < j → j ≤ length rows → length rows ≤ max_rows →
     IfSome (slice_get rows i) (λ row. types_of (drop i rows) ≡ record { kind = row.kind; count = j - i } ∷ types_of (drop j rows)) →
     entries_text (first + 12 * i) (types_of (drop i rows))
     ≡ ((get_or rows i d).kind ++ (big_bytes 2 (j - i - 1) ++ big_bytes 2 (first + 12 * i))) ++ entries_text (first + 12 * j) (types_of (drop j rows))
 entry_step rows i j first d within some end few run =
     let kind = (get_or rows i d).kind in
     let others = types_of (drop j rows) in
-    let at = said_at (λ (r : Row). types_of (drop i rows) ≡ record { kind = r.kind; count = j - i } ∷ others) rows i d within run in
+    let at = said_at (λ (r : Resource _). types_of (drop i rows) ≡ record { kind = r.kind; count = j - i } ∷ others) rows i d within run in
     let next : first + 12 * i + 12 * (j - i) ≡ first + 12 * j = omega arith in
     let count = count_less_one (j - i) (omega arith) (omega arith) in
     let a = big_bytes 2 (j - i - 1) in let b = big_bytes 2 (first + 12 * i) in let rest = entries_text (first + 12 * j) others in
@@ -30,18 +31,10 @@ entry_step rows i j first d within some end few run =
     ∙ ap (λ (xs : List ℕ). kind ++ xs) (sym (append_assoc a b rest))
     ∙ sym (append_assoc kind (a ++ b) rest)
 
--- the reference of a row, and those behind it
-pub reference_step : (rows : List Row) (i name place next_name next_place : ℕ) (row : Row) → i < length rows → row ≡ get_or rows i row →
-    next_name ≡ name + length (name_text row.name) → next_place ≡ place + (4 + length row.datum) →
-    references_text name place (drop i rows) ≡ reference_text name place row ++ references_text next_name next_place (drop (i + 1) rows)
-reference_step rows i name place next_name next_place row within is name_behind place_behind =
-    let rest = drop (i + 1) rows in
-    let long : length (datum row) ≡ 4 + length row.datum =
-    length-append (big_bytes 4 (length row.datum)) row.datum ∙ ap (λ (n : ℕ). n + length row.datum) (length-big_bytes 4 (length row.datum)) in
-    ap (references_text name place) (drop_item rows i row within is)
-    ∙ ap (λ (n : ℕ). reference_text name place row ++ references_text n (place + length (datum row)) rest) (sym name_behind)
-    ∙ ap (λ (n : ℕ). reference_text name place row ++ references_text next_name n rest) (ap (λ (n : ℕ). place + n) long ∙ sym place_behind)
+-- how many bytes stand in the data for a row
+pub datum_long : (row : Row) → length (datum row) ≡ 4 + length row.datum
+datum_long row = length-append (big_bytes 4 (length row.datum)) row.datum ∙ ap (λ (n : ℕ). n + length row.datum) (length-big_bytes 4 (length row.datum))
 
 -- where the offsets of names fit from a row on, the row's own does, and so do those of the others
-pub names_from : (rows : List Row) (i at : ℕ) (row : Row) → i < length rows → row ≡ get_or rows i row → NamesFit at (drop i rows) → NamesFit at (row ∷ drop (i + 1) rows)
-names_from rows i at row within is fit = let P : List Row → Type 0 = NamesFit at in subst P (drop_item rows i row within is) fit
+pub names_from : {X : Type 0} (rows : List (Resource X)) (i at : ℕ) (row : Resource X) → i < length rows → row ≡ get_or rows i row → NamesFit at (drop i rows) → NamesFit at (row ∷ drop (i + 1) rows)
+names_from rows i at row within is fit = let P : List (Resource _) → Type 0 = NamesFit at in subst P (drop_item rows i row within is) fit

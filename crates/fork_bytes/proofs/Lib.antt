@@ -13,3 +13,4 @@ mod ReadWhole
 mod Blank
 pub mod Lengths
 mod Sized
+pub mod Plain

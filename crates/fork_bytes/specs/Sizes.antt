@@ -5,6 +5,10 @@ use Rattle.fork_bytes.specs.declared.layout.Header.{Header}
 use Rattle.fork_bytes.specs.Fork.{max_fork, max_rows}
 use Rattle.fork_bytes.specs.Written.{names_offset, names_text, NamesFit}
 
+-- how many bytes a datum stands for
+abbrev pub text_length : {X : Type 0} → (X → List ℕ) → X → ℕ
+text_length text datum = length (text datum)
+
 -- how many bytes the data have, where the datum of each row stands for so many
 abbrev pub data_size : {X : Type 0} → (X → ℕ) → List (Resource X) → ℕ
 data_size long [] = 0

@@ -1,5 +1,5 @@
 -- How a table of resources is written: one fork for each table that fits.
-use Rattle.std.specs.Prelude.{ℕ, ◌+◌, ◌*◌, ◌%◌, ◌<◌, ◌≤◌, ◌⊎◌, List, [], ◌∷◌, ◌++◌, length, if◌then◌else◌, IfSome, Option, None, Some, bytes_eq}
+use Rattle.std.specs.Prelude.{ℕ, ◌+◌, ◌*◌, ◌%◌, ◌<◌, ◌≤◌, ◌⊎◌, List, [], ◌∷◌, ◌++◌, length, map, if◌then◌else◌, IfSome, Option, None, Some, bytes_eq}
 use Rattle.std.specs.List.{flat_map}
 use Rattle.std.specs.Int.{w16, cast_unsigned}
 use Rattle.byteorder.specs.Endian.{big_bytes}
@@ -91,7 +91,7 @@ map_header_text header attributes names =
     header_text header ++ (big_bytes 4 0 ++ (big_bytes 2 0 ++ (big_bytes 2 attributes ++ (big_bytes 2 28 ++ big_bytes 2 names))))
 
 -- the type list
-abbrev pub types_text : List Row → List ℕ
+abbrev pub types_text : {X : Type 0} → List (Resource X) → List ℕ
 types_text rows = count_bytes (length (types_of rows)) ++ entries_text (first_references rows) (types_of rows)
 
 -- the map
@@ -121,3 +121,14 @@ pub record Fits (table : Table) : Type 0 where
 -- the table is too big to be written
 abbrev pub IsTooBig : Table → Type 0
 IsTooBig table = (max_fork < length (written table)) ⊎ ¬ Fits table
+
+-- a row with the bytes that its datum stands for
+abbrev pub plain_row : {X : Type 0} → (X → List ℕ) → Resource X → Row
+plain_row text row = record { kind = row.kind; id = row.id; name = row.name; attributes = row.attributes; datum = text row.datum }
+
+abbrev pub plain_rows : {X : Type 0} → (X → List ℕ) → List (Resource X) → List Row
+plain_rows text rows = map (plain_row text) rows
+
+-- the table of such rows
+abbrev pub plain_table : {X : Type 0} → (X → List ℕ) → List (Resource X) → List ℕ → ℕ → Table
+plain_table text rows extra map_attributes = record { rows = plain_rows text rows; extra = extra; map_attributes = map_attributes }

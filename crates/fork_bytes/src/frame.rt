@@ -1,20 +1,16 @@
 //! A fork with zeros where the bytes of its resources go, for a disk that keeps them: they are put in afterwards.
 
-ghost use Rattle.std.specs.Prelude.{◌≡◌, ◌≤◌, ◌↔◌, map, length, IfOk, IsErrOf};
+ghost use Rattle.std.specs.Prelude.{◌≡◌, ◌≤◌, ◌↔◌, length, IfOk, IsErrOf};
 ghost use Rattle.fork_bytes.specs.Fork.{max_fork};
-ghost use Rattle.fork_bytes.specs.Written.{written, header_for, Fits, IsTooBig};
+ghost use Rattle.fork_bytes.specs.Written.{written, IsTooBig};
 ghost use Rattle.fork_bytes.specs.Sizes.{data_size};
 ghost use Rattle.fork_bytes.specs.declared.table.Table.{Table};
-ghost use Rattle.fork_bytes.specs.Frame.{blank_row, blank_table, data_places, HavePlaces, HasOutline, IsFrame};
+ghost use Rattle.fork_bytes.specs.Frame.{blank_table, data_places, HavePlaces, HasOutline, IsFrame};
 
 use crate::fault::WriteFault;
-use crate::layout::Header;
-use crate::sizes::{DATA_OFFSET, header_of_rows};
-use crate::table::{Row, Rows, Table};
-use crate::write::push_fork;
-use mac_base::bytes::Bytes;
+use crate::sizes::DATA_OFFSET;
+use crate::write::write_rows;
 use mac_base::error::HostFull;
-use res_base::name::Name;
 use res_base::resource::Resource;
 use std::alloc::Global;
 
@@ -41,60 +37,6 @@ pub struct Frame {
     pub places: Vec<u32>,
 }
 
-/// Copies a name, if there is one.
-fn copied(alloc: Global, name: &Option<Name>) -> Result<Option<Name>, HostFull>
-    ensures { IfOk result (λ copy. copy ≡ name.now) }
-{
-    let Some(name) = name else {
-        return Ok(None);
-    };
-    let mut bytes = Vec::new(alloc);
-    bytes.extend_from_slice(name.as_slice())?;
-    match Name::new(bytes) {
-        Some(copy) => Ok(Some(copy)),
-        None => unreachable!(),
-    }
-}
-
-/// A row with zeros for its bytes.
-fn blank_row(alloc: Global, row: &SizedRow) -> Result<Row, HostFull>
-    ensures { IfOk result (λ blank. blank ≡ blank_row row.now) }
-{
-    let zeros = vec![in alloc; 0; row.datum as usize]?;
-    let name = copied(alloc, &row.name)?;
-    Ok(Resource {
-        kind: row.kind,
-        id: row.id,
-        name,
-        attributes: row.attributes,
-        datum: Bytes::new(zeros),
-    })
-}
-
-/// The rows of an outline with zeros for their bytes.
-fn blank_rows(alloc: Global, rows: &[SizedRow]) -> Result<Rows, HostFull>
-    ensures { IfOk result (λ blank. blank ≡ map blank_row rows.now) }
-{
-    let mut blank = Vec::new(alloc);
-    for row in rows {
-        let next = blank_row(alloc, row)?;
-        blank.push(next)?;
-    }
-    Ok(Rows::new(blank))
-}
-
-/// The table of an outline with zeros for the bytes of its rows.
-fn blank_table(alloc: Global, outline: &Outline) -> Result<Table, HostFull>
-    ensures { IfOk result (λ table. table ≡ blank_table outline.now) }
-{
-    let rows = blank_rows(alloc, &outline.rows)?;
-    Ok(Table {
-        rows,
-        extra: outline.extra,
-        map_attributes: outline.map_attributes,
-    })
-}
-
 /// Where the bytes of rows go, whose data have no more bytes than a fork.
 fn data_places(alloc: Global, rows: &[SizedRow]) -> Result<Vec<u32>, HostFull>
     requires { data_size (λ count. count) rows.now ≤ max_fork }
@@ -109,21 +51,6 @@ fn data_places(alloc: Global, rows: &[SizedRow]) -> Result<Vec<u32>, HostFull>
     Ok(places)
 }
 
-/// The frame of an outline that fits a fork with this header.
-fn frame_of(alloc: Global, outline: &Outline, header: Header) -> Result<Frame, HostFull>
-    requires header { header ≡ header_for (blank_table outline.now).rows }
-    requires fits { Fits (blank_table outline.now) }
-    requires small { data_size (λ count. count) outline.now.rows.items ≤ max_fork }
-    ensures fork { IfOk result (λ frame. frame.fork.items ≡ written (blank_table outline.now)) }
-    ensures places { IfOk result (λ frame. frame.places.items ≡ data_places 256 outline.now.rows.items) }
-{
-    let places = data_places(alloc, &outline.rows)?;
-    let table = blank_table(alloc, outline)?;
-    let mut fork = Vec::new(alloc);
-    push_fork(&mut fork, &table, header)?;
-    Ok(Frame { fork, places })
-}
-
 /// The fork of a table with this outline, with zeros in place of the bytes of its resources, and where those go: once the bytes of
 /// each row of a table with this outline are put in at its place, the fork is what `write_fork` writes for the table. The fault is
 /// TooBig exactly where that of `write_fork` is, for each such table.
@@ -136,11 +63,13 @@ pub fn write_frame(alloc: Global, outline: &Outline) -> Result<Frame, WriteFault
     ensures too_big { IsErrOf result WriteFault.TooBig ↔ ((table : Table) → HasOutline outline.now table → IsTooBig table) }
     ensures full { IsErrOf result WriteFault.HostFull → (table : Table) → HasOutline outline.now table → ¬ IsTooBig table }
 {
-    let Some(header) = header_of_rows(&outline.rows) else {
-        return Err(WriteFault::TooBig);
+    let written = write_rows(alloc, &outline.rows, &outline.extra, outline.map_attributes);
+    let fork = match written {
+        Ok(fork) => fork,
+        Err(fault) => return Err(fault),
     };
-    match frame_of(alloc, outline, header) {
-        Ok(frame) => Ok(frame),
+    match data_places(alloc, &outline.rows) {
+        Ok(places) => Ok(Frame { fork, places }),
         Err(HostFull) => Err(WriteFault::HostFull),
     }
 }

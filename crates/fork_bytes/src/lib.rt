@@ -1,7 +1,7 @@
 //! Resource forks: the bytes of a fork to a table of resources, and back.
 #![tactic(auto)]
 
-mod datum;
+pub mod datum;
 pub mod fault;
 pub mod frame;
 mod laws;
@@ -12,4 +12,4 @@ mod write;
 
 pub use frame::write_frame;
 pub use laws::fork_laws;
-pub use write::write_fork;
+pub use write::{write_fork, write_rows};

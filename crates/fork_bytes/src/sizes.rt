@@ -4,13 +4,12 @@ ghost use Rattle.std.specs.Prelude.{◌≡◌, ◌<◌, ◌≤◌, ◌-◌, ◌�
 ghost use Rattle.std.specs.List.{AllByRecursion};
 ghost use Rattle.fork_bytes.specs.declared.layout.TypeCount.{TypeCount};
 ghost use Rattle.fork_bytes.specs.Fork.{max_fork};
-ghost use Rattle.fork_bytes.specs.Written.{types_of, data_text, names_text, NamesFit, header_for, written, Fits, IsTooBig};
-ghost use Rattle.fork_bytes.specs.Laws.{IsRow, IsGrouped, IsTable};
-ghost use Rattle.fork_bytes.specs.Sizes.{data_size, sized_header, FitSizes};
+ghost use Rattle.fork_bytes.specs.Written.{types_of, names_text, NamesFit};
+ghost use Rattle.fork_bytes.specs.Laws.{IsRow};
+ghost use Rattle.fork_bytes.specs.Sizes.{text_length, data_size, sized_header, FitSizes};
 
 use crate::datum::Datum;
 use crate::layout::{Header, MAX_FORK, MAX_ROWS};
-use crate::table::Table;
 use bitflags::Flags;
 use res_base::resource::Resource;
 
@@ -57,9 +56,9 @@ pub(crate) fn type_count<D>(rows: &[Resource<D>]) -> usize
 
 /// How many bytes the data has, or None where it has more than a fork.
 fn data_length<D: Datum>(rows: &[Resource<D>]) -> Option<usize>
-    ensures some { IfSome result (λ n. n ≡ data_size D.long rows.now) }
+    ensures some { IfSome result (λ n. n ≡ data_size (text_length D.text) rows.now) }
     ensures small { IfSome result (λ n. n ≤ max_fork) }
-    ensures none { IfNone result (max_fork < data_size D.long rows.now) }
+    ensures none { IfNone result (max_fork < data_size (text_length D.text) rows.now) }
 {
     let mut total = 0;
     for row in rows {
@@ -108,12 +107,12 @@ fn names_length<D>(rows: &[Resource<D>]) -> Option<usize>
     Some(next)
 }
 
-/// The header of the fork that is written for rows, or None where they are too big for one.
+/// The header of the fork that is written for rows, or None where they are too big for one. What each row is comes with it.
 pub(crate) fn header_of_rows<D: Datum>(rows: &[Resource<D>]) -> Option<Header>
-    ensures header { IfSome result (λ header. header ≡ sized_header D.long rows.now) }
-    ensures fit { IfSome result (λ _. FitSizes D.long rows.now) }
+    ensures header { IfSome result (λ header. header ≡ sized_header (text_length D.text) rows.now) }
+    ensures fit { IfSome result (λ _. FitSizes (text_length D.text) rows.now) }
     ensures rows { IfSome result (λ _. AllByRecursion IsRow rows.now) }
-    ensures none { IfNone result (¬ FitSizes D.long rows.now) }
+    ensures none { IfNone result (¬ FitSizes (text_length D.text) rows.now) }
     ensures four { AllByRecursion (λ (t : TypeCount). length t.kind ≡ 4) (types_of rows.now) }
 {
     let types = type_count(rows);
@@ -135,17 +134,4 @@ pub(crate) fn header_of_rows<D: Datum>(rows: &[Resource<D>]) -> Option<Header>
         data_length: data as u32,
         map_length: map as u32,
     })
-}
-
-/// The header of the fork that is written for a table, or None where the table is too big for one. What the table is comes with it.
-pub(crate) fn header_for(table: &Table) -> Option<Header>
-    ensures header { IfSome result (λ header. header ≡ header_for table.now.rows) }
-    ensures fits { IfSome result (λ _. Fits table.now) }
-    ensures small { IfSome result (λ _. length (written table.now) ≤ max_fork) }
-    ensures few { IfSome result (λ _. length (data_text table.now.rows) ≤ max_fork) }
-    ensures table { IfSome result (λ _. IsGrouped table.now.rows → IsTable table.now) }
-    ensures none { IfNone result (IsTooBig table.now) }
-{
-    let _attributes = table.map_attributes;
-    header_of_rows(table.rows.as_slice())
 }

@@ -1,21 +1,23 @@
 //! A table as the bytes of a fork.
 
-ghost use Rattle.std.specs.Prelude.{◌≡◌, ◌<◌, ◌≤◌, ◌+◌, ◌*◌, ◌++◌, ◌∷◌, ◌^◌, ◌↔◌, length, drop, OnOk, IfOk, IsErrOf, IfSome, IfNone};
+ghost use Rattle.std.specs.Prelude.{◌≡◌, ◌<◌, ◌≤◌, ◌+◌, ◌*◌, ◌++◌, ◌∷◌, [], ◌^◌, ◌↔◌, length, drop, OnOk, IfOk, IsErrOf, IfSome, IfNone};
 ghost use Rattle.std.specs.Int.{w16, cast_unsigned};
 ghost use Rattle.byteorder.specs.Endian.{big_bytes};
 ghost use Rattle.fork_bytes.specs.Fork.{max_fork, max_rows, StandsFor};
 ghost use Rattle.fork_bytes.specs.Laws.{IsGrouped};
-ghost use Rattle.fork_bytes.specs.Written.{types_of, count_bytes, entries_text, first_references, references_text, data_text, names_text, name_text, name_offset, written, header_text, header_for, map_header_text, front_text, types_text, map_text, names_offset, NamesFit, Fits, IsTooBig};
+ghost use Rattle.fork_bytes.specs.Sizes.{text_length, FitSizes};
+ghost use Rattle.fork_bytes.specs.Written.{types_of, count_bytes, entries_text, first_references, references_text, data_text, names_text, name_text, name_offset, written, header_text, header_for, map_header_text, front_text, types_text, map_text, names_offset, plain_rows, plain_table, NamesFit, Fits, IsTooBig};
 
+use crate::datum::Datum;
 use crate::fault::WriteFault;
 use crate::layout::Header;
-use crate::sizes::{header_for, run_end, type_count};
-use crate::table::{Row, Table};
+use crate::sizes::{header_of_rows, run_end, type_count};
+use crate::table::Table;
 use bitflags::Flags;
 use byteorder::{BigEndian, ByteOrder};
 use mac_base::error::HostFull;
 use res_base::name::Name;
-use res_base::resource::ResType;
+use res_base::resource::{ResType, Resource};
 use std::alloc::Global;
 
 /// Adds a number of two bytes.
@@ -60,14 +62,13 @@ fn push_header(fork: &mut Vec<u8>, header: Header) -> Result<(), HostFull>
 }
 
 /// Adds the data: of each row the length of its bytes, and the bytes.
-fn push_data(fork: &mut Vec<u8>, rows: &[Row]) -> Result<(), HostFull>
-    requires { length (data_text rows.now) < 2 ^ 32 }
-    ensures { OnOk result (fork.new.items ≡ fork.old.items ++ data_text rows.now) }
+fn push_data<D: Datum>(fork: &mut Vec<u8>, rows: &[Resource<D>]) -> Result<(), HostFull>
+    requires { length (data_text (plain_rows D.text rows.now)) < 2 ^ 32 }
+    ensures { OnOk result (fork.new.items ≡ fork.old.items ++ data_text (plain_rows D.text rows.now)) }
 {
     for row in rows {
-        let bytes = row.datum.as_slice();
-        push_four(fork, bytes.len() as u32)?;
-        fork.extend_from_slice(bytes)?;
+        push_four(fork, row.datum.count() as u32)?;
+        row.datum.append(fork)?;
     }
     Ok(())
 }
@@ -85,7 +86,7 @@ fn push_name(fork: &mut Vec<u8>, name: &Option<Name>) -> Result<(), HostFull>
 }
 
 /// Adds the name list.
-fn push_names(fork: &mut Vec<u8>, rows: &[Row]) -> Result<(), HostFull>
+fn push_names<D>(fork: &mut Vec<u8>, rows: &[Resource<D>]) -> Result<(), HostFull>
     ensures { OnOk result (fork.new.items ≡ fork.old.items ++ names_text rows.now) }
 {
     for row in rows {
@@ -95,7 +96,12 @@ fn push_names(fork: &mut Vec<u8>, rows: &[Row]) -> Result<(), HostFull>
 }
 
 /// Adds the reference of a row, whose name and datum stand at these offsets.
-fn push_reference(fork: &mut Vec<u8>, row: &Row, name: u16, datum: u32) -> Result<(), HostFull>
+fn push_reference<D>(
+    fork: &mut Vec<u8>,
+    row: &Resource<D>,
+    name: u16,
+    datum: u32,
+) -> Result<(), HostFull>
     ensures { OnOk result (fork.new.items ≡ fork.old.items
         ++ (big_bytes 2 (cast_unsigned w16 row.now.id) ++ (big_bytes 2 name ++ (row.now.attributes.0 ∷ (big_bytes 3 datum ++ big_bytes 4 0))))) }
 {
@@ -130,17 +136,17 @@ fn name_length(name: &Option<Name>) -> usize
 }
 
 /// Adds the references of rows, whose bytes and names follow each other.
-fn push_references(fork: &mut Vec<u8>, rows: &[Row]) -> Result<(), HostFull>
+fn push_references<D: Datum>(fork: &mut Vec<u8>, rows: &[Resource<D>]) -> Result<(), HostFull>
     requires names { NamesFit 0 rows.now }
-    requires small { length (data_text rows.now) ≤ max_fork }
-    ensures { OnOk result (fork.new.items ≡ fork.old.items ++ references_text 0 0 rows.now) }
+    requires small { length (data_text (plain_rows D.text rows.now)) ≤ max_fork }
+    ensures { OnOk result (fork.new.items ≡ fork.old.items ++ references_text 0 0 (plain_rows D.text rows.now)) }
 {
     let mut name = 0;
     let mut datum = 0;
     for row in rows {
         push_reference(fork, row, name_offset(name, &row.name), datum)?;
         name += name_length(&row.name);
-        datum += 4 + row.datum.as_slice().len() as u32;
+        datum += 4 + row.datum.count() as u32;
     }
     Ok(())
 }
@@ -157,7 +163,7 @@ fn push_entry(fork: &mut Vec<u8>, kind: ResType, less_one: u16, at: u16) -> Resu
 }
 
 /// Adds the entries of the type list, where the references of the first type stand at this offset.
-fn push_entries(fork: &mut Vec<u8>, rows: &[Row], first: usize) -> Result<(), HostFull>
+fn push_entries<D>(fork: &mut Vec<u8>, rows: &[Resource<D>], first: usize) -> Result<(), HostFull>
     requires few { length rows.now ≤ max_rows }
     requires low { first + 12 * length rows.now ≤ 65535 }
     ensures { OnOk result (fork.new.items ≡ fork.old.items ++ entries_text first (types_of rows.now)) }
@@ -195,7 +201,7 @@ fn push_map_header(
 }
 
 /// Adds the type list, which has so many types.
-fn push_types(fork: &mut Vec<u8>, rows: &[Row], types: usize) -> Result<(), HostFull>
+fn push_types<D>(fork: &mut Vec<u8>, rows: &[Resource<D>], types: usize) -> Result<(), HostFull>
     requires types { types ≡ length (types_of rows.now) }
     requires few { length rows.now ≤ max_rows }
     requires low { names_offset rows.now ≤ 65535 }
@@ -207,16 +213,19 @@ fn push_types(fork: &mut Vec<u8>, rows: &[Row], types: usize) -> Result<(), Host
 }
 
 /// Adds a map.
-fn push_map(fork: &mut Vec<u8>, table: &Table, header: Header) -> Result<(), HostFull>
-    requires header { header ≡ header_for table.now.rows }
-    requires fits { Fits table.now }
-    requires small { length (data_text table.now.rows) ≤ max_fork }
-    ensures { OnOk result (fork.new.items ≡ fork.old.items ++ map_text table.now) }
+fn push_map<D: Datum>(
+    fork: &mut Vec<u8>,
+    rows: &[Resource<D>],
+    map_attributes: u16,
+    header: Header,
+) -> Result<(), HostFull>
+    requires header { header ≡ header_for (plain_rows D.text rows.now) }
+    requires fit { FitSizes (text_length D.text) rows.now }
+    ensures { OnOk result (fork.new.items ≡ fork.old.items ++ map_text (plain_table D.text rows.now [] map_attributes)) }
 {
-    let rows = table.rows.as_slice();
     let types = type_count(rows);
     let names = 30 + 8 * types + 12 * rows.len();
-    push_map_header(fork, header, table.map_attributes, names as u16)?;
+    push_map_header(fork, header, map_attributes, names as u16)?;
     push_types(fork, rows, types)?;
     push_references(fork, rows)?;
     push_names(fork, rows)?;
@@ -224,17 +233,49 @@ fn push_map(fork: &mut Vec<u8>, table: &Table, header: Header) -> Result<(), Hos
 }
 
 /// Adds the parts of a fork.
-pub(crate) fn push_fork(fork: &mut Vec<u8>, table: &Table, header: Header) -> Result<(), HostFull>
-    requires header { header ≡ header_for table.now.rows }
-    requires fits { Fits table.now }
-    requires small { length (data_text table.now.rows) ≤ max_fork }
-    ensures { OnOk result (fork.new.items ≡ fork.old.items ++ written table.now) }
+fn push_fork<D: Datum>(
+    fork: &mut Vec<u8>,
+    rows: &[Resource<D>],
+    extra: &[u8; 240],
+    map_attributes: u16,
+    header: Header,
+) -> Result<(), HostFull>
+    requires header { header ≡ header_for (plain_rows D.text rows.now) }
+    requires fit { FitSizes (text_length D.text) rows.now }
+    ensures { OnOk result (fork.new.items ≡ fork.old.items ++ written (plain_table D.text rows.now extra.now map_attributes)) }
 {
     push_header(fork, header)?;
-    fork.extend_from_slice(&table.extra)?;
-    push_data(fork, table.rows.as_slice())?;
-    push_map(fork, table, header)?;
+    fork.extend_from_slice(extra)?;
+    push_data(fork, rows)?;
+    push_map(fork, rows, map_attributes, header)?;
     Ok(())
+}
+
+/// The bytes of the fork of rows, extra bytes and the attributes of a map: those that `write_fork` writes for the table of them,
+/// whatever stands for the bytes of the rows. No memory is needed but for the fork itself.
+pub fn write_rows<D: Datum>(
+    alloc: Global,
+    rows: &[Resource<D>],
+    extra: &[u8; 240],
+    map_attributes: u16,
+) -> Result<Vec<u8>, WriteFault>
+    ensures written { IfOk result (λ fork. fork.items ≡ written (plain_table D.text rows.now extra.now map_attributes)) }
+    ensures small { IfOk result (λ _. length (written (plain_table D.text rows.now extra.now map_attributes)) ≤ max_fork) }
+    ensures fits { IfOk result (λ _. Fits (plain_table D.text rows.now extra.now map_attributes)) }
+    ensures stands { IfOk result (λ fork. IsGrouped (plain_rows D.text rows.now) → StandsFor fork.items (plain_table D.text rows.now extra.now map_attributes)) }
+    ensures too_big { IsErrOf result WriteFault.TooBig ↔ IsTooBig (plain_table D.text rows.now extra.now map_attributes) }
+{
+    let Some(header) = header_of_rows(rows) else {
+        return Err(WriteFault::TooBig);
+    };
+    let size = header.map_offset + header.map_length;
+    let Ok(mut fork) = Vec::with_capacity(alloc, size as usize) else {
+        return Err(WriteFault::HostFull);
+    };
+    match push_fork(&mut fork, rows, extra, map_attributes, header) {
+        Ok(()) => Ok(fork),
+        Err(HostFull) => Err(WriteFault::HostFull),
+    }
 }
 
 /// The bytes of the fork of a table: the header, the extra bytes, the data of the rows without gaps, and the map, whose
@@ -249,12 +290,10 @@ pub fn write_fork(alloc: Global, table: &Table) -> Result<Vec<u8>, WriteFault>
     ensures stands { IfOk result (λ fork. IsGrouped table.now.rows → StandsFor fork.items table.now) }
     ensures too_big { IsErrOf result WriteFault.TooBig ↔ IsTooBig table.now }
 {
-    let Some(header) = header_for(table) else {
-        return Err(WriteFault::TooBig);
-    };
-    let mut fork = Vec::new(alloc);
-    match push_fork(&mut fork, table, header) {
-        Ok(()) => Ok(fork),
-        Err(HostFull) => Err(WriteFault::HostFull),
-    }
+    write_rows(
+        alloc,
+        table.rows.as_slice(),
+        &table.extra,
+        table.map_attributes,
+    )
 }

@@ -12,6 +12,8 @@ use Rattle.res_table.specs.declared.chain.ResourceTable.{ResourceTable}
 use Rattle.res_table.specs.Rows.{is_changed, contents}
 use Rattle.res_table.specs.Saved.{saved_row}
 use Rattle.res_calls.specs.Fitting.{rows_fit}
+use Rattle.res_update.specs.declared.draft.Part.{Part}
+use Rattle.res_update.specs.declared.draft.Part.TheVariants.{Held, Zeros}
 use Rattle.res_update.specs.declared.selection.Selection.{Selection}
 use Rattle.res_update.specs.declared.selection.Selection.TheVariants.{AllChanged, RowAt}
 
@@ -19,6 +21,11 @@ use Rattle.res_update.specs.declared.selection.Selection.TheVariants.{AllChanged
 abbrev pub is_selected : {D : Type 0} → Selection → ℕ → Row D → Bool
 is_selected AllChanged at r = is_changed r
 is_selected (RowAt index) at r = at == index
+
+-- the bytes that come from a handle, or zeros
+abbrev pub part_bytes : Part → List ℕ
+part_bytes (Held bytes) = bytes.now
+part_bytes (Zeros count) = replicate count 0
 
 -- the bytes of a row in the draft, where it is selected and where it isn't
 abbrev pub row_bytes : HandleTable → Bool → Row Place → List ℕ

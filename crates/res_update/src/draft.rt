@@ -4,22 +4,68 @@ ghost use Rattle.std.specs.Prelude.{◌≡◌, length, true, IfOk, IsFalse};
 ghost use Rattle.res_table.specs.Rows.{contents};
 ghost use Rattle.res_table.specs.Saved.{saved_row};
 ghost use Rattle.res_calls.specs.Tests.{is_lent_row};
-ghost use Rattle.res_update.specs.Drafts.{row_bytes, rows_with, draft_bytes, draft_table};
+ghost use Rattle.res_update.specs.Drafts.{row_bytes, rows_with, draft_bytes};
 ghost use Rattle.res_update.specs.Selected.{reads_lent};
 
 use crate::contents::Contents;
 use crate::selection::Selection;
 use bitflags::Flags;
-use fork_bytes::table::{Row as ForkRow, Rows as ForkRows, Table};
+use fork_bytes::datum::Datum;
 use fork_reader::place::Place;
-use mac_base::bytes::Bytes;
 use mac_base::error::HostFull;
 use res_base::name::Name;
 use res_base::resource::{ResAttrs, Resource};
-use res_table::chain::ResourceTable;
 use res_table::row::Row;
 use res_table::rows::Rows;
 use std::alloc::Global;
+use std::marker::Model;
+
+/// Where the bytes of a row in the draft come from.
+#[derive(Clone, Copy)]
+enum Part<'a> {
+    /// From its handle.
+    Held(&'a [u8]),
+    /// They are so many zeros.
+    Zeros(u32),
+}
+
+/// The bytes of a row in the draft, which take no memory of their own: they are made where they are written. A contract sees the
+/// list.
+#[derive(Drop)]
+pub(crate) struct DraftBytes<'a> {
+    part: Part<'a>,
+}
+
+impl<'a> Model for DraftBytes<'a> {
+    ghost use Rattle.std.specs.Prelude.{List, ℕ};
+    ghost use Rattle.res_update.specs.Drafts.{part_bytes};
+
+    ghost Value = { List ℕ };
+
+    ghost view = { λ bytes. part_bytes bytes.part };
+}
+
+impl<'a> Datum for DraftBytes<'a> {
+    ghost text = { λ bytes. bytes };
+
+    fn count(&self) -> usize {
+        match self.part {
+            Part::Held(bytes) => bytes.len(),
+            Part::Zeros(count) => count.count(),
+        }
+    }
+
+    fn append(&self, fork: &mut Vec<u8>) -> Result<(), HostFull> {
+        match self.part {
+            Part::Held(bytes) => fork.extend_from_slice(bytes)?,
+            Part::Zeros(count) => count.append(fork)?,
+        }
+        Ok(())
+    }
+}
+
+/// A row of the draft.
+pub(crate) type DraftRow<'a> = Resource<DraftBytes<'a>>;
 
 /// The bits of all attributes but resChanged, which a file doesn't have.
 const SAVED_BITS: u8 = 253;
@@ -36,22 +82,16 @@ pub(crate) fn handle_bytes<'a, C: Contents>(handles: &'a C, row: &Row<Place>) ->
 }
 
 /// The bytes of a row in the draft: those of its handle where it is selected, and else zeros.
-fn row_bytes<C: Contents>(
-    alloc: Global,
-    row: &Row<Place>,
-    selected: bool,
-    handles: &C,
-) -> Result<Bytes, HostFull>
+fn row_bytes<'a, C: Contents>(row: &Row<Place>, selected: bool, handles: &'a C) -> DraftBytes<'a>
     requires { selected ≡ true → IsFalse (is_lent_row (C.table handles.now) row.now) }
-    ensures { IfOk result (λ bytes. bytes ≡ row_bytes (C.table handles.now) selected row.now) }
+    ensures { result ≡ row_bytes (C.table handles.now) selected row.now }
 {
-    if !selected {
-        let zeros = vec![in alloc; 0; row.resource.datum.length as usize]?;
-        return Ok(Bytes::new(zeros));
-    }
-    let mut copy = Vec::new(alloc);
-    copy.extend_from_slice(handle_bytes(handles, row))?;
-    Ok(Bytes::new(copy))
+    let part = if selected {
+        Part::Held(handle_bytes(handles, row))
+    } else {
+        Part::Zeros(row.resource.datum.length)
+    };
+    DraftBytes { part }
 }
 
 /// Copies a name, if there is one.
@@ -70,8 +110,12 @@ fn copied(alloc: Global, name: &Option<Name>) -> Result<Option<Name>, HostFull>
 }
 
 /// A row as it is saved, with these bytes.
-fn saved_row(alloc: Global, row: &Row<Place>, bytes: Bytes) -> Result<ForkRow, HostFull>
-    ensures { IfOk result (λ saved. saved ≡ saved_row (λ _. bytes) row.now) }
+fn saved_row<'a>(
+    alloc: Global,
+    row: &Row<Place>,
+    bytes: DraftBytes<'a>,
+) -> Result<DraftRow<'a>, HostFull>
+    ensures { IfOk result (λ saved. saved ≡ saved_row (λ _. bytes.entry) row.now) }
 {
     let resource = &row.resource;
     let name = copied(alloc, &resource.name)?;
@@ -84,24 +128,24 @@ fn saved_row(alloc: Global, row: &Row<Place>, bytes: Bytes) -> Result<ForkRow, H
     })
 }
 
-/// The rows of the draft.
-fn draft_rows<C: Contents>(
+/// The rows of the table that the update writes, but with zeros for the bytes that stay as they are on the disk.
+pub(crate) fn draft_rows<'a, C: Contents>(
     alloc: Global,
     rows: &Rows<Place>,
     selection: Selection,
-    handles: &C,
-) -> Result<ForkRows, HostFull>
+    handles: &'a C,
+) -> Result<Vec<DraftRow<'a>>, HostFull>
     requires { IsFalse (reads_lent (C.table handles.now) selection rows.now) }
-    ensures { IfOk result (λ draft. draft ≡ rows_with (draft_bytes (C.table handles.now) selection) 0 rows.now) }
+    ensures { IfOk result (λ draft. draft.items ≡ rows_with (draft_bytes (C.table handles.now) selection) 0 rows.now) }
 {
     let mut draft = Vec::new(alloc);
     for index in 0..rows.len() {
         let row = rows.row(index);
-        let bytes = row_bytes(alloc, row, selection.takes(index, row), handles)?;
+        let bytes = row_bytes(row, selection.takes(index, row), handles);
         let saved = saved_row(alloc, row, bytes)?;
         draft.push(saved)?;
     }
-    Ok(ForkRows::new(draft))
+    Ok(draft)
 }
 
 /// What extra bytes are by their type: 240. It computes nothing.
@@ -109,24 +153,4 @@ pub(crate) fn known(extra: [u8; 240])
     ensures { length extra ≡ 240 }
 {
     let _bytes = extra;
-}
-
-/// The table that the update writes, but with zeros for the bytes that stay as they are on the disk.
-pub(crate) fn draft_table<C: Contents>(
-    alloc: Global,
-    table: &ResourceTable<Place>,
-    selection: Selection,
-    handles: &C,
-) -> Result<Table, HostFull>
-    requires { IsFalse (reads_lent (C.table handles.now) selection table.now.rows) }
-    ensures draft { IfOk result (λ draft. draft ≡ draft_table (C.table handles.now) selection table.now) }
-    ensures extra { IfOk result (λ _. length table.now.extra ≡ 240) }
-{
-    known(table.extra);
-    let rows = draft_rows(alloc, &table.rows, selection, handles)?;
-    Ok(Table {
-        rows,
-        extra: table.extra,
-        map_attributes: table.map_attributes,
-    })
 }

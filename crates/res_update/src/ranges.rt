@@ -5,8 +5,9 @@ ghost use Rattle.fork_bytes.specs.Fork.{max_fork};
 ghost use Rattle.fork_bytes.specs.Written.{data_text};
 ghost use Rattle.res_update.specs.Drafts.{new_places, kept_ranges};
 
+use crate::draft::DraftRow;
 use crate::selection::Selection;
-use fork_bytes::table::Row as ForkRow;
+use fork_bytes::datum::Datum;
 use fork_disk::update::Kept;
 use fork_reader::place::Place;
 use mac_base::error::HostFull;
@@ -17,7 +18,7 @@ use std::alloc::Global;
 const DATA_OFFSET: u32 = 256;
 
 /// Where the bytes of rows stand in their fork.
-pub(crate) fn new_places(alloc: Global, rows: &[ForkRow]) -> Result<Vec<Place>, HostFull>
+pub(crate) fn new_places<'a>(alloc: Global, rows: &[DraftRow<'a>]) -> Result<Vec<Place>, HostFull>
     requires { length (data_text rows.now) ≤ max_fork }
     ensures { IfOk result (λ places. places.items ≡ new_places 256 rows.now) }
 {
@@ -26,7 +27,7 @@ pub(crate) fn new_places(alloc: Global, rows: &[ForkRow]) -> Result<Vec<Place>, 
     for row in rows {
         let place = Place {
             offset: end + 4,
-            length: row.datum.as_slice().len() as u32,
+            length: row.datum.count() as u32,
         };
         places.push(place)?;
         end = place.offset + place.length;

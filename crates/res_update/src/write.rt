@@ -12,12 +12,12 @@ ghost use Rattle.res_update.specs.Placed.{table_on, rows_on, bytes_on, AreInside
 ghost use Rattle.res_update.specs.Selected.{updated, reads_lent, CountsUpdate};
 
 use crate::contents::Contents;
-use crate::draft::draft_table;
+use crate::draft::{draft_rows, known};
 use crate::fault::UpdateFault;
 use crate::ranges::{kept_ranges, new_places};
 use crate::selection::Selection;
 use crate::sizes::fits;
-use fork_bytes::{fork_laws, write_fork};
+use fork_bytes::{fork_laws, write_rows};
 use fork_disk::store::{ForkStore, ReplaceFault};
 use fork_disk::update::{Kept, update};
 use fork_reader::place::Place;
@@ -58,13 +58,14 @@ fn make_draft<C: Contents>(
     ensures places { IfOk result (λ draft. draft.places.items ≡ new_places 256 (draft_table (C.table handles.now) selection table.now).rows) }
     ensures kept { IfOk result (λ draft. draft.kept.items ≡ kept_ranges selection 0 table.now.rows draft.places.items) }
 {
-    let saved = draft_table(alloc, table, selection, handles)?;
-    let Ok(fork) = write_fork(alloc, &saved) else {
+    known(table.extra);
+    let rows = draft_rows(alloc, &table.rows, selection, handles)?;
+    let Ok(fork) = write_rows(alloc, &rows, &table.extra, table.map_attributes) else {
         return Err(HostFull);
     };
     fork_laws();
     known_bytes(&fork);
-    let places = new_places(alloc, saved.rows.as_slice())?;
+    let places = new_places(alloc, &rows)?;
     let kept = kept_ranges(alloc, &table.rows, selection, &places)?;
     Ok(Draft { fork, kept, places })
 }

@@ -1,19 +1,19 @@
 use Rattle.std.proofs.Common.{◌≡◌, ◌++◌, get_or, drop, ℕ, ◌+◌, ◌-◌, ◌*◌, List, sym, ap, ◌∙◌, arith}
 use Rattle.std.proofs.lemmas.List.{drop_all}
 use Rattle.byteorder.specs.Endian.{big_bytes}
-use Rattle.fork_bytes.specs.Rows.{Row}
+use Rattle.res_base.specs.declared.resource.Resource.{Resource}
 use Rattle.fork_bytes.specs.Written.{types_of, entries_text}
 use Rattle.fork_bytes.proofs.Steps.{appended, all_added}
 use Rattle.fork_bytes.proofs.Entries.{entry_step}
 use Rattle.fork_bytes.proofs.write.push_entries.Goals as goal
 
 pub loop-at-init : goal.loop-at-init
-loop-at-init c =
+loop-at-init g c =
     let at : c.args.first + 12 * 0 ≡ c.args.first = omega arith in
     (ap (λ (n : ℕ). c.args.fork.now.items ++ entries_text n (types_of c.args.rows.now)) at, omega arith)
 
 pub loop-at-preserved : goal.loop-at-preserved
-loop-at-preserved c =
+loop-at-preserved g c =
     let rows = c.args.rows.now in let at = c.loop-at.at in let end = c.run_end-end.result in let old = c.loop-at.fork.items in
     let kind = (get_or rows at c.index-rows-at.result).kind in
     let few = c.requires.few in
@@ -25,6 +25,6 @@ loop-at-preserved c =
     )
 
 pub returns : goal.returns
-returns c =
+returns g c =
     all_added _ (entries_text (c.args.first + 12 * c.loop-at.at) (types_of (drop c.loop-at.at c.args.rows.now))) _
-    (ap (λ (rest : List Row). entries_text (c.args.first + 12 * c.loop-at.at) (types_of rest)) (drop_all c.loop-at.at c.args.rows.now (omega (arith, c.loop-at-test.false)))) c.loop-at.invariant.0
+    (ap (λ (rest : List (Resource _)). entries_text (c.args.first + 12 * c.loop-at.at) (types_of rest)) (drop_all c.loop-at.at c.args.rows.now (omega (arith, c.loop-at-test.false)))) c.loop-at.invariant.0

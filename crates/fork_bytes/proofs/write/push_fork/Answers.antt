@@ -1,16 +1,18 @@
-use Rattle.std.proofs.Common.{◌≡◌, ◌++◌, List, ap, ◌∙◌}
+use Rattle.std.proofs.Common.{◌≡◌, ◌++◌, ap, ◌∙◌, arith}
 use Rattle.fork_bytes.specs.declared.layout.Header.{Header}
-use Rattle.fork_bytes.specs.Rows.{Row}
-use Rattle.fork_bytes.specs.Written.{data_text, header_for, header_text, front_text, map_text}
+use Rattle.fork_bytes.specs.Written.{data_text, header_for, header_text, front_text, map_text, plain_rows, plain_table}
 use Rattle.fork_bytes.proofs.Steps.{two_added}
+use Rattle.fork_bytes.proofs.Plain.{plain_few}
 use Rattle.fork_bytes.proofs.write.push_fork.Goals as goal
 
+pub push_data-requires : goal.push_data-requires
+push_data-requires g c = let few = plain_few g.D.Datum.text c.args.rows.now c.requires.fit in omega arith
+
 pub returns : goal.returns
-returns c =
-    let table = c.args.table.now in let rows = table.rows in
+returns g c =
+    let table = plain_table g.D.Datum.text c.args.rows.now c.args.extra.now c.args.map_attributes in let plain = plain_rows g.D.Datum.text c.args.rows.now in
     let start = c.args.fork.now.items in let a = c.push_header.new.fork.items in let b = c.extend_from_slice.new.self.items in let d = c.push_data.new.fork.items in let whole = c.push_map.new.fork.items in
-    let parts = data_text rows in
-    let first : a ≡ start ++ header_text (header_for rows) = c.in_ok-push_header.ensures ∙ ap (λ (h : Header). start ++ header_text h) c.requires.header in
-    let second : b ≡ start ++ front_text table = two_added start a b (header_text (header_for rows)) table.extra first c.in_ok-extend_from_slice.ensures.items in
-    let third : d ≡ b ++ parts = c.in_ok-push_data.ensures ∙ ap (λ (r : List Row). b ++ data_text r) c.as_slice.ensures in
-    two_added start b whole (front_text table) (parts ++ map_text table) second (two_added b d whole parts (map_text table) third c.in_ok-push_map.ensures)
+    let parts = data_text plain in
+    let first : a ≡ start ++ header_text (header_for plain) = c.in_ok-push_header.ensures ∙ ap (λ (h : Header). start ++ header_text h) c.requires.header in
+    let second : b ≡ start ++ front_text table = two_added start a b (header_text (header_for plain)) table.extra first c.in_ok-extend_from_slice.ensures.items in
+    two_added start b whole (front_text table) (parts ++ map_text table) second (two_added b d whole parts (map_text table) c.in_ok-push_data.ensures c.in_ok-push_map.ensures)

@@ -6,7 +6,7 @@ use Rattle.fork_bytes.proofs.Steps.{two_added}
 use Rattle.fork_bytes.proofs.write.push_reference.Goals as goal
 
 pub returns : goal.returns
-returns c =
+returns g c =
     let row = c.args.row.now in let start = c.args.fork.now.items in
     let a = c.push_two.new.fork.items in let b = c.push_two-2.new.fork.items in let d = c.push.new.self.items in let e = c.push_three.new.fork.items in let whole = c.push_four.new.fork.items in
     let id = big_bytes 2 (cast_unsigned w16 row.id) in let name = big_bytes 2 c.args.name in let flags = row.attributes.0 ∷ [] in let place = big_bytes 3 c.args.datum in let none = big_bytes 4 0 in

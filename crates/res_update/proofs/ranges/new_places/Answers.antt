@@ -19,7 +19,7 @@ one_more rows i at n r places new all less is long put old =
 pub loop-row-preserved : goal.loop-row-preserved
 loop-row-preserved c =
     let rows = c.args.rows.now in let i = c.loop-row.row-index in let row = c.row-item.result in
-    let long = ap (λ (xs : List ℕ). length xs) c.as_slice.ensures in
+    let long = c.count.ensures in
     let step = data_step rows i row c.loop-row-test.true c.row-item.is in let all = c.loop-row.invariant.1 in (
       one_more rows i c.loop-row.end _ row c.loop-row.places.items c.push.new.self.items _ c.loop-row-test.true c.row-item.is long c.in_ok-push.ensures.items c.loop-row.invariant.0,
       omega (arith, long, step, all),
@@ -27,12 +27,12 @@ loop-row-preserved c =
 
 pub overflow_add-end : goal.overflow_add-end
 overflow_add-end c =
-    let long = ap (λ (xs : List ℕ). length xs) c.as_slice.ensures in
+    let long = c.count.ensures in
     let step = data_step c.args.rows.now c.loop-row.row-index c.row-item.result c.loop-row-test.true c.row-item.is in let all = c.loop-row.invariant.1 in let few = c.requires in
     omega (arith, long, step, all, few)
 
 pub overflow_cast-place : goal.overflow_cast-place
 overflow_cast-place c =
-    let long = ap (λ (xs : List ℕ). length xs) c.as_slice.ensures in
+    let long = c.count.ensures in
     let step = data_step c.args.rows.now c.loop-row.row-index c.row-item.result c.loop-row-test.true c.row-item.is in let all = c.loop-row.invariant.1 in let few = c.requires in
     omega (arith, long, step, all, few)
