@@ -52,16 +52,24 @@ overflow_add-freed c =
     let b = c.requires.gaps in
     let l = c.loop-at in
     let v = (goal.at.overflow_add-freed c).After-entry_at-here in
-    omega (arith, within_sought c.args.zone.now b.at c.args.needed c.args.counted c.args.protected.now l.at l.run l.freed l.room l.limit (l.invariant b) (read v b) c.requires.kept
-    (part-goes c.args.zone.now.heap.table c.args.protected.now c.entry_at-here.result.kind (sym c.in-Goes.ensures)) c.room_ahead-ahead.result.room c.room_ahead-ahead.ensures.known (λ none. c.room_ahead-ahead.ensures.new none (ahead v b)), c.ranges.end.fits)
+    omega (
+      arith,
+      within_sought c.args.zone.now b.at c.args.needed c.args.counted c.args.protected.now l.at l.run l.freed l.room l.limit (l.invariant b) (read v b) c.requires.kept
+          (part-goes c.args.zone.now.heap.table c.args.protected.now c.entry_at-here.result.kind (sym c.in-Goes.ensures)) c.room_ahead-ahead.result.room c.room_ahead-ahead.ensures.known (λ none. c.room_ahead-ahead.ensures.new none (ahead v b)),
+      c.ranges.end.fits,
+    )
 
 pub overflow_add-room : goal.overflow_add-room
 overflow_add-room c =
     let b = c.requires.gaps in
     let l = c.loop-at in
     let v = (goal.at.overflow_add-room c).After-entry_at-here in
-    omega (arith, within_sought c.args.zone.now b.at c.args.needed c.args.counted c.args.protected.now l.at l.run l.freed l.room l.limit (l.invariant b) (read v b) c.requires.kept
-    (part-goes c.args.zone.now.heap.table c.args.protected.now c.entry_at-here.result.kind (sym c.in-Goes.ensures)) c.room_ahead-ahead.result.room c.room_ahead-ahead.ensures.known (λ none. c.room_ahead-ahead.ensures.new none (ahead v b)), c.ranges.end.fits)
+    omega (
+      arith,
+      within_sought c.args.zone.now b.at c.args.needed c.args.counted c.args.protected.now l.at l.run l.freed l.room l.limit (l.invariant b) (read v b) c.requires.kept
+          (part-goes c.args.zone.now.heap.table c.args.protected.now c.entry_at-here.result.kind (sym c.in-Goes.ensures)) c.room_ahead-ahead.result.room c.room_ahead-ahead.ensures.known (λ none. c.room_ahead-ahead.ensures.new none (ahead v b)),
+      c.ranges.end.fits,
+    )
 
 pub returns-then-limit : goal.returns-then-limit
 returns-then-limit c blocks =
