@@ -186,7 +186,7 @@ RUNS = [
     ("the highest handle, purged and filled again", [], above_others(["HPurge h", "NewHandle 900000", "ReallocateHandle h 8"])),
     ("the lowest and the highest handle, purged and filled again", [], above_others(["HPurge h", "HPurge g", "NewHandle 900000", "ReallocateHandle g 8", "ReallocateHandle h 8"])),
     ("a handle, purged for another that is to grow, and filled again", [], above_others(["HPurge g", "SetHandleSize h 900000", "ReallocateHandle g 8"])),
-    ("the highest handle makes way and comes back", [], above_others(["HPurge h", "x=NewHandle 645620", "DisposeHandle x", "ReallocateHandle h 8"])),
+    ("the highest handle makes way and comes back", [], above_others(["HPurge h", "x=NewHandle 645604", "DisposeHandle x", "ReallocateHandle h 8"])),
     ("HLockHi among 20,000 blocks", [], below_others([], ["HLockHi h", "HUnlock h"])),
     ("10,000 free blocks in a gap that a lock cuts in two", [], locked_by_turns(["HLock h", "NewHandle 760000", "HUnlock h"])),
     ("MaxBlock and PurgeSpace among 20,000 blocks", [], handles(20000, 8) + ["MaxBlock", "PurgeSpace"] * LINES),
