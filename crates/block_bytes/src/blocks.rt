@@ -1,6 +1,6 @@
 //! The list of a zone's blocks.
 
-ghost use Rattle.std.specs.Prelude.{◌≡◌, ◌+◌, ◌-◌, ◌*◌, ◌<◌, ◌≤◌, ◌^◌, ◌++◌, ◌∷◌, [], length, replicate, IfOk, IfSome, IfNone, IsTrue, IsFalse};
+ghost use Rattle.std.specs.Prelude.{◌≡◌, ℕ, ◌+◌, ◌-◌, ◌*◌, ◌<◌, ◌≤◌, ◌^◌, ◌++◌, ◌∷◌, [], length, replicate, slice_index, IfOk, IfSome, IfNone, IsTrue, IsFalse};
 ghost use Rattle.std.specs.Borrow.{sem};
 ghost use Rattle.std.specs.List.{list_all};
 ghost use Rattle.byteorder.specs.Endian.{big_bytes, big_number};
@@ -10,6 +10,7 @@ ghost use Rattle.raw_region.specs.Span.{IsFree};
 ghost use Rattle.raw_region.specs.State.{with_bytes};
 ghost use Rattle.block_bytes.specs.declared.header.Role.TheVariants.{Free};
 ghost use Rattle.block_bytes.specs.Starts.{first_marked, NoneLower};
+ghost use Rattle.place_numbers.specs.Numbers.{FirstAtLeast};
 ghost use Rattle.block_bytes.specs.ZoneHead.{free_field, lowest_field};
 
 use crate::header::{Header, Role};
@@ -90,6 +91,18 @@ fn search_start(memory: &Memory, base: u32, changed: usize) -> usize
     }
 }
 
+/// The first place, `from` or behind it, whose number is at least `least`. That of `from` is looked at before the search begins.
+fn first_from(index: &Numbers, least: u32, from: usize) -> Option<usize>
+    requires { 0 < least }
+    ensures first { IfSome result (λ at. FirstAtLeast index.now least from at) }
+    ensures none { IfNone result ((j : ℕ) → from ≤ j → j < length index.now → slice_index index.now j < least) }
+{
+    if from < index.len() && least <= index.get(from) {
+        return Some(from);
+    }
+    index.first_at_least(least, from)
+}
+
 /// Writes in the zone's header how many bytes are free, where `gained` came to them and `lost` went, and the address of the
 /// lowest free block, by the index, which has changed from a place on.
 #[tactic(auto, using(raw_region::proofs::Rules::upkeep))]
@@ -112,7 +125,7 @@ fn count_free(
 {
     let _len = index.len();
     let from = search_start(memory, base, changed);
-    let lowest = match index.first_at_least(LENT_MARK + 1, from) {
+    let lowest = match first_from(index, LENT_MARK + 1, from) {
         Some(place) => base + 4 * place as u32,
         None => 0,
     };
@@ -266,13 +279,16 @@ impl Blocks {
     }
 
     /// The address of the lowest free block of at least so many bytes, its header among them. No header is read: the
-    /// index tells the first place whose number is as large, and no free block has a size below 3.
+    /// index tells the first place whose number is as large, and no free block has a size below 3. The search begins where the zone's header
+    /// has the lowest free block.
     pub fn lowest_free(&self, needed: u32) -> Option<u32>
         ensures lowest { IfSome result (λ at. LowestFree self.now needed at) }
         ensures none { IfNone result (NoneFree self.now needed) }
     {
-        let place = self.index.first_at_least(needed.max(LENT_MARK + 1), 0)?;
-        Some(self.spec.base() + 4 * place as u32)
+        let base = self.spec.base();
+        let from = search_start(&self.memory, base, self.index.len());
+        let place = first_from(&self.index, needed.max(LENT_MARK + 1), from)?;
+        Some(base + 4 * place as u32)
     }
 
     /// Makes the block at an address one for this, with so many bytes of contents. All bytes behind its header stay.
@@ -363,8 +379,8 @@ impl Blocks {
         let second = offset + size as usize;
         self.memory.set_header(heads, offset, base, front);
         self.memory.set_header(heads, second, base, rest);
-        self.index.set(offset / 4, front.mark());
         self.index.set(second / 4, rest.size);
+        self.index.set(offset / 4, front.mark());
         count_free(
             &mut self.memory,
             &self.index,

@@ -10,11 +10,11 @@ use Rattle.block_bytes.specs.Head.{most_over, head_bytes}
 use Rattle.block_bytes.specs.Layout.{Layout, BlockAt, CanSplit, front_of, rest_of, body, raw_block, free_raw_block, size_of, header_of, with_blocks}
 use Rattle.block_bytes.specs.Starts.{mark_in, free_in}
 use Rattle.block_bytes.specs.Reading.{layout_of}
-use Rattle.block_bytes.proofs.ReadBlocks.{head_size-positive, IsPossible-from}
+use Rattle.block_bytes.proofs.ReadBlocks.{head_size-positive, IsPossible-from, smallest-block}
 use Rattle.block_bytes.proofs.Parts.{IsRead, front, rear, head, IsIn-from}
 use Rattle.block_bytes.proofs.Changes.{body-raw_block, size-body, header-raw_block, head-written, split-written, split-changed}
 use Rattle.block_bytes.proofs.Here.{IsHere-from, unlent-here}
-use Rattle.block_bytes.proofs.Counting.{kept-first, kept-written, free_in-small, can-count, none-lower, set-behind}
+use Rattle.block_bytes.proofs.Counting.{kept-first, kept-written, free_in-small, can-count, none-lower, set-apart, set-behind}
 use Rattle.block_bytes.proofs.blocks.Blocks.split.Goals as goal
 
 pub set_header-requires-clause-inside : goal.set_header-requires-clause-inside
@@ -44,10 +44,10 @@ pub set_header-requires-2-clause-size : goal.set_header-requires-2-clause-size
 set_header-requires-2-clause-size c = let h = IsHere-from c.self.inside c.self.invariant c.args.self.now c.self.view_is c.args.at c.entry_at-whole.result c.requires.block (c.entry_at-whole.ensures c.requires.block) in omega arith
 
 pub set-requires : goal.set-requires
-set-requires c = let h = IsHere-from c.self.inside c.self.invariant c.args.self.now c.self.view_is c.args.at c.entry_at-whole.result c.requires.block (c.entry_at-whole.ensures c.requires.block) in let some = head_size-positive c.self.inside.spec.heads in omega arith
+set-requires c = let h = IsHere-from c.self.inside c.self.invariant c.args.self.now c.self.view_is c.args.at c.entry_at-whole.result c.requires.block (c.entry_at-whole.ensures c.requires.block) in let size : c.entry_at-whole.result.size ≡ size_of c.args.self.now.heads c.requires.block.here = ap (λ (h : Header). h.size) (c.entry_at-whole.ensures c.requires.block) in let smaller = c.requires.smaller in let large = c.requires.large in let heads = c.heads-heads.ensures ∙ ap (λ (l : Layout). l.heads) c.self.view_is in let e = ap head_size heads in let e' = ap head_size c.heads-heads.ensures in let e'' = ap head_size (ap (λ (l : Layout). l.heads) c.self.view_is) in let some = head_size-positive c.args.self.now.heads in omega arith
 
 pub set-requires-2 : goal.set-requires-2
-set-requires-2 c = let long : length c.set.new.self ≡ length c.self.inside.index = ap length c.set.ensures ∙ length-set c.self.inside.index _ _ in let h = IsHere-from c.self.inside c.self.invariant c.args.self.now c.self.view_is c.args.at c.entry_at-whole.result c.requires.block (c.entry_at-whole.ensures c.requires.block) in let size : c.entry_at-whole.result.size ≡ size_of c.args.self.now.heads c.requires.block.here = ap (λ (h : Header). h.size) (c.entry_at-whole.ensures c.requires.block) in let smaller = c.requires.smaller in let large = c.requires.large in let heads = c.heads-heads.ensures ∙ ap (λ (l : Layout). l.heads) c.self.view_is in let e = ap head_size heads in let e' = ap head_size c.heads-heads.ensures in let e'' = ap head_size (ap (λ (l : Layout). l.heads) c.self.view_is) in let some = head_size-positive c.args.self.now.heads in omega arith
+set-requires-2 c = let long : length c.set.new.self ≡ length c.self.inside.index = ap length c.set.ensures ∙ length-set c.self.inside.index _ _ in let h = IsHere-from c.self.inside c.self.invariant c.args.self.now c.self.view_is c.args.at c.entry_at-whole.result c.requires.block (c.entry_at-whole.ensures c.requires.block) in let some = head_size-positive c.self.inside.spec.heads in omega arith
 
 pub count_free-requires-clause-inside : goal.count_free-requires-clause-inside
 count_free-requires-clause-inside c = (let z = c.self.inside in let small = c.base-base.ensures.possible in let r = c.entry_at-whole.result in
@@ -159,7 +159,9 @@ cut_apart c can = let z = c.self.inside in let at = c.args.at in let n = c.args.
     (head_bytes (c.heads-heads.ensures i) (c.base-base.ensures.value i) (second_header i)))
     ∙ split-written z c.self.invariant c.base-base.ensures.possible b.before b.here b.behind b.blocks can.unlent first second cut apart cut_long (at - c.base-base.result + size) (omega arith))
     ((at - c.base-base.result) / 4) ((at - c.base-base.result + size) / 4) (omega arith) (omega arith)
-    (c.set-2.ensures ∙ ap (λ (ms : List ℕ). set ms ((at - c.base-base.result + size) / 4) (r.size - size)) (c.set.ensures ∙ ap (λ (m : ℕ). set z.index ((at - c.base-base.result) / 4) m) (c.mark.ensures ∙ ap mark_in first_header))
+    (c.set-2.ensures ∙ ap (λ (ms : List ℕ). set ms ((at - c.base-base.result) / 4) c.mark.result) c.set.ensures
+    ∙ set-apart z.index ((at - c.base-base.result + size) / 4) ((at - c.base-base.result) / 4) (r.size - size) c.mark.result (let p = IsPossible-from heads first can.front in let large = p.large in let some = smallest-block heads in omega arith)
+    ∙ ap (λ (m : ℕ). set (set z.index ((at - c.base-base.result) / 4) m) ((at - c.base-base.result + size) / 4) (r.size - size)) (c.mark.ensures ∙ ap mark_in first_header)
     ∙ ap (λ (m : ℕ). set (set z.index ((at - c.base-base.result) / 4) (mark_in (header_of heads first))) ((at - c.base-base.result + size) / 4) m) (let e : r.size - size ≡ size_of heads second = omega arith in e))
     c.base-base.ensures.value (let gained = c.free_bytes.ensures ∙ ap free_in first_header in omega arith) (c.free_bytes-2.ensures ∙ ap free_in (entry b)) c.count_free.ensures)
     can c.entry_at-whole.ensures
