@@ -83,9 +83,9 @@ def purged_by_turns():
     return lines + ["PurgeMem 2000000", "MaxMem", "NewHandle 600000"] * 9000
 
 
-def slides():
-    """The lowest block becomes smaller, and all others move down; then it grows, and they move up."""
-    lines = ["a=NewHandle 400"] + handles(2000, 492)
+def slides(flags):
+    """The lowest block becomes smaller, and all others move down; then it grows, and they move up. Some may be purged."""
+    lines = ["a=NewHandle 400"] + named(2000, 492) + flags
     return lines + ["SetHandleSize a 8", "CompactMem 1000000", "SetHandleSize a 400"] * LINES
 
 
@@ -166,7 +166,8 @@ RUNS = [
     ("7,000 small gaps between pointers", [], fixed_between()),
     ("all handles purged, again and again", [], purged_each_time()),
     ("20,000 purgeable handles, PurgeMem and MaxMem", [], purged_by_turns()),
-    ("1 MB that moves at two lines of three", [], slides()),
+    ("1 MB that moves at two lines of three", [], slides([])),
+    ("1 MB that moves at two lines of three, and every tenth block may be purged", [], slides([f"HPurge h{it:X}" for it in range(0, 2000, 10)])),
     ("7,000 small gaps, and a pointer above them", [], above_gaps(7000)),
     ("10,000 small gaps, and a pointer above them", [], above_gaps(10000)),
     ("a locked purgeable handle among 20,000", [], below_others(["HPurge h", "HLock h"], ["NewHandle 900000"])),
@@ -182,6 +183,7 @@ RUNS = [
     ("bytes are to be added to the lowest handle", [], below_others(["b=NewHandle 500000"], ["HandAndHand b h"])),
     ("bytes of a purgeable handle are to be added to another", [], below_others(["b=NewHandle 500000", "HPurge b", "HPurge h"], ["HandAndHand b h"])),
     ("the lowest handle, purged and filled again", [], below_others([], ["HPurge h", "NewHandle 900000", "ReallocateHandle h 8"])),
+    ("the lowest handle, purged and filled again among 10,000 free blocks", [], below_free_blocks([], ["HPurge h", "NewHandle 600000", "ReallocateHandle h 8"])),
     ("the lowest handle, purged by PurgeMem and filled again", [], below_others([], ["HPurge h", "PurgeMem 2000000", "ReallocateHandle h 8"])),
     ("the highest handle, purged and filled again", [], above_others(["HPurge h", "NewHandle 900000", "ReallocateHandle h 8"])),
     ("the lowest and the highest handle, purged and filled again", [], above_others(["HPurge h", "HPurge g", "NewHandle 900000", "ReallocateHandle g 8", "ReallocateHandle h 8"])),

@@ -15,6 +15,11 @@ pub record HoldsByte (l : Layout) (at start : ℕ) : Type 0 where
 abbrev pub LiesOutside : Layout → ℕ → Type 0
 LiesOutside l at = (at < address_behind l []) ⊎ (address_behind l l.blocks ≤ at)
 
+-- a free block's header stands at this address
+pub record FreeAt (l : Layout) (at : ℕ) : Type 0 where
+  pub block : BlockAt l at
+  pub free : block.here.role ≡ Free
+
 -- the blocks from an address on, which is that of a block or of the end of the last
 pub record SplitAt (l : Layout) (at : ℕ) : Type 0 where
   pub before : List RawBlock

@@ -143,7 +143,7 @@ impl Blocks {
     ghost use Rattle.raw_region.specs.Bytes.{part, written};
     ghost use Rattle.block_bytes.specs.declared.header.Role.TheVariants.{Free};
     ghost use Rattle.block_bytes.specs.Layout.{RawBlock, Layout, BlockAt, UnlentAt, WordAt, CanBe, CanTurn, CanResize, CanSplit, PairAt, ParcelAt, Carried, ParcelUpTo, Sunk, CanMerge, Exchanged, CanLend, IsLoanOf, NothingLent, in_role, front_of, rest_of, with_word, cleared, cleared_from, CanClear, body, raw_block, free_raw_block, size_of, header_of, is_possible, joint_body, zone_bytes, with_blocks, with_front, extended, address_behind, free_total, lent_count, most_lent, loan_of, lent_block, given_back};
-    ghost use Rattle.block_bytes.specs.Finding.{HoldsByte, LiesOutside, LowestFree, NoneFree, SplitAt, FirstFree, LastFree, none_free};
+    ghost use Rattle.block_bytes.specs.Finding.{HoldsByte, LiesOutside, FreeAt, LowestFree, NoneFree, SplitAt, FirstFree, LastFree, none_free};
     ghost use Rattle.block_bytes.specs.Copying.{CanCopy, copied_over};
     ghost use Rattle.block_bytes.specs.WritingBack.{WritesBackContents};
     ghost use Rattle.block_bytes.specs.NewLayout.{new_layout};
@@ -249,6 +249,14 @@ impl Blocks {
     {
         self.memory
             .header(self.spec.heads(), (at - self.spec.base()) as usize)
+    }
+
+    /// The size of the free block at an address. No header is read: the index has it.
+    pub fn free_size(&self, at: u32) -> u32
+        requires { FreeAt self.now at }
+        ensures { (f : FreeAt self.now at) → result ≡ size_of self.now.heads f.block.here }
+    {
+        self.index.get((at - self.spec.base()) as usize / 4)
     }
 
     /// The address of the block behind the one at an address, if there is one.

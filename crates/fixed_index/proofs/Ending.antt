@@ -1,12 +1,10 @@
 -- A gap ends at the next fixed block, and begins behind the last one.
 use Rattle.std.proofs.Common.{◌≡◌, ℕ, ◌+◌, ◌<◌, ◌≤◌, true, [], ◌∷◌, ◌++◌, refl, ap, sym, ◌∙◌, subst, append_assoc, inl, inr, arith}
 use Rattle.std.specs.Prelude.{◌⊎◌}
-use Rattle.std.proofs.lemmas.Bool.{and_parts}
 use Rattle.mac_base.specs.declared.block.Entry.{Entry}
 use Rattle.mac_base.specs.Gap.{is_fixed}
 use Rattle.mac_base.specs.HandleTable.{HandleTable}
-use Rattle.mac_base.specs.HeadKind.{Shape, zone_header}
-use Rattle.mac_base.specs.Suits.{is_block_size}
+use Rattle.mac_base.specs.HeadKind.{zone_header}
 use Rattle.mac_base.specs.ZoneMap.{ZoneMap, address_behind, total_size}
 use Rattle.mac_base.specs.ZoneState.{ZoneState}
 use Rattle.zone_laws.proofs.GapAppend.{total_size-append}
@@ -16,21 +14,11 @@ use Rattle.linked_zone.specs.Places.{EntryAt}
 use Rattle.fixed_index.specs.Index.{FixedAt}
 use Rattle.fixed_index.specs.Runs.{FrontAt, RestAt, begins_fixed, ends_fixed}
 use Rattle.fixed_index.specs.Search.{LastFixed, NextFixed, NoneBelow, NoneFrom}
-use Rattle.fixed_index.proofs.Fixed.{HasFixed, fixed-back, fixed-none, fixed-split, of-fixed, to-fixed}
+use Rattle.fixed_index.proofs.Passing.{HasPassing, of-passing, passing-back, passing-below, passing-none, passing-split, to-passing}
 use Rattle.fixed_index.proofs.Sizes.{all_parts, first_bytes}
 
--- a fixed block begins below the end of its blocks
-fixed-below : (t : HandleTable) (s : Shape) (m : ZoneMap) (n : ℕ) → sizes_possible s m ≡ true → HasFixed t m n → n < total_size m
-fixed-below t s [] n sizes h = absurd h
-fixed-below t s (e ∷ es) n sizes h =
-    let some = first_bytes s e es sizes in
-    elim h [
-      | inl here ↦ let place = here.0 in omega arith
-      | inr later ↦ let place = later.1 in let rest = fixed-below t s es later.0 (and_parts (is_block_size s e.size) _ sizes).1 later.2 in omega arith
-    ]
-
 -- blocks that begin with a fixed one, if there is one
-begins : (t : HandleTable) (m : ZoneMap) → begins_fixed t m ≡ true → (m ≡ []) ⊎ HasFixed t m 0
+begins : (t : HandleTable) (m : ZoneMap) → begins_fixed t m ≡ true → (m ≡ []) ⊎ HasPassing (is_fixed t) m 0
 begins t [] h = inl refl
 begins t (e ∷ es) h = inr (inl (refl, h))
 
@@ -54,36 +42,36 @@ module _ (z : ZoneState) (sizes : HasSizes z) where
 
   module _ (start : ℕ) (rest : RestAt z start) where
     -- a fixed block from there on stands behind the gap
-    behind-gap : (at : ℕ) → FixedAt z at → start ≤ at → (k : ℕ) × (at ≡ start + total_size rest.blocks + k) × HasFixed z.heap.table rest.behind k
+    behind-gap : (at : ℕ) → FixedAt z at → start ≤ at → (k : ℕ) × (at ≡ start + total_size rest.blocks + k) × HasPassing (is_fixed z.heap.table) rest.behind k
     behind-gap at f up =
-        let n = of-fixed z at f in
+        let n = of-passing is_fixed z at f in
         let there = n.1 in
         let here = rest.place in
         let t = z.heap.table in
-        elim (fixed-split t rest.before (rest.blocks ++ rest.behind) n.0 (subst (λ m. HasFixed t m n.0) rest.map n.2)) [
+        elim (passing-split (is_fixed t) rest.before (rest.blocks ++ rest.behind) n.0 (subst (λ m. HasPassing (is_fixed t) m n.0) rest.map n.2)) [
           | inl low ↦
-              let below = fixed-below t z.shape rest.before n.0 (all_parts _ rest.before (rest.blocks ++ rest.behind) (ap (sizes_possible z.shape) (sym rest.map) ∙ sizes)).0 low in
+              let below = passing-below (is_fixed t) z.shape rest.before n.0 (all_parts _ rest.before (rest.blocks ++ rest.behind) (ap (sizes_possible z.shape) (sym rest.map) ∙ sizes)).0 low in
               absurd (omega arith)
-          | inr up ↦ elim (fixed-split t rest.blocks rest.behind up.0 up.2) [
-            | inl mid ↦ absurd (fixed-none t rest.blocks up.0 rest.moves mid)
+          | inr up ↦ elim (passing-split (is_fixed t) rest.blocks rest.behind up.0 up.2) [
+            | inl mid ↦ absurd (passing-none (is_fixed t) rest.blocks up.0 rest.moves mid)
             | inr high ↦ (high.0, (let first = up.1 in let second = high.1 in omega arith), high.2)
           ]
         ]
 
     -- if blocks are there, one stands right behind it
-    right-behind : HasFixed z.heap.table rest.behind 0 → FixedAt z (start + total_size rest.blocks)
+    right-behind : HasPassing (is_fixed z.heap.table) rest.behind 0 → FixedAt z (start + total_size rest.blocks)
     right-behind h =
         let here = rest.place in
-        to-fixed z (start + total_size rest.blocks) (total_size rest.before + total_size rest.blocks) (omega arith)
-        (subst (λ m. HasFixed z.heap.table m (total_size rest.before + total_size rest.blocks)) (sym rest.map)
-        (fixed-back z.heap.table rest.before (rest.blocks ++ rest.behind) _ (total_size rest.blocks) refl (fixed-back z.heap.table rest.blocks rest.behind (total_size rest.blocks) 0 (omega arith) h)))
+        to-passing is_fixed z (start + total_size rest.blocks) (total_size rest.before + total_size rest.blocks) (omega arith)
+        (subst (λ m. HasPassing (is_fixed z.heap.table) m (total_size rest.before + total_size rest.blocks)) (sym rest.map)
+        (passing-back (is_fixed z.heap.table) rest.before (rest.blocks ++ rest.behind) _ (total_size rest.blocks) refl (passing-back (is_fixed z.heap.table) rest.blocks rest.behind (total_size rest.blocks) 0 (omega arith) h)))
 
     pub ends-next : (at : ℕ) → NextFixed z start at → at ≡ start + total_size rest.blocks
     ends-next at next =
         let found = behind-gap at next.here next.above in
         let place = found.1 in
         elim (begins z.heap.table rest.behind rest.above) [
-          | inl none ↦ absurd (subst (λ m. HasFixed z.heap.table m found.0) none found.2)
+          | inl none ↦ absurd (subst (λ m. HasPassing (is_fixed z.heap.table) m found.0) none found.2)
           | inr first ↦ let least = next.first (start + total_size rest.blocks) (right-behind first) (omega arith) in omega arith
         ]
 
@@ -107,17 +95,17 @@ module _ (z : ZoneState) (sizes : HasSizes z) where
 
   module _ (end : ℕ) (front : FrontAt z end) where
     -- a fixed block below the gap's end stands below the gap
-    below-gap : (at : ℕ) → FixedAt z at → at < end → (n : ℕ) × (at ≡ address_behind z.shape [] + n) × HasFixed z.heap.table front.before n
+    below-gap : (at : ℕ) → FixedAt z at → at < end → (n : ℕ) × (at ≡ address_behind z.shape [] + n) × HasPassing (is_fixed z.heap.table) front.before n
     below-gap at f low =
-        let n = of-fixed z at f in
+        let n = of-passing is_fixed z at f in
         let there = n.1 in
         let here = front.place in
         let whole = total_size-append front.before front.blocks in
         let t = z.heap.table in
-        elim (fixed-split t front.before (front.blocks ++ front.behind) n.0 (subst (λ m. HasFixed t m n.0) front.map n.2)) [
+        elim (passing-split (is_fixed t) front.before (front.blocks ++ front.behind) n.0 (subst (λ m. HasPassing (is_fixed t) m n.0) front.map n.2)) [
           | inl low ↦ (n.0, n.1, low)
-          | inr up ↦ elim (fixed-split t front.blocks front.behind up.0 up.2) [
-            | inl mid ↦ absurd (fixed-none t front.blocks up.0 front.moves mid)
+          | inr up ↦ elim (passing-split (is_fixed t) front.blocks front.behind up.0 up.2) [
+            | inl mid ↦ absurd (passing-none (is_fixed t) front.blocks up.0 front.moves mid)
             | inr high ↦ let first = up.1 in let second = high.1 in absurd (omega arith)
           ]
         ]
@@ -147,15 +135,15 @@ module _ (z : ZoneState) (sizes : HasSizes z) where
         let found = below-gap at last.here last.below in
         let t = z.heap.table in
         elim (ends t front.before front.below) [
-          | inl none ↦ absurd (subst (λ m. HasFixed t m found.0) none found.2)
+          | inl none ↦ absurd (subst (λ m. HasPassing (is_fixed t) m found.0) none found.2)
           | inr l ↦
               let some = last_bytes l in
               let sum = last_sum l in
               let place = found.1 in
-              let least = last.last (address_behind z.shape l.front) (record { entry = last_entry l; fixed = l.fixed }) (omega arith) in
-              let same : address_behind z.shape l.front ≡ at = elim (fixed-split t l.front (l.last ∷ []) found.0 (subst (λ m. HasFixed t m found.0) l.parts found.2)) [
+              let least = last.last (address_behind z.shape l.front) (record { entry = last_entry l; passes = l.fixed }) (omega arith) in
+              let same : address_behind z.shape l.front ≡ at = elim (passing-split (is_fixed t) l.front (l.last ∷ []) found.0 (subst (λ m. HasPassing (is_fixed t) m found.0) l.parts found.2)) [
                 | inl low ↦
-                    let below = fixed-below t z.shape l.front found.0 (all_parts _ l.front (l.last ∷ front.blocks ++ front.behind) (ap (sizes_possible z.shape) (sym (last_entry l).map) ∙ sizes)).0 low in
+                    let below = passing-below (is_fixed t) z.shape l.front found.0 (all_parts _ l.front (l.last ∷ front.blocks ++ front.behind) (ap (sizes_possible z.shape) (sym (last_entry l).map) ∙ sizes)).0 low in
                     absurd (omega arith)
                 | inr up ↦ elim up.2 [
                   | inl here ↦ let none = here.0 in let there = up.1 in omega arith
@@ -175,5 +163,5 @@ module _ (z : ZoneState) (sizes : HasSizes z) where
       | inr l ↦
           let some = last_bytes l in
           let sum = last_sum l in
-          absurd (none (address_behind z.shape l.front) (record { entry = last_entry l; fixed = l.fixed }) (omega arith))
+          absurd (none (address_behind z.shape l.front) (record { entry = last_entry l; passes = l.fixed }) (omega arith))
     ]

@@ -1,13 +1,15 @@
 pub mod Sizes
-pub mod Fixed
+pub mod Passing
 pub mod Replaced
-pub mod Locks
+pub mod Rules
 pub mod Kept
 pub mod Table
 pub mod Exchanged
 pub mod Freed
 pub mod Fresh
+pub mod Turned
 pub mod Shown
 pub mod Placed
 pub mod Searching
+pub mod Going
 pub mod Ending

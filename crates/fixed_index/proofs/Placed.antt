@@ -11,7 +11,8 @@ use Rattle.linked_zone.specs.Fit.{HasSizes}
 use Rattle.linked_zone.specs.Places.{EntryAt, SplitAt}
 use Rattle.linked_zone.specs.Sizes.{sizes_of}
 use Rattle.fixed_index.specs.Index.{AreMarked, place}
-use Rattle.fixed_index.proofs.Fixed.{of-fixed}
+use Rattle.fixed_index.proofs.Passing.{of-passing}
+use Rattle.fixed_index.proofs.Rules.{Rule}
 
 -- an address between blocks is none behind the zone's limit
 pub split-within : (z : ZoneState) (at : ℕ) → ArePossible (sizes_of z) → SplitAt z at → (z.shape.base ≤ at) × (at ≤ z.shape.base + z.shape.limit)
@@ -37,12 +38,12 @@ pub record Placed (z : ZoneState) (at p : ℕ) : Type 0 where
 pub placed : (i z : ZoneState) → i ≡ z → (at p : ℕ) → p ≡ place z.shape at → p ≤ z.shape.limit / 4 → HasSizes z → Placed i at p
 placed i z is at p value inside sizes = subst (λ (z : ZoneState). Placed z at p) (sym is) (record { value = value; inside = subst (λ p. p ≤ z.shape.limit / 4) value inside; sizes = sizes })
 
--- a new zone has no fixed block
-pub bare-marked : (memory : Memory) (sizes : ZoneSizes) (n : ℕ) → n ≡ sizes.limit / 4 + 1 → AreMarked (bare_zone memory sizes) (replicate n 0)
-bare-marked memory sizes n is = record {
+-- no block of a new zone passes
+pub bare-marked : (r : Rule) (memory : Memory) (sizes : ZoneSizes) (n : ℕ) → n ≡ sizes.limit / 4 + 1 → AreMarked r.test (bare_zone memory sizes) (replicate n 0)
+bare-marked r memory sizes n is = record {
   places = length-replicate n 0 ∙ is;
-  marked = λ at f. elim (of-fixed (bare_zone memory sizes) at f).2 [
-    | inl here ↦ absurd (false≢true here.1)
+  marked = λ at f. elim (of-passing r.test (bare_zone memory sizes) at f).2 [
+    | inl here ↦ absurd (false≢true (sym (r.free _) ∙ here.1))
     | inr later ↦ absurd later.2
   ];
 }

@@ -1,20 +1,19 @@
--- Which block is reported at an address, and whether it is fixed.
+-- Which block is reported at an address, and whether it passes a test.
 use Rattle.std.proofs.Common.{◌≡◌, ℕ, ◌+◌, Bool, true, false, cond, [], ◌∷◌, ◌++◌, Option, Some, None, refl, ap, sym, ◌∙◌, subst, arith}
 use Rattle.std.specs.Prelude.{find, ◌==◌, ◌↔◌, IsTrue}
 use Rattle.std.proofs.lemmas.Bool.Decides.{nat_tests}
 use Rattle.mac_base.specs.declared.block.Block.{Block}
 use Rattle.mac_base.specs.declared.block.Entry.{Entry}
+use Rattle.mac_base.specs.declared.block.Kind.{Kind}
 use Rattle.mac_base.specs.BlockReport.{block_flags, report_at, reports_from}
-use Rattle.mac_base.specs.Gap.{is_fixed}
 use Rattle.mac_base.specs.HandleTable.{HandleTable}
 use Rattle.mac_base.specs.Suits.{wanted_length}
 use Rattle.mac_base.specs.ZoneMap.{ZoneMap, address_behind, total_size}
 use Rattle.mac_base.specs.ZoneState.{ZoneState}
-use Rattle.zone_laws.proofs.GapApart.{sizes_possible}
 use Rattle.zone_laws.proofs.Tables.{eqb-true-is}
 use Rattle.linked_zone.specs.Fit.{HasSizes}
-use Rattle.fixed_index.specs.Index.{FixedAt}
-use Rattle.fixed_index.proofs.Fixed.{HasFixed, fixed-only, of-fixed}
+use Rattle.fixed_index.specs.Index.{PassesAt}
+use Rattle.fixed_index.proofs.Passing.{passes-only}
 
 -- the report of a block
 abbrev report : HandleTable → ℕ → Entry → Block
@@ -57,22 +56,22 @@ none-shown t x at (f ∷ before) e behind h place = elim (at == x) as (λ c. con
 ] h
 
 module _ (z : ZoneState) (at : ℕ) where
-  pub none-fixed_there : None ≡ report_at z.shape z.heap at → FixedAt z at → ⊥
-  none-fixed_there none f =
+  pub shown-there : (b : Block) → Some b ≡ report_at z.shape z.heap at → Shown z.heap.table at (address_behind z.shape []) z.heap.map b
+  shown-there b is = shown z.heap.table at (address_behind z.shape []) z.heap.map b (sym is)
+
+module _ (test : HandleTable → Kind → Bool) (z : ZoneState) (at : ℕ) where
+  pub none_there : None ≡ report_at z.shape z.heap at → PassesAt test z at → ⊥
+  none_there none f =
       let e = f.entry in
       let place = e.place in
       none-shown z.heap.table at (address_behind z.shape []) e.before e.here e.behind (ap (reported z.heap.table at (address_behind z.shape [])) (sym e.map) ∙ sym none) (omega arith)
 
-  pub shown-there : (b : Block) → Some b ≡ report_at z.shape z.heap at → Shown z.heap.table at (address_behind z.shape []) z.heap.map b
-  shown-there b is = shown z.heap.table at (address_behind z.shape []) z.heap.map b (sym is)
-
   -- a reported block is the one that stands there
-  pub fixed-there : (b : Block) (answer : Bool) → HasSizes z → Some b ≡ report_at z.shape z.heap at → answer ≡ is_fixed z.heap.table (b.entry).kind → IsTrue answer ↔ FixedAt z at
-  fixed-there b answer sizes is said =
-      let s = shown-there b is in
+  pub passing-there : (b : Block) (answer : Bool) → HasSizes z → Some b ≡ report_at z.shape z.heap at → answer ≡ test z.heap.table (b.entry).kind → IsTrue answer ↔ PassesAt test z at
+  passing-there b answer sizes is said =
+      let s = shown-there z at b is in
+      let p = test z.heap.table in
       let place = s.place in (
-        (λ yes. record { entry = record { before = s.before; here = b.entry; behind = s.behind; map = s.map; place = omega arith }; fixed = sym said ∙ yes }),
-        (λ f. let n = of-fixed z at f in let stands = n.1 in
-            said ∙ fixed-only z.heap.table z.shape s.before b.entry s.behind (ap (sizes_possible z.shape) (sym s.map) ∙ sizes)
-            (subst (λ m. HasFixed z.heap.table m (total_size s.before)) s.map (subst (HasFixed z.heap.table z.heap.map) (let same : n.0 ≡ total_size s.before = omega arith in same) n.2))),
+        (λ yes. record { entry = record { before = s.before; here = b.entry; behind = s.behind; map = s.map; place = omega arith }; passes = sym said ∙ yes }),
+        (λ f. said ∙ passes-only test z sizes (record { before = s.before; here = b.entry; behind = s.behind; map = s.map; place = omega arith }) f),
       )

@@ -1,5 +1,7 @@
 pub mod Index
+pub mod Purging
 pub mod Runs
 pub mod Search
+pub mod Turning
 pub mod Zone
 pub mod WritingBack

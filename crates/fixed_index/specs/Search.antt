@@ -1,17 +1,28 @@
--- What a search for fixed blocks finds.
-use Rattle.std.specs.Prelude.{ℕ, ◌<◌, ◌≤◌}
+-- What a search for blocks that pass a test finds.
+use Rattle.std.specs.Prelude.{ℕ, ◌<◌, ◌≤◌, Bool}
+use Rattle.mac_base.specs.declared.block.Kind.{Kind}
+use Rattle.mac_base.specs.Gap.{is_fixed}
+use Rattle.mac_base.specs.HandleTable.{HandleTable}
 use Rattle.mac_base.specs.ZoneState.{ZoneState}
-use Rattle.fixed_index.specs.Index.{FixedAt}
+use Rattle.fixed_index.specs.Index.{FixedAt, PassesAt}
+
+-- the first one from an address on stands at another
+pub record NextPassing (test : HandleTable → Kind → Bool) (z : ZoneState) (from at : ℕ) : Type 0 where
+  pub here : PassesAt test z at
+  pub above : from ≤ at
+  pub first : (other : ℕ) → PassesAt test z other → from ≤ other → at ≤ other
+
+-- there is none
+abbrev pub NonePassing : (HandleTable → Kind → Bool) → ZoneState → ℕ → Type 0
+NonePassing test z from = (at : ℕ) → PassesAt test z at → from ≤ at → ⊥
 
 -- the first fixed block from an address on stands at another
-pub record NextFixed (z : ZoneState) (from at : ℕ) : Type 0 where
-  pub here : FixedAt z at
-  pub above : from ≤ at
-  pub first : (other : ℕ) → FixedAt z other → from ≤ other → at ≤ other
+abbrev pub NextFixed : ZoneState → ℕ → ℕ → Type 0
+NextFixed = NextPassing is_fixed
 
 -- there is none
 abbrev pub NoneFrom : ZoneState → ℕ → Type 0
-NoneFrom z from = (at : ℕ) → FixedAt z at → from ≤ at → ⊥
+NoneFrom = NonePassing is_fixed
 
 -- the last fixed block below an address stands at another
 pub record LastFixed (z : ZoneState) (end at : ℕ) : Type 0 where

@@ -1,5 +1,8 @@
-//! The changes of a zone. A block that becomes fixed gets its mark; one that is fixed no longer loses it.
+//! The changes of a zone. A block that becomes fixed gets its mark; one that is fixed no longer loses it. So it is with the marks of
+//! blocks that may be purged, which go with their blocks.
 
+use crate::marking::{carry, sink, write};
+use crate::purging::may_purge;
 use crate::zone::IndexedZone;
 use mac_base::block::Flags;
 use mac_base::handle::{Handle, Ptr};
@@ -67,6 +70,15 @@ impl IndexedZone {
         requires loose { (parcel : ParcelAt self.old at end) → IsTrue (none_fixed self.old.heap.table (parcel.here ∷ parcel.blocks)) }
         ensures { (parcel : ParcelAt self.old at end) → self.new ≡ carried_up self.old parcel }
     {
+        let first = self.place(at);
+        let size = self.zone.entry_at(at).size;
+        let others = end - at - size;
+        carry(
+            &mut self.purgeable,
+            first,
+            size as usize / 4,
+            others as usize / 4,
+        );
         self.zone.carry(at, end);
     }
 
@@ -77,6 +89,15 @@ impl IndexedZone {
         requires loose { (parcel : ParcelUpTo self.old start at) → IsTrue (none_fixed self.old.heap.table (parcel.blocks ++ parcel.here ∷ [])) }
         ensures { (parcel : ParcelUpTo self.old start at) → self.new ≡ sunk self.old parcel }
     {
+        let first = self.place(start);
+        let size = self.zone.entry_at(at).size;
+        let others = at - start;
+        sink(
+            &mut self.purgeable,
+            first,
+            size as usize / 4,
+            others as usize / 4,
+        );
         self.zone.sink(start, at);
     }
 
@@ -118,7 +139,8 @@ impl IndexedZone {
         ensures { self.new ≡ without_block handle self.old }
     {
         let place = self.place(self.zone.block_of(handle));
-        self.marks.set(place, 0);
+        write(&mut self.marks, place, 0);
+        write(&mut self.purgeable, place, 0);
         self.zone.empty(handle);
     }
 
@@ -138,7 +160,8 @@ impl IndexedZone {
         ensures { self.new ≡ flagged handle flags self.old }
     {
         let place = self.place(self.zone.block_of(handle));
-        self.marks.set(place, u8::from(flags.lock));
+        write(&mut self.marks, place, u8::from(flags.lock));
+        write(&mut self.purgeable, place, u8::from(may_purge(flags)));
         self.zone.set_flags(handle, flags);
     }
 
@@ -151,6 +174,11 @@ impl IndexedZone {
         requires room { RoomFor self.old at length }
         ensures { (r : RoomFor self.old at length) → self.new ≡ relocated handle length self.old r.free }
     {
+        let old = self.place(self.zone.block_of(handle));
+        let new = self.place(at);
+        let mark = self.purgeable.get(old);
+        write(&mut self.purgeable, old, 0);
+        write(&mut self.purgeable, new, mark);
         self.zone.relocate(handle, at, length);
     }
 

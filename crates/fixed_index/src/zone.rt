@@ -7,12 +7,14 @@ use place_marks::Marks;
 use std::alloc::Global;
 use std::marker::Model;
 
-/// A zone with a mark at each of its fixed blocks: master blocks, nonrelocatable blocks and those of locked handles. Contracts
-/// see the zone. After `create` no call takes memory of the host.
+/// A zone with a mark at each of its fixed blocks: master blocks, nonrelocatable blocks and those of locked handles; and with another
+/// at each block that may be purged. Contracts see the zone. After `create` no call takes memory of the host.
 pub struct IndexedZone {
     pub(crate) zone: LinkedZone,
     /// One for each four bytes of the zone. A mark may stand where no fixed block does.
     pub(crate) marks: Marks,
+    /// The same of the blocks that may be purged.
+    pub(crate) purgeable: Marks,
 }
 
 impl Model for IndexedZone {
@@ -34,9 +36,14 @@ impl Drop for IndexedZone {
     fn drop(self)
         requires nothing_lent { self.heap.table.lent ≡ [] }
     {
-        let IndexedZone { zone, marks } = self;
+        let IndexedZone {
+            zone,
+            marks,
+            purgeable,
+        } = self;
         drop(zone);
         drop(marks);
+        drop(purgeable);
     }
 }
 
@@ -45,6 +52,8 @@ impl IndexedZone {
     ghost use Rattle.linked_zone.specs.Changes.{bare_zone};
     ghost use Rattle.linked_zone.specs.Fit.{Fits, HasSizes};
     ghost use Rattle.linked_zone.specs.Places.{EntryAt};
+    ghost use Rattle.linked_zone.specs.Sizes.{sizes_of};
+    ghost use Rattle.mac_base.specs.ZoneSizes.{ArePossible};
     ghost use Rattle.fixed_index.specs.Index.{place};
 
     /// A new zone: one free block, and no slot.
@@ -53,8 +62,13 @@ impl IndexedZone {
     {
         let places = spec.limit() as usize / 4 + 1;
         let marks = Marks::create(alloc, places)?;
+        let purgeable = Marks::create(alloc, places)?;
         let zone = LinkedZone::create(alloc, spec)?;
-        Ok(IndexedZone { zone, marks })
+        Ok(IndexedZone {
+            zone,
+            marks,
+            purgeable,
+        })
     }
 
     /// The zone without its marks, to be read.
@@ -71,6 +85,7 @@ impl IndexedZone {
         ensures inside { result ≤ self.now.shape.limit / 4 }
         ensures fits { Fits self.now }
         ensures sizes { HasSizes self.now }
+        ensures possible { ArePossible (sizes_of self.now) }
     {
         let spec = self.zone.spec();
         (at - spec.base()) as usize / 4

@@ -9,7 +9,7 @@ use Rattle.zone_laws.proofs.Arranging.{free_bytes-all_used, total_size-used}
 use Rattle.zone_laws.proofs.GapAppend.{free_bytes-append, total_size-append}
 use Rattle.zone_laws.proofs.GapApart.{sizes_possible}
 use Rattle.linked_zone.specs.Fit.{HasSizes}
-use Rattle.linked_zone.specs.Places.{EntryAt, FirstFree, SplitAt, none_free}
+use Rattle.linked_zone.specs.Places.{FirstFree, FreeAt, SplitAt, none_free}
 use Rattle.fixed_index.specs.Runs.{RestAt}
 use Rattle.fixed_index.proofs.Sizes.{all_parts, first_bytes}
 
@@ -102,10 +102,10 @@ module _ (z : ZoneState) (start : ℕ) (rest : RestAt z start) where
           let none = none-among s.left rest.behind f.passed f.size f.behind f.splits f.used (omega arith) in
           omega arith
 
-      abbrev pub entry_summed : EntryAt z at
-      entry_summed = record {
+      abbrev pub free_summed : FreeAt z at
+      free_summed = record {
         before = (rest.before ++ s.passed) ++ f.passed;
-        here = block Free f.size;
+        size = f.size;
         behind = f.behind;
         map = split_summed.map ∙ ap (λ m. (rest.before ++ s.passed) ++ m) f.splits ∙ sym (append_assoc (rest.before ++ s.passed) f.passed (block Free f.size ∷ f.behind));
         place = (let there = split_summed.place in let here = f.place in let all = total_size-append (rest.before ++ s.passed) f.passed in omega arith);
@@ -158,4 +158,4 @@ module _ (z : ZoneState) (start : ℕ) (rest : RestAt z start) where
       -- a free block has bytes
       pub next-some : HasSizes z → 0 < f.size
       next-some sizes =
-          first_bytes z.shape (block Free f.size) f.behind (all_parts _ ((rest.before ++ s.passed) ++ f.passed) (block Free f.size ∷ f.behind) (ap (sizes_possible z.shape) (sym entry_summed.map) ∙ sizes)).1
+          first_bytes z.shape (block Free f.size) f.behind (all_parts _ ((rest.before ++ s.passed) ++ f.passed) (block Free f.size ∷ f.behind) (ap (sizes_possible z.shape) (sym free_summed.map) ∙ sizes)).1

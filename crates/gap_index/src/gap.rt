@@ -130,7 +130,7 @@ fn room_up_to(zone: &LinkedZone, start: u32, end: u32, needed: u32) -> u32
         if end <= at {
             return room;
         }
-        let size = zone.entry_at(at).size;
+        let size = zone.free_size(at);
         room += size;
         from = at + size;
     }

@@ -43,9 +43,11 @@ impl Drop for GapZone {
 }
 
 impl GapZone {
-    ghost use Rattle.std.specs.Prelude.{◌≡◌, ◌+◌, IfOk};
+    ghost use Rattle.std.specs.Prelude.{◌≡◌, ◌+◌, IfNone, IfOk, IfSome, IsTrue};
     ghost use Rattle.linked_zone.specs.Changes.{bare_zone};
     ghost use Rattle.mac_base.specs.ZoneMap.{total_size};
+    ghost use Rattle.linked_zone.specs.Places.{SplitAt};
+    ghost use Rattle.fixed_index.specs.Purging.{FirstPurgeable, none_purgeable};
     ghost use Rattle.fixed_index.specs.Runs.{FrontAt, RestAt};
 
     /// A new zone: one free block, and no slot.
@@ -81,5 +83,15 @@ impl GapZone {
         ensures { (front : FrontAt self.now end) → result + total_size front.blocks ≡ end }
     {
         self.zone.gap_start(end)
+    }
+
+    /// The address of the first block from an address on that may be purged, if there is one: that of a handle that is purgeable and
+    /// not locked.
+    pub fn next_purgeable(&self, from: u32) -> Option<u32>
+        requires { SplitAt self.now from }
+        ensures next { IfSome result (λ at. (split : SplitAt self.now from) → FirstPurgeable self.now.heap.table split.behind from at) }
+        ensures none { IfNone result ((split : SplitAt self.now from) → IsTrue (none_purgeable self.now.heap.table split.behind)) }
+    {
+        self.zone.next_purgeable(from)
     }
 }

@@ -23,7 +23,7 @@ use Rattle.linked_zone.specs.Fit.{has_room}
 use Rattle.linked_zone.specs.Following.{moved_to, CanFollow, followed, owners_saying, Misplaced}
 use Rattle.linked_zone.specs.Owned.{Owners, owners_of, records_of, records_from, record_of, content_of, slot_of_live, next_free}
 use Rattle.linked_zone.specs.Places.{EntryAt, is_movable, can_move}
-use Rattle.linked_zone.proofs.Standing.{Stands, stands-read}
+use Rattle.linked_zone.proofs.Standing.{Stands, stands-now}
 use Rattle.linked_zone.proofs.Owning.{image, image-same, records_from-append, records-place}
 use Rattle.linked_zone.proofs.EndsFollow.{following, Follows, follows-from, following-can, following-image, following-slot, following-flags, following-bytes, following-lent}
 use Rattle.linked_zone.proofs.EndsSaid.{part-passes, contents-said, entry-room, entry-end}
@@ -73,7 +73,7 @@ pub record Coming {r : ZoneRecords} {start end : ℕ} (m : Misplaced r start end
 module _ {r : ZoneRecords} {start end : ℕ} (m : Misplaced r start end) where
   -- the zone's own blocks
   stands : Stands (records_of m.zone) m.zone
-  stands = stands-read (records_of m.zone) m.zone m.stands m.same
+  stands = stands-now (record { records = records_of m.zone }) m.zone m.stands m.same
 
   -- the run among others
   passes : (p : Entry → Bool) → list_all p m.zone.heap.map ≡ true → list_all p m.run ≡ true

@@ -25,7 +25,7 @@ use Rattle.zone_records.specs.Places.{can_have, can_say, has_bytes, most_over}
 use Rattle.zone_records.specs.Records.{ZoneRecords, sizes_of}
 use Rattle.linked_zone.specs.Fit.{Fits, has_room}
 use Rattle.linked_zone.specs.Owned.{Owners, owners_of, records_of, record_of, content_of, lent_of, header_flags, slot_flags}
-use Rattle.linked_zone.specs.Places.{RoomFor, EntryAt}
+use Rattle.linked_zone.specs.Places.{FreeAt, RoomFor, EntryAt}
 use Rattle.linked_zone.proofs.Standing.{Stands, Kept}
 use Rattle.linked_zone.proofs.Owning.{image, SameOf, same_but}
 use Rattle.linked_zone.proofs.Ends.{lower, upper, parts-before, parts-after, parts-place, ended}
@@ -129,6 +129,16 @@ kind-is r z held spec heads is same = sym (same ∙ ap (λ (s : ZoneSizes). s.he
 pub head-is : (r : ZoneRecords) (z : ZoneState) → Stands r z → (spec : ZoneSizes) (heads : HeadKind) (head : ℕ) → spec ≡ sizes_of r → heads ≡ spec.heads → head ≡ head_size heads → head ≡ head_size z.shape.heads
 head-is r z held spec heads head is kind same = same ∙ ap head_size (sym (kind-is r z held spec heads is kind))
 
+-- the place of a free block among the blocks
+abbrev pub free-there : (r : ZoneRecords) (z : ZoneState) → Stands r z → (at : ℕ) (free : FreeAt z at) → places.FreeAt (records_of z) at
+free-there r z held at free = record {
+  before = lower (owners_of z) z.shape free.before;
+  size = free.size;
+  behind = upper (owners_of z) z.shape free.before (block kind.Free free.size ∷ []) free.behind;
+  blocks = swapped-before r z held z.heap 0 free.before kind.Free kind.Free free.size free.behind free.map free.map refl;
+  place = swapped-place r z held z.heap 0 free.before kind.Free kind.Free free.size free.behind free.map free.map refl at free.place;
+}
+
 module _ (r : ZoneRecords) (z : ZoneState) (held : Stands r z) (at n : ℕ) (room : RoomFor z at n) where
   abbrev free_entry : EntryAt z at
   free_entry = record { before = room.free.before; here = block kind.Free room.free.size; behind = room.free.behind; map = room.free.map; place = room.free.place }
@@ -136,13 +146,7 @@ module _ (r : ZoneRecords) (z : ZoneState) (held : Stands r z) (at n : ℕ) (roo
   -- the place of the free block among the blocks, where something else is to be
   abbrev pub room-there : places.RoomFor (records_of z) at n
   room-there = record {
-    free = record {
-      before = lower (owners_of z) z.shape room.free.before;
-      size = room.free.size;
-      behind = upper (owners_of z) z.shape room.free.before (block kind.Free room.free.size ∷ []) room.free.behind;
-      blocks = swapped-before r z held z.heap 0 room.free.before kind.Free kind.Free room.free.size room.free.behind room.free.map room.free.map refl;
-      place = swapped-place r z held z.heap 0 room.free.before kind.Free kind.Free room.free.size room.free.behind room.free.map room.free.map refl at room.free.place;
-    };
+    free = free-there r z held at room.free;
     room = length-had z.shape room.free.size n (swapped-size r z held z.heap 0 room.free.before kind.Free kind.Free room.free.size room.free.behind room.free.map room.free.map refl) room.room;
   }
 

@@ -16,7 +16,6 @@ mod ChangeTaken
 mod ChangeTurned
 mod ChangeUnfixed
 mod ChangeWritten
-mod Counting
 mod Ends
 mod EndsCopied
 mod EndsCut

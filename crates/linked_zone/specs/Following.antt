@@ -60,7 +60,7 @@ pub record Misplaced (r : ZoneRecords) (start end : ℕ) : Type 0 where
   pub behind : ZoneMap
   pub said : ℕ → ℕ
   pub same : state_in (records_of zone) ≡ zone
-  pub stands : StandsAsRead (records_of zone)
+  pub stands : StandsAsRead (record { records = records_of zone })
   pub map : zone.heap.map ≡ before ++ (run ++ behind)
   pub place : start ≡ address_behind zone.shape before
   pub long : end ≡ start + total_size run

@@ -1,6 +1,5 @@
 pub mod Fit
 pub mod Owned
-pub mod Purgeable
 pub mod Reading
 pub mod Places
 pub mod Sizes

@@ -12,7 +12,6 @@ use Rattle.zone_records.specs.Records.{Content, BlockRecord, ZoneRecords, Free, 
 use Rattle.linked_zone.specs.declared.zone.LinkedZone.TheInside.{Inside}
 use Rattle.linked_zone.specs.Owned.{records_of}
 use Rattle.linked_zone.specs.Fit.{Fits, HasSizes, HasRooms}
-use Rattle.linked_zone.specs.Purgeable.{IsBound, purgeables}
 
 -- the zone map that blocks are, the first at an address
 abbrev pub map_in : Shape → ℕ → List BlockRecord → ZoneMap
@@ -109,17 +108,12 @@ state_of_field z = state_in z.records
 
 -- the blocks are those of the zone that they stand for; sizes are possible, addresses have 24 bits, and none is 0; the zone
 -- begins at a multiple of four
-pub record StandsAsRead (z : ZoneRecords) : Type 0 where
-  pub blocks : z ≡ records_of (state_in z)
-  pub fits : Fits (state_in z)
-  pub sizes : HasSizes (state_in z)
-  pub rooms : HasRooms (state_in z)
-  pub within : zone_header + total_size (state_in z).heap.map ≤ z.shape.limit
-  pub even : z.shape.base % 4 ≡ 0
-  pub low : 0x1000 ≤ z.shape.base
-  pub high : z.shape.base + z.shape.limit ≤ 0x100_0000
-
--- the blocks stand as read, and of the handles no more may be purged than the bound says
-pub record IsCounted (z : Inside) : Type 0 where
-  pub stands : StandsAsRead z.records
-  pub bound : IsBound (purgeables (state_in z.records).heap.table.live) z.purgeable
+pub record StandsAsRead (z : Inside) : Type 0 where
+  pub blocks : z.records ≡ records_of (state_in z.records)
+  pub fits : Fits (state_in z.records)
+  pub sizes : HasSizes (state_in z.records)
+  pub rooms : HasRooms (state_in z.records)
+  pub within : zone_header + total_size (state_in z.records).heap.map ≤ z.records.shape.limit
+  pub even : z.records.shape.base % 4 ≡ 0
+  pub low : 0x1000 ≤ z.records.shape.base
+  pub high : z.records.shape.base + z.records.shape.limit ≤ 0x100_0000

@@ -1,6 +1,5 @@
 //! The changes of a zone.
 
-use crate::purging::bound_after;
 use crate::zone::LinkedZone;
 use mac_base::block::{Flags, Kind};
 use mac_base::handle::{Handle, Ptr};
@@ -141,7 +140,6 @@ impl LinkedZone {
         ensures { self.new ≡ without_block handle self.old }
     {
         let at = self.block_of(handle);
-        self.purgeable = bound_after(self.purgeable, self.flags(handle), Flags::NONE);
         self.records.set_free(at);
         self.records.set_slot(handle.number(), Slot::Empty);
     }

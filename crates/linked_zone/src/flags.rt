@@ -4,7 +4,6 @@ ghost use Rattle.std.specs.Prelude.{◌≡◌};
 ghost use Rattle.zone_records.specs.Places.{HandleBlockAt};
 ghost use Rattle.linked_zone.specs.Flags.{flags_there};
 
-use crate::purging::bound_after;
 use crate::zone::LinkedZone;
 use mac_base::block::{Flags, HeadKind};
 use mac_base::handle::Handle;
@@ -32,7 +31,6 @@ impl LinkedZone {
         ensures { self.new ≡ flagged handle flags self.old }
     {
         let at = self.block_of(handle);
-        self.purgeable = bound_after(self.purgeable, self.flags(handle), flags);
         let heads = self.records.spec().heads();
         match heads {
             HeadKind::Bits24 => {

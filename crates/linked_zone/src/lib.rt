@@ -5,7 +5,6 @@ mod changes;
 mod copying;
 mod flags;
 mod loans;
-mod purging;
 mod relocating;
 mod sizes;
 mod zone;

@@ -1,7 +1,6 @@
 //! The zone.
 
 use crate::flags;
-use crate::purging::may_purge;
 use mac_base::block::{Block, Entry, Flags, HeadKind, Kind};
 use mac_base::error::HostFull;
 use mac_base::handle::{Handle, Ptr};
@@ -14,8 +13,6 @@ use zone_records::{Records, Slot};
 /// the order in which they are given. Free neighbours need not be joined. After `create` no call takes memory of the host.
 pub struct LinkedZone {
     pub(crate) records: Records,
-    /// How many handles may be purged, at most; the greatest number says nothing.
-    pub(crate) purgeable: u32,
 }
 
 impl Model for LinkedZone {
@@ -23,11 +20,11 @@ impl Model for LinkedZone {
 
     ghost Value = { ZoneState };
 
-    ghost use Rattle.linked_zone.specs.Reading.{state_of_field, IsCounted};
+    ghost use Rattle.linked_zone.specs.Reading.{state_of_field, StandsAsRead};
 
     ghost view = { state_of_field };
 
-    ghost invariant = { IsCounted };
+    ghost invariant = { StandsAsRead };
 }
 
 impl Drop for LinkedZone {
@@ -37,10 +34,7 @@ impl Drop for LinkedZone {
     fn drop(self)
         requires nothing_lent { self.heap.table.lent ≡ [] }
     {
-        let LinkedZone {
-            records,
-            purgeable: _,
-        } = self;
+        let LinkedZone { records } = self;
         drop(records);
     }
 }
@@ -49,7 +43,7 @@ impl LinkedZone {
     ghost use Rattle.std.specs.Prelude.{◌≡◌, ◌+◌, ◌≤◌, ◌<◌, IfOk, IfSome, IfNone, IsTrue, IsFalse, MatchOption, Some, None, ◌∷◌, [], not, drop, length, Contains, ◌↔◌};
     ghost use Rattle.std.specs.List.{list_all};
     ghost use Rattle.std.specs.Borrow.{sem};
-    ghost use Rattle.mac_base.specs.HandleTable.{EmptyHandle, has_block, is_handle, is_full, is_lent, is_pointer, is_purgeable, live_at, bytes_of, flags_of};
+    ghost use Rattle.mac_base.specs.HandleTable.{EmptyHandle, has_block, is_handle, is_full, is_lent, is_pointer, live_at, bytes_of, flags_of};
     ghost use Rattle.mac_base.specs.HeadKind.{master_length, head_size};
     ghost use Rattle.mac_base.specs.Heap.{has_none};
     ghost use Rattle.mac_base.specs.Loans.{most_loans, LoansFit};
@@ -60,7 +54,6 @@ impl LinkedZone {
     ghost use Rattle.linked_zone.specs.Fit.{Fits, HasSizes};
     ghost use Rattle.linked_zone.specs.WritingBack.{WritesBackBytes};
     ghost use Rattle.linked_zone.specs.Places.{EntryAt, HasOwner, FreeAt, BlockOf, NamedAt, LowestAt, RoomFor, CanCut, CanHold, CanGrow, FreePair, SplitAt, FirstFree, LastFree, none_free};
-    ghost use Rattle.linked_zone.specs.Purgeable.{NonePurgeable, OnlyPurgeable, one_if};
     ghost use Rattle.linked_zone.specs.Sizes.{sizes_of};
     ghost use Rattle.linked_zone.specs.Image.{IsImage};
     ghost use Rattle.block_bytes.specs.Walk.{Walks};
@@ -73,7 +66,6 @@ impl LinkedZone {
         prove!(starts_high_enough);
         Ok(LinkedZone {
             records: Records::create(alloc, spec)?,
-            purgeable: 0,
         })
     }
 
@@ -129,6 +121,14 @@ impl LinkedZone {
         self.is_pointer(Ptr::new(block))
             || (self.is_slot(Handle::new(block))
                 && matches!(self.records.slot(block), Slot::Full(..)))
+    }
+
+    /// Whether a live handle has a block. Only its slot is read.
+    pub fn is_full(&self, handle: Handle) -> bool
+        requires { IsTrue (is_handle self.now.heap.table handle) }
+        ensures { result ≡ is_full self.now.heap.table handle }
+    {
+        matches!(self.records.slot(handle.number()), Slot::Full(..))
     }
 
     /// Whether a handle or a pointer that has a block is lent.
@@ -193,36 +193,6 @@ impl LinkedZone {
         }
     }
 
-    /// Whether there may be a handle that may be purged. Where not, there is none.
-    pub fn has_purgeable(&self) -> bool
-        ensures { IsFalse result → NonePurgeable self.now.heap.table }
-    {
-        self.purgeable != 0
-    }
-
-    /// Whether there may be a handle that may be purged, beside those of these two numbers. Where not, there is none.
-    pub fn has_purgeable_beside(&self, first: u32, second: u32) -> bool
-        ensures { IsFalse result → OnlyPurgeable first second self.now.heap.table }
-    {
-        let known = self.purgeable_count(first);
-        if first == second {
-            return known < self.purgeable;
-        }
-        known + self.purgeable_count(second) < self.purgeable
-    }
-
-    /// One where this is the number of a handle that may be purged, else 0.
-    fn purgeable_count(&self, number: u32) -> u32
-        ensures { result ≡ one_if (is_purgeable self.now.heap.table number) }
-    {
-        let handle = Handle::new(number);
-        if self.is_live(handle) && may_purge(self.flags(handle)) {
-            1
-        } else {
-            0
-        }
-    }
-
     /// The bytes of a handle or a pointer that has a block.
     pub fn contents(&self, block: u32) -> &[u8]
         requires block { IsTrue (has_block self.now.heap.table block) }
@@ -256,6 +226,14 @@ impl LinkedZone {
         ensures none { IfNone result ((split : SplitAt self.now end) → IsTrue (none_free split.before)) }
     {
         self.records.last_free(end)
+    }
+
+    /// The size of the free block at an address. No header is read.
+    pub fn free_size(&self, at: u32) -> u32
+        requires { FreeAt self.now at }
+        ensures { (f : FreeAt self.now at) → result ≡ f.size }
+    {
+        self.records.free_size(at)
     }
 
     /// The sum of the sizes of the free blocks.

@@ -34,7 +34,7 @@ pub(crate) fn test_full(zone: &Zone, handle: Handle) -> Result<(), OsErr>
     ensures { Tests zone.now (IsHandle handle ∷ NotEmpty handle ∷ []) result }
 {
     test_handle(zone, handle)?;
-    if !zone.has_block(handle.number()) {
+    if !zone.is_full(handle) {
         return Err(OsErr::NilHandleErr);
     }
     Ok(())

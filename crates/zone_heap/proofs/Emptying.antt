@@ -44,10 +44,10 @@ with_live-again x l t rise is =
     by_test y false h = refl
 
 -- a handle without a block is empty
-pub handle_empty : (t : HandleTable) (x : ℕ) → is_handle t x ≡ true → has_block t x ≡ false → live_at t x ≡ Some EmptyHandle
+pub handle_empty : (t : HandleTable) (x : ℕ) → is_handle t x ≡ true → is_full t x ≡ false → live_at t x ≡ Some EmptyHandle
 handle_empty t x = by_case (live_at t x)
   where
-    by_case : (o : Option Live) → live_handle o ≡ true → (live_full o || live_pointer o) ≡ false → o ≡ Some EmptyHandle
+    by_case : (o : Option Live) → live_handle o ≡ true → live_full o ≡ false → o ≡ Some EmptyHandle
     by_case None live none = absurd (cc live)
     by_case (Some EmptyHandle) live none = refl
     by_case (Some (FullHandle flags bytes)) live none = absurd (cc none)
@@ -74,7 +74,7 @@ released-none s t m x suits full pointer =
     no_size (n ∷ ns) h = absurd (omega arith)
 
 -- to empty an empty handle is to do nothing
-pub emptied-again : (s : Shape) (heap : Heap) (h : ℕ) → Sound s heap → is_handle heap.table h ≡ true → has_block heap.table h ≡ false → heap ≡ heap_released (Empties h) heap
+pub emptied-again : (s : Shape) (heap : Heap) (h : ℕ) → Sound s heap → is_handle heap.table h ≡ true → is_full heap.table h ≡ false → heap ≡ heap_released (Empties h) heap
 emptied-again s heap h sound live none =
     let is = handle_empty heap.table h live none in
     sym (ap (λ t. record heap { table = t; map = released h heap.map }) (with_live-again h EmptyHandle heap.table sound.suits.coherent.in_order is)

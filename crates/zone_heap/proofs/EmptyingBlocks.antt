@@ -1,13 +1,12 @@
 -- A walk over blocks by which those that may be purged become free, and their handles empty.
 use Rattle.std.proofs.Common.{◌≡◌, ℕ, ◌+◌, ◌<◌, ◌≤◌, Bool, true, false, not, cond, List, [], ◌∷◌, ◌++◌, refl, ap, sym, ◌∙◌, arith, append_assoc, append-nil, subst, Some, None}
 use Rattle.std.specs.Prelude.{◌&&◌, ◌||◌, ◌==◌}
-use Rattle.std.specs.List.{list_all}
 use Rattle.std.proofs.lemmas.Bool.{or_parts}
 use Rattle.std.proofs.lemmas.List.{map-append}
 use Rattle.mac_base.specs.declared.block.Entry.{Entry}
 use Rattle.mac_base.specs.declared.block.Kind.{Kind}
 use Rattle.mac_base.specs.declared.block.Kind.TheVariants.{Free, Master, Ptr, Rel}
-use Rattle.mac_base.specs.HandleTable.{HandleTable, EmptyHandle, emptied, is_handle, is_lent, is_purgeable, live_at, live_flags, live_full, live_handle}
+use Rattle.mac_base.specs.HandleTable.{HandleTable, EmptyHandle, emptied, is_lent, is_purgeable, live_at, live_flags, live_full}
 use Rattle.mac_base.specs.HeadKind.{Shape}
 use Rattle.mac_base.specs.Heap.{with_all_emptied}
 use Rattle.mac_base.specs.Suits.{is_block_size}
@@ -20,16 +19,14 @@ use Rattle.zone_laws.proofs.Maps.{both_true, true_both}
 use Rattle.zone_laws.proofs.NamedPlace.{nil-append}
 use Rattle.zone_laws.proofs.GapAppend.{sizes-append}
 use Rattle.zone_laws.proofs.Owners.{nothing_passes}
-use Rattle.zone_laws.proofs.Tables.{by_number, eqb_same, eqb_swap, live_at-with_live_same, with_live_agrees}
+use Rattle.zone_laws.proofs.Tables.{eqb_same, eqb_swap, with_live_agrees}
 use Rattle.linked_zone.specs.Changes.{freed, without_block}
 use Rattle.linked_zone.specs.Fit.{HasSizes}
-use Rattle.linked_zone.specs.Places.{EntryAt, HasOwner}
-use Rattle.zone_gaps.specs.Runs.{has_owner}
-use Rattle.zone_gaps.proofs.Settling.{owners-settled, settled-sound}
-use Rattle.zone_gaps.proofs.Sizes.{all_both, all_parts, first_bytes, no_bytes, total_size-push}
+use Rattle.zone_gaps.proofs.Sizes.{all_both, all_parts, first_bytes, total_size-push}
 use Rattle.zone_heap.specs.Attempts.{SoundZone}
 use Rattle.zone_heap.specs.Joins.{all_joined}
-use Rattle.zone_heap.specs.Purge.{BlocksAt, all_emptied, freed_where, handle_to_purge, may_purge, purged_between}
+use Rattle.zone_heap.specs.Purge.{AllStay, BlocksAt, FirstToPurge, all_emptied, freed_where, handle_to_purge, may_purge, purged_between}
+use Rattle.zone_heap.specs.declared.purge.Candidate.{Candidate}
 use Rattle.zone_heap.proofs.FreedBlocks.{Once, once-suits, once-At, once-free, candidate_here, candidates-append, candidates-cons, released-candidates, emptied-parts, total_size-freed}
 use Rattle.zone_heap.proofs.Purging.{may_purge-parts, purged-here}
 use Rattle.zone_heap.proofs.Releasing.{freed-At}
@@ -57,15 +54,6 @@ same-live (g ∷ hs) t h other =
     let parts = or_parts (g == h) (is_among hs h) other in
     same-live hs (emptied g t) h parts.1 ∙ (with_live_agrees g EmptyHandle t).others h (eqb_swap h g ∙ parts.0)
 
--- handles stay handles
-same-handle : (hs : List ℕ) (t : HandleTable) (h : ℕ) → is_handle t h ≡ true → is_handle (all_emptied hs t) h ≡ true
-same-handle [] t h live = live
-same-handle (g ∷ hs) t h live =
-    same-handle hs (emptied g t) h
-    (by_number (λ y. is_handle t y ≡ true → is_handle (emptied g t) y ≡ true) g
-    (λ _. ap live_handle (live_at-with_live_same g EmptyHandle t))
-    (λ y apart was. ap live_handle ((with_live_agrees g EmptyHandle t).others y apart) ∙ was) h live)
-
 -- and what is lent stays lent
 same-lent : (hs : List ℕ) (t : HandleTable) → (all_emptied hs t).lent ≡ t.lent
 same-lent [] t = refl
@@ -86,18 +74,6 @@ once-freed test before (e ∷ es) rest once =
       | true ↦ on (block Free e.size) (once-free before e (es ++ rest) once)
       | false ↦ on e once
     ]
-
-owner_of_kind : (z : ZoneState) (kind : Kind) → has_owner z.heap.table kind ≡ true → HasOwner z kind
-owner_of_kind z Free h = tt
-owner_of_kind z Master h = tt
-owner_of_kind z (Ptr p) h = tt
-owner_of_kind z (Rel g) h = h
-
-owner_emptied : (hs : List ℕ) (t : HandleTable) (kind : Kind) → has_owner t kind ≡ true → has_owner (all_emptied hs t) kind ≡ true
-owner_emptied hs t Free h = refl
-owner_emptied hs t Master h = refl
-owner_emptied hs t (Ptr p) h = refl
-owner_emptied hs t (Rel g) h = same-handle hs t g h
 
 -- the zone in which the first blocks of a run are looked at
 abbrev looked_at : {start end : ℕ} → (z : ZoneState) → BlocksAt z start end → List ℕ → ZoneMap → ZoneMap → ZoneState
@@ -128,33 +104,35 @@ module _ {start end : ℕ} (z : ZoneState) (at : BlocksAt z start end) (protecte
   none_emptied = record { done = []; more = at.blocks; parts = refl; next_is = (let e : start ≡ start + 0 = omega arith in e); is = ap (λ m. with_heap (record { table = z.heap.table; map = m; free_slots = z.heap.free_slots }) z) at.map }
 
   module _ (new : ZoneState) (next : ℕ) where
-    end_emptied : (s : Emptying z at protected new next) → end ≡ next + total_size s.more
+    pub end_emptied : (s : Emptying z at protected new next) → end ≡ next + total_size s.more
     end_emptied s =
         let long = at.long in
         let here = s.next_is in
         let all : total_size at.blocks ≡ total_size s.done + total_size s.more = ap total_size s.parts ∙ total_size-append s.done s.more in
         omega arith
 
-    -- below the end one more block stands
-    pub coming_next : Emptying z at protected new next → next < end → Coming z at protected new next
-    coming_next s below = by_more s.more refl
-      where
-        by_more : (m : ZoneMap) → s.more ≡ m → Coming z at protected new next
-        by_more [] none = let bytes = ap total_size none in let all = end_emptied s in absurd (omega arith)
-        by_more (e ∷ es) some = record { so_far = s; here = e; rest = es; is = some }
+    pub map_left : (s : Emptying z at protected new next) → new.heap.map ≡ (at.before ++ freed_where (may_purge z.heap.table protected) s.done) ++ (s.more ++ at.behind)
+    map_left s = ap (λ (w : ZoneState). w.heap.map) s.is ∙ sym (append_assoc at.before (freed_where (may_purge z.heap.table protected) s.done) (s.more ++ at.behind))
 
-    -- at the end all are
-    pub emptied_all : SoundZone z → (s : Emptying z at protected new next) → end ≤ next → new ≡ purged_between z at protected
-    emptied_all sound s above =
-        let all = end_emptied s in
-        let possible = (all_parts _ at.blocks at.behind (all_parts _ at.before (at.blocks ++ at.behind) (subst (λ m. sizes_possible z.shape m ≡ true) at.map sound.sound.suits.sizes)).1).0 in
-        let none = no_bytes z.shape s.more (all_parts _ s.done s.more (subst (λ m. sizes_possible z.shape m ≡ true) s.parts possible)).1 (omega arith) in
-        let whole : s.done ≡ at.blocks = sym (append-nil s.done) ∙ ap (λ m. s.done ++ m) (sym none) ∙ sym s.parts in
-        s.is ∙ ap (λ m. looked_at z at protected s.done m) none ∙ ap (λ m. looked_at z at protected m []) whole
+    pub place_left : (s : Emptying z at protected new next) → next ≡ address_behind new.shape (at.before ++ freed_where (may_purge z.heap.table protected) s.done)
+    place_left s =
+        let first = at.place in
+        let here = s.next_is in
+        let all = total_size-append at.before (freed_where (may_purge z.heap.table protected) s.done) in
+        let same = total_size-freed (may_purge z.heap.table protected) s.done in
+        let there : next ≡ address_behind z.shape (at.before ++ freed_where (may_purge z.heap.table protected) s.done) = omega arith in
+        there ∙ ap (λ (w : ZoneState). address_behind w.shape (at.before ++ freed_where (may_purge z.heap.table protected) s.done)) (sym s.is)
 
-    -- the block is the one that is read there
-    abbrev pub coming_read : (f : Coming z at protected new next) (e : Entry) → e ≡ f.here → Coming z at protected new next
-    coming_read f e is = record { so_far = f.so_far; here = e; rest = f.rest; is = f.is ∙ ap (λ e. e ∷ f.rest) (sym is) }
+    -- the others still stand there
+    abbrev pub blocks_left : Emptying z at protected new next → BlocksAt new next end
+    blocks_left s = record {
+      before = at.before ++ freed_where (may_purge z.heap.table protected) s.done;
+      blocks = s.more;
+      behind = at.behind;
+      map = map_left s;
+      place = place_left s;
+      long = end_emptied s;
+    }
 
     module _ (sound : SoundZone z) (f : Coming z at protected new next) where
       -- the map before anything is looked at
@@ -172,24 +150,6 @@ module _ {start end : ℕ} (z : ZoneState) (at : BlocksAt z start end) (protecte
       pub map_now : at.before ++ (freed_where (may_purge z.heap.table protected) (f.so_far).done ++ ((f.so_far).more ++ at.behind)) ≡ before_now ++ f.here ∷ (f.rest ++ at.behind)
       map_now = ap (λ m. at.before ++ (freed_where (may_purge z.heap.table protected) (f.so_far).done ++ (m ++ at.behind))) f.is ∙ sym (append_assoc at.before (freed_where (may_purge z.heap.table protected) (f.so_far).done) (f.here ∷ (f.rest ++ at.behind)))
 
-      pub place_now : next ≡ address_behind z.shape before_now
-      place_now =
-          let first = at.place in
-          let here = (f.so_far).next_is in
-          let all = total_size-append at.before (freed_where (may_purge z.heap.table protected) (f.so_far).done) in
-          let same = total_size-freed (may_purge z.heap.table protected) (f.so_far).done in
-          omega arith
-
-      -- it is read there
-      abbrev pub entry_coming : EntryAt new next
-      entry_coming = record {
-        before = before_now;
-        here = f.here;
-        behind = f.rest ++ at.behind;
-        map = ap (λ (w : ZoneState). w.heap.map) (f.so_far).is ∙ map_now;
-        place = place_now ∙ ap (λ (w : ZoneState). address_behind w.shape before_now) (sym (f.so_far).is);
-      }
-
       possible_coming : sizes_possible z.shape (f.here ∷ (f.rest ++ at.behind)) ≡ true
       possible_coming = (all_parts _ (at.before ++ (f.so_far).done) (f.here ∷ (f.rest ++ at.behind)) (subst (λ m. sizes_possible z.shape m ≡ true) map_coming sound.sound.suits.sizes)).1
 
@@ -200,18 +160,6 @@ module _ {start end : ℕ} (z : ZoneState) (at : BlocksAt z start end) (protecte
       -- it ends at the end or below
       pub within_coming : next + (f.here).size ≤ end
       within_coming = let all = end_emptied f.so_far in let bytes = ap total_size f.is in omega arith
-
-      -- its owner is live
-      pub owner_coming : HasOwner new (f.here).kind
-      owner_coming =
-          let owners = subst (λ m. list_all (λ (e : Entry). has_owner z.heap.table e.kind) m ≡ true) map_coming (owners-settled z (settled-sound z sound.sound sound.fixed)) in
-          let here = (all_parts (λ (e : Entry). has_owner z.heap.table e.kind) (f.here ∷ []) (f.rest ++ at.behind) (all_parts (λ (e : Entry). has_owner z.heap.table e.kind) (at.before ++ (f.so_far).done) (f.here ∷ (f.rest ++ at.behind)) owners).1).0 in
-          subst (λ w. HasOwner w (f.here).kind) (sym (f.so_far).is)
-          (owner_of_kind (looked_at z at protected (f.so_far).done (f.so_far).more) (f.here).kind (owner_emptied (candidates_in z.heap.table protected (f.so_far).done) z.heap.table (f.here).kind (first_holds _ here)))
-        where
-          first_holds : (b : Bool) → (b && true) ≡ true → b ≡ true
-          first_holds true h = refl
-          first_holds false h = absurd (cc h)
 
       named_self : (h : ℕ) → (f.here).kind ≡ Rel h → is_named h (f.here).kind ≡ true
       named_self h is = ap (is_named h) is ∙ eqb_same h
@@ -301,6 +249,31 @@ module _ {start end : ℕ} (z : ZoneState) (at : BlocksAt z start end) (protecte
             same : without_block h (looked_at z at protected (f.so_far).done (f.so_far).more) ≡ looked_at z at protected ((f.so_far).done ++ f.here ∷ []) f.rest
             same = ap (λ t. with_heap (record { table = t; map = freed h (at.before ++ (freed_where (may_purge z.heap.table protected) (f.so_far).done ++ ((f.so_far).more ++ at.behind))); free_slots = z.heap.free_slots }) z) table_same
                 ∙ ap (λ m. with_heap (record { table = all_emptied (candidates_in z.heap.table protected ((f.so_far).done ++ f.here ∷ [])) z.heap.table; map = m; free_slots = z.heap.free_slots }) z) map_same
+
+module _ {start end : ℕ} (z : ZoneState) (at : BlocksAt z start end) (protected : List ℕ) (new : ZoneState) (sound : SoundZone z) where
+  -- those that may not be purged are passed
+  pub emptied_over : (front back : ZoneMap) (next to : ℕ) (s : Emptying z at protected new next) → s.more ≡ front ++ back → AllStay (may_purge new.heap.table protected) front → to ≡ next + total_size front
+      → (t : Emptying z at protected new to) × (t.more ≡ back)
+  unfolding passed_on
+  emptied_over [] back next to s parts stay place = (record { done = s.done; more = s.more; parts = s.parts; next_is = place ∙ (let e : next + 0 ≡ next = omega arith in e) ∙ s.next_is; is = s.is }, parts)
+  emptied_over (e ∷ es) back next to s parts stay place =
+      let f : Coming z at protected new next = record { so_far = s; here = e; rest = es ++ back; is = parts } in
+      emptied_over es back (next + e.size) to (passed_on z at protected new next sound f (sym (may_coming z at protected new next sound f) ∙ stay.0)) refl stay.1 (omega arith)
+
+  module _ (next : ℕ) (s : Emptying z at protected new next) where
+    -- up to one that may be
+    abbrev pub coming_first : (c : Candidate) → FirstToPurge new.heap.table protected s.more next c → Coming z at protected new c.at
+    coming_first c f =
+        let over = emptied_over f.front (block (Rel c.handle) c.size ∷ f.back) next c.at s f.parts f.stay f.place in
+        record { so_far = over.0; here = block (Rel c.handle) c.size; rest = f.back; is = over.1 }
+
+    -- or to the end
+    pub emptied_all : AllStay (may_purge new.heap.table protected) s.more → new ≡ purged_between z at protected
+    emptied_all stay =
+        let over = emptied_over s.more [] next end s (sym (append-nil s.more)) stay (end_emptied z at protected new next s) in
+        let t = over.0 in
+        let whole : t.done ≡ at.blocks = sym (append-nil t.done) ∙ ap (λ m. t.done ++ m) (sym over.1) ∙ sym t.parts in
+        t.is ∙ ap (λ m. looked_at z at protected t.done m) over.1 ∙ ap (λ m. looked_at z at protected m []) whole
 
 -- what is to be purged is that of a block that may be
 pub purged-handle : (t : HandleTable) (protected : List ℕ) (kind : Kind) (h : ℕ) → handle_to_purge t protected kind ≡ Some h → (may_purge t protected kind ≡ true) × (kind ≡ Rel h)

@@ -1,25 +1,32 @@
 -- Walks by which the room of gaps is counted.
-use Rattle.std.proofs.Common.{◌≡◌, ℕ, ◌+◌, ◌<◌, ◌≤◌, ◌≢◌, Bool, true, false, not, cond, eqb, List, [], ◌∷◌, ◌++◌, refl, ap, sym, ◌∙◌, arith, subst, inl, inr, Some, None, Option}
-use Rattle.std.specs.Prelude.{◌&&◌, ◌⊎◌, is_some, nat_le}
-use Rattle.std.proofs.lemmas.Bool.{cases_eq}
+use Rattle.std.proofs.Common.{◌≡◌, ℕ, ◌+◌, ◌<◌, ◌≤◌, Bool, true, false, not, cond, eqb, List, [], ◌∷◌, ◌++◌, append-nil, append_assoc, refl, ap, sym, ◌∙◌, arith, subst, inl, inr, Some, None, Option}
+use Rattle.std.specs.Prelude.{◌&&◌, ◌||◌, ◌⊎◌, nat_le}
+use Rattle.std.proofs.lemmas.Bool.{and_parts, not-true, true≢false}
 use Rattle.std.proofs.lemmas.Bool.Decides.{nat_tests}
 use Rattle.mac_base.specs.declared.block.Kind.{Kind}
 use Rattle.mac_base.specs.declared.block.Kind.TheVariants.{Free, Master, Ptr, Rel}
 use Rattle.mac_base.specs.Gap.{is_fixed}
-use Rattle.mac_base.specs.HandleTable.{HandleTable, is_purgeable}
+use Rattle.mac_base.specs.HandleTable.{HandleTable, is_locked}
 use Rattle.mac_base.specs.Request.{is_among}
 use Rattle.mac_base.specs.declared.block.Entry.{Entry}
-use Rattle.mac_base.specs.ZoneMap.{ZoneMap, total_size}
+use Rattle.mac_base.specs.ZoneMap.{ZoneMap, block, is_free, is_named, total_size}
 use Rattle.mac_base.specs.ZoneState.{ZoneState}
-use Rattle.zone_laws.proofs.Tables.{eqb-true-is}
-use Rattle.zone_gaps.proofs.Sizes.{total_size-push}
+use Rattle.fixed_index.specs.Runs.{begins_fixed, ends_fixed, none_fixed}
+use Rattle.zone_laws.proofs.GapAppend.{total_size-append}
+use Rattle.zone_laws.proofs.SuitsNamed.{stays-fixed}
+use Rattle.zone_laws.proofs.Tables.{eqb-true-is, handle_no_pointer}
+use Rattle.zone_gaps.proofs.Lasts.{last_of}
+use Rattle.zone_gaps.proofs.Sizes.{all_parts}
 use Rattle.zone_heap.specs.Attempts.{SoundZone}
-use Rattle.zone_heap.specs.Purge.{AllStay, BlocksAt, IsClear, IsLimit, Spanned, bounds_gap, bytes_before, counts, handle_to_purge, is_kept, may_purge, part_of, run_has, size_if}
+use Rattle.zone_heap.specs.Purge.{AllStay, BlocksAt, CanCount, FirstToPurge, GapAround, IsLimit, MovesAt, Spanned, bounds_gap, bytes_before, bytes_of_kind, counts, is_kept, may_purge, run_has, run_past, size_if}
+use Rattle.zone_heap.specs.declared.purge.Candidate.{Candidate}
 use Rattle.zone_heap.specs.declared.purge.Limit.{Limit}
-use Rattle.zone_heap.specs.declared.purge.Part.TheVariants.{Goes, Fixed, Stays}
+use Rattle.zone_heap.specs.declared.purge.Stretch.{Stretch}
+use Rattle.zone_heap.proofs.FreedBlocks.{once-At, once-suits}
 use Rattle.zone_heap.proofs.Purging.{may_purge-parts}
-use Rattle.zone_heap.proofs.Runs.{Swept, all_stay-append, bytes-within, bound_swept, limit_here, limit_last, more-run, none_behind, none_swept, pass_swept, purge_swept, spanned-high, spanned_all, spanned_go, spanned_stay}
-use Rattle.zone_heap.proofs.Walks.{Walked, Facing, bytes_facing, none_walked, end_walked, walked_end, walked_on, within_facing}
+use Rattle.zone_heap.proofs.Rooms.{bytes-append, bytes-few}
+use Rattle.zone_heap.proofs.Runs.{Swept, limit_here, limit_last, more-run, none_behind, none_swept, purge_swept, spanned-high, spanned_all, spanned_go, spanned_stay, stay_swept}
+use Rattle.zone_heap.proofs.Walks.{Walked, Facing, bytes_facing, end_walked, map_rest, none_walked, rest_walked, walked_on, walked_over}
 
 -- a free block counts
 pub counts-free : (counted : Option ℕ) → counts counted Free ≡ true
@@ -30,46 +37,6 @@ counts-free (Some h) = refl
 pub bounds-free : (t : HandleTable) (counted : Option ℕ) → bounds_gap t counted Free ≡ false
 bounds-free t None = refl
 bounds-free t (Some h) = refl
-
--- a block that counts bounds none either
-pub bounds-counts : (t : HandleTable) (counted : Option ℕ) (kind : Kind) → counts counted kind ≡ true → bounds_gap t counted kind ≡ false
-bounds-counts t counted kind h = ap (λ c. not c && is_fixed t kind) h
-
--- and one that doesn't bounds them where it is fixed
-pub bounds-other : (t : HandleTable) (counted : Option ℕ) (kind : Kind) → counts counted kind ≡ false → bounds_gap t counted kind ≡ is_fixed t kind
-bounds-other t counted kind h = ap (λ c. not c && is_fixed t kind) h
-
--- a handle is to be purged where its block may be
-pub some-purged : (t : HandleTable) (protected : List ℕ) (kind : Kind) → is_some (handle_to_purge t protected kind) ≡ may_purge t protected kind
-some-purged t protected Free = refl
-some-purged t protected Master = refl
-some-purged t protected (Ptr p) = refl
-some-purged t protected (Rel g) = elim (is_purgeable t g && not (is_among protected g)) as (λ c. is_some (cond c (Some g) None) ≡ c) [ true ↦ refl | false ↦ refl ]
-
--- what purging does with a block tells whether it is purged, and whether it may move
-pub part-goes : (t : HandleTable) (protected : List ℕ) (kind : Kind) → part_of t protected kind ≡ Goes → may_purge t protected kind ≡ true
-part-goes t protected kind is = by_tests (may_purge t protected kind) (is_fixed t kind) is
-  where
-    by_tests : (may fixed : Bool) → cond may Goes (cond fixed Fixed Stays) ≡ Goes → may ≡ true
-    by_tests true fixed is = refl
-    by_tests false true is = absurd (cc is)
-    by_tests false false is = absurd (cc is)
-
-pub part-fixed : (t : HandleTable) (protected : List ℕ) (kind : Kind) → part_of t protected kind ≡ Fixed → (may_purge t protected kind ≡ false) × (is_fixed t kind ≡ true)
-part-fixed t protected kind is = by_tests (may_purge t protected kind) (is_fixed t kind) is
-  where
-    by_tests : (may fixed : Bool) → cond may Goes (cond fixed Fixed Stays) ≡ Fixed → (may ≡ false) × (fixed ≡ true)
-    by_tests true fixed is = absurd (cc is)
-    by_tests false true is = (refl, refl)
-    by_tests false false is = absurd (cc is)
-
-pub part-stays : (t : HandleTable) (protected : List ℕ) (kind : Kind) → part_of t protected kind ≡ Stays → (may_purge t protected kind ≡ false) × (is_fixed t kind ≡ false)
-part-stays t protected kind is = by_tests (may_purge t protected kind) (is_fixed t kind) is
-  where
-    by_tests : (may fixed : Bool) → cond may Goes (cond fixed Fixed Stays) ≡ Stays → (may ≡ false) × (fixed ≡ false)
-    by_tests true fixed is = absurd (cc is)
-    by_tests false true is = absurd (cc is)
-    by_tests false false is = (refl, refl)
 
 -- a block that may move bounds no gap
 pub bounds-moving : (t : HandleTable) (counted : Option ℕ) (kind : Kind) → is_fixed t kind ≡ false → bounds_gap t counted kind ≡ false
@@ -103,234 +70,285 @@ purged-moves t protected counted (Ptr p) kept may = absurd (cc may)
 purged-moves t protected counted (Rel g) kept may =
     ap (λ c. not c && is_fixed t (Rel g)) (purged-apart t protected counted (Rel g) kept may) ∙ (may_purge-parts t protected g may).unlocked
 
--- the bytes of a block that count are all, or none
-pub size-counts : (counted : Kind → Bool) (e : Entry) → counted e.kind ≡ true → size_if counted e ≡ e.size
-size-counts counted e here = ap (λ c. cond c e.size 0) here
+-- blocks that may move bound no gap, so all of them that count do
+past-moves : (t : HandleTable) (counted : Option ℕ) (r : ℕ) (m : ZoneMap) → none_fixed t m ≡ true → run_past (bounds_gap t counted) (counts counted) r m ≡ r + bytes_of_kind (counts counted) m
+past-moves t counted r [] moves = (let e : r ≡ r + 0 = omega arith in e)
+past-moves t counted r (e ∷ es) moves =
+    let parts = and_parts (not (is_fixed t e.kind)) (none_fixed t es) moves in
+    let size = size_if (counts counted) e in
+    ap (λ c. run_past (bounds_gap t counted) (counts counted) (cond c 0 (r + size)) es) (bounds-moving t counted e.kind (not-true _ parts.0)) ∙ past-moves t counted (r + size) es parts.1
+    ∙ (let n = bytes_of_kind (counts counted) es in let e : r + size + n ≡ r + (size + n) = omega arith in e)
 
-pub size-few : (counted : Kind → Bool) (e : Entry) → size_if counted e ≤ e.size
-size-few counted e = elim (counted e.kind) as (λ c. cond c e.size 0 ≤ e.size) [ true ↦ omega arith | false ↦ omega arith ]
+before-moves : (t : HandleTable) (counted : Option ℕ) (m above : ZoneMap) → none_fixed t m ≡ true → bytes_before (bounds_gap t counted) (counts counted) above ≡ 0 → bytes_before (bounds_gap t counted) (counts counted) (m ++ above) ≡ bytes_of_kind (counts counted) m
+before-moves t counted [] above moves none = none
+before-moves t counted (e ∷ es) above moves none =
+    let parts = and_parts (not (is_fixed t e.kind)) (none_fixed t es) moves in
+    let size = size_if (counts counted) e in
+    ap (λ c. cond c 0 (size + bytes_before (bounds_gap t counted) (counts counted) (es ++ above))) (bounds-moving t counted e.kind (not-true _ parts.0)) ∙ ap (λ n. size + n) (before-moves t counted es above parts.1 none)
 
--- one block more that stays
-stay-push : (test : Kind → Bool) (m : ZoneMap) (e : Entry) → AllStay test m → test e.kind ≡ false → AllStay test (m ++ e ∷ [])
-stay-push test m e all stays = all_stay-append test m (e ∷ []) all (stays, tt)
+-- behind two lists
+pub past-append : (bounds counted : Kind → Bool) (r : ℕ) (a b : ZoneMap) → run_past bounds counted r (a ++ b) ≡ run_past bounds counted (run_past bounds counted r a) b
+past-append bounds counted r [] b = refl
+past-append bounds counted r (e ∷ es) b = past-append bounds counted (cond (bounds e.kind) 0 (r + size_if counted e)) es b
 
--- a block that counts isn't one that may be purged
-counts-stays : (t : HandleTable) (protected : List ℕ) (counted : Option ℕ) (kind : Kind) → is_kept protected counted ≡ true → counts counted kind ≡ true → may_purge t protected kind ≡ false
-counts-stays t protected counted kind kept here = by_test (may_purge t protected kind) refl
+-- a fixed block isn't free
+fixed-used : (t : HandleTable) (kind : Kind) → is_fixed t kind ≡ true → is_free kind ≡ false
+fixed-used t Free fixed = absurd (cc fixed)
+fixed-used t Master fixed = refl
+fixed-used t (Ptr p) fixed = refl
+fixed-used t (Rel g) fixed = refl
+
+-- in a zone where a handle that isn't locked counts it bounds its gaps
+fixed-bounds : (z : ZoneState) (counted : Option ℕ) → SoundZone z → CanCount z counted → (a : ZoneMap) (e : Entry) (c : ZoneMap) → z.heap.map ≡ a ++ e ∷ c → is_fixed z.heap.table e.kind ≡ true → bounds_gap z.heap.table counted e.kind ≡ true
+fixed-bounds z counted sound can a e c map fixed = ap (λ b. not b && is_fixed z.heap.table e.kind) (apart counted can) ∙ fixed
   where
-    by_test : (may : Bool) → may_purge t protected kind ≡ may → may ≡ false
-    by_test false is = refl
-    by_test true is = absurd (cc (sym (purged-apart t protected counted kind kept is) ∙ here))
+    apart : (counted : Option ℕ) → CanCount z counted → counts counted e.kind ≡ false
+    apart None can = fixed-used z.heap.table e.kind fixed
+    apart (Some h) can = ap (λ b. b || is_named h e.kind) (fixed-used z.heap.table e.kind fixed) ∙ by_named (is_named h e.kind) refl
+      where
+        by_named : (b : Bool) → is_named h e.kind ≡ b → b ≡ false
+        by_named false named = refl
+        by_named true named =
+            let suits = sound.sound.suits in
+            let one = once-At h z.heap.map a e c (once-suits z.shape z.heap.table z.heap.map suits) map named in
+            let loose = ap (λ c. c || is_locked z.heap.table h) (handle_no_pointer z.heap.table h can.0) ∙ can.1 in
+            absurd (true≢false (sym fixed ∙ sym (stays-fixed z.shape z.heap.table z.heap.map h e.size a e.kind c suits one) ∙ loose))
 
--- The bytes that count are counted up to an address; none of the blocks below bounds a gap, and, unless one was met, none may be purged.
-pub record Counted {start end : ℕ} (z : ZoneState) (b : BlocksAt z start end) (counted : Option ℕ) (protected : List ℕ) (at room : ℕ) (goes : Bool) : Type 0 where
-  pub walked : Walked z b at
-  pub so_far : bytes_before (bounds_gap z.heap.table counted) (counts counted) b.blocks ≡ room + bytes_before (bounds_gap z.heap.table counted) (counts counted) walked.rest
-  pub few : room ≤ total_size walked.done
-  pub moves : AllStay (bounds_gap z.heap.table counted) walked.done
-  pub stays : goes ≡ false → AllStay (may_purge z.heap.table protected) walked.done
+-- the last of some blocks that end with a fixed one is fixed
+ends-last : (t : HandleTable) (a : ZoneMap) (e : Entry) → ends_fixed t (a ++ e ∷ []) ≡ is_fixed t e.kind
+ends-last t [] e = refl
+ends-last t (d ∷ []) e = refl
+ends-last t (d ∷ f ∷ a) e = ends-last t (f ∷ a) e
 
-module _ {start end : ℕ} (z : ZoneState) (b : BlocksAt z start end) (counted : Option ℕ) (protected : List ℕ) where
-  -- at first none are
-  pub none_counted : Counted z b counted protected start 0 false
-  none_counted = record { walked = none_walked z b; so_far = (let n : ℕ = bytes_before (bounds_gap z.heap.table counted) (counts counted) b.blocks in let e : n ≡ 0 + n = omega arith in e); few = omega arith; moves = tt; stays = λ _. tt }
+-- a block that begins before some blocks end is one of them
+among : (blocks behind front : ZoneMap) (e : Entry) (back : ZoneMap) → blocks ++ behind ≡ front ++ e ∷ back → total_size front < total_size blocks → (far : ZoneMap) × (blocks ≡ front ++ e ∷ far) × (back ≡ far ++ behind)
+among [] behind front e back is low = absurd (omega arith)
+among (d ∷ ds) behind [] e back is low = let same : d ≡ e = cc is in let others : ds ++ behind ≡ back = cc is in (ds, ap (λ d. d ∷ ds) same, sym others)
+among (d ∷ ds) behind (g ∷ gs) e back is low =
+    let same : d ≡ g = cc is in
+    let others : ds ++ behind ≡ gs ++ e ∷ back = cc is in
+    let bytes = ap (λ (e : Entry). e.size) same in
+    let rest = among ds behind gs e back others (omega arith) in
+    (rest.0, cc (same, rest.1), rest.2)
 
-  -- the blocks below are clear where none may be purged, and else those before the first are
-  pub counted_clear : (at room : ℕ) (goes : Bool) → Counted z b counted protected at room goes → IsClear (bounds_gap z.heap.table counted) (may_purge z.heap.table protected) b.blocks start (cond goes start at)
-  counted_clear at room false c = record { front = (c.walked).done; back = (c.walked).rest; parts = (c.walked).parts; place = (c.walked).at_is; moves = c.moves; stays = c.stays refl }
-  counted_clear at room true c = record { front = []; back = b.blocks; parts = refl; place = (let e : start ≡ start + 0 = omega arith in e); moves = tt; stays = tt }
+-- and where it begins behind them what follows them begins with a block that may move, if none up to it is fixed
+beyond : (t : HandleTable) (blocks behind front : ZoneMap) (e : Entry) (back : ZoneMap) → blocks ++ behind ≡ front ++ e ∷ back → total_size blocks ≤ total_size front → 0 < e.size → none_fixed t front ≡ true → is_fixed t e.kind ≡ false → begins_fixed t behind ≡ false
+beyond t [] behind [] e back is high some loose moves = ap (begins_fixed t) is ∙ moves
+beyond t [] behind (g ∷ gs) e back is high some loose moves = ap (begins_fixed t) is ∙ not-true _ (and_parts (not (is_fixed t g.kind)) (none_fixed t gs) loose).0
+beyond t (d ∷ ds) behind [] e back is high some loose moves = let same : d ≡ e = cc is in let bytes = ap (λ (e : Entry). e.size) same in absurd (omega arith)
+beyond t (d ∷ ds) behind (g ∷ gs) e back is high some loose moves =
+    let same : d ≡ g = cc is in
+    let others : ds ++ behind ≡ gs ++ e ∷ back = cc is in
+    let bytes = ap (λ (e : Entry). e.size) same in
+    beyond t ds behind gs e back others (omega arith) some (and_parts (not (is_fixed t g.kind)) (none_fixed t gs) loose).1 moves
 
-  -- at the end all are
-  pub counted_all : (at room : ℕ) (goes : Bool) → SoundZone z → Counted z b counted protected at room goes → end ≤ at → room ≡ bytes_before (bounds_gap z.heap.table counted) (counts counted) b.blocks
-  counted_all at room goes sound c above = sym (c.so_far ∙ ap (λ m. room + bytes_before (bounds_gap z.heap.table counted) (counts counted) m) (walked_end z b at c.walked sound above) ∙ (let e : room + 0 ≡ room = omega arith in e))
+-- A block that may be purged stands in a gap whose end and room are known: those that count up to it, and those behind it.
+pub record InGap (t : HandleTable) (counted : Option ℕ) (reached : ℕ) (front back : ZoneMap) (c : Candidate) (gap_end room : ℕ) : Type 0 where
+  pub far : ZoneMap
+  pub above : ZoneMap
+  pub parts : back ≡ far ++ above
+  pub moves : none_fixed t far ≡ true
+  pub high : begins_fixed t above ≡ true
+  pub last : gap_end ≡ c.at + (c.size + total_size far)
+  pub room_is : room ≡ run_past (bounds_gap t counted) (counts counted) reached front + bytes_of_kind (counts counted) far
 
-  module _ (at room : ℕ) (goes : Bool) (c : Counted z b counted protected at room goes) (f : Facing z b at c.walked) where
-    step : bytes_before (bounds_gap z.heap.table counted) (counts counted) b.blocks
-        ≡ room + cond (bounds_gap z.heap.table counted (f.here).kind) 0 (size_if (counts counted) f.here + bytes_before (bounds_gap z.heap.table counted) (counts counted) f.after)
-    step = c.so_far ∙ ap (λ m. room + bytes_before (bounds_gap z.heap.table counted) (counts counted) m) f.is
-
-    -- a block that bounds ends it
-    pub counted_bound : bounds_gap z.heap.table counted (f.here).kind ≡ true → room ≡ bytes_before (bounds_gap z.heap.table counted) (counts counted) b.blocks
-    counted_bound bounding = sym (step ∙ ap (λ b'. room + cond b' 0 (size_if (counts counted) f.here + bytes_before (bounds_gap z.heap.table counted) (counts counted) f.after)) bounding ∙ (let e : room + 0 ≡ room = omega arith in e))
-
-    -- one that counts
-    pub counted_more : is_kept protected counted ≡ true → counts counted (f.here).kind ≡ true → Counted z b counted protected (at + (f.here).size) (room + (f.here).size) goes
-    counted_more kept here = record {
-      walked = walked_on z b at c.walked f;
-      so_far = step ∙ ap (λ b'. room + cond b' 0 (size_if (counts counted) f.here + bytes_before (bounds_gap z.heap.table counted) (counts counted) f.after)) (bounds-counts z.heap.table counted (f.here).kind here)
-          ∙ ap (λ b'. room + (cond b' (f.here).size 0 + bytes_before (bounds_gap z.heap.table counted) (counts counted) f.after)) here
-          ∙ (let n : ℕ = bytes_before (bounds_gap z.heap.table counted) (counts counted) f.after in let e : room + ((f.here).size + n) ≡ room + (f.here).size + n = omega arith in e);
-      few = (let was = c.few in let all = total_size-push (c.walked).done f.here in omega arith);
-      moves = stay-push (bounds_gap z.heap.table counted) (c.walked).done f.here c.moves (bounds-counts z.heap.table counted (f.here).kind here);
-      stays = λ none. stay-push (may_purge z.heap.table protected) (c.walked).done f.here (c.stays none) (counts-stays z.heap.table protected counted (f.here).kind kept here);
-    }
-
-    -- one that neither bounds nor counts, and, unless one was met, may not be purged
-    pub counted_on : (met : Bool) → counts counted (f.here).kind ≡ false → bounds_gap z.heap.table counted (f.here).kind ≡ false → (met ≡ false → (goes ≡ false) × (may_purge z.heap.table protected (f.here).kind ≡ false))
-        → Counted z b counted protected (at + (f.here).size) room met
-    counted_on met here moves unmet = record {
-      walked = walked_on z b at c.walked f;
-      so_far = step ∙ ap (λ b'. room + cond b' 0 (size_if (counts counted) f.here + bytes_before (bounds_gap z.heap.table counted) (counts counted) f.after)) moves
-          ∙ ap (λ b'. room + (cond b' (f.here).size 0 + bytes_before (bounds_gap z.heap.table counted) (counts counted) f.after)) here
-          ∙ (let n : ℕ = bytes_before (bounds_gap z.heap.table counted) (counts counted) f.after in let e : room + (0 + n) ≡ room + n = omega arith in e);
-      few = (let was = c.few in let all = total_size-push (c.walked).done f.here in omega arith);
-      moves = stay-push (bounds_gap z.heap.table counted) (c.walked).done f.here c.moves moves;
-      stays = λ none. stay-push (may_purge z.heap.table protected) (c.walked).done f.here (c.stays (unmet none).0) (unmet none).1;
-    }
-
-    -- what is counted fits
-    pub within_counted : room + (f.here).size ≤ end
-    within_counted = let few = c.few in let here = (c.walked).at_is in let within = within_facing z b at c.walked f in omega arith
-
--- Gaps are searched up to an address: the blocks below are purged, and fewer don't do; so many bytes of the gap that goes on were freed,
--- and where some were its room before is known, or else how many count below.
-pub record Sought {start end : ℕ} (z : ZoneState) (b : BlocksAt z start end) (k : ℕ) (counted : Option ℕ) (protected : List ℕ) (at run freed room : ℕ) (limit : Limit) : Type 0 where
+-- Gaps are searched up to an address: the blocks below are purged, and fewer don't do. The room of the gap that goes on is known up to its end,
+-- or none has begun.
+pub record Sought {start end : ℕ} (z : ZoneState) (b : BlocksAt z start end) (k : ℕ) (counted : Option ℕ) (protected : List ℕ) (at gap_end room : ℕ) (limit : Limit) : Type 0 where
   pub walked : Walked z b at
   pub reached : ℕ
   pub swept : Swept (bounds_gap z.heap.table counted) (counts counted) k (may_purge z.heap.table protected) (counts-free counted) (bounds-free z.heap.table counted) walked.done walked.rest reached
-  pub known : freed ≢ 0 → room + freed ≡ reached + bytes_before (bounds_gap z.heap.table counted) (counts counted) walked.rest
-  pub fresh : freed ≡ 0 → run ≡ reached
-  pub low : run ≤ reached
+  pub gap : ZoneMap
+  pub above : ZoneMap
+  pub parts : walked.rest ≡ gap ++ above
+  pub last : gap_end ≡ at + total_size gap
+  pub moves : none_fixed z.heap.table gap ≡ true
+  pub known : ((begins_fixed z.heap.table above ≡ true) × (room ≡ reached + bytes_of_kind (counts counted) gap)) ⊎ ((reached ≡ 0) × (gap ≡ []))
   pub spanned : Spanned (may_purge z.heap.table protected) walked.done start limit.start limit.end
   pub some : (spanned.between ≡ []) ⊎ (limit.start < limit.end)
   pub not_yet : limit.enough ≡ false
 
 module _ {start end : ℕ} (z : ZoneState) (b : BlocksAt z start end) (k : ℕ) (counted : Option ℕ) (protected : List ℕ) where
   -- at first none is purged
-  pub none_sought : run_has (bounds_gap z.heap.table counted) (counts counted) k 0 b.blocks ≡ false → Sought z b k counted protected start 0 0 0 (record { start = start; end = start; enough = false })
+  pub none_sought : run_has (bounds_gap z.heap.table counted) (counts counted) k 0 b.blocks ≡ false → Sought z b k counted protected start start 0 (record { start = start; end = start; enough = false })
   none_sought none = record {
     walked = none_walked z b;
     reached = 0;
     swept = none_swept (bounds_gap z.heap.table counted) (counts counted) k (may_purge z.heap.table protected) (counts-free counted) (bounds-free z.heap.table counted) b.blocks none;
-    known = λ some. absurd (some refl);
-    fresh = λ _. refl;
-    low = omega arith;
+    gap = [];
+    above = b.blocks;
+    parts = refl;
+    last = (let e : start ≡ start + 0 = omega arith in e);
+    moves = refl;
+    known = inr (refl, refl);
     spanned = spanned_all (may_purge z.heap.table protected) [] start start (let e : start ≡ start + 0 = omega arith in e);
     some = inl refl;
     not_yet = refl;
   }
 
-  -- at the end all are
-  pub sought_all : (at run freed room : ℕ) (limit : Limit) → SoundZone z → Sought z b k counted protected at run freed room limit → end ≤ at
-      → IsLimit (bounds_gap z.heap.table counted) (counts counted) (may_purge z.heap.table protected) k b.blocks start limit
-  sought_all at run freed room limit sound s above =
-      let none = walked_end z b at s.walked sound above in
-      limit_last (bounds_gap z.heap.table counted) (counts counted) k (may_purge z.heap.table protected) (counts-free counted) (bounds-free z.heap.table counted) (s.walked).done s.reached start limit
-      (subst (λ m. Swept (bounds_gap z.heap.table counted) (counts counted) k (may_purge z.heap.table protected) (counts-free counted) (bounds-free z.heap.table counted) (s.walked).done m s.reached) none s.swept)
-      b.blocks ((s.walked).parts ∙ ap (λ m. (s.walked).done ++ m) none) s.spanned s.not_yet
+  module _ (at gap_end room : ℕ) (limit : Limit) (s : Sought z b k counted protected at gap_end room limit) where
+    -- where none is left to purge all are
+    pub sought_all : AllStay (may_purge z.heap.table protected) (s.walked).rest → IsLimit (bounds_gap z.heap.table counted) (counts counted) (may_purge z.heap.table protected) k b.blocks start limit
+    sought_all stay =
+        let done = (s.walked).done in
+        let rest = (s.walked).rest in
+        limit_last (bounds_gap z.heap.table counted) (counts counted) k (may_purge z.heap.table protected) (counts-free counted) (bounds-free z.heap.table counted) (done ++ rest) (run_past (bounds_gap z.heap.table counted) (counts counted) s.reached rest) start limit
+        (stay_swept (bounds_gap z.heap.table counted) (counts counted) k (may_purge z.heap.table protected) (counts-free counted) (bounds-free z.heap.table counted) rest done [] s.reached
+        (subst (λ m. Swept (bounds_gap z.heap.table counted) (counts counted) k (may_purge z.heap.table protected) (counts-free counted) (bounds-free z.heap.table counted) done m s.reached) (sym (append-nil rest)) s.swept) stay)
+        b.blocks ((s.walked).parts ∙ sym (append-nil (done ++ rest))) (spanned_stay (may_purge z.heap.table protected) done start limit.start limit.end s.spanned rest stay) s.not_yet
 
-  module _ (at run freed room : ℕ) (limit : Limit) (s : Sought z b k counted protected at run freed room limit) (f : Facing z b at s.walked) where
-    here_swept : Swept (bounds_gap z.heap.table counted) (counts counted) k (may_purge z.heap.table protected) (counts-free counted) (bounds-free z.heap.table counted) (s.walked).done (f.here ∷ f.after) s.reached
-    here_swept = subst (λ m. Swept (bounds_gap z.heap.table counted) (counts counted) k (may_purge z.heap.table protected) (counts-free counted) (bounds-free z.heap.table counted) (s.walked).done m s.reached) f.is s.swept
+    module _ (c : Candidate) (f : FirstToPurge z.heap.table protected (s.walked).rest at c) where
+      abbrev here : Entry
+      here = block (Rel c.handle) c.size
 
-    behind_here : bounds_gap z.heap.table counted (f.here).kind ≡ false → bytes_before (bounds_gap z.heap.table counted) (counts counted) (s.walked).rest ≡ size_if (counts counted) f.here + bytes_before (bounds_gap z.heap.table counted) (counts counted) f.after
-    behind_here moves = ap (λ m. bytes_before (bounds_gap z.heap.table counted) (counts counted) m) f.is ∙ ap (λ c. cond c 0 (size_if (counts counted) f.here + bytes_before (bounds_gap z.heap.table counted) (counts counted) f.after)) moves
+      pub loose_here : is_fixed z.heap.table (Rel c.handle) ≡ false
+      loose_here = (may_purge-parts z.heap.table protected c.handle f.may).unlocked
 
-    -- a block that stays and bounds a gap: the next one begins
-    pub sought_bound : may_purge z.heap.table protected (f.here).kind ≡ false → bounds_gap z.heap.table counted (f.here).kind ≡ true → Sought z b k counted protected (at + (f.here).size) 0 0 room limit
-    sought_bound stays bounding = record {
-      walked = walked_on z b at s.walked f;
-      reached = 0;
-      swept = bound_swept (bounds_gap z.heap.table counted) (counts counted) k (may_purge z.heap.table protected) (counts-free counted) (bounds-free z.heap.table counted) (s.walked).done f.here f.after s.reached here_swept stays bounding;
-      known = λ some. absurd (some refl);
-      fresh = λ _. refl;
-      low = omega arith;
-      spanned = spanned_stay (may_purge z.heap.table protected) (s.walked).done start limit.start limit.end s.spanned f.here stays;
-      some = s.some;
-      not_yet = s.not_yet;
-    }
+      -- the next one that may be purged may move
+      abbrev pub moves_at : MovesAt z at end c.at
+      moves_at = record { blocks = rest_walked z b at s.walked; front = f.front; here = block (Rel c.handle) c.size; back = f.back; parts = f.parts; place = f.place; moves = loose_here }
 
-    -- one that stays and doesn't
-    pub sought_on : (more : ℕ) → more ≤ run + size_if (counts counted) f.here → (freed ≡ 0 → more ≡ run + size_if (counts counted) f.here) → may_purge z.heap.table protected (f.here).kind ≡ false → bounds_gap z.heap.table counted (f.here).kind ≡ false
-        → Sought z b k counted protected (at + (f.here).size) more freed room limit
-    sought_on more few all stays moves = record {
-      walked = walked_on z b at s.walked f;
-      reached = s.reached + size_if (counts counted) f.here;
-      swept = pass_swept (bounds_gap z.heap.table counted) (counts counted) k (may_purge z.heap.table protected) (counts-free counted) (bounds-free z.heap.table counted) (s.walked).done f.here f.after s.reached here_swept stays moves;
-      known = λ some. (let was = s.known some in let rest = behind_here moves in omega arith);
-      fresh = λ none. (let was = s.fresh none in let now = all none in omega arith);
-      low = (let was = s.low in omega arith);
-      spanned = spanned_stay (may_purge z.heap.table protected) (s.walked).done start limit.start limit.end s.spanned f.here stays;
-      some = s.some;
-      not_yet = s.not_yet;
-    }
+      -- the walk up to it
+      abbrev pub walked_here : Walked z b c.at
+      walked_here = walked_over z b at s.walked f.front (block (Rel c.handle) c.size ∷ f.back) f.parts c.at f.place
 
-    module _ (kept : is_kept protected counted ≡ true) (may : may_purge z.heap.table protected (f.here).kind ≡ true) (whole : ℕ) (known : freed ≢ 0 → whole ≡ room)
-        (new : freed ≡ 0 → whole ≡ run + bytes_before (bounds_gap z.heap.table counted) (counts counted) f.after) where
-      moves_here : bounds_gap z.heap.table counted (f.here).kind ≡ false
-      moves_here = purged-moves z.heap.table protected counted (f.here).kind kept may
+      abbrev pub facing_here : Facing z b c.at walked_here
+      facing_here = record { here = block (Rel c.handle) c.size; after = f.back; is = refl }
 
-      rest_here : bytes_before (bounds_gap z.heap.table counted) (counts counted) (s.walked).rest ≡ bytes_before (bounds_gap z.heap.table counted) (counts counted) f.after
-      rest_here = behind_here moves_here ∙ ap (λ c. cond c (f.here).size 0 + bytes_before (bounds_gap z.heap.table counted) (counts counted) f.after) (purged-apart z.heap.table protected counted (f.here).kind kept may)
-          ∙ (let n : ℕ = bytes_before (bounds_gap z.heap.table counted) (counts counted) f.after in let e : 0 + n ≡ n = omega arith in e)
+      module _ (kept : is_kept protected counted ≡ true) where
+        none_here : size_if (counts counted) here ≡ 0
+        none_here = ap (λ b'. cond b' c.size 0) (purged-apart z.heap.table protected counted (Rel c.handle) kept f.may)
 
-      room_purged : whole + (freed + (f.here).size) ≡ s.reached + (f.here).size + bytes_before (bounds_gap z.heap.table counted) (counts counted) f.after
-      room_purged = elim (cases_eq freed 0) [
-        | inl none ↦ let now = new none in let below = s.fresh none in omega arith
-        | inr some ↦ let now = known some in let was = s.known some in let rest = rest_here in omega arith
-      ]
+        none_with : (near far : ZoneMap) → bytes_of_kind (counts counted) (near ++ here ∷ far) ≡ bytes_of_kind (counts counted) near + bytes_of_kind (counts counted) far
+        none_with near far = let all = bytes-append (counts counted) near (here ∷ far) in let none = none_here in omega arith
 
-      run_purged : run_has (bounds_gap z.heap.table counted) (counts counted) k (s.reached + (f.here).size) f.after ≡ nat_le k (whole + (freed + (f.here).size))
-      run_purged =
-          let behind = none_behind (bounds_gap z.heap.table counted) (counts counted) k (may_purge z.heap.table protected) (counts-free counted) (bounds-free z.heap.table counted) (s.walked).done f.here f.after s.reached here_swept false moves_here in
-          more-run (bounds_gap z.heap.table counted) (counts counted) k (s.reached + size_if (counts counted) f.here) (s.reached + (f.here).size) f.after behind ∙ ap (nat_le k) (sym room_purged)
+        -- below the end of the gap that goes on it stands in that
+        pub same_gap : c.at < gap_end → InGap z.heap.table counted s.reached f.front f.back c gap_end room
+        same_gap low = elim s.known [
+          | inl known ↦
+              let place = f.place in
+              let last = s.last in
+              let is = among s.gap s.above f.front here f.back (sym s.parts ∙ f.parts) (omega arith) in
+              let halves = all_parts _ f.front (here ∷ is.0) (ap (none_fixed z.heap.table) (sym is.1) ∙ s.moves) in
+              record {
+                far = is.0;
+                above = s.above;
+                parts = is.2;
+                moves = (and_parts (not (is_fixed z.heap.table (Rel c.handle))) (none_fixed z.heap.table is.0) halves.1).1;
+                high = known.0;
+                last = (let all = ap total_size is.1 ∙ total_size-append f.front (here ∷ is.0) in omega arith);
+                room_is =
+                    let past = past-moves z.heap.table counted s.reached f.front halves.0 in
+                    let all = ap (bytes_of_kind (counts counted)) is.1 ∙ none_with f.front is.0 in
+                    let room_was = known.1 in
+                    omega arith;
+              }
+          | inr none ↦ (let place = f.place in let last = s.last in let bytes = ap total_size none.1 in absurd (omega arith))
+        ]
 
-      -- the room fits
-      pub within_sought : whole + (freed + (f.here).size) ≤ end
-      within_sought =
-          let is = room_purged in
-          let few = (s.swept).few in
-          let bytes = bytes-within (bounds_gap z.heap.table counted) (counts counted) k f.after in
-          let here = (s.walked).at_is in
-          let last = end_walked z b at s.walked in
-          let all = ap total_size f.is in
-          omega arith
+        module _ (sound : SoundZone z) (can : CanCount z counted) where
+          -- else a new one begins
+          fresh : gap_end ≤ c.at → (below near : ZoneMap) → f.front ≡ below ++ near → ends_fixed z.heap.table below ≡ true → none_fixed z.heap.table near ≡ true → run_past (bounds_gap z.heap.table counted) (counts counted) s.reached below ≡ 0
+          fresh high [] near parts ends moves = elim s.known [
+            | inl known ↦
+                let place = f.place in
+                let last = s.last in
+                absurd (true≢false (sym known.0 ∙ beyond z.heap.table s.gap s.above f.front here f.back (sym s.parts ∙ f.parts) (omega arith) (bytes_facing z b c.at walked_here facing_here sound.sound.suits.sizes) (ap (none_fixed z.heap.table) parts ∙ moves) loose_here))
+            | inr none ↦ none.0
+          ]
+          fresh high (e ∷ es) near parts ends moves =
+              let l = last_of e es in
+              let fixed = sym (ends-last z.heap.table l.front l.here) ∙ ap (ends_fixed z.heap.table) (sym l.is) ∙ ends in
+              let split : z.heap.map ≡ ((b.before ++ (s.walked).done) ++ l.front) ++ l.here ∷ (near ++ here ∷ (f.back ++ b.behind)) =
+              map_rest z b at s.walked ∙ ap (λ m. (b.before ++ (s.walked).done) ++ (m ++ b.behind)) (f.parts ∙ ap (λ m. m ++ here ∷ f.back) (parts ∙ ap (λ m. m ++ near) l.is)) ∙ simp append_assoc in
+              let r = run_past (bounds_gap z.heap.table counted) (counts counted) s.reached l.front in
+              ap (run_past (bounds_gap z.heap.table counted) (counts counted) s.reached) l.is ∙ past-append (bounds_gap z.heap.table counted) (counts counted) s.reached l.front (l.here ∷ [])
+              ∙ ap (λ b'. cond b' 0 (r + size_if (counts counted) l.here)) (fixed-bounds z counted sound can ((b.before ++ (s.walked).done) ++ l.front) l.here (near ++ here ∷ (f.back ++ b.behind)) split fixed)
 
-      module _ (wider : Limit) (low : wider.start ≡ cond (eqb limit.start limit.end) at limit.start) (high : wider.end ≡ at + (f.here).size) where
-        wide : Spanned (may_purge z.heap.table protected) ((s.walked).done ++ f.here ∷ []) start wider.start wider.end
-        wide = spanned_go (may_purge z.heap.table protected) (s.walked).done start limit.start limit.end s.spanned f.here s.some at (s.walked).at_is wider.start wider.end low high
+          pub new_gap : gap_end ≤ c.at → (g : Stretch) (a : GapAround z moves_at g) (whole : ℕ) → whole ≡ bytes_of_kind (counts counted) (a.near ++ block (Rel c.handle) c.size ∷ a.far) → InGap z.heap.table counted s.reached f.front f.back c g.end whole
+          new_gap high g a whole is = record {
+            far = a.far;
+            above = a.above;
+            parts = a.back;
+            moves = a.far_moves;
+            high = a.high;
+            last = a.last;
+            room_is =
+                let none = fresh high a.below a.near a.front a.low a.near_moves in
+                let bounds : Kind → Bool = bounds_gap z.heap.table counted in
+                let past = ap (run_past bounds (counts counted) s.reached) a.front ∙ past-append bounds (counts counted) s.reached a.below a.near ∙ past-moves z.heap.table counted (run_past bounds (counts counted) s.reached a.below) a.near a.near_moves in
+                let all = none_with a.near a.far in
+                omega arith;
+          }
 
-        -- one that is purged
-        pub sought_more : SoundZone z → nat_le k (whole + (freed + (f.here).size)) ≡ false → wider.enough ≡ false → Sought z b k counted protected (at + (f.here).size) run (freed + (f.here).size) whole wider
-        sought_more sound less less_is = record {
-          walked = walked_on z b at s.walked f;
-          reached = s.reached + (f.here).size;
-          swept = purge_swept (bounds_gap z.heap.table counted) (counts counted) k (may_purge z.heap.table protected) (counts-free counted) (bounds-free z.heap.table counted) (s.walked).done f.here f.after s.reached here_swept may (run_purged ∙ less);
-          known = λ _. room_purged;
-          fresh = λ none. absurd (let bytes = bytes_facing z b at s.walked f sound in omega arith);
-          low = (let was = s.low in omega arith);
-          spanned = wide;
-          some = inr (spanned-high (may_purge z.heap.table protected) (s.walked).done start limit.start limit.end s.spanned f.here at wider.start wider.end (s.walked).at_is low high (bytes_facing z b at s.walked f sound));
-          not_yet = less_is;
-        }
+          module _ (gap_last whole : ℕ) (g : InGap z.heap.table counted s.reached f.front f.back c gap_last whole) where
+            swept_here : Swept (bounds_gap z.heap.table counted) (counts counted) k (may_purge z.heap.table protected) (counts-free counted) (bounds-free z.heap.table counted) ((s.walked).done ++ f.front) (here ∷ f.back)
+                (run_past (bounds_gap z.heap.table counted) (counts counted) s.reached f.front)
+            swept_here = stay_swept (bounds_gap z.heap.table counted) (counts counted) k (may_purge z.heap.table protected) (counts-free counted) (bounds-free z.heap.table counted) f.front (s.walked).done (here ∷ f.back) s.reached
+                (subst (λ m. Swept (bounds_gap z.heap.table counted) (counts counted) k (may_purge z.heap.table protected) (counts-free counted) (bounds-free z.heap.table counted) (s.walked).done m s.reached) f.parts s.swept) f.stay
 
-        -- and is enough
-        pub sought_found : nat_le k (whole + (freed + (f.here).size)) ≡ true → wider.enough ≡ true → IsLimit (bounds_gap z.heap.table counted) (counts counted) (may_purge z.heap.table protected) k b.blocks start wider
-        sought_found enough is =
-            let w = walked_on z b at s.walked f in
-            limit_here (bounds_gap z.heap.table counted) (counts counted) k (may_purge z.heap.table protected) (counts-free counted) (bounds-free z.heap.table counted) (s.walked).done f.here f.after s.reached here_swept start wider
-            may (run_purged ∙ enough) b.blocks w.parts wide is
+            none_above : (above : ZoneMap) → f.back ≡ g.far ++ above → begins_fixed z.heap.table above ≡ true → bytes_before (bounds_gap z.heap.table counted) (counts counted) above ≡ 0
+            none_above [] parts fixed = refl
+            none_above (e ∷ es) parts fixed =
+                let split : z.heap.map ≡ ((b.before ++ ((s.walked).done ++ f.front)) ++ here ∷ g.far) ++ e ∷ (es ++ b.behind) =
+                map_rest z b c.at walked_here ∙ ap (λ m. (b.before ++ ((s.walked).done ++ f.front)) ++ (here ∷ (m ++ b.behind))) parts ∙ simp append_assoc in
+                ap (λ b'. cond b' 0 (size_if (counts counted) e + bytes_before (bounds_gap z.heap.table counted) (counts counted) es)) (fixed-bounds z counted sound can ((b.before ++ ((s.walked).done ++ f.front)) ++ here ∷ g.far) e (es ++ b.behind) split fixed)
 
-  -- those that are clear are passed
-  pub sought_over : (front back : ZoneMap) (at to run freed room : ℕ) (limit : Limit) (s : Sought z b k counted protected at run freed room limit) → (s.walked).rest ≡ front ++ back → to ≡ at + total_size front → freed ≢ 0
-      → AllStay (bounds_gap z.heap.table counted) front → AllStay (may_purge z.heap.table protected) front → Sought z b k counted protected to run freed room limit
-  unfolding sought_on
-  sought_over [] back at to run freed room limit s parts place some moves stays = subst (λ n. Sought z b k counted protected n run freed room limit) (let e : at ≡ to = omega arith in e) s
-  sought_over (e ∷ es) back at to run freed room limit s parts place some moves stays =
-      let f : Facing z b at s.walked = record { here = e; after = es ++ back; is = parts } in
-      sought_over es back (at + e.size) to run freed room limit (sought_on at run freed room limit s f run (omega arith) (λ none. absurd (some none)) stays.0 moves.0) refl (omega arith) some moves.1 stays.1
+            behind_here : bytes_before (bounds_gap z.heap.table counted) (counts counted) f.back ≡ bytes_of_kind (counts counted) g.far
+            behind_here = ap (bytes_before (bounds_gap z.heap.table counted) (counts counted)) g.parts ∙ before-moves z.heap.table counted g.far g.above g.moves (none_above g.above g.parts g.high)
 
-  -- what counts of the gap so far lies below
-  pub run-low : (at run freed room : ℕ) (limit : Limit) → Sought z b k counted protected at run freed room limit → run ≤ at
-  run-low at run freed room limit s = let low = s.low in let few = (s.swept).few in let here = (s.walked).at_is in omega arith
+            bounds_here : bounds_gap z.heap.table counted (Rel c.handle) ≡ false
+            bounds_here = purged-moves z.heap.table protected counted (Rel c.handle) kept f.may
 
-  -- one that is purged, and those behind it that are clear
-  pub sought_jump : (at run freed room : ℕ) (limit : Limit) (s : Sought z b k counted protected at run freed room limit) (f : Facing z b at s.walked) → is_kept protected counted ≡ true → may_purge z.heap.table protected (f.here).kind ≡ true
-      → (whole : ℕ) → (freed ≢ 0 → whole ≡ room) → (freed ≡ 0 → whole ≡ run + bytes_before (bounds_gap z.heap.table counted) (counts counted) f.after)
-      → (wider : Limit) → wider.start ≡ cond (eqb limit.start limit.end) at limit.start → wider.end ≡ at + (f.here).size
-      → SoundZone z → nat_le k (whole + (freed + (f.here).size)) ≡ false → wider.enough ≡ false → (to : ℕ) → IsClear (bounds_gap z.heap.table counted) (may_purge z.heap.table protected) f.after (at + (f.here).size) to
-      → Sought z b k counted protected to run (freed + (f.here).size) whole wider
-  unfolding sought_more
-  sought_jump at run freed room limit s f kept may whole known new wider low high sound less less_is to clear =
-      sought_over clear.front clear.back (at + (f.here).size) to run (freed + (f.here).size) whole wider (sought_more at run freed room limit s f kept may whole known new wider low high sound less less_is)
-      clear.parts clear.place (λ none. let bytes = bytes_facing z b at s.walked f sound in omega arith) clear.moves clear.stays
+            run_purged : run_has (bounds_gap z.heap.table counted) (counts counted) k (run_past (bounds_gap z.heap.table counted) (counts counted) s.reached f.front + c.size) f.back ≡ nat_le k (whole + c.size)
+            run_purged =
+                let r = run_past (bounds_gap z.heap.table counted) (counts counted) s.reached f.front in
+                let behind = none_behind (bounds_gap z.heap.table counted) (counts counted) k (may_purge z.heap.table protected) (counts-free counted) (bounds-free z.heap.table counted) ((s.walked).done ++ f.front) here f.back r swept_here false bounds_here in
+                let count = behind_here in
+                let is = g.room_is in
+                more-run (bounds_gap z.heap.table counted) (counts counted) k (r + size_if (counts counted) here) (r + c.size) f.back behind
+                ∙ ap (nat_le k) (let e : r + c.size + bytes_before (bounds_gap z.heap.table counted) (counts counted) f.back ≡ whole + c.size = omega arith in e)
+
+            -- the room fits
+            pub within_sought : whole + c.size ≤ end
+            within_sought =
+                let few = swept_here.few in
+                let is = g.room_is in
+                let far = bytes-few (counts counted) g.far in
+                let place = (walked_here).at_is in
+                let last = end_walked z b c.at walked_here in
+                let all = ap total_size g.parts ∙ total_size-append g.far g.above in
+                omega arith
+
+            module _ (wider : Limit) (low : wider.start ≡ cond (eqb limit.start limit.end) c.at limit.start) (high : wider.end ≡ c.at + c.size) where
+              abbrev spanned_front : Spanned (may_purge z.heap.table protected) ((s.walked).done ++ f.front) start limit.start limit.end
+              spanned_front = spanned_stay (may_purge z.heap.table protected) (s.walked).done start limit.start limit.end s.spanned f.front f.stay
+
+              wide : Spanned (may_purge z.heap.table protected) (((s.walked).done ++ f.front) ++ here ∷ []) start wider.start wider.end
+              wide = spanned_go (may_purge z.heap.table protected) ((s.walked).done ++ f.front) start limit.start limit.end spanned_front here s.some c.at (walked_here).at_is wider.start wider.end low high
+
+              -- it is purged
+              pub sought_more : nat_le k (whole + c.size) ≡ false → wider.enough ≡ false → Sought z b k counted protected (c.at + c.size) gap_last (whole + c.size) wider
+              sought_more less less_is = record {
+                walked = walked_on z b c.at walked_here facing_here;
+                reached = run_past (bounds_gap z.heap.table counted) (counts counted) s.reached f.front + c.size;
+                swept = purge_swept (bounds_gap z.heap.table counted) (counts counted) k (may_purge z.heap.table protected) (counts-free counted) (bounds-free z.heap.table counted) ((s.walked).done ++ f.front) here f.back
+                    (run_past (bounds_gap z.heap.table counted) (counts counted) s.reached f.front) swept_here f.may (run_purged ∙ less);
+                gap = g.far;
+                above = g.above;
+                parts = g.parts;
+                last = (let last = g.last in omega arith);
+                moves = g.moves;
+                known = inl (g.high, (let is = g.room_is in omega arith));
+                spanned = wide;
+                some = inr (spanned-high (may_purge z.heap.table protected) ((s.walked).done ++ f.front) start limit.start limit.end spanned_front here c.at wider.start wider.end (walked_here).at_is low high
+                    (bytes_facing z b c.at walked_here facing_here sound.sound.suits.sizes));
+                not_yet = less_is;
+              }
+
+              -- and is enough
+              pub sought_found : nat_le k (whole + c.size) ≡ true → wider.enough ≡ true → IsLimit (bounds_gap z.heap.table counted) (counts counted) (may_purge z.heap.table protected) k b.blocks start wider
+              sought_found enough is =
+                  let w = walked_on z b c.at walked_here facing_here in
+                  limit_here (bounds_gap z.heap.table counted) (counts counted) k (may_purge z.heap.table protected) (counts-free counted) (bounds-free z.heap.table counted) ((s.walked).done ++ f.front) here f.back
+                  (run_past (bounds_gap z.heap.table counted) (counts counted) s.reached f.front) swept_here start wider f.may (run_purged ∙ enough) b.blocks w.parts wide is

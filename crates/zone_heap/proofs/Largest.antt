@@ -8,7 +8,7 @@ use Rattle.mac_base.specs.declared.block.Kind.TheVariants.{Free}
 use Rattle.mac_base.specs.ZoneMap.{ZoneMap, block, has_free, is_free, largest_free, total_size}
 use Rattle.mac_base.specs.ZoneState.{ZoneState}
 use Rattle.zone_laws.proofs.Maps.{both_true}
-use Rattle.linked_zone.specs.Places.{EntryAt, LowestAt}
+use Rattle.linked_zone.specs.Places.{LowestAt}
 
 -- a free block is no larger than the largest
 free-most : (size : ℕ) (a b : ZoneMap) → size ≤ largest_free (a ++ block Free size ∷ b)
@@ -41,18 +41,9 @@ most-none k (e ∷ es) none =
     here false h = omega arith
 
 module _ (z : ZoneState) (k at : ℕ) (low : LowestAt z k at) where
-  -- the block that is found
-  abbrev pub found-entry : EntryAt z at
-  found-entry = record { before = low.free.before; here = block Free low.free.size; behind = low.free.behind; map = low.free.map; place = low.free.place }
-
-  -- it is no larger than the largest
-  pub found-most : (here : Entry) → here ≡ found-entry.here → here.size ≤ largest_free z.heap.map
-  found-most here is =
-      let size = ap (λ (e : Entry). e.size) is in
+  -- the block that is found is no larger than the largest
+  pub found-most : low.free.size ≤ largest_free z.heap.map
+  found-most =
       let most = free-most low.free.size low.free.before low.free.behind in
       let same = ap largest_free low.free.map in
-      omega (arith, size, most, same)
-
-  -- and has the bytes that were searched
-  pub found-large : (here : Entry) → here ≡ found-entry.here → k ≤ here.size
-  found-large here is = let size = ap (λ (e : Entry). e.size) is in let large = low.large in omega (arith, size, large)
+      omega (arith, most, same)

@@ -32,12 +32,14 @@ pub mod JoiningAll
 pub mod JoiningAround
 pub mod Walks
 pub mod Runs
+pub mod Rooms
+pub mod Gaps
 pub mod GapWalks
 pub mod Until
+pub mod Candidates
 pub mod Grows
 pub mod Replacing
 pub mod Limits
 pub mod Counting
-pub mod Barren
 pub mod Behind
 pub mod RunWalks

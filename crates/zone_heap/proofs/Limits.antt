@@ -7,13 +7,15 @@ use Rattle.mac_base.specs.declared.block.Kind.TheVariants.{Free, Master, Ptr, Re
 use Rattle.mac_base.specs.declared.request.Request.{Request}
 use Rattle.mac_base.specs.declared.request.Request.TheVariants.{NewBlock, NewEmpty, NewPointer, NewMaster, Reserve, Resize, Replace}
 use Rattle.mac_base.specs.Gap.{Gap, gap_behind, gaps, gaps_with, is_fixed, own_gap, some_gap_has}
-use Rattle.mac_base.specs.HandleTable.{HandleTable, EmptyHandle, emptied, has_block, is_lent, is_locked, is_pointer, is_purgeable, live_flags, live_full, live_pointer}
+use Rattle.mac_base.specs.HandleTable.{HandleTable, EmptyHandle, emptied, has_block, is_handle, is_lent, is_locked, is_pointer, is_purgeable, live_flags, live_full, live_pointer}
 use Rattle.mac_base.specs.HeadKind.{Shape}
 use Rattle.mac_base.specs.Heap.{Heap, with_all_emptied}
 use Rattle.mac_base.specs.Request.{can_grow, candidates, candidates_in, fits, is_among, purged_until, room_of, size_needed, size_of, stays}
 use Rattle.mac_base.specs.Sound.{Sound}
 use Rattle.mac_base.specs.Suits.{Suits}
-use Rattle.zone_laws.proofs.Maps.{both_true}
+use Rattle.gap_laws.proofs.SoundServed.{moves-full}
+use Rattle.std.proofs.lemmas.Bool.{or_parts}
+use Rattle.zone_laws.proofs.Maps.{both_true, true_not}
 use Rattle.mac_base.specs.ZoneMap.{ZoneMap, address_behind, is_named, released, sizes}
 use Rattle.mac_base.specs.ZoneState.{ZoneState}
 use Rattle.gap_laws.proofs.FittingResize.{one_size, some_named}
@@ -21,9 +23,9 @@ use Rattle.gap_laws.proofs.SoundPurged.{candidate-handle, sound-all_emptied}
 use Rattle.zone_laws.proofs.NamedPlace.{At-from, first_named}
 use Rattle.zone_laws.proofs.SlotPlaces.{Contains-here, Contains-later}
 use Rattle.zone_laws.proofs.SuitsNamed.{full-no_pointer, named_once, stays-fixed}
-use Rattle.zone_laws.proofs.Tables.{by_number, eqb-true-is, live_at-with_live_same, with_live_agrees}
+use Rattle.zone_laws.proofs.Tables.{by_number, eqb-true-is, full_handle, live_at-with_live_same, with_live_agrees}
 use Rattle.zone_heap.specs.Attempts.{SoundZone, is_ready}
-use Rattle.zone_heap.specs.Purge.{IsLimit, Purges, PurgesFor, all_emptied, HasBlockIf, all_released, blocks_behind, bounds_gap, counts, freed_where, is_kept, is_protected, may_purge, operand, resized, run_has, staying}
+use Rattle.zone_heap.specs.Purge.{CanCount, IsLimit, Purges, PurgesFor, all_emptied, HasBlockIf, all_released, blocks_behind, bounds_gap, counts, freed_where, is_kept, is_protected, may_purge, operand, resized, run_has, staying}
 use Rattle.zone_heap.specs.declared.purge.Limit.{Limit}
 use Rattle.zone_heap.proofs.FreedBlocks.{Once, candidate_here, candidates-cons, emptied-parts, once-suits}
 use Rattle.zone_heap.proofs.EmptyingBlocks.{same-live}
@@ -191,6 +193,26 @@ ready-resized t NewMaster ready = tt
 ready-resized t (Reserve n) ready = tt
 ready-resized t (Resize x n) ready = (both_true (has_block t x) (not (is_lent t x)) ready).0
 ready-resized t (Replace h n) ready = tt
+
+-- the handle whose block counts is live and isn't locked, where no block stays that is to grow
+pub request-can_count : (z : ZoneState) (r : Request) → is_ready z.heap.table r ≡ true → staying z.heap.table r ≡ None → CanCount z (operand r)
+request-can_count z (NewBlock n) ready stay = tt
+request-can_count z NewEmpty ready stay = tt
+request-can_count z (NewPointer n) ready stay = tt
+request-can_count z NewMaster ready stay = tt
+request-can_count z (Reserve n) ready stay = tt
+request-can_count z (Resize x n) ready stay =
+    let t = z.heap.table in
+    let loose = moves (stays t x) stay in
+    (full_handle t x (moves-full t x (both_true (has_block t x) (not (is_lent t x)) ready).0 loose).0, (or_parts (is_pointer t x) (is_locked t x) loose).1)
+  where
+    moves : (c : Bool) → cond c (Some x) None ≡ None → c ≡ false
+    moves true is = absurd (cc is)
+    moves false is = refl
+request-can_count z (Replace h n) ready stay =
+    let t = z.heap.table in
+    let both = both_true (is_handle t h) (not (is_locked t h) && not (is_lent t h)) ready in
+    (both.0, true_not (is_locked t h) (both_true (not (is_locked t h)) (not (is_lent t h)) both.1).0)
 
 -- a request whose block stays is one for another size
 pub staying-is : (t : HandleTable) (r : Request) (x : ℕ) → staying t r ≡ Some x → (n : ℕ) × (r ≡ Resize x n) × (stays t x ≡ true)

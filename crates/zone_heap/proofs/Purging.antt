@@ -1,16 +1,14 @@
 -- What purging keeps: the zone is sound, and what is lent of it can come back.
-use Rattle.std.proofs.Common.{◌≡◌, ℕ, zero, suc, ◌<◌, Bool, true, false, not, cond, eqb, List, [], ◌∷◌, length, refl, ap, sym, ◌∙◌, Contains, arith}
-use Rattle.std.specs.Prelude.{◌&&◌, ◌||◌, filter, filter_map, nat_le, slice_index}
-use Rattle.std.proofs.lemmas.Bool.{and_parts, eq-eqb, eqb-true, not-true, true≢false}
+use Rattle.std.proofs.Common.{◌≡◌, ℕ, zero, suc, ◌<◌, Bool, true, false, not, eqb, List, [], ◌∷◌, length, refl, ap, sym, ◌∙◌, Contains, arith}
+use Rattle.std.specs.Prelude.{◌&&◌, ◌||◌, filter_map, slice_index}
+use Rattle.std.proofs.lemmas.Bool.{and_parts, eq-eqb, not-true, true≢false}
 use Rattle.std.proofs.lemmas.List.Elements.{All-contains, filter_passes}
 use Rattle.mac_base.specs.declared.block.Entry.{Entry}
 use Rattle.mac_base.specs.HandleTable.{HandleTable, flags_of, is_full, is_lent, is_locked, is_purgeable}
-use Rattle.mac_base.specs.Heap.{Heap, all_purged, with_emptied, with_all_emptied}
+use Rattle.mac_base.specs.Heap.{Heap, with_emptied, with_all_emptied}
 use Rattle.mac_base.specs.Loans.{LoansAreFixed}
-use Rattle.mac_base.specs.Purging.{purged, purged_for}
-use Rattle.mac_base.specs.Request.{blocks_to_purge, candidates, candidates_in, fits, is_among, purged_until}
-use Rattle.mac_base.specs.declared.request.Request.{Request}
-use Rattle.mac_base.specs.ZoneMap.{ZoneMap, handle_of, largest_free}
+use Rattle.mac_base.specs.Request.{candidates_in, is_among}
+use Rattle.mac_base.specs.ZoneMap.{ZoneMap, handle_of}
 use Rattle.mac_base.specs.ZoneState.{ZoneState, with_heap}
 use Rattle.mac_base.specs.HeadKind.{Shape}
 use Rattle.mac_base.specs.declared.releasing.ReleasingCall.TheVariants.{Empties}
@@ -20,9 +18,7 @@ use Rattle.zone_laws.proofs.SlotPlaces.{Contains-here, Contains-later}
 use Rattle.zone_laws.proofs.SuitsNamed.{full-no_pointer}
 use Rattle.gap_laws.proofs.SoundPurged.{candidate-handle, sound-all_emptied}
 use Rattle.linked_zone.specs.Loans.{KeepsLoans}
-use Rattle.linked_zone.specs.Purgeable.{NonePurgeable, OnlyPurgeable}
 use Rattle.zone_heap.specs.Attempts.{SoundZone}
-use Rattle.zone_heap.specs.Purge.{NoneToPurge}
 use Rattle.zone_heap.proofs.Loans.{keeps-both, keeps-loans}
 
 -- what may be purged is a handle with a block, neither locked nor protected
@@ -83,34 +79,6 @@ module _ (z : ZoneState) (protected : List ℕ) (m : ZoneMap) (sound : SoundZone
   pub keeps-purged : KeepsLoans z (with_heap (with_all_emptied (candidates_in z.heap.table protected m) z.heap) z)
   keeps-purged = keeps-emptied (candidates_in z.heap.table protected m) z (λ h c. purged-here z.heap protected h sound.fixed (candidate-parts z.heap.table protected m h c))
 
--- where no handle may be purged there are none to purge
-pub none-to_purge : (t : HandleTable) (protected : List ℕ) (m : ZoneMap) → NoneToPurge t protected → candidates_in t protected m ≡ []
-none-to_purge t protected m none = by_handles (filter_map (λ (e : Entry). handle_of e.kind) m)
-  where
-    by_handles : (hs : List ℕ) → filter (λ h. is_purgeable t h && not (is_among protected h)) hs ≡ []
-    by_handles [] = refl
-    by_handles (h ∷ hs) = ap (λ b. cond b (h ∷ filter (λ h. is_purgeable t h && not (is_among protected h)) hs) (filter (λ h. is_purgeable t h && not (is_among protected h)) hs)) (none h) ∙ by_handles hs
-
--- none may be where none may be at all
-pub none-unprotected : (t : HandleTable) (protected : List ℕ) → NonePurgeable t → NoneToPurge t protected
-none-unprotected t protected none h = ap (λ b. b && not (is_among protected h)) (none h)
-
--- or but for two that are protected
-pub only-protected : (t : HandleTable) (protected : List ℕ) (x y : ℕ) → is_among protected x ≡ true → is_among protected y ≡ true → OnlyPurgeable x y t → NoneToPurge t protected
-only-protected t protected x y first second only h = by_among (is_among protected h) refl
-  where
-    apart : (z : ℕ) → is_among protected z ≡ true → is_among protected h ≡ false → (b : Bool) → eqb z h ≡ b → b ≡ false
-    apart z is other false test = refl
-    apart z is other true test = absurd (true≢false (sym is ∙ ap (is_among protected) (eqb-true z h test) ∙ other))
-
-    none : (b : Bool) → (b && false) ≡ false
-    none true = refl
-    none false = refl
-
-    by_among : (c : Bool) → is_among protected h ≡ c → (is_purgeable t h && not c) ≡ false
-    by_among true among = none (is_purgeable t h)
-    by_among false among = ap (λ b. b && true) (only h (apart x first among (eqb x h) refl) (apart y second among (eqb y h) refl))
-
 -- each of the protected is among them
 pub among-there : (xs : List ℕ) (i : ℕ) → i < length xs → is_among xs (slice_index xs i) ≡ true
 among-there [] i low = absurd (omega arith)
@@ -120,19 +88,3 @@ among-there (x ∷ xs) (suc i) low = by_first (eqb x (slice_index xs i)) (among-
     by_first : (b : Bool) → is_among xs (slice_index xs i) ≡ true → (b || is_among xs (slice_index xs i)) ≡ true
     by_first true rest = refl
     by_first false rest = rest
-
--- and the zone is as after any purging
-module _ (z : ZoneState) (none : NonePurgeable z.heap.table) where
-  pub unpurged-all : z ≡ with_heap (all_purged z.heap) z
-  unpurged-all = ap (λ hs. with_heap (with_all_emptied hs z.heap) z) (sym (none-to_purge z.heap.table [] z.heap.map (none-unprotected z.heap.table [] none)))
-
-  pub unpurged-to : (n : ℕ) → z ≡ with_heap (purged_for n z.heap) z
-  unpurged-to n = ap (λ hs. with_heap (with_all_emptied (purged_until (λ (m : ZoneMap). nat_le n (largest_free m)) hs z.heap.map) z.heap) z) (sym (none-to_purge z.heap.table [] z.heap.map (none-unprotected z.heap.table [] none)))
-
--- or after one for a request
-pub unpurged-none : (z : ZoneState) (protected : List ℕ) (r : Request) → candidates z.heap.table protected r z.heap.map ≡ [] → z ≡ with_heap (purged z.shape protected r z.heap) z
-unpurged-none z protected r none = ap (λ hs. with_heap (with_all_emptied (purged_until (fits z.shape z.heap.table r) hs z.heap.map) z.heap) z) (sym none)
-
-pub unpurged-for : (z : ZoneState) (protected : List ℕ) (r : Request) → NoneToPurge z.heap.table protected → z ≡ with_heap (purged z.shape protected r z.heap) z
-unpurged-for z protected r none =
-    unpurged-none z protected r (none-to_purge z.heap.table protected (blocks_to_purge z.heap.table r z.heap.map) none)

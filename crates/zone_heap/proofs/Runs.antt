@@ -9,7 +9,7 @@ use Rattle.mac_base.specs.declared.block.Kind.TheVariants.{Free}
 use Rattle.mac_base.specs.ZoneMap.{ZoneMap, block, total_size}
 use Rattle.zone_laws.proofs.GapAppend.{total_size-append}
 use Rattle.zone_gaps.proofs.Sizes.{total_size-push}
-use Rattle.zone_heap.specs.Purge.{AllStay, IsLimit, Spanned, bytes_before, freed_where, run_has, size_if}
+use Rattle.zone_heap.specs.Purge.{AllStay, IsLimit, Spanned, bytes_before, freed_where, run_has, run_past, size_if}
 use Rattle.zone_heap.specs.declared.purge.Limit.{Limit}
 
 -- a list that ends with an element, in two parts: what holds where the second begins with it, and where it begins before, holds
@@ -140,6 +140,18 @@ module _ (bounds counted : Kind → Bool) (k : ℕ) where
       none_behind true bounding = (or_parts (nat_le k run) (run_has bounds counted k 0 es) (sym (ap (λ c. cond c (nat_le k run || run_has bounds counted k 0 es) (run_has bounds counted k (run + size_if counted e) es)) bounding) ∙ s.none)).1
       none_behind false open_here = sym (ap (λ c. cond c (nat_le k run || run_has bounds counted k 0 es) (run_has bounds counted k (run + size_if counted e) es)) open_here) ∙ s.none
 
+    -- many that stay are passed
+    pub stay_swept : (front done rest : ZoneMap) (run : ℕ) → Swept done (front ++ rest) run → AllStay purged front → Swept (done ++ front) rest (run_past bounds counted run front)
+    stay_swept [] done rest run s stay = subst (λ d. Swept d rest run) (sym (append-nil done)) s
+    stay_swept (e ∷ es) done rest run s stay =
+        let on : Bool → ℕ = λ c. cond c 0 (run + size_if counted e) in
+        subst (λ d. Swept d rest (run_past bounds counted (on (bounds e.kind)) es)) (append_assoc done (e ∷ []) es)
+        (stay_swept es (done ++ e ∷ []) rest (on (bounds e.kind))
+        (elim (bounds e.kind) as (λ c. bounds e.kind ≡ c → Swept (done ++ e ∷ []) (es ++ rest) (cond c 0 (run + size_if counted e))) [
+          | true ↦ bound_swept done e (es ++ rest) run s stay.0
+          | false ↦ pass_swept done e (es ++ rest) run s stay.0
+        ] refl) stay.1)
+
     -- or with the last block
     pub limit_last : (done : ZoneMap) (run from : ℕ) (limit : Limit) → Swept done [] run → (blocks : ZoneMap) → blocks ≡ done ++ [] → Spanned purged done from limit.start limit.end → limit.enough ≡ false → IsLimit bounds counted purged k blocks from limit
     limit_last done run from limit s blocks parts within is = record {
@@ -170,23 +182,20 @@ spanned_all test done from at is = record {
   back_stays = tt;
 }
 
+-- more blocks that don't pass
+abbrev pub spanned_stay : (test : Kind → Bool) (done : ZoneMap) (from first last : ℕ) → Spanned test done from first last → (more : ZoneMap) → AllStay test more → Spanned test (done ++ more) from first last
+spanned_stay test done from first last s more stay = record {
+  front = s.front;
+  between = s.between;
+  back = s.back ++ more;
+  parts = ap (λ d. d ++ more) s.parts ∙ simp append_assoc;
+  start = s.start;
+  end = s.end;
+  front_stays = s.front_stays;
+  back_stays = all_stay-append test s.back more s.back_stays stay;
+}
+
 module _ (test : Kind → Bool) (done : ZoneMap) (from first last : ℕ) (s : Spanned test done from first last) (e : Entry) where
-  pub parts_stay : done ++ e ∷ [] ≡ s.front ++ (s.between ++ (s.back ++ e ∷ []))
-  parts_stay = ap (λ d. d ++ e ∷ []) s.parts ∙ simp append_assoc
-
-  -- one more block that doesn't pass
-  abbrev pub spanned_stay : test e.kind ≡ false → Spanned test (done ++ e ∷ []) from first last
-  spanned_stay stays = record {
-    front = s.front;
-    between = s.between;
-    back = s.back ++ e ∷ [];
-    parts = parts_stay;
-    start = s.start;
-    end = s.end;
-    front_stays = s.front_stays;
-    back_stays = all_stay-append test s.back (e ∷ []) s.back_stays (stays, tt);
-  }
-
   -- those that pass begin no higher than one more block stands
   pub spanned-low : first ≤ from + total_size done
   spanned-low = let start = s.start in let all = ap total_size s.parts ∙ total_size-append s.front (s.between ++ s.back) in omega arith

@@ -32,7 +32,7 @@ released-append [] h m = refl
 released-append (g ∷ hs) h m = released-append hs h (released g m)
 
 -- blocks that stay have no handles to purge
-none-candidates : (t : HandleTable) (protected : List ℕ) (m : ZoneMap) → AllStay (may_purge t protected) m → candidates_in t protected m ≡ []
+pub none-candidates : (t : HandleTable) (protected : List ℕ) (m : ZoneMap) → AllStay (may_purge t protected) m → candidates_in t protected m ≡ []
 none-candidates t protected [] stay = refl
 none-candidates t protected (e ∷ es) stay = candidates-cons t protected e es ∙ by_kind e.kind stay.0 (none-candidates t protected es stay.1)
   where

@@ -5,11 +5,10 @@ use Rattle.mac_base.specs.ZoneMap.{ZoneMap, address_behind, total_size}
 use Rattle.mac_base.specs.ZoneState.{ZoneState}
 use Rattle.zone_laws.proofs.GapAppend.{total_size-append}
 use Rattle.zone_laws.proofs.GapApart.{sizes_possible}
-use Rattle.linked_zone.specs.Places.{EntryAt, HasOwner}
-use Rattle.zone_gaps.proofs.Entries.{entry_owner}
-use Rattle.zone_gaps.proofs.Settling.{owners-settled, settled-sound}
-use Rattle.zone_gaps.proofs.Sizes.{all_parts, first_bytes, no_bytes, total_size-push}
-use Rattle.zone_heap.specs.Attempts.{SoundZone}
+use Rattle.linked_zone.specs.Fit.{HasSizes}
+use Rattle.linked_zone.specs.Places.{EntryAt}
+use Rattle.zone_gaps.proofs.Entries.{entry_size}
+use Rattle.zone_gaps.proofs.Sizes.{all_parts, no_bytes, total_size-push}
 use Rattle.zone_heap.specs.Purge.{BlocksAt}
 
 -- the blocks below an address are passed
@@ -56,6 +55,16 @@ module _ {start end : ℕ} (z : ZoneState) (b : BlocksAt z start end) where
     abbrev pub rest_walked : BlocksAt z at end
     rest_walked = record { before = b.before ++ w.done; blocks = w.rest; behind = b.behind; map = map_rest; place = place_rest; long = end_walked }
 
+    pub parts_over : (front back : ZoneMap) → w.rest ≡ front ++ back → b.blocks ≡ (w.done ++ front) ++ back
+    parts_over front back is = w.parts ∙ ap (λ m. w.done ++ m) is ∙ sym (append_assoc w.done front back)
+
+    pub at_over : (front : ZoneMap) (to : ℕ) → to ≡ at + total_size front → to ≡ start + total_size (w.done ++ front)
+    at_over front to place = let here = w.at_is in let all = total_size-append w.done front in omega arith
+
+    -- more are passed
+    abbrev pub walked_over : (front back : ZoneMap) → w.rest ≡ front ++ back → (to : ℕ) → to ≡ at + total_size front → Walked z b to
+    walked_over front back is to place = record { done = w.done ++ front; rest = back; parts = parts_over front back is; at_is = at_over front to place }
+
     -- below the end one more block stands
     pub facing : at < end → Facing z b at w
     facing below = by_rest w.rest refl
@@ -65,10 +74,10 @@ module _ {start end : ℕ} (z : ZoneState) (b : BlocksAt z start end) where
         by_rest (e ∷ es) some = record { here = e; after = es; is = some }
 
     -- at the end none is left
-    pub walked_end : SoundZone z → end ≤ at → w.rest ≡ []
-    walked_end sound above =
+    pub walked_end : HasSizes z → end ≤ at → w.rest ≡ []
+    walked_end sizes above =
         let all = end_walked in
-        let possible = (all_parts _ w.rest b.behind (all_parts _ (b.before ++ w.done) (w.rest ++ b.behind) (subst (λ m. sizes_possible z.shape m ≡ true) map_walked sound.sound.suits.sizes)).1).0 in
+        let possible = (all_parts _ w.rest b.behind (all_parts _ (b.before ++ w.done) (w.rest ++ b.behind) (subst (λ m. sizes_possible z.shape m ≡ true) map_walked sizes)).1).0 in
         no_bytes z.shape w.rest possible (omega arith)
 
     -- the block is the one that is read there
@@ -88,12 +97,8 @@ module _ {start end : ℕ} (z : ZoneState) (b : BlocksAt z start end) where
       within_facing = let all = end_walked in let bytes = ap total_size f.is in omega arith
 
       -- it has bytes
-      pub bytes_facing : SoundZone z → 0 < (f.here).size
-      bytes_facing sound = first_bytes z.shape f.here (f.after ++ b.behind) (all_parts _ (b.before ++ w.done) (f.here ∷ (f.after ++ b.behind)) (subst (λ m. sizes_possible z.shape m ≡ true) map_facing sound.sound.suits.sizes)).1
-
-      -- its owner is live
-      pub owner_facing : SoundZone z → HasOwner z (f.here).kind
-      owner_facing sound = entry_owner z at entry_facing (owners-settled z (settled-sound z sound.sound sound.fixed))
+      pub bytes_facing : HasSizes z → 0 < (f.here).size
+      bytes_facing sizes = entry_size z at entry_facing sizes
 
       pub parts_on : b.blocks ≡ (w.done ++ f.here ∷ []) ++ f.after
       parts_on = w.parts ∙ ap (λ m. w.done ++ m) f.is ∙ sym (append_assoc w.done (f.here ∷ []) f.after)

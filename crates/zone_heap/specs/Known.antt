@@ -4,7 +4,6 @@ use Rattle.mac_base.specs.declared.purge_space.PurgeSpace.{PurgeSpace}
 use Rattle.mac_base.specs.Reports.{largest_purge_space, largest_room, purge_space}
 use Rattle.mac_base.specs.ZoneState.{ZoneState}
 use Rattle.zone_heap.specs.declared.known.Known.{Known}
-use Rattle.zone_heap.specs.Purge.{IsBarren}
 
 -- the most free bytes that one gap has, where it is remembered
 abbrev pub IsRoom : ZoneState → Option ℕ → Type 0
@@ -18,6 +17,5 @@ IsSpace z (Some s) = (s.total ≡ purge_space z.heap.table z.heap.map) × (s.con
 
 -- all that is remembered is so
 pub record IsKnown (z : ZoneState) (k : Known) : Type 0 where
-  pub barren : IsBarren z k.barren
   pub room : IsRoom z k.room
   pub space : IsSpace z k.space

@@ -8,15 +8,15 @@ use Rattle.mac_base.specs.declared.request.Request.TheVariants.{Resize, Replace}
 use Rattle.mac_base.specs.Gap.{Gap, gap_behind, gaps, is_fixed}
 use Rattle.std.specs.Option.{option_map_or}
 use Rattle.mac_base.specs.HandleTable.{HandleTable, emptied, has_block, is_handle, is_locked, is_purgeable}
-use Rattle.mac_base.specs.Request.{blocks_to_purge, candidates, candidates_in, fits, is_among, purged_until, stays}
+use Rattle.mac_base.specs.Request.{candidates, candidates_in, fits, is_among, purged_until, stays}
 use Rattle.std.specs.List.{list_all}
 use Rattle.mac_base.specs.Suits.{free_apart, is_block_size}
 use Rattle.mac_base.specs.ZoneMap.{ZoneMap, block, handle_of, is_free, is_named, address_behind, largest_free, released, total_size}
 use Rattle.mac_base.specs.ZoneState.{ZoneState, with_heap}
-use Rattle.zone_heap.specs.declared.purge.Barren.{Barren}
+use Rattle.fixed_index.specs.Runs.{begins_fixed, ends_fixed, none_fixed}
+use Rattle.zone_heap.specs.declared.purge.Candidate.{Candidate}
 use Rattle.zone_heap.specs.declared.purge.Limit.{Limit}
-use Rattle.zone_heap.specs.declared.purge.Part.{Part}
-use Rattle.zone_heap.specs.declared.purge.Part.TheVariants.{Goes, Fixed, Stays}
+use Rattle.zone_heap.specs.declared.purge.Stretch.{Stretch}
 
 -- whether what a request resizes or replaces is among the protected
 abbrev pub is_protected : List ℕ → Request → Bool
@@ -36,17 +36,9 @@ may_purge t protected Master = false
 may_purge t protected (Ptr p) = false
 may_purge t protected (Rel h) = is_purgeable t h && not (is_among protected h)
 
--- no handle that isn't protected may be purged
-abbrev pub NoneToPurge : HandleTable → List ℕ → Type 0
-NoneToPurge t protected = (h : ℕ) → IsFalse (is_purgeable t h && not (is_among protected h))
-
 -- the handle of such a block
 abbrev pub handle_to_purge : HandleTable → List ℕ → Kind → Option ℕ
 handle_to_purge t protected kind = if may_purge t protected kind then handle_of kind else None
-
--- what purging does with a block
-abbrev pub part_of : HandleTable → List ℕ → Kind → Part
-part_of t protected kind = if may_purge t protected kind then Goes else (if is_fixed t kind then Fixed else Stays)
 
 -- whether a block counts as free: it is, or it is that of this handle
 abbrev pub counts : Option ℕ → Kind → Bool
@@ -114,6 +106,16 @@ abbrev pub run_has : (Kind → Bool) → (Kind → Bool) → ℕ → ℕ → Zon
 run_has bounds counted k r [] = nat_le k r
 run_has bounds counted k r (e ∷ es) = if bounds e.kind then nat_le k r || run_has bounds counted k 0 es else run_has bounds counted k (r + size_if counted e) es
 
+-- the bytes that count among these blocks
+abbrev pub bytes_of_kind : (Kind → Bool) → ZoneMap → ℕ
+bytes_of_kind counted [] = 0
+bytes_of_kind counted (e ∷ es) = size_if counted e + bytes_of_kind counted es
+
+-- the bytes that count behind the last of these blocks that bounds them, with r more before the first where none does
+abbrev pub run_past : (Kind → Bool) → (Kind → Bool) → ℕ → ZoneMap → ℕ
+run_past bounds counted r [] = r
+run_past bounds counted r (e ∷ es) = run_past bounds counted (if bounds e.kind then 0 else r + size_if counted e) es
+
 -- the blocks with those that pass a test free, not joined
 abbrev pub freed_where : (Kind → Bool) → ZoneMap → ZoneMap
 freed_where test m = map (λ (e : Entry). if test e.kind then block Free e.size else e) m
@@ -166,14 +168,39 @@ abbrev pub AllStay : (Kind → Bool) → ZoneMap → Type 0
 AllStay test [] = ⊤
 AllStay test (e ∷ es) = IsFalse (test e.kind) × AllStay test es
 
--- of blocks that begin at an address, those up to another bound no gap, and none of them may be purged
-pub record IsClear (bounds purged : Kind → Bool) (blocks : ZoneMap) (from at : ℕ) : Type 0 where
+-- the first of blocks that begin at an address that may be purged
+pub record FirstToPurge (t : HandleTable) (protected : List ℕ) (blocks : ZoneMap) (from : ℕ) (c : Candidate) : Type 0 where
   pub front : ZoneMap
   pub back : ZoneMap
-  pub parts : blocks ≡ front ++ back
-  pub place : at ≡ from + total_size front
-  pub moves : AllStay bounds front
-  pub stays : AllStay purged front
+  pub parts : blocks ≡ front ++ block (Rel c.handle) c.size ∷ back
+  pub stay : AllStay (may_purge t protected) front
+  pub may : IsTrue (may_purge t protected (Rel c.handle))
+  pub place : c.at ≡ from + total_size front
+
+-- a block that isn't fixed stands at an address between two others
+pub record MovesAt (z : ZoneState) (start end at : ℕ) : Type 0 where
+  pub blocks : BlocksAt z start end
+  pub front : ZoneMap
+  pub here : Entry
+  pub back : ZoneMap
+  pub parts : blocks.blocks ≡ front ++ here ∷ back
+  pub place : at ≡ start + total_size front
+  pub moves : IsFalse (is_fixed z.heap.table here.kind)
+
+-- its gap, as far as it lies between these
+pub record GapAround {start end at : ℕ} (z : ZoneState) (m : MovesAt z start end at) (gap : Stretch) : Type 0 where
+  pub below : ZoneMap
+  pub near : ZoneMap
+  pub far : ZoneMap
+  pub above : ZoneMap
+  pub front : m.front ≡ below ++ near
+  pub back : m.back ≡ far ++ above
+  pub low : IsTrue (ends_fixed z.heap.table below)
+  pub near_moves : IsTrue (none_fixed z.heap.table near)
+  pub far_moves : IsTrue (none_fixed z.heap.table far)
+  pub high : IsTrue (begins_fixed z.heap.table above)
+  pub first : gap.start ≡ start + total_size below
+  pub last : gap.end ≡ at + (m.here.size + total_size far)
 
 -- of blocks that begin at an address, all that pass a test stand between two others
 pub record Spanned (test : Kind → Bool) (blocks : ZoneMap) (from first last : ℕ) : Type 0 where
@@ -210,13 +237,3 @@ PurgesFor z protected r limit = Purges z protected (fits z.shape z.heap.table r)
 -- those that are purged for k free bytes in one block
 abbrev pub PurgesTo : ZoneState → ℕ → Limit → Type 0
 PurgesTo z k limit = Purges z [] (λ (m : ZoneMap). nat_le k (largest_free m)) (candidates_in z.heap.table [] z.heap.map) limit
-
--- no block of the gap right behind a block may be purged but those of two handles, where something is remembered
-abbrev pub IsBarren : ZoneState → Option Barren → Type 0
-IsBarren z None = ⊤
-IsBarren z (Some b) = candidates_in z.heap.table (b.first ∷ b.last ∷ []) (blocks_behind z.heap.table b.block z.heap.map) ≡ []
-
--- it is what is to be remembered of a request: it may purge in that gap, and protects those handles
-pub record IsBarrenFor (z : ZoneState) (protected : List ℕ) (r : Request) (b : Barren) : Type 0 where
-  pub behind : blocks_to_purge z.heap.table r z.heap.map ≡ blocks_behind z.heap.table b.block z.heap.map
-  pub same : (h : ℕ) → is_among protected h ≡ is_among (b.first ∷ b.last ∷ []) h

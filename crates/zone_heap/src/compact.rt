@@ -97,7 +97,7 @@ fn largest_free(pointers: &LinkedZone) -> u32
     prove!(zone_end(pointers) <= ADDRESS_END);
     let mut largest = 0;
     while let Some(at) = pointers.lowest_free(largest + 1) {
-        largest = pointers.entry_at(at).size;
+        largest = pointers.free_size(at);
     }
     largest
 }

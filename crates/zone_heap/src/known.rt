@@ -1,13 +1,10 @@
 //! What a zone remembers of its blocks.
 
-use crate::purge::Barren;
 use mac_base::purge_space::PurgeSpace;
 
 /// What a zone remembers, as long as its blocks and their flags stay as they are.
 #[derive(Clone, Copy)]
 pub(crate) struct Known {
-    /// A block behind which no block may be purged, as a refused request found it.
-    pub(crate) barren: Option<Barren>,
     /// The most free bytes that one gap has.
     pub(crate) room: Option<u32>,
     /// The bytes that purging would make free.
@@ -17,7 +14,6 @@ pub(crate) struct Known {
 impl Known {
     /// What is known of a zone that has changed.
     pub(crate) const NOTHING: Known = Known {
-        barren: None,
         room: None,
         space: None,
     };

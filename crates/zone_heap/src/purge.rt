@@ -25,14 +25,8 @@ impl Zone {
         ensures fits { result ≡ fits self.new.shape self.new.heap.table request self.new.heap.map }
         ensures loans { KeepsLoans self.old self.new }
     {
-        self.known.room = None;
-        self.known.space = None;
-        purge_for(
-            &mut self.pointers,
-            &mut self.known.barren,
-            request,
-            protected,
-        )
+        self.known = Known::NOTHING;
+        purge_for(&mut self.pointers, request, protected)
     }
 
     /// Purges relocatable blocks that are unlocked and purgeable, in order of address, until `needed` bytes are free in one
@@ -58,31 +52,31 @@ impl Zone {
     }
 }
 
-ghost use Rattle.std.specs.Prelude.{◌≡◌, ◌≢◌, ◌+◌, ◌≤◌, ◌&&◌, ◌==◌, if◌then◌else◌, is_some, nat_le, true, IfSome, IsTrue, IsFalse, [], None};
+ghost use Rattle.std.specs.Prelude.{◌≡◌, ◌≤◌, ◌&&◌, ◌==◌, if◌then◌else◌, nat_le, IfSome, IfNone, IsTrue, IsFalse, [], None};
 ghost use Rattle.mac_base.specs.HandleTable.{has_block};
 ghost use Rattle.mac_base.specs.Heap.{all_purged, with_all_emptied};
 ghost use Rattle.mac_base.specs.Purging.{purged, purged_for};
 ghost use Rattle.mac_base.specs.Request.{can_grow, candidates_in, fits, stays};
 ghost use Rattle.mac_base.specs.Suits.{starts_free};
-ghost use Rattle.mac_base.specs.ZoneMap.{address_behind, is_free, largest_free};
+ghost use Rattle.mac_base.specs.ZoneMap.{address_behind, free_bytes, is_free, is_named, largest_free};
 ghost use Rattle.mac_base.specs.ZoneState.{with_heap};
 ghost use Rattle.linked_zone.specs.Loans.{KeepsLoans};
 ghost use Rattle.linked_zone.specs.Fit.{HasSizes};
 ghost use Rattle.linked_zone.specs.Places.{EntryAt, HasOwner};
 ghost use Rattle.zone_heap.specs.Attempts.{CanAsk, SoundZone};
 ghost use Rattle.zone_heap.specs.Joins.{all_joined};
-ghost use Rattle.zone_heap.specs.Purge.{ApartBeside, BlocksAt, IsLimit, ShortBlocks, ShortGaps, IsBarren, IsBarrenFor, IsClear, Purges, PurgesFor, PurgesTo, blocks_behind, bounds_gap, bounds_free, bytes_before, counts, handle_to_purge, is_kept, is_protected, may_purge, part_of, purged_between, size_if, staying_block, HasBlockIf, NoneToPurge};
+ghost use Rattle.zone_heap.specs.Purge.{ApartBeside, BlocksAt, AllStay, CanCount, FirstToPurge, GapAround, IsLimit, MovesAt, ShortBlocks, ShortGaps, Purges, PurgesFor, PurgesTo, blocks_behind, bounds_gap, bounds_free, bytes_before, bytes_of_kind, counts, handle_to_purge, is_kept, is_protected, may_purge, purged_between, run_past, staying_block, HasBlockIf};
 
 use crate::known::Known;
 use crate::zone::Zone;
 use gap_index::GapZone;
 use linked_zone::LinkedZone;
-use mac_base::block::{Entry, Kind};
+use mac_base::block::Kind;
 use mac_base::handle::{Handle, Ptr};
 use mac_base::request::Request;
 use mac_base::size::{MASTER_LENGTH, ZONE_HEADER, need_for};
 use mac_base::zone_spec::ADDRESS_END;
-use zone_gaps::{is_fixed, zone_end};
+use zone_gaps::zone_end;
 
 /// Which blocks are purged: those between two addresses that may be. Where the addresses are one, none is.
 #[derive(Clone, Copy)]
@@ -109,45 +103,36 @@ fn handle_to_purge(zone: &LinkedZone, kind: Kind, protected: &[u32]) -> Option<H
     }
 }
 
-/// What purging does with a block.
+/// A block that may be purged, and its handle.
 #[derive(Clone, Copy)]
-pub(crate) enum Part {
-    /// It is purged: its handle is purgeable, not locked and not protected.
-    Goes,
-    /// It may not move.
-    Fixed,
-    /// It is free, or that of a handle that is neither.
-    Stays,
+pub(crate) struct Candidate {
+    pub(crate) at: u32,
+    pub(crate) size: u32,
+    pub(crate) handle: Handle,
 }
 
-/// What purging does with a block of this kind. Flags are read once.
-fn part_of(zone: &LinkedZone, kind: Kind, protected: &[u32]) -> Part
-    requires { HasOwner zone.now kind }
-    ensures { result ≡ part_of zone.now.heap.table protected.now kind }
+/// The first block between two addresses that may be purged, if there is one. Of the others only those of protected handles are read.
+fn next_to_purge(zone: &GapZone, start: u32, end: u32, protected: &[u32]) -> Option<Candidate>
+    requires blocks { BlocksAt zone.now start end }
+    ensures first { IfSome result (λ c. (blocks : BlocksAt zone.now start end) → FirstToPurge zone.now.heap.table protected.now blocks.blocks start c) }
+    ensures none { IfNone result ((blocks : BlocksAt zone.now start end) → AllStay (may_purge zone.now.heap.table protected.now) blocks.blocks) }
 {
-    let handle = match kind {
-        Kind::Rel(handle) => handle,
-        Kind::Free => return Part::Stays,
-        Kind::Master | Kind::Ptr(_) => return Part::Fixed,
-    };
-    let flags = zone.flags(handle);
-    if flags.lock {
-        return Part::Fixed;
+    let linked = zone.linked();
+    let _spec = linked.spec();
+    let mut at = start;
+    while let Some(next) = zone.next_purgeable(at) {
+        if end <= next {
+            return None;
+        }
+        let here = linked.entry_at(next);
+        let size = here.size;
+        if let Some(handle) = handle_to_purge(linked, here.kind, protected) {
+            let at = next;
+            return Some(Candidate { at, size, handle });
+        }
+        at = next + size;
     }
-    if flags.purge && !protected.contains(&handle.number()) {
-        return Part::Goes;
-    }
-    Part::Stays
-}
-
-/// Whether a block counts as free: it is, or it is that of the handle of this number.
-fn counts(counted: Option<u32>, kind: Kind) -> bool
-    ensures { result ≡ counts counted kind }
-{
-    if kind.is_free() {
-        return true;
-    }
-    counted.is_some_and(|number| kind.is_named(number))
+    None
 }
 
 /// Empties the handles that may be purged and have their blocks between two addresses. The blocks are free, and not joined.
@@ -157,13 +142,9 @@ fn empty_between(zone: &mut GapZone, start: u32, end: u32, protected: &[u32])
     ensures { (blocks : BlocksAt zone.old start end) → zone.new ≡ purged_between zone.old blocks protected.now }
 {
     let mut at = start;
-    while at < end {
-        let linked = zone.linked();
-        let here = linked.entry_at(at);
-        if let Some(handle) = handle_to_purge(linked, here.kind, protected) {
-            zone.empty(handle);
-        }
-        at += here.size;
+    while let Some(next) = next_to_purge(zone, at, end, protected) {
+        zone.empty(next.handle);
+        at = next.at + next.size;
     }
 }
 
@@ -202,6 +183,7 @@ fn is_free_pair(zone: &LinkedZone, at: u32) -> bool
 }
 
 /// Purges the blocks between two addresses that may be purged: their handles become empty, and free neighbours are joined.
+/// Where there are none, no block is read to join it.
 fn purge_between(zone: &mut GapZone, start: u32, end: u32, protected: &[u32])
     requires blocks { BlocksAt zone.old start end }
     requires sound { SoundZone zone.old }
@@ -209,92 +191,76 @@ fn purge_between(zone: &mut GapZone, start: u32, end: u32, protected: &[u32])
     ensures loans { KeepsLoans zone.old zone.new }
     ensures sound { SoundZone zone.new }
 {
-    empty_between(zone, start, end, protected);
-    join_around(zone, start, end);
+    let Some(first) = next_to_purge(zone, start, end, protected) else {
+        return;
+    };
+    empty_between(zone, first.at, end, protected);
+    join_around(zone, first.at, end);
 }
 
-/// What a gap has from an address on.
+/// The blocks between two addresses.
 #[derive(Clone, Copy)]
-pub(crate) struct Ahead {
-    /// The bytes that count, up to the gap's end.
-    pub(crate) room: u32,
-    /// An address up to which no block may be purged, and none stays where it is.
-    pub(crate) clear: u32,
+pub(crate) struct Stretch {
+    pub(crate) start: u32,
+    pub(crate) end: u32,
 }
 
-/// The bytes that count between an address and the first block that stays where it is, or the end; and that block's address, if none
-/// of those before it may be purged.
-fn gap_ahead(
-    zone: &LinkedZone,
-    start: u32,
-    end: u32,
-    counted: Option<u32>,
-    protected: &[u32],
-) -> Ahead
+/// The gap of a block that may move, as far as it lies between two addresses.
+fn gap_around(zone: &GapZone, start: u32, end: u32, at: u32) -> Stretch
+    requires moves { MovesAt zone.now start end at }
+    ensures { (moves : MovesAt zone.now start end at) → GapAround zone.now moves result }
+{
+    Stretch {
+        start: zone.gap_start(at).max(start),
+        end: zone.gap_end(at).min(end),
+    }
+}
+
+/// The free bytes between two addresses. No header is read.
+fn free_between(zone: &LinkedZone, start: u32, end: u32) -> u32
+    requires blocks { BlocksAt zone.now start end }
+    ensures { (blocks : BlocksAt zone.now start end) → result ≡ free_bytes blocks.blocks }
+{
+    let _spec = zone.spec();
+    let mut from = start;
+    let mut free = 0;
+    while let Some(at) = zone.next_free(from) {
+        if end <= at {
+            return free;
+        }
+        let size = zone.free_size(at);
+        free += size;
+        from = at + size;
+    }
+    free
+}
+
+/// The bytes of the block of this number between two addresses: 0 where it has none there.
+fn named_between(zone: &LinkedZone, start: u32, end: u32, number: u32) -> u32
     requires blocks { BlocksAt zone.now start end }
     requires sound { SoundZone zone.now }
-    requires kept { IsTrue (is_kept protected.now counted) }
-    ensures room { (blocks : BlocksAt zone.now start end) → result.room ≡ bytes_before (bounds_gap zone.now.heap.table counted) (counts counted) blocks.blocks }
-    ensures clear { (blocks : BlocksAt zone.now start end) → IsClear (bounds_gap zone.now.heap.table counted) (may_purge zone.now.heap.table protected.now) blocks.blocks start result.clear }
+    ensures { (blocks : BlocksAt zone.now start end) → result ≡ bytes_of_kind (is_named number) blocks.blocks }
 {
-    let mut at = start;
-    let mut room = 0;
-    let mut goes = false;
-    while at < end {
-        let here = zone.entry_at(at);
-        if counts(counted, here.kind) {
-            room += here.size;
-        } else {
-            match part_of(zone, here.kind, protected) {
-                Part::Goes => goes = true,
-                Part::Fixed => break,
-                Part::Stays => {}
-            }
-        }
-        at += here.size;
+    if !zone.has_block(number) {
+        return 0;
     }
-    let clear = if goes { start } else { at };
-    Ahead { room, clear }
+    let at = zone.place_of(number);
+    if at < start || end <= at {
+        return 0;
+    }
+    zone.entry_at(at).size
 }
 
-/// The room of a gap of which `run` bytes count before an address: as it is known once some of its bytes were freed, and else by the
-/// blocks from there on. Those up to the address that is given with it are clear.
-fn room_ahead(
-    zone: &LinkedZone,
-    from: u32,
-    end: u32,
-    counted: Option<u32>,
-    protected: &[u32],
-    run: u32,
-    freed: u32,
-    room: u32,
-) -> Ahead
-    requires blocks { BlocksAt zone.now from end }
+/// The bytes between two addresses that count.
+fn room_between(zone: &LinkedZone, start: u32, end: u32, counted: Option<u32>) -> u32
+    requires blocks { BlocksAt zone.now start end }
     requires sound { SoundZone zone.now }
-    requires kept { IsTrue (is_kept protected.now counted) }
-    requires few { run ≤ from }
-    ensures known { freed ≢ 0 → result.room ≡ room }
-    ensures new { freed ≡ 0 → (blocks : BlocksAt zone.now from end) → result.room ≡ run + bytes_before (bounds_gap zone.now.heap.table counted) (counts counted) blocks.blocks }
-    ensures clear { (blocks : BlocksAt zone.now from end) → IsClear (bounds_gap zone.now.heap.table counted) (may_purge zone.now.heap.table protected.now) blocks.blocks from result.clear }
+    ensures { (blocks : BlocksAt zone.now start end) → result ≡ bytes_of_kind (counts counted) blocks.blocks }
 {
-    if freed != 0 {
-        return Ahead { room, clear: from };
-    }
-    let ahead = gap_ahead(zone, from, end, counted, protected);
-    Ahead {
-        room: run + ahead.room,
-        clear: ahead.clear,
-    }
-}
-
-/// The bytes of a block that count.
-fn counted_size(counted: Option<u32>, entry: Entry) -> u32
-    ensures { result ≡ size_if (counts counted) entry }
-{
-    if counts(counted, entry.kind) {
-        entry.size
-    } else {
-        0
+    let free = free_between(zone, start, end);
+    match counted {
+        Some(number) => free + named_between(zone, start, end, number),
+        None => free,
     }
 }
 
@@ -313,9 +279,9 @@ fn widened(limit: Limit, at: u32, end: u32, enough: bool) -> Limit
 }
 
 /// How far to purge between two addresses so that a gap has room for `needed` bytes: as few blocks as serve, and all where
-/// none do. Where one may be purged the rest of its gap is read at once; its blocks are read once more only where another may be.
+/// none do. Only in a gap with a block that may be purged the bytes are counted.
 fn gap_limit(
-    zone: &LinkedZone,
+    zone: &GapZone,
     start: u32,
     end: u32,
     needed: u32,
@@ -325,44 +291,28 @@ fn gap_limit(
     requires gaps { ShortGaps zone.now start end counted needed }
     requires sound { SoundZone zone.now }
     requires kept { IsTrue (is_kept protected.now counted) }
+    requires can_count { CanCount zone.now counted }
     ensures { (gaps : ShortGaps zone.now start end counted needed) → IsLimit (bounds_gap zone.now.heap.table counted) (counts counted) (may_purge zone.now.heap.table protected.now) needed gaps.at.blocks start result }
 {
     let mut at = start;
-    let mut run = 0;
-    let mut freed = 0;
+    let mut gap_end = start;
     let mut room = 0;
     let mut limit = Limit {
         start,
         end: start,
         enough: false,
     };
-    while at < end {
-        let here = zone.entry_at(at);
-        let next = at + here.size;
-        match part_of(zone, here.kind, protected) {
-            Part::Goes => {
-                let ahead = room_ahead(zone, next, end, counted, protected, run, freed, room);
-                room = ahead.room;
-                freed += here.size;
-                limit = widened(limit, at, next, needed <= room + freed);
-                if limit.enough {
-                    return limit;
-                }
-                at = ahead.clear;
-            }
-            Part::Fixed => {
-                if counts(counted, here.kind) {
-                    run += here.size;
-                } else {
-                    run = 0;
-                    freed = 0;
-                }
-                at = next;
-            }
-            Part::Stays => {
-                run += counted_size(counted, here);
-                at = next;
-            }
+    while let Some(next) = next_to_purge(zone, at, end, protected) {
+        if gap_end <= next.at {
+            let gap = gap_around(zone, at, end, next.at);
+            room = room_between(zone.linked(), gap.start, gap.end, counted);
+            gap_end = gap.end;
+        }
+        at = next.at + next.size;
+        room += next.size;
+        limit = widened(limit, next.at, at, needed <= room);
+        if limit.enough {
+            return limit;
         }
     }
     limit
@@ -383,10 +333,7 @@ pub(crate) fn purge_all(zone: &mut GapZone)
     ensures sound { SoundZone zone.new }
 {
     let linked = zone.linked();
-    if !linked.has_purgeable() {
-        return;
-    }
-    let start = linked.spec().base() + ZONE_HEADER;
+    let start = zone_start(linked);
     let end = zone_end(linked);
     purge_between(zone, start, end, &[]);
 }
@@ -467,7 +414,7 @@ fn limit_for(zone: &GapZone, request: Request, protected: &[u32]) -> Limit
     }
     let start = zone_start(linked);
     let end = zone_end(linked);
-    gap_limit(linked, start, end, needed, asked.counted, protected)
+    gap_limit(zone, start, end, needed, asked.counted, protected)
 }
 
 /// How far to purge in the gap right behind a block that stays, so that the block can be made `needed` bytes long.
@@ -485,89 +432,22 @@ fn limit_behind(zone: &GapZone, block: u32, needed: u32, protected: &[u32]) -> L
     let size = linked.entry_at(at).size;
     let start = at + size;
     let end = zone.gap_end(start);
-    gap_limit(linked, start, end, needed - size, None, protected)
-}
-
-/// Whether a handle may be purged that isn't protected. Where it says no, none may be.
-fn may_purge_some(zone: &LinkedZone, protected: &[u32]) -> bool
-    ensures { IsFalse result → NoneToPurge zone.now.heap.table protected.now }
-{
-    if protected.is_empty() {
-        return zone.has_purgeable();
-    }
-    zone.has_purgeable_beside(protected[0], protected[protected.len() - 1])
-}
-
-/// A block that stays, where no block of the gap right behind it may be purged but those of two protected handles.
-#[derive(Clone, Copy)]
-pub(crate) struct Barren {
-    pub(crate) block: u32,
-    pub(crate) first: u32,
-    pub(crate) last: u32,
-}
-
-/// What is to be remembered where no block may be purged for a request: nothing where the block that is to grow may move, or more
-/// than two are protected.
-fn barren_for(zone: &LinkedZone, request: &Request, protected: &[u32]) -> Option<Barren>
-    requires ready { CanAsk zone.now request.now }
-    ensures { IfSome result (λ b. IsBarrenFor zone.now protected.now request.now b) }
-{
-    let block = staying(zone, Asked::of(*request).resized)?;
-    if protected.is_empty() || protected.len() > 2 {
-        return None;
-    }
-    Some(Barren {
-        block,
-        first: protected[0],
-        last: protected[protected.len() - 1],
-    })
-}
-
-/// Whether what is to be remembered is known already.
-fn is_known(known: &Option<Barren>, barren: &Option<Barren>) -> bool
-    ensures some { IsTrue result → is_some barren.now ≡ true }
-    ensures same { IsTrue result → known.now ≡ barren.now }
-{
-    match (known, barren) {
-        (Some(old), Some(new)) => {
-            old.block == new.block && old.first == new.first && old.last == new.last
-        }
-        _ => false,
-    }
+    gap_limit(zone, start, end, needed - size, None, protected)
 }
 
 /// Empties as few handles that may be purged as serve a request, in order of address, and all where none do. Gives whether
-/// the request fits then. What was remembered of a block behind which none may be purged spares a walk through its gap.
-pub(crate) fn purge_for(
-    zone: &mut GapZone,
-    known: &mut Option<Barren>,
-    request: Request,
-    protected: &[u32],
-) -> bool
+/// the request fits then.
+pub(crate) fn purge_for(zone: &mut GapZone, request: Request, protected: &[u32]) -> bool
     requires sound { SoundZone zone.old }
-    requires known { IsBarren zone.old known.old }
     requires ready { CanAsk zone.old request }
     requires protects { IsTrue (is_protected protected.now request) }
     requires no_room { IsFalse (fits zone.old.shape zone.old.heap.table request zone.old.heap.map) }
     ensures zone { zone.new ≡ with_heap (purged zone.old.shape protected.now request zone.old.heap) zone.old }
     ensures fits { result ≡ fits zone.new.shape zone.new.heap.table request zone.new.heap.map }
     ensures loans { KeepsLoans zone.old zone.new }
-    ensures known { IsBarren zone.new known.new }
     ensures sound { SoundZone zone.new }
 {
-    if !may_purge_some(zone.linked(), protected) {
-        return false;
-    }
-    let barren = barren_for(zone.linked(), &request, protected);
-    if is_known(known, &barren) {
-        return false;
-    }
     let limit = limit_for(zone, request, protected);
-    if limit.start == limit.end {
-        *known = barren;
-        return false;
-    }
-    *known = None;
     purge_between(zone, limit.start, limit.end, protected);
     limit.enough
 }
@@ -587,36 +467,55 @@ fn free_at(zone: &LinkedZone, start: u32, end: u32) -> u32
     0
 }
 
+/// The free bytes that run on between two addresses up to the second, where `run` more do up to the first. Only the block right
+/// before the second is read.
+fn run_up_to(zone: &LinkedZone, start: u32, at: u32, run: u32) -> u32
+    requires blocks { BlocksAt zone.now start at }
+    requires there { EntryAt zone.now at }
+    requires sound { SoundZone zone.now }
+    requires few { run ≤ start }
+    ensures { (blocks : BlocksAt zone.now start at) → result ≡ run_past bounds_free (counts None) run blocks.blocks }
+{
+    if at == start {
+        return run;
+    }
+    let Some(last) = zone.before(at) else {
+        return run;
+    };
+    let before = zone.entry_at(last);
+    if !before.kind.is_free() {
+        return 0;
+    }
+    if last == start {
+        return run + before.size;
+    }
+    before.size
+}
+
 /// How far to purge between two addresses so that `needed` bytes are free in one block: as few blocks as leave them, and all
 /// where none do.
-fn block_limit(zone: &LinkedZone, start: u32, end: u32, needed: u32, protected: &[u32]) -> Limit
+fn block_limit(zone: &GapZone, start: u32, end: u32, needed: u32, protected: &[u32]) -> Limit
     requires blocks { ShortBlocks zone.now start end needed }
     requires sound { SoundZone zone.now }
     ensures { (blocks : ShortBlocks zone.now start end needed) → IsLimit bounds_free (counts None) (may_purge zone.now.heap.table protected.now) needed blocks.at.blocks start result }
 {
+    let linked = zone.linked();
     let mut at = start;
     let mut run = 0;
-    while at < end {
-        let here = zone.entry_at(at);
-        at += here.size;
-        if here.kind.is_free() {
-            run += here.size;
-        } else if handle_to_purge(zone, here.kind, protected).is_some() {
-            run += here.size;
-            if needed <= run + free_at(zone, at, end) {
-                return Limit {
-                    start,
-                    end: at,
-                    enough: true,
-                };
-            }
-        } else {
-            run = 0;
+    while let Some(next) = next_to_purge(zone, at, end, protected) {
+        run = run_up_to(linked, at, next.at, run) + next.size;
+        at = next.at + next.size;
+        if needed <= run + free_at(linked, at, end) {
+            return Limit {
+                start,
+                end: at,
+                enough: true,
+            };
         }
     }
     Limit {
         start,
-        end: at,
+        end,
         enough: false,
     }
 }
@@ -634,12 +533,9 @@ pub(crate) fn purge_to(zone: &mut GapZone, needed: u32) -> bool
     if has_free(linked, needed) {
         return true;
     }
-    if !linked.has_purgeable() {
-        return false;
-    }
     let start = zone_start(linked);
     let end = zone_end(linked);
-    let limit = block_limit(linked, start, end, needed, &[]);
+    let limit = block_limit(zone, start, end, needed, &[]);
     purge_between(zone, limit.start, limit.end, &[]);
     limit.enough
 }

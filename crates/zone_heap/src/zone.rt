@@ -99,6 +99,14 @@ impl Zone {
         self.pointers.linked().has_block(block)
     }
 
+    /// Whether a live handle has a block. Only its slot is read.
+    pub fn is_full(&self, handle: Handle) -> bool
+        requires { IsTrue (is_handle self.now.heap.table handle) }
+        ensures { result ≡ is_full self.now.heap.table handle }
+    {
+        self.pointers.linked().is_full(handle)
+    }
+
     /// Whether a handle or a pointer that has a block is lent.
     pub fn is_lent(&self, block: u32) -> bool
         requires { IsTrue (has_block self.now.heap.table block) }
@@ -332,7 +340,7 @@ pub(crate) fn empty(pointers: &mut GapZone, handle: Handle)
     ensures sound { SoundZone pointers.new }
 {
     let linked = pointers.linked();
-    if linked.has_block(handle.number()) {
+    if linked.is_full(handle) {
         let at = linked.block_of(handle);
         pointers.empty(handle);
         join(pointers, at);

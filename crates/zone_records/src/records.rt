@@ -366,6 +366,14 @@ impl Records {
         self.blocks.last_free(end)
     }
 
+    /// The size of the free block at an address. No header is read.
+    pub fn free_size(&self, at: u32) -> u32
+        requires { FreeAt self.now at }
+        ensures { (f : FreeAt self.now at) → result ≡ f.size }
+    {
+        self.blocks.free_size(at)
+    }
+
     /// The sum of the sizes of the free blocks.
     pub fn free_bytes(&self) -> u32
         ensures { result ≡ free_total self.now.blocks }

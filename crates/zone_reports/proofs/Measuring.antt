@@ -10,7 +10,7 @@ use Rattle.mac_base.specs.ZoneState.{ZoneState}
 use Rattle.zone_laws.proofs.Arranging.{free_bytes-all_used}
 use Rattle.zone_laws.proofs.GapAppend.{free_bytes-append, total_size-append}
 use Rattle.linked_zone.specs.Fit.{HasSizes}
-use Rattle.linked_zone.specs.Places.{EntryAt, SplitAt, FirstFree, none_free}
+use Rattle.linked_zone.specs.Places.{EntryAt, FreeAt, SplitAt, FirstFree, none_free}
 use Rattle.fixed_index.specs.Runs.{RestAt}
 use Rattle.gap_index.proofs.Rooms.{free-among}
 use Rattle.gap_index.proofs.Splits.{first_run}
@@ -93,7 +93,10 @@ module _ (z : ZoneState) (from end room largest : ℕ) (d : Measured z from end 
       place = (let first = (d.split).place in let all = total_size-append (d.split).before f.passed in let here = f.place in omega arith);
     }
 
-    -- it is read
+    -- its size is read
+    abbrev pub free_there : FreeAt z free
+    free_there = record { before = (split_free).before; size = f.size; behind = f.behind; map = (split_free).map; place = (split_free).place }
+
     abbrev pub entry_free : EntryAt z free
     entry_free = record { before = (split_free).before; here = block Free f.size; behind = f.behind; map = (split_free).map; place = (split_free).place }
 

@@ -1,21 +1,21 @@
 -- The bytes that are free or may be purged, block by block.
 use Rattle.std.proofs.Common.{◌≡◌, ℕ, ◌+◌, ◌≤◌, Bool, true, false, not, cond, List, [], ◌∷◌, ◌++◌, length, refl, ap, sym, ◌∙◌, arith, length-append, append-nil}
-use Rattle.std.specs.Prelude.{◌&&◌, filter, filter_map, map, sum, sum_by}
+use Rattle.std.specs.Prelude.{◌&&◌, map, max, sum, sum_by}
 use Rattle.std.specs.List.{All}
-use Rattle.std.proofs.lemmas.Bool.{and_parts}
+use Rattle.std.proofs.lemmas.Bool.{and_parts, not-true}
 use Rattle.std.proofs.lemmas.List.Elements.{All-head, All-tail}
 use Rattle.std.proofs.lemmas.List.Sums.{sum_by-cons}
 use Rattle.mac_base.specs.declared.block.Entry.{Entry}
 use Rattle.mac_base.specs.declared.block.Kind.{Kind}
 use Rattle.mac_base.specs.declared.block.Kind.TheVariants.{Free, Master, Ptr, Rel}
-use Rattle.mac_base.specs.Gap.{Gap, gaps, is_fixed, room}
+use Rattle.mac_base.specs.Gap.{Gap, gaps, is_fixed}
 use Rattle.mac_base.specs.HandleTable.{HandleTable, is_full, is_locked, is_purgeable, flags_of}
 use Rattle.mac_base.specs.HeadKind.{Shape}
 use Rattle.mac_base.specs.Reports.{largest, largest_room, purge_space, largest_purge_space}
-use Rattle.mac_base.specs.Request.{candidates_in, is_among, size_of}
+use Rattle.mac_base.specs.Request.{candidates_in, size_of}
 use Rattle.mac_base.specs.Suits.{Coherent}
-use Rattle.mac_base.specs.ZoneMap.{ZoneMap, block, free_bytes, handle_of, is_named, sizes, total_size}
-use Rattle.linked_zone.specs.Purgeable.{NonePurgeable}
+use Rattle.mac_base.specs.ZoneMap.{ZoneMap, block, free_bytes, free_size, is_named, sizes, total_size}
+use Rattle.fixed_index.specs.Purging.{may_go, none_purgeable}
 use Rattle.zone_laws.proofs.GapAppend.{sizes-append}
 use Rattle.zone_laws.proofs.GapParts.{IsGap, gaps-IsGap}
 use Rattle.zone_laws.proofs.Tables.{eqb_same}
@@ -103,23 +103,37 @@ module _ (s : Shape) (t : HandleTable) (m : ZoneMap) (coherent : Coherent s t m)
   pub largest_purge_space-is : largest_purge_space t m ≡ most t (space_size t) 0 m
   largest_purge_space-is = ap largest (spaces (gaps t m) (gaps-IsGap t m)) ∙ most-gaps t (space_size t) (space_of t) refl (λ e es. refl) m
 
--- where no handle may be purged
-module _ (t : HandleTable) (none : NonePurgeable t) where
-  no-candidates : (m : ZoneMap) → candidates_in t [] m ≡ []
-  no-candidates m = by_handles (filter_map (λ (e : Entry). handle_of e.kind) m)
+-- where none of these blocks may be purged only free bytes are counted
+module _ (t : HandleTable) where
+  unpurged-size : (e : Entry) → may_go t e.kind ≡ false → space_size t e ≡ free_size e
+  unpurged-size e stays = by_kind e.kind stays
     where
-      by_handles : (hs : List ℕ) → filter (λ h. is_purgeable t h && not (is_among [] h)) hs ≡ []
-      by_handles [] = refl
-      by_handles (h ∷ hs) = ap (λ b. cond (b && true) (h ∷ filter (λ h. is_purgeable t h && not (is_among [] h)) hs) (filter (λ h. is_purgeable t h && not (is_among [] h)) hs)) (none h) ∙ by_handles hs
+      by_kind : (k : Kind) → may_go t k ≡ false → space_size t (block k e.size) ≡ free_size (block k e.size)
+      by_kind Free stays = refl
+      by_kind Master stays = refl
+      by_kind (Ptr p) stays = refl
+      by_kind (Rel h) stays = ap (λ c. cond c e.size 0) stays
 
-  -- only free bytes are counted
-  pub unpurged-space : (m : ZoneMap) → purge_space t m ≡ free_bytes m
-  unpurged-space m = ap (λ hs. free_bytes m + sum_by (λ h. size_of h m) hs) (no-candidates m) ∙ (let e : free_bytes m + 0 ≡ free_bytes m = omega arith in e)
+  unpurged-sum : (m : ZoneMap) → none_purgeable t m ≡ true → space_of t m ≡ free_bytes m
+  unpurged-sum [] none = refl
+  unpurged-sum (e ∷ es) none =
+      let parts = and_parts (not (may_go t e.kind)) (none_purgeable t es) none in
+      let here = unpurged-size e (not-true _ parts.0) in
+      let rest = unpurged-sum es parts.1 in
+      omega arith
+
+  unpurged-most : (r : ℕ) (m : ZoneMap) → none_purgeable t m ≡ true → most t (space_size t) r m ≡ most t free_size r m
+  unpurged-most r [] none = refl
+  unpurged-most r (e ∷ es) none =
+      let parts = and_parts (not (may_go t e.kind)) (none_purgeable t es) none in
+      ap (λ n. cond (is_fixed t e.kind) (max r (most t (space_size t) 0 es)) (most t (space_size t) (r + n) es)) (unpurged-size e (not-true _ parts.0))
+      ∙ ap (λ n. cond (is_fixed t e.kind) (max r n) (most t (space_size t) (r + free_size e) es)) (unpurged-most 0 es parts.1)
+      ∙ ap (λ n. cond (is_fixed t e.kind) (max r (most t free_size 0 es)) n) (unpurged-most (r + free_size e) es parts.1)
+
+module _ (s : Shape) (t : HandleTable) (m : ZoneMap) (coherent : Coherent s t m) (none : none_purgeable t m ≡ true) where
+  pub unpurged-space : purge_space t m ≡ free_bytes m
+  unpurged-space = purge_space-is s t m coherent ∙ unpurged-sum t m none
 
   -- also in each gap
-  pub unpurged-largest : (m : ZoneMap) → largest_purge_space t m ≡ largest_room t m
-  unpurged-largest m = ap largest (each (gaps t m))
-    where
-      each : (gs : List Gap) → map (λ (g : Gap). purge_space t g.blocks) gs ≡ map room gs
-      each [] = refl
-      each (g ∷ gs) = ap (λ n. n ∷ map (λ (g : Gap). purge_space t g.blocks) gs) (unpurged-space g.blocks) ∙ ap (λ ns. room g ∷ ns) (each gs)
+  pub unpurged-largest : largest_purge_space t m ≡ largest_room t m
+  unpurged-largest = largest_purge_space-is s t m coherent ∙ unpurged-most t 0 m none ∙ sym (most-gaps t free_size free_bytes refl (λ e es. refl) m)

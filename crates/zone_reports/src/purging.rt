@@ -14,7 +14,7 @@ use mac_base::purge_space::PurgeSpace;
 use mac_base::size::ZONE_HEADER;
 use zone_gaps::zone_end;
 
-/// The bytes of the blocks that are free or may be purged: of all, and the most that one gap has. Where no handle may be purged
+/// The bytes of the blocks that are free or may be purged: of all, and the most that one gap has. Where no block may be purged
 /// only free blocks count.
 pub fn purge_space(zone: &GapZone) -> PurgeSpace
     requires { Settled zone.now }
@@ -22,7 +22,8 @@ pub fn purge_space(zone: &GapZone) -> PurgeSpace
     ensures contiguous { result.contiguous ≡ largest_purge_space zone.now.heap.table zone.now.heap.map }
 {
     let linked = zone.linked();
-    if linked.has_purgeable() {
+    let first = linked.spec().base() + ZONE_HEADER;
+    if zone.next_purgeable(first).is_some() {
         return space_by_blocks(linked);
     }
     PurgeSpace {

@@ -23,7 +23,7 @@ pub fn largest_room(zone: &GapZone) -> u32
             end = zone.gap_end(free);
             room = 0;
         }
-        let size = linked.entry_at(free).size;
+        let size = linked.free_size(free);
         room += size;
         largest = room.max(largest);
         from = free + size;

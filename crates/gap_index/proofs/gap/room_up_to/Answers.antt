@@ -1,6 +1,5 @@
-use Rattle.std.proofs.Common.{ap, arith}
-use Rattle.mac_base.specs.declared.block.Entry.{Entry}
-use Rattle.gap_index.proofs.Rooms.{entry_summed, next-some, next-summed, next-within, room-within, split_summed, summed-behind, summed-last, summed-most}
+use Rattle.std.proofs.Common.{arith}
+use Rattle.gap_index.proofs.Rooms.{free_summed, next-some, next-summed, next-within, room-within, split_summed, summed-behind, summed-last, summed-most}
 use Rattle.gap_index.proofs.gap.room_up_to.Goals as goal
 
 pub next_free-requires : goal.next_free-requires
@@ -23,11 +22,11 @@ returns-then-end-at-clause-all c rest few =
     let next = c.in-Some.ensures.next (split_summed c.args.zone.now c.args.start rest c.loop-room.from c.loop-room.room s) in
     summed-behind c.args.zone.now c.args.start rest c.loop-room.from c.loop-room.room s c.in-Some.at next (omega (arith, c.requires.end rest, c.if-end-at.true))
 
-pub entry_at-size-requires : goal.entry_at-size-requires
-entry_at-size-requires c =
+pub free_size-size-requires : goal.free_size-size-requires
+free_size-size-requires c =
     let rest = c.requires.rest in
     let s = c.loop-room.invariant rest in
-    entry_summed c.args.zone.now c.args.start rest c.loop-room.from c.loop-room.room s c.in-Some.at (c.in-Some.ensures.next (split_summed c.args.zone.now c.args.start rest c.loop-room.from c.loop-room.room s))
+    free_summed c.args.zone.now c.args.start rest c.loop-room.from c.loop-room.room s c.in-Some.at (c.in-Some.ensures.next (split_summed c.args.zone.now c.args.start rest c.loop-room.from c.loop-room.room s))
 
 pub overflow_add-room : goal.overflow_add-room
 overflow_add-room c =
@@ -35,7 +34,7 @@ overflow_add-room c =
     let s = c.loop-room.invariant rest in
     let next = c.in-Some.ensures.next (split_summed c.args.zone.now c.args.start rest c.loop-room.from c.loop-room.room s) in
     let end = c.requires.end rest in
-    let size = ap (λ (e : Entry). e.size) (c.entry_at-size.ensures (entry_summed c.args.zone.now c.args.start rest c.loop-room.from c.loop-room.room s c.in-Some.at next)) in
+    let size = c.free_size-size.ensures (free_summed c.args.zone.now c.args.start rest c.loop-room.from c.loop-room.room s c.in-Some.at next) in
     let within = room-within c.args.zone.now c.args.start rest c.loop-room.from c.loop-room.room s c.in-Some.at next (omega (arith, end, c.if-end-at.false)) in
     omega (arith, end, size, within, c.ranges.end.fits)
 
@@ -45,7 +44,7 @@ overflow_add-from c =
     let s = c.loop-room.invariant rest in
     let next = c.in-Some.ensures.next (split_summed c.args.zone.now c.args.start rest c.loop-room.from c.loop-room.room s) in
     let end = c.requires.end rest in
-    let size = ap (λ (e : Entry). e.size) (c.entry_at-size.ensures (entry_summed c.args.zone.now c.args.start rest c.loop-room.from c.loop-room.room s c.in-Some.at next)) in
+    let size = c.free_size-size.ensures (free_summed c.args.zone.now c.args.start rest c.loop-room.from c.loop-room.room s c.in-Some.at next) in
     let within = next-within c.args.zone.now c.args.start rest c.loop-room.from c.loop-room.room s c.in-Some.at next (omega (arith, end, c.if-end-at.false)) in
     omega (arith, end, size, within, c.ranges.end.fits)
 
@@ -54,7 +53,7 @@ loop-room-smaller c =
     let rest = c.requires.rest in
     let s = c.loop-room.invariant rest in
     let next = c.in-Some.ensures.next (split_summed c.args.zone.now c.args.start rest c.loop-room.from c.loop-room.room s) in
-    let size = ap (λ (e : Entry). e.size) (c.entry_at-size.ensures (entry_summed c.args.zone.now c.args.start rest c.loop-room.from c.loop-room.room s c.in-Some.at next)) in
+    let size = c.free_size-size.ensures (free_summed c.args.zone.now c.args.start rest c.loop-room.from c.loop-room.room s c.in-Some.at next) in
     let some = next-some c.args.zone.now c.args.start rest c.loop-room.from c.loop-room.room s c.in-Some.at next c.spec-spec.ensures.possible in
     omega (arith, size, some, c.loop-room-test.true)
 
@@ -62,8 +61,8 @@ pub loop-room-preserved : goal.loop-room-preserved
 loop-room-preserved c rest =
     let s = c.loop-room.invariant rest in
     let next = c.in-Some.ensures.next (split_summed c.args.zone.now c.args.start rest c.loop-room.from c.loop-room.room s) in
-    let size = ap (λ (e : Entry). e.size) (c.entry_at-size.ensures (entry_summed c.args.zone.now c.args.start rest c.loop-room.from c.loop-room.room s c.in-Some.at next)) in
-    next-summed c.args.zone.now c.args.start rest c.loop-room.from c.loop-room.room s c.in-Some.at next (omega (arith, c.requires.end rest, c.if-end-at.false)) c.entry_at-size.result.size size
+    let size = c.free_size-size.ensures (free_summed c.args.zone.now c.args.start rest c.loop-room.from c.loop-room.room s c.in-Some.at next) in
+    next-summed c.args.zone.now c.args.start rest c.loop-room.from c.loop-room.room s c.in-Some.at next (omega (arith, c.requires.end rest, c.if-end-at.false)) c.free_size-size.result size
 
 pub returns-clause-most : goal.returns-clause-most
 returns-clause-most c rest = summed-most c.args.zone.now c.args.start rest c.loop-room.from c.loop-room.room (c.loop-room.invariant rest)

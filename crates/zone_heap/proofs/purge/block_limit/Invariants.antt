@@ -4,9 +4,9 @@ use Rattle.zone_heap.proofs.RunWalks.{Measured}
 use Rattle.zone_heap.proofs.purge.block_limit.Given as goal
 
 -- the runs below are searched
-abbrev pub invariant-loop-at : goal.invariant-loop-at
-invariant-loop-at l = (short : ShortBlocks l.zone l.start l.end l.needed) → Measured l.zone short.at l.needed l.protected l.at l.run
+abbrev pub invariant-loop-next : goal.invariant-loop-next
+invariant-loop-next l = (short : ShortBlocks l.zone l.start l.end l.needed) → Measured l.zone short.at l.needed l.protected l.at l.run
 
 -- the bytes that are left
-abbrev pub decreases-loop-at : goal.decreases-loop-at
-decreases-loop-at l = l.end - l.at
+abbrev pub decreases-loop-next : goal.decreases-loop-next
+decreases-loop-next l = l.end - l.at

@@ -4,9 +4,9 @@ use Rattle.zone_heap.proofs.GapWalks.{Sought}
 use Rattle.zone_heap.proofs.purge.gap_limit.Given as goal
 
 -- the gaps below are searched
-abbrev pub invariant-loop-at : goal.invariant-loop-at
-invariant-loop-at l = (gaps : ShortGaps l.zone l.start l.end l.counted l.needed) → Sought l.zone gaps.at l.needed l.counted l.protected l.at l.run l.freed l.room l.limit
+abbrev pub invariant-loop-next : goal.invariant-loop-next
+invariant-loop-next l = (gaps : ShortGaps l.zone l.start l.end l.counted l.needed) → Sought l.zone gaps.at l.needed l.counted l.protected l.at l.gap_end l.room l.limit
 
 -- the bytes that are left
-abbrev pub decreases-loop-at : goal.decreases-loop-at
-decreases-loop-at l = l.end - l.at
+abbrev pub decreases-loop-next : goal.decreases-loop-next
+decreases-loop-next l = l.end - l.at

@@ -50,7 +50,7 @@ short c v same =
     }
 
 pub gap_limit-requires-clause-gaps : goal.gap_limit-requires-clause-gaps
-gap_limit-requires-clause-gaps c = rw c.linked-linked.ensures (let v = (goal.at.gap_limit-requires-clause-gaps c).After-entry_at-size in short c (start_is v) (read v))
+gap_limit-requires-clause-gaps c = let v = (goal.at.gap_limit-requires-clause-gaps c).After-entry_at-size in short c (start_is v) (read v)
 
 pub returns : goal.returns
 returns c =
@@ -60,4 +60,4 @@ returns c =
     let start = c.place_of-at.result + c.entry_at-size.result.size in
     purges_here z c.args.block c.place_of-at.result (rw c.linked-linked.ensures at c.place_of-at.ensures) c.requires.sound c.requires.stays start (start_is v) c.args.needed c.requires.no_room c.gap_end-end.result (ends w (start_is v)) c.args.protected.now c.gap_limit.result
     (subst (λ k. IsLimit (bounds_gap z.heap.table None) (counts None) (may_purge z.heap.table c.args.protected.now) (c.args.needed - k) (gap_here z c.args.block c.place_of-at.result (rw c.linked-linked.ensures at c.place_of-at.ensures) c.requires.sound c.requires.stays).blocks start c.gap_limit.result) (read v)
-    ((rw c.linked-linked.ensures at c.gap_limit.ensures) (short w (start_is v) (read v))))
+    (c.gap_limit.ensures (short w (start_is v) (read v))))

@@ -2,9 +2,9 @@ use Rattle.std.proofs.Common.{◌≡◌, ◌∙◌, sym, ap, subst, None, true}
 use Rattle.mac_base.specs.HeadKind.{need}
 use Rattle.mac_base.specs.Request.{can_grow, candidates_in, size_needed}
 use Rattle.mac_base.specs.ZoneSizes.{ZoneSizes}
-use Rattle.zone_heap.specs.Purge.{HasBlockIf, IsLimit, Purges, ShortGaps, blocks_behind, bounds_gap, counts, is_kept, may_purge, operand, run_has, staying_block, staying}
+use Rattle.zone_heap.specs.Purge.{CanCount, HasBlockIf, IsLimit, Purges, ShortGaps, blocks_behind, bounds_gap, counts, is_kept, may_purge, operand, run_has, staying_block, staying}
 use Rattle.zone_heap.proofs.EmptyingBlocks.{whole-zone}
-use Rattle.zone_heap.proofs.Limits.{ready-resized, request-kept, request-less, request-purges, staying-is, staying-less, staying-purges}
+use Rattle.zone_heap.proofs.Limits.{ready-resized, request-can_count, request-kept, request-less, request-purges, staying-is, staying-less, staying-purges}
 use Rattle.zone_heap.proofs.purge.limit_for.Goals as goal
 use Rattle.zone_heap.proofs.purge.limit_for.Goals.{After-need_for-needed, After-zone_end-end}
 
@@ -47,10 +47,14 @@ returns-in-Some c =
     (subst (λ k. Purges z c.args.protected.now (can_grow z.heap.table c.in-Some.block k) (candidates_in z.heap.table c.args.protected.now (blocks_behind z.heap.table c.in-Some.block z.heap.map)) c.limit_behind.result) now c.limit_behind.ensures)
 
 pub gap_limit-requires-clause-gaps : goal.gap_limit-requires-clause-gaps
-gap_limit-requires-clause-gaps c = rw c.linked-linked.ensures (short c)
+gap_limit-requires-clause-gaps c = short c
 
 pub gap_limit-requires-clause-kept : goal.gap_limit-requires-clause-kept
 gap_limit-requires-clause-kept c = subst (λ o. is_kept c.args.protected.now o ≡ true) (sym c.of-asked.ensures.counted) (request-kept c.args.zone.now c.args.protected.now c.requires.sound c.args.request c.requires.protects)
+
+pub gap_limit-requires-clause-can_count : goal.gap_limit-requires-clause-can_count
+gap_limit-requires-clause-can_count c =
+    subst (CanCount c.args.zone.now) (sym c.of-asked.ensures.counted) (request-can_count c.args.zone.now c.args.request c.requires.ready.operand (stay_none (goal.at.gap_limit-requires-clause-can_count c).After-zone_end-end))
 
 pub returns : goal.returns
 returns c =
@@ -61,4 +65,4 @@ returns c =
     let w = (goal.at.returns c).After-zone_end-end in
     request-purges z p c.requires.sound r c.requires.ready.operand c.requires.protects (stay_none w) c.requires.no_room c.zone_start-start.result c.gap_limit.result (rw c.linked-linked.ensures at c.zone_start-start.ensures)
     (subst (λ o. IsLimit (bounds_gap z.heap.table o) (counts o) (may_purge z.heap.table p) (size_needed z.shape r) z.heap.map c.zone_start-start.result c.gap_limit.result) c.of-asked.ensures.counted
-    (subst (λ k. IsLimit (bounds_gap z.heap.table c.of-asked.result.counted) (counts c.of-asked.result.counted) (may_purge z.heap.table p) k z.heap.map c.zone_start-start.result c.gap_limit.result) now ((rw c.linked-linked.ensures at c.gap_limit.ensures) (short w))))
+    (subst (λ k. IsLimit (bounds_gap z.heap.table c.of-asked.result.counted) (counts c.of-asked.result.counted) (may_purge z.heap.table p) k z.heap.map c.zone_start-start.result c.gap_limit.result) now (c.gap_limit.ensures (short w))))

@@ -8,12 +8,8 @@ use Rattle.zone_heap.specs.Purge.{IsLimit, PurgesTo, ShortBlocks, all_released, 
 use Rattle.zone_heap.proofs.EmptyingBlocks.{whole-zone}
 use Rattle.zone_heap.proofs.FreedBlocks.{emptied-parts}
 use Rattle.zone_heap.proofs.RunWalks.{largest-less, purged-already, purges-to}
-use Rattle.zone_heap.proofs.Purging.{unpurged-to}
 use Rattle.zone_heap.proofs.purge.purge_to.Goals as goal
 use Rattle.zone_heap.proofs.purge.purge_to.Goals.{After-zone_end-end, After-block_limit-limit}
-
-pub returns-then-not-has_purgeable-clause-zone : goal.returns-then-not-has_purgeable-clause-zone
-returns-then-not-has_purgeable-clause-zone c = unpurged-to c.args.zone.now ((rw c.linked-linked.ensures at c.has_purgeable.ensures) c.if-not-has_purgeable.true) c.args.needed
 
 pub returns-then-has_free-clause-zone : goal.returns-then-has_free-clause-zone
 returns-then-has_free-clause-zone c = purged-already c.args.zone.now c.args.needed (sym (rw c.linked-linked.ensures at c.has_free.ensures) ∙ c.if-has_free.true)
@@ -28,7 +24,7 @@ short c =
     }
 
 pub block_limit-limit-requires-clause-blocks : goal.block_limit-limit-requires-clause-blocks
-block_limit-limit-requires-clause-blocks c = rw c.linked-linked.ensures (short (goal.at.block_limit-limit-requires-clause-blocks c).After-zone_end-end)
+block_limit-limit-requires-clause-blocks c = short (goal.at.block_limit-limit-requires-clause-blocks c).After-zone_end-end
 
 -- what is purged
 purges : (c : After-block_limit-limit) → ((short : ShortBlocks c.args.zone.now c.zone_start-start.result c.zone_end-end.result c.args.needed) → IsLimit bounds_free (counts None) (may_purge c.args.zone.now.heap.table []) c.args.needed short.at.blocks c.zone_start-start.result c.block_limit-limit.result)
@@ -41,13 +37,13 @@ pub purge_between-requires-clause-blocks : goal.purge_between-requires-clause-bl
 purge_between-requires-clause-blocks c =
     let v = (goal.at.purge_between-requires-clause-blocks c).After-block_limit-limit in
     let w = short (goal.at.purge_between-requires-clause-blocks c).After-zone_end-end in
-    (purges v (rw c.linked-linked.ensures at c.block_limit-limit.ensures) w refl).between
+    (purges v c.block_limit-limit.ensures w refl).between
 
 pub returns-clause-zone : goal.returns-clause-zone
 returns-clause-zone c =
     let z = c.args.zone.now in
     let v = (goal.at.returns-clause-zone c).After-block_limit-limit in
-    let p = purges v (rw c.linked-linked.ensures at c.block_limit-limit.ensures) (short (goal.at.returns-clause-zone c).After-zone_end-end) refl in
+    let p = purges v c.block_limit-limit.ensures (short (goal.at.returns-clause-zone c).After-zone_end-end) refl in
     c.purge_between.ensures.zone p.between ∙ ap (λ hs. with_heap (with_all_emptied hs z.heap) z) p.these
 
 pub returns-clause-enough : goal.returns-clause-enough
@@ -55,7 +51,7 @@ returns-clause-enough c =
     let z = c.args.zone.now in
     let k = c.args.needed in
     let v = (goal.at.returns-clause-enough c).After-block_limit-limit in
-    let p = purges v (rw c.linked-linked.ensures at c.block_limit-limit.ensures) (short (goal.at.returns-clause-enough c).After-zone_end-end) refl in
+    let p = purges v c.block_limit-limit.ensures (short (goal.at.returns-clause-enough c).After-zone_end-end) refl in
     let hs = candidates_in z.heap.table [] p.between.blocks in
     p.enough ∙ ap (λ hs. nat_le k (largest_free (all_released hs z.heap.map))) (sym p.these)
     ∙ sym (ap (λ (w : ZoneState). nat_le k (largest_free w.heap.map)) (c.purge_between.ensures.zone p.between ∙ ap (λ heap. with_heap heap z) (emptied-parts hs z.heap)))

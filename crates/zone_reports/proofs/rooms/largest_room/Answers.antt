@@ -1,14 +1,14 @@
 use Rattle.std.specs.Prelude.{IsTrue}
-use Rattle.std.proofs.Common.{◌≡◌, ◌+◌, ◌<◌, ◌^◌, ◌∙◌, sym, ap, subst, arith, []}
-use Rattle.mac_base.specs.declared.block.Entry.{Entry}
-use Rattle.mac_base.specs.ZoneMap.{address_behind}
+use Rattle.std.proofs.Common.{◌≡◌, ◌+◌, ◌<◌, ◌^◌, ◌∙◌, sym, subst, arith, []}
+use Rattle.mac_base.specs.declared.block.Kind.TheVariants.{Free}
+use Rattle.mac_base.specs.ZoneMap.{block, address_behind}
 use Rattle.mac_base.specs.ZoneState.{ZoneState}
-use Rattle.linked_zone.specs.Places.{EntryAt, SplitAt, FirstFree, none_free}
-use Rattle.gap_index.proofs.Known.{base-known, end-fits}
+use Rattle.linked_zone.specs.Places.{EntryAt, FreeAt, SplitAt, FirstFree, none_free}
+use Rattle.gap_index.proofs.Known.{base-known, zone-known}
 use Rattle.zone_gaps.proofs.Entries.{entry_size, entry_within}
-use Rattle.zone_reports.proofs.Measuring.{Facing, Measured, none_measured, entry_free, rest_free, facing_same, facing_next, facing_on, measured_all}
+use Rattle.zone_reports.proofs.Measuring.{Facing, Measured, none_measured, entry_free, free_there, rest_free, facing_same, facing_next, facing_on, measured_all}
 use Rattle.zone_reports.proofs.rooms.largest_room.Goals as goal
-use Rattle.zone_reports.proofs.rooms.largest_room.Goals.{In-Some, After-entry_at-size, then-end-free, else-end-free}
+use Rattle.zone_reports.proofs.rooms.largest_room.Goals.{In-Some, After-free_size-size, then-end-free, else-end-free}
 
 -- the next free block
 abbrev found : (c : In-Some) → FirstFree (c.loop-free.invariant.split).behind c.loop-free.from c.in-Some.free
@@ -16,22 +16,27 @@ found c =
     subst (λ (z : ZoneState). (split : SplitAt z c.loop-free.from) → FirstFree split.behind c.loop-free.from c.in-Some.free) c.linked-linked.ensures
     c.in-Some.ensures.next c.loop-free.invariant.split
 
--- its header
+-- its place
 abbrev entry : (c : In-Some) → EntryAt c.args.zone.now c.in-Some.free
 entry c = entry_free c.args.zone.now c.loop-free.from c.loop-free.end c.loop-free.room c.loop-free.largest c.loop-free.invariant c.in-Some.free (found c)
 
--- it is read
-size : (c : After-entry_at-size) (e : EntryAt c.args.zone.now c.in-Some.free) → c.entry_at-size.result.size ≡ e.here.size
-size c e = ap (λ (e : Entry). e.size) (subst (λ (z : ZoneState). (e : EntryAt z c.in-Some.free) → c.entry_at-size.result ≡ e.here) c.linked-linked.ensures c.entry_at-size.ensures e)
+abbrev there : (c : In-Some) → FreeAt c.args.zone.now c.in-Some.free
+there c = free_there c.args.zone.now c.loop-free.from c.loop-free.end c.loop-free.room c.loop-free.largest c.loop-free.invariant c.in-Some.free (found c)
+
+-- its size is read
+size : (c : After-free_size-size) (f : FreeAt c.args.zone.now c.in-Some.free) → c.free_size-size.result ≡ f.size
+size c f = subst (λ (z : ZoneState). (f : FreeAt z c.in-Some.free) → c.free_size-size.result ≡ f.size) c.linked-linked.ensures c.free_size-size.ensures f
 
 -- its block ends where 32 bits reach
-fits : (c : After-entry_at-size) → EntryAt c.args.zone.now c.in-Some.free → c.in-Some.free + c.entry_at-size.result.size < 2 ^ 32
-fits c e =
-    end-fits c.args.zone.now c.linked-linked.result.now c.spec.result c.linked-linked.ensures c.spec.ensures.sizes c.base-from.ensures.possible c.spec.ensures.fits c.spec.ensures.possible c.in-Some.free e
-    c.entry_at-size.result c.entry_at-size.ensures
+fits : (c : After-free_size-size) (f : FreeAt c.args.zone.now c.in-Some.free) → c.in-Some.free + c.free_size-size.result < 2 ^ 32
+fits c f =
+    let z = c.args.zone.now in
+    let known = zone-known z c.linked-linked.result.now c.spec.result c.linked-linked.ensures c.spec.ensures.sizes c.base-from.ensures.possible c.spec.ensures.fits c.spec.ensures.possible in
+    let high = entry_within z c.in-Some.free (record { before = f.before; here = block Free f.size; behind = f.behind; map = f.map; place = f.place }) in
+    omega (arith, size c f, high, known.within, known.reach)
 
 -- and lies in a gap whose end is known
-facing : (c : After-entry_at-size) (f : FirstFree (c.loop-free.invariant.split).behind c.loop-free.from c.in-Some.free) → Facing c.args.zone.now c.in-Some.free f.size c.if-end-free.end c.if-end-free.room c.loop-free.largest
+facing : (c : After-free_size-size) (f : FirstFree (c.loop-free.invariant.split).behind c.loop-free.from c.in-Some.free) → Facing c.args.zone.now c.in-Some.free f.size c.if-end-free.end c.if-end-free.room c.loop-free.largest
 facing c f =
     let z = c.args.zone.now in
     let l = c.loop-free in
@@ -54,18 +59,18 @@ gap_end-end-requires c =
     let l = c.loop-free in
     record { rest = rest_free c.args.zone.now l.from l.end l.room l.largest l.invariant c.in-Some.free (found (goal.at.gap_end-end-requires c).In-Some) }
 
-pub entry_at-size-requires : goal.entry_at-size-requires
-entry_at-size-requires c = subst (λ (z : ZoneState). EntryAt z c.in-Some.free) (sym c.linked-linked.ensures) (entry (goal.at.entry_at-size-requires c).In-Some)
+pub free_size-size-requires : goal.free_size-size-requires
+free_size-size-requires c = subst (λ (z : ZoneState). FreeAt z c.in-Some.free) (sym c.linked-linked.ensures) (there (goal.at.free_size-size-requires c).In-Some)
 
 pub overflow_add-room : goal.overflow_add-room
 overflow_add-room c =
     let here = (goal.at.overflow_add-room c).In-Some in
-    let w = (goal.at.overflow_add-room c).After-entry_at-size in
+    let w = (goal.at.overflow_add-room c).After-free_size-size in
     let low = (facing w (found here)).low in
-    omega (arith, low, fits w (entry here))
+    omega (arith, low, fits w (there here))
 
 pub overflow_add-from-in-Some : goal.overflow_add-from-in-Some
-overflow_add-from-in-Some c = omega (arith, fits (goal.at.overflow_add-from-in-Some c).After-entry_at-size (entry (goal.at.overflow_add-from-in-Some c).In-Some))
+overflow_add-from-in-Some c = omega (arith, fits (goal.at.overflow_add-from-in-Some c).After-free_size-size (there (goal.at.overflow_add-from-in-Some c).In-Some))
 
 pub loop-free-smaller : goal.loop-free-smaller
 loop-free-smaller c =
@@ -73,17 +78,17 @@ loop-free-smaller c =
     let here = (goal.at.loop-free-smaller c).In-Some in
     let e = entry here in
     let passed = (found here).place in
-    omega (arith, size (goal.at.loop-free-smaller c).After-entry_at-size e, entry_size z c.in-Some.free e c.requires.sizes, entry_within z c.in-Some.free e, passed)
+    omega (arith, size (goal.at.loop-free-smaller c).After-free_size-size (there here), entry_size z c.in-Some.free e c.requires.sizes, entry_within z c.in-Some.free e, passed)
 
 pub loop-free-preserved : goal.loop-free-preserved
 loop-free-preserved c =
     let z = c.args.zone.now in
     let here = (goal.at.loop-free-preserved c).In-Some in
-    let w = (goal.at.loop-free-preserved c).After-entry_at-size in
+    let w = (goal.at.loop-free-preserved c).After-free_size-size in
     let f = found here in
-    let n = c.entry_at-size.result.size in
+    let n = c.free_size-size.result in
     subst (Measured z (c.in-Some.free + n) c.if-end-free.end (c.if-end-free.room + n)) (sym c.max-largest.ensures)
-    (facing_on z c.in-Some.free f.size c.if-end-free.end c.if-end-free.room c.loop-free.largest (facing w f) n (size w (entry here)))
+    (facing_on z c.in-Some.free f.size c.if-end-free.end c.if-end-free.room c.loop-free.largest (facing w f) n (size w (there here)))
 
 pub returns : goal.returns
 returns c =

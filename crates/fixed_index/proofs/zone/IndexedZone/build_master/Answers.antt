@@ -2,6 +2,9 @@ use Rattle.std.proofs.Common.{◌≡◌, ap, sym, ◌∙◌, set, subst}
 use Rattle.mac_base.specs.HeadKind.{master_length}
 use Rattle.linked_zone.specs.Changes.{with_master}
 use Rattle.linked_zone.specs.Places.{RoomFor}
+use Rattle.mac_base.specs.Gap.{is_fixed}
+use Rattle.fixed_index.specs.Purging.{may_go}
+use Rattle.fixed_index.proofs.Exchanged.{master-kept}
 use Rattle.fixed_index.proofs.Fresh.{master-marked}
 use Rattle.mac_base.specs.ZoneState.{ZoneState}
 use Rattle.fixed_index.specs.Index.{AreMarked}
@@ -12,8 +15,11 @@ pub invariant_of-self : goal.invariant_of-self
 invariant_of-self c =
     let p = placed c.self.inside.zone c.args.self.now c.self.view_is c.args.at c.place-place.result c.place-place.ensures.value c.place-place.ensures.inside c.place-place.ensures.sizes in
     let room = subst (λ (z : ZoneState). RoomFor z c.args.at master_length) (sym c.self.view_is) c.requires in
-    subst (λ (z : ZoneState). AreMarked z c.set.new.self) (sym (c.build_master.ensures room))
-    (subst (AreMarked (with_master c.self.inside.zone room.free)) (sym (c.set.ensures ∙ ap (λ p. set c.self.inside.marks p 1) p.value)) (master-marked c.self.inside.zone c.self.inside.marks c.self.invariant c.args.at room.free p.inside))
+    record {
+      fixed = subst (λ (z : ZoneState). AreMarked is_fixed z c.set.new.self) (sym (c.build_master.ensures room))
+          (subst (AreMarked is_fixed (with_master c.self.inside.zone room.free)) (sym (c.set.ensures ∙ ap (λ p. set c.self.inside.marks p 1) p.value)) (master-marked c.self.inside.zone c.self.inside.marks c.self.invariant.fixed c.args.at room.free p.inside));
+      purgeable = subst (λ (z : ZoneState). AreMarked may_go z c.self.inside.purgeable) (sym (c.build_master.ensures room)) (master-kept c.self.inside.zone c.self.inside.purgeable c.self.invariant.purgeable c.args.at room.free);
+    }
 
 pub returns : goal.returns
 returns c = subst (λ (z : ZoneState). (r : RoomFor z c.args.at master_length) → c.build_master.new.self ≡ with_master z r.free) c.self.view_is c.build_master.ensures

@@ -1,6 +1,9 @@
 use Rattle.std.proofs.Common.{◌≡◌, ap, sym, ◌∙◌, set, subst}
 use Rattle.linked_zone.specs.Changes.{fixed}
 use Rattle.linked_zone.specs.Places.{RoomFor}
+use Rattle.mac_base.specs.Gap.{is_fixed}
+use Rattle.fixed_index.specs.Purging.{may_go}
+use Rattle.fixed_index.proofs.Exchanged.{fixed-kept}
 use Rattle.fixed_index.proofs.Fresh.{fixed-marked}
 use Rattle.mac_base.specs.ZoneState.{ZoneState}
 use Rattle.fixed_index.specs.Index.{AreMarked}
@@ -11,8 +14,11 @@ pub invariant_of-self : goal.invariant_of-self
 invariant_of-self c =
     let p = placed c.self.inside.zone c.args.self.now c.self.view_is c.args.at c.place-place.result c.place-place.ensures.value c.place-place.ensures.inside c.place-place.ensures.sizes in
     let room = subst (λ (z : ZoneState). RoomFor z c.args.at c.args.length) (sym c.self.view_is) c.requires in
-    subst (λ (z : ZoneState). AreMarked z c.set.new.self) (sym (c.fix.ensures.zone room))
-    (subst (AreMarked (fixed c.args.length c.self.inside.zone room.free)) (sym (c.set.ensures ∙ ap (λ p. set c.self.inside.marks p 1) p.value)) (fixed-marked c.self.inside.zone c.self.inside.marks c.self.invariant c.args.length c.args.at room.free p.inside))
+    record {
+      fixed = subst (λ (z : ZoneState). AreMarked is_fixed z c.set.new.self) (sym (c.fix.ensures.zone room))
+          (subst (AreMarked is_fixed (fixed c.args.length c.self.inside.zone room.free)) (sym (c.set.ensures ∙ ap (λ p. set c.self.inside.marks p 1) p.value)) (fixed-marked c.self.inside.zone c.self.inside.marks c.self.invariant.fixed c.args.length c.args.at room.free p.inside));
+      purgeable = subst (λ (z : ZoneState). AreMarked may_go z c.self.inside.purgeable) (sym (c.fix.ensures.zone room)) (fixed-kept c.self.inside.zone c.self.inside.purgeable c.self.invariant.purgeable c.args.length c.args.at room.free);
+    }
 
 pub returns-clause-zone : goal.returns-clause-zone
 returns-clause-zone c = subst (λ (z : ZoneState). (r : RoomFor z c.args.at c.args.length) → c.fix.new.self ≡ fixed c.args.length z r.free) c.self.view_is c.fix.ensures.zone

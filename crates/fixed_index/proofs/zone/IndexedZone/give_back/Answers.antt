@@ -1,8 +1,11 @@
-use Rattle.std.proofs.Common.{sym, subst}
+use Rattle.std.proofs.Common.{ℕ, List, sym, subst}
 use Rattle.mac_base.specs.ZoneState.{ZoneState}
 use Rattle.fixed_index.specs.Index.{AreMarked}
 use Rattle.fixed_index.proofs.Table.{returned-marked}
+use Rattle.fixed_index.proofs.Rules.{Rule, fixes, goes}
 use Rattle.fixed_index.proofs.zone.IndexedZone.give_back.Goals as goal
 
 pub invariant_of-self : goal.invariant_of-self
-invariant_of-self c = subst (λ (z : ZoneState). AreMarked z c.self.inside.marks) (sym c.give_back.ensures) (returned-marked c.self.inside.zone c.self.inside.marks c.self.invariant c.args.block c.args.loan.bytes)
+invariant_of-self c =
+    let keep : (r : Rule) (marks : List ℕ) → AreMarked r.test c.self.inside.zone marks → AreMarked r.test c.give_back.new.self marks = λ r marks are. subst (λ (z : ZoneState). AreMarked r.test z marks) (sym c.give_back.ensures) (returned-marked r c.self.inside.zone marks are c.args.block c.args.loan.bytes) in
+    record { fixed = keep fixes _ c.self.invariant.fixed; purgeable = keep goes _ c.self.invariant.purgeable }

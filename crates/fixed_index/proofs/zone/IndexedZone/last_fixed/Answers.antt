@@ -1,5 +1,6 @@
 use Rattle.std.proofs.Common.{◌≡◌, ◌+◌, ◌-◌, ◌*◌, ◌/◌, ◌≤◌, length, ap, sym, ◌∙◌, subst, arith}
 use Rattle.std.proofs.lemmas.Bool.{false≢true}
+use Rattle.mac_base.specs.Gap.{is_fixed}
 use Rattle.mac_base.specs.ZoneSizes.{ArePossible, ZoneSizes}
 use Rattle.mac_base.specs.ZoneState.{ZoneState}
 use Rattle.linked_zone.specs.Fit.{HasSizes}
@@ -13,7 +14,7 @@ use Rattle.fixed_index.proofs.zone.IndexedZone.last_fixed.Goals as goal
 pub loop-found-init : goal.loop-found-init
 loop-found-init c =
     let z = c.args.self.now in
-    let are = subst (λ (z : ZoneState). AreMarked z c.self.inside.marks) c.self.view_is c.self.invariant in
+    let are = subst (λ (z : ZoneState). AreMarked is_fixed z c.self.inside.marks) c.self.view_is c.self.invariant.fixed in
     let sizes = subst (λ (z : ZoneState). HasSizes z) c.self.view_is c.spec.ensures.possible in
     let read = c.spec.ensures.sizes ∙ ap sizes_of c.self.view_is in
     let base : c.base-base.result ≡ z.shape.base = c.base-base.ensures.value ∙ ap (λ (s : ZoneSizes). s.base) read in
@@ -23,7 +24,7 @@ loop-found-init c =
 pub returns-then-is_fixed_at-clause-last : goal.returns-then-is_fixed_at-clause-last
 returns-then-is_fixed_at-clause-last c =
     let z = c.args.self.now in
-    let are = subst (λ (z : ZoneState). AreMarked z c.self.inside.marks) c.self.view_is c.self.invariant in
+    let are = subst (λ (z : ZoneState). AreMarked is_fixed z c.self.inside.marks) c.self.view_is c.self.invariant.fixed in
     let sizes = subst (λ (z : ZoneState). HasSizes z) c.self.view_is c.spec.ensures.possible in
     let read = c.spec.ensures.sizes ∙ ap sizes_of c.self.view_is in
     let base : c.base-base.result ≡ z.shape.base = c.base-base.ensures.value ∙ ap (λ (s : ZoneSizes). s.base) read in
@@ -33,7 +34,7 @@ returns-then-is_fixed_at-clause-last c =
 pub loop-found-preserved : goal.loop-found-preserved
 loop-found-preserved c =
     let z = c.args.self.now in
-    let are = subst (λ (z : ZoneState). AreMarked z c.self.inside.marks) c.self.view_is c.self.invariant in
+    let are = subst (λ (z : ZoneState). AreMarked is_fixed z c.self.inside.marks) c.self.view_is c.self.invariant.fixed in
     let sizes = subst (λ (z : ZoneState). HasSizes z) c.self.view_is c.spec.ensures.possible in
     let read = c.spec.ensures.sizes ∙ ap sizes_of c.self.view_is in
     let base : c.base-base.result ≡ z.shape.base = c.base-base.ensures.value ∙ ap (λ (s : ZoneSizes). s.base) read in (
@@ -45,7 +46,7 @@ loop-found-preserved c =
 pub returns-clause-none : goal.returns-clause-none
 returns-clause-none c =
     let z = c.args.self.now in
-    let are = subst (λ (z : ZoneState). AreMarked z c.self.inside.marks) c.self.view_is c.self.invariant in
+    let are = subst (λ (z : ZoneState). AreMarked is_fixed z c.self.inside.marks) c.self.view_is c.self.invariant.fixed in
     let sizes = subst (λ (z : ZoneState). HasSizes z) c.self.view_is c.spec.ensures.possible in
     let read = c.spec.ensures.sizes ∙ ap sizes_of c.self.view_is in
     let base : c.base-base.result ≡ z.shape.base = c.base-base.ensures.value ∙ ap (λ (s : ZoneSizes). s.base) read in

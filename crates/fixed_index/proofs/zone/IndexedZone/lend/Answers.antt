@@ -1,8 +1,11 @@
-use Rattle.std.proofs.Common.{sym, subst}
+use Rattle.std.proofs.Common.{ℕ, List, sym, subst}
 use Rattle.mac_base.specs.ZoneState.{ZoneState}
 use Rattle.fixed_index.specs.Index.{AreMarked}
 use Rattle.fixed_index.proofs.Table.{lent_out-marked}
+use Rattle.fixed_index.proofs.Rules.{Rule, fixes, goes}
 use Rattle.fixed_index.proofs.zone.IndexedZone.lend.Goals as goal
 
 pub invariant_of-self : goal.invariant_of-self
-invariant_of-self c = subst (λ (z : ZoneState). AreMarked z c.self.inside.marks) (sym c.lend.ensures.zone) (lent_out-marked c.self.inside.zone c.self.inside.marks c.self.invariant c.args.block)
+invariant_of-self c =
+    let keep : (r : Rule) (marks : List ℕ) → AreMarked r.test c.self.inside.zone marks → AreMarked r.test c.lend.new.self marks = λ r marks are. subst (λ (z : ZoneState). AreMarked r.test z marks) (sym c.lend.ensures.zone) (lent_out-marked r c.self.inside.zone marks are c.args.block) in
+    record { fixed = keep fixes _ c.self.invariant.fixed; purgeable = keep goes _ c.self.invariant.purgeable }

@@ -1,5 +1,6 @@
 use Rattle.std.proofs.Common.{◌≡◌, ◌+◌, ◌-◌, ◌*◌, ◌/◌, ap, sym, ◌∙◌, subst}
 use Rattle.std.proofs.lemmas.Bool.{false≢true}
+use Rattle.mac_base.specs.Gap.{is_fixed}
 use Rattle.mac_base.specs.ZoneSizes.{ZoneSizes}
 use Rattle.mac_base.specs.ZoneState.{ZoneState}
 use Rattle.linked_zone.specs.Fit.{HasSizes}
@@ -12,37 +13,37 @@ use Rattle.fixed_index.proofs.zone.IndexedZone.next_fixed.Goals as goal
 pub loop-found-init : goal.loop-found-init
 loop-found-init c =
     let z = c.args.self.now in
-    let are = subst (λ (z : ZoneState). AreMarked z c.self.inside.marks) c.self.view_is c.self.invariant in
+    let are = subst (λ (z : ZoneState). AreMarked is_fixed z c.self.inside.marks) c.self.view_is c.self.invariant.fixed in
     let sizes = subst (λ (z : ZoneState). HasSizes z) c.self.view_is c.spec.ensures.possible in
     let read = c.spec.ensures.sizes ∙ ap sizes_of c.self.view_is in
     let base : c.base-base.result ≡ z.shape.base = c.base-base.ensures.value ∙ ap (λ (s : ZoneSizes). s.base) read in
-    subst (λ b. Ahead z c.args.from ((c.args.from - b) / 4)) (sym base) (first-ahead z c.self.inside.marks are sizes c.args.from c.requires)
+    subst (λ b. Ahead is_fixed z c.args.from ((c.args.from - b) / 4)) (sym base) (first-ahead is_fixed z c.self.inside.marks are sizes c.args.from c.requires)
 
 pub returns-then-is_fixed_at-clause-next : goal.returns-then-is_fixed_at-clause-next
 returns-then-is_fixed_at-clause-next c =
     let z = c.args.self.now in
-    let are = subst (λ (z : ZoneState). AreMarked z c.self.inside.marks) c.self.view_is c.self.invariant in
+    let are = subst (λ (z : ZoneState). AreMarked is_fixed z c.self.inside.marks) c.self.view_is c.self.invariant.fixed in
     let sizes = subst (λ (z : ZoneState). HasSizes z) c.self.view_is c.spec.ensures.possible in
     let read = c.spec.ensures.sizes ∙ ap sizes_of c.self.view_is in
     let base : c.base-base.result ≡ z.shape.base = c.base-base.ensures.value ∙ ap (λ (s : ZoneSizes). s.base) read in
     subst (λ b. NextFixed z c.args.from (b + 4 * c.in-Some.found)) (sym base)
-    (next-here z c.self.inside.marks are sizes c.args.from c.loop-found.place c.in-Some.found c.loop-found.invariant c.in-Some.ensures.first (subst (λ b. FixedAt z (b + 4 * c.in-Some.found)) base (c.is_fixed_at.ensures.0 c.if-is_fixed_at.true)))
+    (next-here is_fixed z c.self.inside.marks are sizes c.args.from c.loop-found.place c.in-Some.found c.loop-found.invariant c.in-Some.ensures.first (subst (λ b. FixedAt z (b + 4 * c.in-Some.found)) base (c.is_fixed_at.ensures.0 c.if-is_fixed_at.true)))
 
 pub loop-found-preserved : goal.loop-found-preserved
 loop-found-preserved c =
     let z = c.args.self.now in
-    let are = subst (λ (z : ZoneState). AreMarked z c.self.inside.marks) c.self.view_is c.self.invariant in
+    let are = subst (λ (z : ZoneState). AreMarked is_fixed z c.self.inside.marks) c.self.view_is c.self.invariant.fixed in
     let sizes = subst (λ (z : ZoneState). HasSizes z) c.self.view_is c.spec.ensures.possible in
     let read = c.spec.ensures.sizes ∙ ap sizes_of c.self.view_is in
     let base : c.base-base.result ≡ z.shape.base = c.base-base.ensures.value ∙ ap (λ (s : ZoneSizes). s.base) read in
-    next-ahead z c.self.inside.marks are sizes c.args.from c.loop-found.place c.in-Some.found c.loop-found.invariant c.in-Some.ensures.first
+    next-ahead is_fixed z c.self.inside.marks are sizes c.args.from c.loop-found.place c.in-Some.found c.loop-found.invariant c.in-Some.ensures.first
     (λ f. false≢true (sym c.if-is_fixed_at.false ∙ c.is_fixed_at.ensures.1 (subst (λ b. FixedAt z (b + 4 * c.in-Some.found)) (sym base) f)))
 
 pub returns-clause-none : goal.returns-clause-none
 returns-clause-none c =
     let z = c.args.self.now in
-    let are = subst (λ (z : ZoneState). AreMarked z c.self.inside.marks) c.self.view_is c.self.invariant in
+    let are = subst (λ (z : ZoneState). AreMarked is_fixed z c.self.inside.marks) c.self.view_is c.self.invariant.fixed in
     let sizes = subst (λ (z : ZoneState). HasSizes z) c.self.view_is c.spec.ensures.possible in
     let read = c.spec.ensures.sizes ∙ ap sizes_of c.self.view_is in
     let base : c.base-base.result ≡ z.shape.base = c.base-base.ensures.value ∙ ap (λ (s : ZoneSizes). s.base) read in
-    next-none z c.self.inside.marks are sizes c.args.from c.loop-found.place c.loop-found.invariant c.in_default.ensures.none
+    next-none is_fixed z c.self.inside.marks are sizes c.args.from c.loop-found.place c.loop-found.invariant c.in_default.ensures.none

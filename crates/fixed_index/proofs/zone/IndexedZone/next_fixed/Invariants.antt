@@ -1,10 +1,11 @@
 use Rattle.std.proofs.Common.{◌-◌, length}
+use Rattle.mac_base.specs.Gap.{is_fixed}
 use Rattle.fixed_index.proofs.Searching.{Ahead}
 use Rattle.fixed_index.proofs.zone.IndexedZone.next_fixed.Given as goal
 
 -- the blocks at the places below are passed
 abbrev pub invariant-loop-found : goal.invariant-loop-found
-invariant-loop-found l = Ahead l.self l.from l.place
+invariant-loop-found l = Ahead is_fixed l.self l.from l.place
 
 -- the places that are left
 abbrev pub decreases-loop-found : goal.decreases-loop-found

@@ -1,9 +1,9 @@
-use Rattle.std.proofs.Common.{◌+◌, ◌∙◌, ap, arith, refl}
+use Rattle.std.proofs.Common.{◌+◌, ◌∙◌, ap, arith}
 use Rattle.mac_base.specs.HeadKind.{master_length}
 use Rattle.zone_records.specs.Records.{ZoneRecords}
 use Rattle.linked_zone.specs.Changes.{with_master}
 use Rattle.linked_zone.specs.Places.{RoomFor}
-use Rattle.linked_zone.proofs.Standing.{Kept, stands-now, still-same}
+use Rattle.linked_zone.proofs.Standing.{Kept, stands-now}
 use Rattle.linked_zone.proofs.EndsSlots.{front-said}
 use Rattle.linked_zone.proofs.EndsSwapped.{room-can, head-is, room-begins}
 use Rattle.linked_zone.proofs.EndsMaster.{master-ends}
@@ -26,7 +26,7 @@ ends c room =
     (ap (λ n. c.args.at + n) (head-is c.self.inside.records c.args.self.now held c.spec.result c.heads.result c.head_size.result c.spec.ensures c.heads.ensures c.head_size.ensures)) c.place_master.ensures c.set_front.ensures
 
 pub invariant_of-self : goal.invariant_of-self
-invariant_of-self c = still-same c.self.inside c.args.self.now _ _ c.self.invariant c.self.view_is (ends c c.requires) refl
+invariant_of-self c = (ends c c.requires).inside
 
 pub returns : goal.returns
 returns c room = (ends c room).same

@@ -1,7 +1,6 @@
-use Rattle.std.proofs.Common.{refl}
 use Rattle.linked_zone.specs.Changes.{carried_up}
 use Rattle.linked_zone.specs.Places.{ParcelAt}
-use Rattle.linked_zone.proofs.Standing.{Kept, stands-now, still-same}
+use Rattle.linked_zone.proofs.Standing.{Kept, stands-now}
 use Rattle.linked_zone.proofs.EndsTurned.{carry-can, carry-misplaced, carry-ends}
 use Rattle.linked_zone.proofs.zone.LinkedZone.carry.Goals as goal
 
@@ -16,7 +15,7 @@ ends : (c : goal.After-follow_run) (parcel : ParcelAt c.args.self.now c.args.at 
 ends c parcel = carry-ends c.self.inside.records c.args.self.now (stands-now c.self.inside c.args.self.now c.self.invariant c.self.view_is) parcel c.carry.new.self c.carry.ensures c.follow_run.new.records c.follow_run.ensures
 
 pub invariant_of-self : goal.invariant_of-self
-invariant_of-self c = still-same c.self.inside c.args.self.now _ _ c.self.invariant c.self.view_is (ends c c.requires) refl
+invariant_of-self c = (ends c c.requires).inside
 
 pub returns : goal.returns
 returns c parcel = (ends c parcel).same

@@ -1,8 +1,7 @@
 use Rattle.std.proofs.Common.{refl, subst, ◌∙◌}
 use Rattle.mac_base.specs.ZoneState.{ZoneState}
 use Rattle.linked_zone.specs.Places.{NamedAt}
-use Rattle.linked_zone.proofs.Counting.{count-with_bytes}
-use Rattle.linked_zone.proofs.Standing.{stands-now, still}
+use Rattle.linked_zone.proofs.Standing.{stands-now}
 use Rattle.linked_zone.proofs.Found.{of-named}
 use Rattle.linked_zone.proofs.EndsWritten.{lent-kept}
 use Rattle.linked_zone.proofs.zone.LinkedZone.contents_mut.Goals as goal
@@ -15,8 +14,7 @@ contents_mut-requires c =
 pub invariant_of-self-lent : goal.invariant_of-self-lent
 invariant_of-self-lent c ws =
     let place = subst (λ (z : ZoneState). NamedAt z c.args.block c.place_of-at.result) c.self.view_is c.place_of-at.ensures in
-    let stands = stands-now c.self.inside c.args.self.now c.self.invariant c.self.view_is in
-    still c.self.inside c.args.self.now _ _ c.self.invariant c.self.view_is (lent-kept c.self.inside.records c.args.self.now stands c.args.block c.place_of-at.result c.requires.block place ws) (count-with_bytes c.args.block _ c.args.self.now.heap.table stands.fits.coherent.in_order)
+    (lent-kept c.self.inside.records c.args.self.now (stands-now c.self.inside c.args.self.now c.self.invariant c.self.view_is) c.args.block c.place_of-at.result c.requires.block place ws).inside
 
 pub returns : goal.returns
 returns c =

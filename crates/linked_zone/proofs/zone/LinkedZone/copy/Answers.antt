@@ -1,6 +1,5 @@
 use Rattle.linked_zone.specs.Copying.{copied}
-use Rattle.linked_zone.proofs.Counting.{count-with_bytes}
-use Rattle.linked_zone.proofs.Standing.{Kept, stands-now, still}
+use Rattle.linked_zone.proofs.Standing.{Kept, stands-now}
 use Rattle.linked_zone.proofs.EndsCopied.{copy-can, copy-ends}
 use Rattle.linked_zone.proofs.zone.LinkedZone.copy.Goals as goal
 
@@ -12,7 +11,7 @@ ends : (c : goal.After-copy) → Kept c.copy.new.self (copied c.args.from c.args
 ends c = copy-ends c.self.inside.records c.args.self.now (stands-now c.self.inside c.args.self.now c.self.invariant c.self.view_is) c.args.from c.args.start c.args.to c.args.offset c.args.count c.place_of-source.result c.place_of-target.result c.requires c.place_of-source.ensures c.place_of-target.ensures c.copy.new.self c.copy.ensures
 
 pub invariant_of-self : goal.invariant_of-self
-invariant_of-self c = still c.self.inside c.args.self.now _ _ c.self.invariant c.self.view_is (ends c) (count-with_bytes c.args.to _ c.args.self.now.heap.table (stands-now c.self.inside c.args.self.now c.self.invariant c.self.view_is).fits.coherent.in_order)
+invariant_of-self c = (ends c).inside
 
 pub returns : goal.returns
 returns c = (ends c).same

@@ -1,6 +1,5 @@
 use Rattle.linked_zone.specs.Changes.{bare_zone}
-use Rattle.std.proofs.Common.{arith}
-use Rattle.linked_zone.proofs.Standing.{Kept, kept, counted}
+use Rattle.linked_zone.proofs.Standing.{Kept, kept}
 use Rattle.linked_zone.proofs.Bare.{bare-stands}
 use Rattle.linked_zone.proofs.zone.LinkedZone.create.Goals as goal
 
@@ -9,7 +8,7 @@ ends : (c : goal.In_ok-create) → Kept c.in_ok-create.field-0 (bare_zone c.in_o
 ends c = kept c.in_ok-create.field-0 (bare_zone c.in_ok-create.field-0.memory c.args.spec) (bare-stands c.in_ok-create.field-0 c.in_ok-create.field-0.memory c.args.spec c.base-starts_high_enough.ensures.possible c.in_ok-create.ensures)
 
 pub invariant_of-result : goal.invariant_of-result
-invariant_of-result c = counted c.in_ok-create.field-0 _ 0 (ends c) (λ below. omega arith)
+invariant_of-result c = (ends c).inside
 
 pub returns : goal.returns
 returns c = (ends c).same

@@ -1,8 +1,8 @@
-use Rattle.std.proofs.Common.{◌+◌, ◌∙◌, ap, arith, refl}
+use Rattle.std.proofs.Common.{◌+◌, ◌∙◌, ap, arith}
 use Rattle.mac_base.specs.declared.block.Entry.{Entry}
 use Rattle.linked_zone.specs.Changes.{exchanged}
 use Rattle.linked_zone.specs.Places.{MovablePair}
-use Rattle.linked_zone.proofs.Standing.{Kept, stands-now, still-same}
+use Rattle.linked_zone.proofs.Standing.{Kept, stands-now}
 use Rattle.linked_zone.proofs.EndsSwapped.{head-is}
 use Rattle.linked_zone.proofs.EndsExchange.{exchange-first, exchange-first_read, exchange-second, exchange-second_read, exchange-range, exchange-can, exchange-follows, exchange-follows_first, exchange-ends}
 use Rattle.linked_zone.proofs.zone.LinkedZone.exchange.Goals as goal
@@ -42,7 +42,7 @@ ends c pair = exchange-ends c.self.inside.records c.args.self.now (stands-now c.
     c.follow-2.new.records c.follow-2.ensures
 
 pub invariant_of-self : goal.invariant_of-self
-invariant_of-self c = still-same c.self.inside c.args.self.now _ _ c.self.invariant c.self.view_is (ends c c.requires) refl
+invariant_of-self c = (ends c c.requires).inside
 
 pub returns : goal.returns
 returns c pair = (ends c pair).same

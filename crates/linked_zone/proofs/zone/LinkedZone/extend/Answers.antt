@@ -1,8 +1,8 @@
-use Rattle.std.proofs.Common.{◌∙◌, subst, refl}
+use Rattle.std.proofs.Common.{◌∙◌, subst}
 use Rattle.mac_base.specs.ZoneSizes.{ArePossible}
 use Rattle.linked_zone.specs.Changes.{extended}
 use Rattle.linked_zone.proofs.Found.{sizes-read}
-use Rattle.linked_zone.proofs.Standing.{Kept, stands-now, still-same}
+use Rattle.linked_zone.proofs.Standing.{Kept, stands-now}
 use Rattle.linked_zone.proofs.EndsExtended.{extend-ends}
 use Rattle.linked_zone.proofs.zone.LinkedZone.extend.Goals as goal
 
@@ -15,7 +15,7 @@ ends c =
     extend-ends r z stands (subst ArePossible (c.spec.ensures ∙ sizes-read r z stands) c.size-size.ensures.possible) c.extend.new.self c.extend.ensures
 
 pub invariant_of-self : goal.invariant_of-self
-invariant_of-self c = still-same c.self.inside c.args.self.now _ _ c.self.invariant c.self.view_is (ends c) refl
+invariant_of-self c = (ends c).inside
 
 pub returns : goal.returns
 returns c = (ends c).same

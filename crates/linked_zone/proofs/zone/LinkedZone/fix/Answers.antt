@@ -1,7 +1,5 @@
-use Rattle.std.proofs.Common.{◌+◌, ◌∙◌, ap, arith, refl}
-use Rattle.linked_zone.proofs.Counting.{count-with_live}
-use Rattle.mac_base.specs.HandleTable.{Pointer, zeros}
-use Rattle.linked_zone.proofs.Standing.{stands-now, still}
+use Rattle.std.proofs.Common.{◌+◌, ◌∙◌, ap, arith}
+use Rattle.linked_zone.proofs.Standing.{stands-now}
 use Rattle.linked_zone.proofs.EndsSwapped.{room-can, head-is, room-begins}
 use Rattle.linked_zone.proofs.EndsGiven.{fix-ends}
 use Rattle.linked_zone.proofs.zone.LinkedZone.fix.Goals as goal
@@ -13,7 +11,7 @@ pub place_pointer-requires : goal.place_pointer-requires
 place_pointer-requires c = room-can c.self.inside.records c.args.self.now (stands-now c.self.inside c.args.self.now c.self.invariant c.self.view_is) c.args.at c.args.length c.requires
 
 pub invariant_of-self : goal.invariant_of-self
-invariant_of-self c = still c.self.inside c.args.self.now _ _ c.self.invariant c.self.view_is (fix-ends c.self.inside.records c.args.self.now (stands-now c.self.inside c.args.self.now c.self.invariant c.self.view_is) c.args.length c.args.at c.requires c.place_pointer.new.self c.place_pointer.ensures) (count-with_live _ (Pointer (zeros c.args.length)) c.args.self.now.heap.table refl)
+invariant_of-self c = (fix-ends c.self.inside.records c.args.self.now (stands-now c.self.inside c.args.self.now c.self.invariant c.self.view_is) c.args.length c.args.at c.requires c.place_pointer.new.self c.place_pointer.ensures).inside
 
 pub returns-clause-pointer : goal.returns-clause-pointer
 returns-clause-pointer c = c.new.ensures ∙ ap (λ n. c.args.at + n) (head-is c.self.inside.records c.args.self.now (stands-now c.self.inside c.args.self.now c.self.invariant c.self.view_is) c.spec.result c.heads.result c.head_size.result c.spec.ensures c.heads.ensures c.head_size.ensures)

@@ -1,7 +1,6 @@
 use Rattle.mac_base.specs.Loans.{returned}
 use Rattle.mac_base.specs.ZoneState.{with_heap}
-use Rattle.linked_zone.proofs.Counting.{count-with_bytes}
-use Rattle.linked_zone.proofs.Standing.{Kept, stands-now, still}
+use Rattle.linked_zone.proofs.Standing.{Kept, stands-now}
 use Rattle.linked_zone.proofs.EndsLoans.{lent-block, give_back-can, give_back-ends}
 use Rattle.linked_zone.proofs.zone.LinkedZone.give_back.Goals as goal
 
@@ -16,7 +15,7 @@ ends : (c : goal.After-give_back) → Kept c.give_back.new.self (with_heap (retu
 ends c = give_back-ends c.self.inside.records c.args.self.now (stands-now c.self.inside c.args.self.now c.self.invariant c.self.view_is) c.args.block c.place_of-at.result c.place_of-at.ensures c.args.loan c.requires c.give_back.new.self c.give_back.ensures
 
 pub invariant_of-self : goal.invariant_of-self
-invariant_of-self c = still c.self.inside c.args.self.now _ _ c.self.invariant c.self.view_is (ends c) (count-with_bytes c.args.block c.args.loan.bytes c.args.self.now.heap.table (stands-now c.self.inside c.args.self.now c.self.invariant c.self.view_is).fits.coherent.in_order)
+invariant_of-self c = (ends c).inside
 
 pub returns : goal.returns
 returns c = (ends c).same

@@ -1,8 +1,8 @@
-use Rattle.std.proofs.Common.{◌<◌, sym, subst, refl}
+use Rattle.std.proofs.Common.{◌<◌, sym, subst}
 use Rattle.mac_base.specs.Loans.{most_loans, lent_out}
 use Rattle.mac_base.specs.ZoneState.{ZoneState, with_heap}
 use Rattle.linked_zone.specs.Loans.{IsLoanOf}
-use Rattle.linked_zone.proofs.Standing.{Kept, stands-now, still-same}
+use Rattle.linked_zone.proofs.Standing.{Kept, stands-now}
 use Rattle.linked_zone.proofs.Unlent.{count-read}
 use Rattle.linked_zone.proofs.EndsLoans.{lend-can, lend-ends, lend-loan, lend-bytes}
 use Rattle.linked_zone.proofs.zone.LinkedZone.lend.Goals as goal
@@ -18,7 +18,7 @@ ends : (c : goal.After-lend) → Kept c.lend.new.self (with_heap (lent_out c.arg
 ends c = lend-ends c.self.inside.records c.args.self.now (stands-now c.self.inside c.args.self.now c.self.invariant c.self.view_is) c.args.block c.place_of-at.result c.place_of-at.ensures c.requires.here c.requires.few c.lend.new.self c.lend.ensures.zone
 
 pub invariant_of-self : goal.invariant_of-self
-invariant_of-self c = still-same c.self.inside c.args.self.now _ _ c.self.invariant c.self.view_is (ends c) refl
+invariant_of-self c = (ends c).inside
 
 pub returns-clause-zone : goal.returns-clause-zone
 returns-clause-zone c = (ends c).same

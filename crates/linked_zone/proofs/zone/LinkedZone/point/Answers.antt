@@ -1,10 +1,8 @@
-use Rattle.std.proofs.Common.{◌≡◌, ◌+◌, ap, arith, refl}
+use Rattle.std.proofs.Common.{◌≡◌, ◌+◌, ap, arith}
 use Rattle.mac_base.specs.HeadKind.{head_size}
 use Rattle.linked_zone.specs.Changes.{pointed}
 use Rattle.linked_zone.specs.Places.{RoomFor}
-use Rattle.linked_zone.proofs.Counting.{count-with_live}
-use Rattle.mac_base.specs.HandleTable.{FullHandle, no_flags, zeros}
-use Rattle.linked_zone.proofs.Standing.{Kept, stands-now, still}
+use Rattle.linked_zone.proofs.Standing.{Kept, stands-now}
 use Rattle.linked_zone.proofs.EndsSwapped.{room-can, head-is, room-begins}
 use Rattle.linked_zone.proofs.EndsGiven.{point-above, point-slot, point-said, point-ends}
 use Rattle.linked_zone.proofs.zone.LinkedZone.point.Goals as goal
@@ -35,7 +33,7 @@ ends c room = point-ends c.self.inside.records c.args.self.now (stands-now c.sel
     c.set_slot.new.self _ (ap (λ n. c.args.at + n) (head-is c.self.inside.records c.args.self.now (stands-now c.self.inside c.args.self.now c.self.invariant c.self.view_is) c.spec.result c.heads.result c.head_size.result c.spec.ensures c.heads.ensures c.head_size.ensures)) c.set_slot.ensures
 
 pub invariant_of-self : goal.invariant_of-self
-invariant_of-self c = still c.self.inside c.args.self.now _ _ c.self.invariant c.self.view_is (ends c c.requires.room) (count-with_live c.args.handle (FullHandle no_flags (zeros c.args.length)) c.args.self.now.heap.table refl)
+invariant_of-self c = (ends c c.requires.room).inside
 
 pub returns : goal.returns
 returns c room = (ends c room).same

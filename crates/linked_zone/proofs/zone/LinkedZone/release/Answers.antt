@@ -1,6 +1,5 @@
 use Rattle.linked_zone.specs.Changes.{given_back}
-use Rattle.linked_zone.proofs.Counting.{count-without}
-use Rattle.linked_zone.proofs.Standing.{Kept, stands-now, still}
+use Rattle.linked_zone.proofs.Standing.{Kept, stands-now}
 use Rattle.linked_zone.proofs.ChangeGivenBack.{given_back-slot}
 use Rattle.linked_zone.proofs.EndsSlots.{own-slot, front-said, release-ends}
 use Rattle.linked_zone.proofs.zone.LinkedZone.release.Goals as goal
@@ -19,7 +18,7 @@ ends c = release-ends c.self.inside.records c.args.self.now (stands-now c.self.i
     c.set_slot.new.self c.set_front.new.self c.requires c.number-slot.ensures c.number-slot.ensures c.front-next.ensures c.set_slot.ensures c.set_front.ensures
 
 pub invariant_of-self : goal.invariant_of-self
-invariant_of-self c = still c.self.inside c.args.self.now _ _ c.self.invariant c.self.view_is (ends c) (count-without c.args.handle c.args.self.now.heap.table.live)
+invariant_of-self c = (ends c).inside
 
 pub returns : goal.returns
 returns c = (ends c).same

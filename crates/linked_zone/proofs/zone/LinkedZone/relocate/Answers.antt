@@ -1,8 +1,7 @@
 use Rattle.std.proofs.Common.{◌+◌, ◌∙◌, min, ap, arith}
 use Rattle.linked_zone.specs.Changes.{relocated}
 use Rattle.linked_zone.specs.Places.{RoomFor}
-use Rattle.linked_zone.proofs.Counting.{count-with_bytes}
-use Rattle.linked_zone.proofs.Standing.{Kept, stands-now, still}
+use Rattle.linked_zone.proofs.Standing.{Kept, stands-now}
 use Rattle.linked_zone.proofs.EndsSwapped.{room-can, head-is, room-begins}
 use Rattle.linked_zone.proofs.EndsRelocated.{relocate-block, relocate-record, relocate-flags, relocate-length, relocate-above, relocate-placed, relocate-can_flag, relocate-can_copy, relocate-held, relocate-follows, relocate-ends}
 use Rattle.linked_zone.proofs.zone.LinkedZone.relocate.Goals as goal
@@ -43,7 +42,7 @@ ends c room = relocate-ends c.self.inside.records c.args.self.now (stands-now c.
     c.follow.new.records c.follow.ensures
 
 pub invariant_of-self : goal.invariant_of-self
-invariant_of-self c = still c.self.inside c.args.self.now _ _ c.self.invariant c.self.view_is (ends c c.requires.room) (count-with_bytes c.args.handle _ c.args.self.now.heap.table (stands-now c.self.inside c.args.self.now c.self.invariant c.self.view_is).fits.coherent.in_order)
+invariant_of-self c = (ends c c.requires.room).inside
 
 pub returns : goal.returns
 returns c room = (ends c room).same

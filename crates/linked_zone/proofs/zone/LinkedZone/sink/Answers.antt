@@ -1,7 +1,7 @@
-use Rattle.std.proofs.Common.{arith, refl}
+use Rattle.std.proofs.Common.{arith}
 use Rattle.linked_zone.specs.Changes.{sunk}
 use Rattle.linked_zone.specs.Places.{ParcelUpTo}
-use Rattle.linked_zone.proofs.Standing.{Kept, stands-now, still-same}
+use Rattle.linked_zone.proofs.Standing.{Kept, stands-now}
 use Rattle.linked_zone.proofs.EndsTurned.{sink-there, sink-size, sink-range, sink-can, sink-misplaced, sink-ends}
 use Rattle.linked_zone.proofs.zone.LinkedZone.sink.Goals as goal
 
@@ -28,7 +28,7 @@ ends c parcel =
     sink-ends c.self.inside.records c.args.self.now (stands-now c.self.inside c.args.self.now c.self.invariant c.self.view_is) parcel c.entry_at.result.size size c.sink.new.self c.sink.ensures c.follow_run.new.records c.follow_run.ensures
 
 pub invariant_of-self : goal.invariant_of-self
-invariant_of-self c = still-same c.self.inside c.args.self.now _ _ c.self.invariant c.self.view_is (ends c c.requires) refl
+invariant_of-self c = (ends c c.requires).inside
 
 pub returns : goal.returns
 returns c parcel = (ends c parcel).same

@@ -1,5 +1,4 @@
-use Rattle.std.proofs.Common.{refl}
-use Rattle.linked_zone.proofs.Standing.{stands-now, still-same}
+use Rattle.linked_zone.proofs.Standing.{stands-now}
 use Rattle.linked_zone.proofs.EndsCut.{split-can, split-ends}
 use Rattle.linked_zone.proofs.zone.LinkedZone.split.Goals as goal
 
@@ -7,7 +6,7 @@ pub split-requires : goal.split-requires
 split-requires c = split-can c.self.inside.records c.args.self.now (stands-now c.self.inside c.args.self.now c.self.invariant c.self.view_is) c.args.at c.args.size c.requires
 
 pub invariant_of-self : goal.invariant_of-self
-invariant_of-self c = still-same c.self.inside c.args.self.now _ _ c.self.invariant c.self.view_is (split-ends c.self.inside.records c.args.self.now (stands-now c.self.inside c.args.self.now c.self.invariant c.self.view_is) c.args.at c.args.size c.requires c.split.new.self c.split.ensures) refl
+invariant_of-self c = (split-ends c.self.inside.records c.args.self.now (stands-now c.self.inside c.args.self.now c.self.invariant c.self.view_is) c.args.at c.args.size c.requires c.split.new.self c.split.ensures).inside
 
 pub returns : goal.returns
 returns c can = (split-ends c.self.inside.records c.args.self.now (stands-now c.self.inside c.args.self.now c.self.invariant c.self.view_is) c.args.at c.args.size can c.split.new.self c.split.ensures).same

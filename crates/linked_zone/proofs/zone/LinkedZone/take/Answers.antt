@@ -1,8 +1,6 @@
 use Rattle.std.proofs.Common.{◌≡◌, ℕ, ◌∷◌, drop, refl, ap, sym, ◌∙◌, subst}
 use Rattle.linked_zone.specs.Changes.{taken}
-use Rattle.linked_zone.proofs.Counting.{count-with_live}
-use Rattle.mac_base.specs.HandleTable.{EmptyHandle}
-use Rattle.linked_zone.proofs.Standing.{Kept, stands-now, still}
+use Rattle.linked_zone.proofs.Standing.{Kept, stands-now}
 use Rattle.linked_zone.proofs.EndsSlots.{take-none, take-first, take-slot, take-says, take-ends}
 use Rattle.linked_zone.proofs.zone.LinkedZone.take.Goals as goal
 
@@ -24,7 +22,7 @@ ends c = take-ends c.self.inside.records c.args.self.now (stands-now c.self.insi
     c.set_slot.new.self c.set_front.new.self c.in-Free.next c.in-Free.ensures c.set_slot.ensures c.set_front.ensures
 
 pub invariant_of-self : goal.invariant_of-self
-invariant_of-self c = still c.self.inside c.args.self.now _ _ c.self.invariant c.self.view_is (ends c) (count-with_live c.front-front.result EmptyHandle c.args.self.now.heap.table refl)
+invariant_of-self c = (ends c).inside
 
 pub returns : goal.returns
 returns c = (

@@ -1,8 +1,7 @@
 use Rattle.std.proofs.Common.{subst}
 use Rattle.linked_zone.specs.Changes.{unfixed}
 use Rattle.linked_zone.specs.Places.{NamedAt}
-use Rattle.linked_zone.proofs.Counting.{count-without}
-use Rattle.linked_zone.proofs.Standing.{Kept, stands-now, still}
+use Rattle.linked_zone.proofs.Standing.{Kept, stands-now}
 use Rattle.linked_zone.proofs.EndsGiven.{unfix-can, unfix-ends}
 use Rattle.linked_zone.proofs.zone.LinkedZone.unfix.Goals as goal
 
@@ -15,7 +14,7 @@ ends c = unfix-ends c.self.inside.records c.args.self.now (stands-now c.self.ins
     c.set_free.new.self c.set_free.ensures
 
 pub invariant_of-self : goal.invariant_of-self
-invariant_of-self c = still c.self.inside c.args.self.now _ _ c.self.invariant c.self.view_is (ends c) (count-without c.args.pointer c.args.self.now.heap.table.live)
+invariant_of-self c = (ends c).inside
 
 pub returns : goal.returns
 returns c = (ends c).same

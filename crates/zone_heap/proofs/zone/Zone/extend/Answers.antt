@@ -29,7 +29,7 @@ invariant_of-self c =
     let z = c.self.inside.pointers in
     let is = after (goal.at.invariant_of-self c).After-join in
     record {
-      known = record { barren = tt; room = tt; space = tt };
+      known = record { room = tt; space = tt };
       zone = record {
         sound = subst (λ (w : ZoneState). Sound w.shape w.heap) (sym is) (sound-grown z.shape z.heap c.self.invariant.zone.sound);
         fixed = changed-fixed z (with_heap (grown z.shape z.heap) z) c.join.new.pointers is (keeps-grown z.shape z.heap) c.self.invariant.zone.fixed;

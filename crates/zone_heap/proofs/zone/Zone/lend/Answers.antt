@@ -17,7 +17,7 @@ invariant_of-self c =
     let t = z.heap.table in
     let may = ap (λ (z : ZoneState). may_be_lent z.heap.table x) c.self.view_is ∙ c.requires.fixed in
     record {
-      known = record { barren = tt; room = tt; space = tt };
+      known = record { room = tt; space = tt };
       zone = record {
         sound = subst (λ (w : ZoneState). Sound w.shape w.heap) (sym c.lend.ensures.zone) (sound-lent z.shape z.heap (lent_out x z.heap).table.lent c.self.invariant.zone.sound);
         fixed = subst (λ (w : ZoneState). LoansAreFixed w.heap) (sym c.lend.ensures.zone)

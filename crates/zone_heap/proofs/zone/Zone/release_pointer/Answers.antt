@@ -44,7 +44,7 @@ invariant_of-self c =
     let w = (goal.at.invariant_of-self c).After-join in
     let live = ap (λ (z : ZoneState). is_pointer z.heap.table c.args.pointer) c.self.view_is ∙ c.requires.live in
     record {
-      known = record { barren = tt; room = tt; space = tt };
+      known = record { room = tt; space = tt };
       zone = record {
         sound = subst (λ (w : ZoneState). Sound w.shape w.heap) (sym (after w)) (sound-disposed_pointer z.shape z.heap c.args.pointer c.self.invariant.zone.sound live);
         fixed = changed-fixed z (after_zone w) c.join.new.pointers (after w) (kept w) c.self.invariant.zone.fixed;
