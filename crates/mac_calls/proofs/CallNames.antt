@@ -1,7 +1,8 @@
 -- No two calls have one name, and the table has each call.
-use Rattle.std.proofs.Common.{◌≡◌, ◌≢◌, ℕ, suc, ◌<◌, Bool, true, false, cond, List, [], ◌∷◌, length, get_or, Option, Some, refl, sym, ap, ◌∙◌, arith}
+use Rattle.std.proofs.Common.{◌≡◌, ◌≢◌, ℕ, suc, inl, inr, ◌+◌, ◌<◌, Bool, true, false, cond, List, [], ◌∷◌, length, get_or, Option, Some, refl, sym, ap, ◌∙◌, arith}
 use Rattle.std.specs.Prelude.{find}
 use Rattle.std.specs.Str.{bytes_eq}
+use Rattle.std.proofs.lemmas.Bool.{cases_eq}
 use Rattle.std.proofs.lemmas.Slice.Eq.{bytes_eq-Decides}
 use Rattle.mac_calls.specs.declared.table.CallName.{CallName}
 use Rattle.mac_calls.specs.declared.table.CallName.TheVariants.{NewHandle}
@@ -40,6 +41,14 @@ stands_by test first calls call false fails e more = further test first calls (m
 stands_at : (test : CallName → Bool) (calls : List CallName) (call : CallName) → find test calls ≡ Some call → StandsAt test calls
 stands_at test [] call e = absurd cc
 stands_at test (first ∷ calls) call e = stands_by test first calls call (test first) refl e (stands_at test calls call)
+
+-- the next call has another name as well
+pub unnamed_further : (word : List ℕ) (calls : List CallName) (n : ℕ) (name : List ℕ) → name ≡ (signature (get_or calls n NewHandle)).name → bytes_eq name word ≡ false → ((k : ℕ) → k < n → (signature (get_or calls k NewHandle)).name ≢ word) → (k : ℕ) → k < n + 1 → (signature (get_or calls k NewHandle)).name ≢ word
+unnamed_further word calls n name is other before k lt same =
+    elim (cases_eq k n) [
+      | inl at ↦ let equal : bytes_eq name word ≡ true = (bytes_eq-Decides name word).1 (is ∙ ap (λ (i : ℕ). (signature (get_or calls i NewHandle)).name) (sym at) ∙ same) in absurd cc
+      | inr below ↦ before k (omega (arith, below)) same
+    ]
 
 -- a word that is the name of no call whose name is as long is the name of none
 pub unnamed : (word : List ℕ) (calls : List CallName) → calls ≡ of_length (length word) → ((k : ℕ) → k < length calls → (signature (get_or calls k NewHandle)).name ≢ word) → (call : CallName) → (signature call).name ≢ word

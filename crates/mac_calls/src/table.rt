@@ -5,7 +5,7 @@ ghost use Rattle.mac_calls.specs.declared.table.CallName.{CallName};
 ghost use Rattle.mac_calls.specs.Calls as calls;
 
 /// The calls that can be made, by their names.
-#[derive(Clone, Copy, Debug, PartialEq, Eq)]
+#[derive(Clone, Copy, PartialEq, Eq)]
 pub enum CallName {
     NewHandle,
     NewEmptyHandle,
@@ -158,7 +158,7 @@ pub const ALL_CALLS: [CallName; 72] = [
 ];
 
 /// How an operand is written.
-#[derive(Clone, Copy, Debug, PartialEq, Eq)]
+#[derive(Clone, Copy, PartialEq, Eq)]
 pub enum OperandKind {
     /// A number, or the name of a variable: a size, an offset, a handle, an address.
     Number,
@@ -187,7 +187,7 @@ impl OperandKind {
 }
 
 /// How a call is written.
-#[derive(Clone, Copy, Debug)]
+#[derive(Clone, Copy)]
 pub struct Signature {
     /// The call's name, in ASCII.
     pub name: &'static [u8],
@@ -197,31 +197,103 @@ pub struct Signature {
     pub is_assignable: bool,
 }
 
-/// A call whose first result may be assigned.
-fn gives(name: &'static [u8], operands: &'static [OperandKind]) -> Signature
-    ensures name { result.name.now ≡ name.now }
-    ensures operands { result.operands.now ≡ operands.now }
-    ensures is_assignable { result.is_assignable ≡ true }
-{
-    Signature {
-        name,
-        operands,
-        is_assignable: true,
-    }
+/// The row of a call whose first result may be assigned.
+macro_rules! gives {
+    ($name:literal $(, $kind:ident)*) => {
+        Signature {
+            name: $name,
+            operands: &[$(OperandKind::$kind),*],
+            is_assignable: true,
+        }
+    };
 }
 
-/// A call that gives nothing that may be assigned.
-fn does(name: &'static [u8], operands: &'static [OperandKind]) -> Signature
-    ensures name { result.name.now ≡ name.now }
-    ensures operands { result.operands.now ≡ operands.now }
-    ensures is_assignable { result.is_assignable ≡ false }
-{
-    Signature {
-        name,
-        operands,
-        is_assignable: false,
-    }
+/// The row of a call that gives nothing that may be assigned.
+macro_rules! does {
+    ($name:literal $(, $kind:ident)*) => {
+        Signature {
+            name: $name,
+            operands: &[$(OperandKind::$kind),*],
+            is_assignable: false,
+        }
+    };
 }
+
+/// The table of calls, in the order of their names in `CallName`.
+static SIGNATURES: [Signature; 72] = [
+    gives!(b"NewHandle", Number),
+    gives!(b"NewEmptyHandle"),
+    gives!(b"NewPtr", Number),
+    does!(b"DisposeHandle", Number),
+    does!(b"DisposePtr", Number),
+    does!(b"EmptyHandle", Number),
+    gives!(b"GetHandleSize", Number),
+    does!(b"SetHandleSize", Number, Number),
+    gives!(b"GetPtrSize", Number),
+    does!(b"SetPtrSize", Number, Number),
+    does!(b"HLock", Number),
+    does!(b"HUnlock", Number),
+    does!(b"HPurge", Number),
+    does!(b"HNoPurge", Number),
+    does!(b"HSetRBit", Number),
+    does!(b"HClrRBit", Number),
+    gives!(b"HGetState", Number),
+    does!(b"HSetState", Number, Number),
+    gives!(b"Deref", Number),
+    gives!(b"RecoverHandle", Number),
+    does!(b"ReallocateHandle", Number, Number),
+    does!(b"MoveHHi", Number),
+    does!(b"HLockHi", Number),
+    gives!(b"HandToHand", Number),
+    gives!(b"PtrToHand", Number, Number),
+    does!(b"PtrToXHand", Number, Number, Number),
+    does!(b"PtrAndHand", Number, Number, Number),
+    does!(b"HandAndHand", Number, Number),
+    does!(b"BlockMove", Number, Number, Number, Number, Number),
+    gives!(b"CompactMem", Number),
+    does!(b"PurgeMem", Number),
+    gives!(b"MaxMem"),
+    does!(b"ReserveMem", Number),
+    gives!(b"PurgeSpace"),
+    gives!(b"MaxBlock"),
+    gives!(b"FreeMem"),
+    does!(b"MoreMasters"),
+    does!(b"MaxApplZone"),
+    does!(b"Poke", Number, Number, Bytes),
+    does!(b"Peek", Number, Number, Number),
+    gives!(b"ZoneMap"),
+    does!(b"Lend", Number),
+    does!(b"LentPeek", Number, Number, Number),
+    does!(b"LentPoke", Number, Number, Bytes),
+    does!(b"Return", Number),
+    does!(b"MemError"),
+    gives!(b"GetResource", Type, Id),
+    gives!(b"Get1Resource", Type, Id),
+    gives!(b"GetIndResource", Type, Number),
+    does!(b"LoadResource", Number),
+    does!(b"ReleaseResource", Number),
+    does!(b"DetachResource", Number),
+    does!(b"AddResource", Number, Type, Id, OptionalBytes),
+    does!(b"ChangedResource", Number),
+    does!(b"RemoveResource", Number),
+    does!(b"WriteResource", Number),
+    does!(b"UpdateResFile", OptionalNumber),
+    does!(b"CloseResFile", OptionalNumber),
+    gives!(b"GetResAttrs", Number),
+    does!(b"SetResAttrs", Number, Number),
+    does!(b"GetResInfo", Number),
+    gives!(b"SizeResource", Number),
+    gives!(b"HomeResFile", Number),
+    gives!(b"UniqueID", Type),
+    gives!(b"CountTypes"),
+    gives!(b"CountResources", Type),
+    does!(b"GetIndType", Number),
+    does!(b"SetResLoad", Number),
+    gives!(b"OpenResFile", Number),
+    does!(b"UseResFile", Number),
+    gives!(b"CurResFile"),
+    does!(b"ResError"),
+];
 
 impl CallName {
     /// How the call is written: the table of calls.
@@ -230,81 +302,7 @@ impl CallName {
         ensures operands { result.operands.now ≡ (calls.signature self).operands }
         ensures is_assignable { result.is_assignable ≡ (calls.signature self).is_assignable }
     {
-        use OperandKind::{Bytes, Id, Number, OptionalBytes, OptionalNumber, Type};
-        match self {
-            CallName::NewHandle => gives(b"NewHandle", &[Number]),
-            CallName::NewEmptyHandle => gives(b"NewEmptyHandle", &[]),
-            CallName::NewPtr => gives(b"NewPtr", &[Number]),
-            CallName::DisposeHandle => does(b"DisposeHandle", &[Number]),
-            CallName::DisposePtr => does(b"DisposePtr", &[Number]),
-            CallName::EmptyHandle => does(b"EmptyHandle", &[Number]),
-            CallName::GetHandleSize => gives(b"GetHandleSize", &[Number]),
-            CallName::SetHandleSize => does(b"SetHandleSize", &[Number, Number]),
-            CallName::GetPtrSize => gives(b"GetPtrSize", &[Number]),
-            CallName::SetPtrSize => does(b"SetPtrSize", &[Number, Number]),
-            CallName::HLock => does(b"HLock", &[Number]),
-            CallName::HUnlock => does(b"HUnlock", &[Number]),
-            CallName::HPurge => does(b"HPurge", &[Number]),
-            CallName::HNoPurge => does(b"HNoPurge", &[Number]),
-            CallName::HSetRBit => does(b"HSetRBit", &[Number]),
-            CallName::HClrRBit => does(b"HClrRBit", &[Number]),
-            CallName::HGetState => gives(b"HGetState", &[Number]),
-            CallName::HSetState => does(b"HSetState", &[Number, Number]),
-            CallName::Deref => gives(b"Deref", &[Number]),
-            CallName::RecoverHandle => gives(b"RecoverHandle", &[Number]),
-            CallName::ReallocateHandle => does(b"ReallocateHandle", &[Number, Number]),
-            CallName::MoveHHi => does(b"MoveHHi", &[Number]),
-            CallName::HLockHi => does(b"HLockHi", &[Number]),
-            CallName::HandToHand => gives(b"HandToHand", &[Number]),
-            CallName::PtrToHand => gives(b"PtrToHand", &[Number, Number]),
-            CallName::PtrToXHand => does(b"PtrToXHand", &[Number, Number, Number]),
-            CallName::PtrAndHand => does(b"PtrAndHand", &[Number, Number, Number]),
-            CallName::HandAndHand => does(b"HandAndHand", &[Number, Number]),
-            CallName::BlockMove => does(b"BlockMove", &[Number, Number, Number, Number, Number]),
-            CallName::CompactMem => gives(b"CompactMem", &[Number]),
-            CallName::PurgeMem => does(b"PurgeMem", &[Number]),
-            CallName::MaxMem => gives(b"MaxMem", &[]),
-            CallName::ReserveMem => does(b"ReserveMem", &[Number]),
-            CallName::PurgeSpace => gives(b"PurgeSpace", &[]),
-            CallName::MaxBlock => gives(b"MaxBlock", &[]),
-            CallName::FreeMem => gives(b"FreeMem", &[]),
-            CallName::MoreMasters => does(b"MoreMasters", &[]),
-            CallName::MaxApplZone => does(b"MaxApplZone", &[]),
-            CallName::Poke => does(b"Poke", &[Number, Number, Bytes]),
-            CallName::Peek => does(b"Peek", &[Number, Number, Number]),
-            CallName::ZoneMap => gives(b"ZoneMap", &[]),
-            CallName::Lend => does(b"Lend", &[Number]),
-            CallName::LentPeek => does(b"LentPeek", &[Number, Number, Number]),
-            CallName::LentPoke => does(b"LentPoke", &[Number, Number, Bytes]),
-            CallName::Return => does(b"Return", &[Number]),
-            CallName::MemError => does(b"MemError", &[]),
-            CallName::GetResource => gives(b"GetResource", &[Type, Id]),
-            CallName::Get1Resource => gives(b"Get1Resource", &[Type, Id]),
-            CallName::GetIndResource => gives(b"GetIndResource", &[Type, Number]),
-            CallName::LoadResource => does(b"LoadResource", &[Number]),
-            CallName::ReleaseResource => does(b"ReleaseResource", &[Number]),
-            CallName::DetachResource => does(b"DetachResource", &[Number]),
-            CallName::AddResource => does(b"AddResource", &[Number, Type, Id, OptionalBytes]),
-            CallName::ChangedResource => does(b"ChangedResource", &[Number]),
-            CallName::RemoveResource => does(b"RemoveResource", &[Number]),
-            CallName::WriteResource => does(b"WriteResource", &[Number]),
-            CallName::UpdateResFile => does(b"UpdateResFile", &[OptionalNumber]),
-            CallName::CloseResFile => does(b"CloseResFile", &[OptionalNumber]),
-            CallName::GetResAttrs => gives(b"GetResAttrs", &[Number]),
-            CallName::SetResAttrs => does(b"SetResAttrs", &[Number, Number]),
-            CallName::GetResInfo => does(b"GetResInfo", &[Number]),
-            CallName::SizeResource => gives(b"SizeResource", &[Number]),
-            CallName::HomeResFile => gives(b"HomeResFile", &[Number]),
-            CallName::UniqueID => gives(b"UniqueID", &[Type]),
-            CallName::CountTypes => gives(b"CountTypes", &[]),
-            CallName::CountResources => gives(b"CountResources", &[Type]),
-            CallName::GetIndType => does(b"GetIndType", &[Number]),
-            CallName::SetResLoad => does(b"SetResLoad", &[Number]),
-            CallName::OpenResFile => gives(b"OpenResFile", &[Number]),
-            CallName::UseResFile => does(b"UseResFile", &[Number]),
-            CallName::CurResFile => gives(b"CurResFile", &[]),
-            CallName::ResError => does(b"ResError", &[]),
-        }
+        SIGNATURES[self as usize]
     }
 
     /// The call of this name.

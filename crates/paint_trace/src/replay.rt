@@ -44,14 +44,16 @@ fn make(
     *procedure = Procedure::without_cushion();
     let handle = handles[step.block];
     match step.action {
-        Action::NewHandle(size) => handles[step.block] = memory.new_handle(size, procedure)?,
-        Action::SetHandleSize(size) => memory.set_handle_size(handle, size, procedure)?,
-        Action::HLock => memory.hlock(handle)?,
-        Action::HUnlock => memory.hunlock(handle)?,
-        Action::HPurge => memory.hpurge(handle)?,
-        Action::DisposeHandle => memory.dispose_handle(handle)?,
+        Action::NewHandle(size) => {
+            handles[step.block] = memory.new_handle(size, procedure)?;
+            Ok(())
+        }
+        Action::SetHandleSize(size) => memory.set_handle_size(handle, size, procedure),
+        Action::HLock => memory.hlock(handle),
+        Action::HUnlock => memory.hunlock(handle),
+        Action::HPurge => memory.hpurge(handle),
+        Action::DisposeHandle => memory.dispose_handle(handle),
     }
-    Ok(())
 }
 
 /// Makes all steps of a trace, up to the first line that is none. What was locked before keeps its bytes: the trace has no handle of it,

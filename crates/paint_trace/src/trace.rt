@@ -27,7 +27,7 @@ pub(crate) struct Step {
 }
 
 /// Why a line is no step.
-#[derive(Clone, Copy, Debug, PartialEq, Eq, Error)]
+#[derive(Clone, Copy, Debug, Error)]
 pub(crate) enum NoStep {
     #[error("no call of a trace has this name")]
     Call,

@@ -1,8 +1,9 @@
 -- Calls of an answer that are read one by one.
-use Rattle.std.proofs.Common.{◌≡◌, ◌≢◌, ℕ, ◌<◌, ◌≤◌, ◌-◌, min, map, take, Bool, true, false, List, [], ◌∷◌, ◌++◌, length, drop, refl, sym, ap, subst, ◌∙◌, append_assoc, append-nil, arith, codes}
-use Rattle.std.specs.Prelude.{not}
+use Rattle.std.proofs.Common.{◌≡◌, ◌≢◌, ℕ, ◌<◌, ◌≤◌, ◌-◌, min, map, take, Bool, true, false, List, [], ◌∷◌, ◌++◌, length, eqb, drop, refl, sym, ap, subst, ◌∙◌, append_assoc, append-nil, arith, codes}
+use Rattle.std.specs.Prelude.{not, MatchBool}
+use Rattle.std.proofs.lemmas.Bool.{eqb-true, eqb-false}
 use Rattle.std.specs.Str.{bytes_eq}
-use Rattle.std.proofs.lemmas.List.{take_rest}
+use Rattle.std.proofs.lemmas.List.{take_rest, nil_from_length}
 use Rattle.std.proofs.lemmas.Slice.Eq.{bytes_eq-Decides}
 use Rattle.script_text.specs.declared.line.Operand.{Operand}
 use Rattle.script_text.specs.declared.line.ReleasingName.{ReleasingName}
@@ -10,10 +11,9 @@ use Rattle.script_text.specs.declared.line.ReleasingName.TheVariants.{DisposeHan
 use Rattle.script_text.specs.declared.line.WrittenAnswer.{WrittenAnswer}
 use Rattle.script_text.specs.declared.line.WrittenCall.{WrittenCall}
 use Rattle.script_text.specs.Tokens.{Token, Word}
-use Rattle.script_text.specs.Answers.{releasing_text, IsWrittenCall, AreCalls, IsAnswer, MayFollow}
+use Rattle.script_text.specs.Answers.{releasing_text, IsWrittenCall, AreCalls, AreFewCalls, IsAnswer, MayFollow}
 use Rattle.script_text.specs.Calls.{most_calls}
 use Rattle.script_text.specs.Operands.{IsNumberOperand}
-use Rattle.script_text.specs.Script.{HasNoFirstWord}
 use Rattle.script_text.proofs.OneAnswer.{one_written, one_calls}
 
 -- a word that is none of the names
@@ -82,12 +82,12 @@ calling_halts names tokens calls name operand behind c none all h = no_more behi
     no_more (mark ∷ token ∷ tokens) (written ∷ more) none h = none (h.1, λ e. absurd cc)
 
 -- no token is left
-pub calling_all : (names : List (List ℕ)) (tokens rest : List Token) (calls : List WrittenCall) → Calling names tokens rest calls → rest ≡ [] → AreCalls names tokens calls
+calling_all : (names : List (List ℕ)) (tokens rest : List Token) (calls : List WrittenCall) → Calling names tokens rest calls → rest ≡ [] → AreCalls names tokens calls
 calling_all names tokens rest calls c e =
     subst (λ (t : List WrittenCall). AreCalls names tokens t) (append-nil calls) (c.there [] (subst (λ (t : List Token). AreCalls names t []) (sym e) tt))
 
 -- one token is left
-pub calling_odd : (names : List (List ℕ)) (tokens rest : List Token) (calls : List WrittenCall) → Calling names tokens rest calls → length rest < 2 → rest ≢ [] → (all : List WrittenCall) → ¬ AreCalls names tokens all
+calling_odd : (names : List (List ℕ)) (tokens rest : List Token) (calls : List WrittenCall) → Calling names tokens rest calls → length rest < 2 → rest ≢ [] → (all : List WrittenCall) → ¬ AreCalls names tokens all
 calling_odd names tokens rest calls c short some all h = odd rest short some (c.back all h).0 (c.back all h).2
   where
     odd : (rest : List Token) → length rest < 2 → rest ≢ [] → (more : List WrittenCall) → ¬ AreCalls names rest more
@@ -95,48 +95,38 @@ calling_odd names tokens rest calls c short some all h = odd rest short some (c.
     odd (token ∷ []) short some more h = absurd h
     odd (token ∷ other ∷ rest) short some more h = absurd (omega arith)
 
--- tokens that begin with no word queue no answer
-pub no_first : (names : List (List ℕ)) (tokens : List Token) → HasNoFirstWord tokens → (answer : WrittenAnswer) → ¬ IsAnswer names tokens answer
-no_first names tokens none answer is = none (codes "gz") (is.0 ∷ is.1) is.2
-
--- tokens that begin with another word queue no answer
-pub no_keyword : (names : List (List ℕ)) (tokens : List Token) (word : List ℕ) (rest : List Token) → tokens ≡ Word word ∷ rest → word ≢ codes "gz" → (answer : WrittenAnswer) → ¬ IsAnswer names tokens answer
-no_keyword names tokens word rest begins other answer is =
-    let same : Word word ∷ rest ≡ Word (codes "gz") ∷ is.0 ∷ is.1 = sym begins ∙ is.2 in
-    let this : word ≡ codes "gz" = cc in
-    other this
+-- fewer than two tokens are left
+pub calling_ends : (names : List (List ℕ)) (tokens rest : List Token) (calls : List WrittenCall) (ends : Bool) → Calling names tokens rest calls → length rest < 2 → ends ≡ eqb (length rest) 0 → MatchBool ends (AreCalls names tokens calls) ((all : List WrittenCall) → ¬ AreCalls names tokens all)
+calling_ends names tokens rest calls true c short e = calling_all names tokens rest calls c (nil_from_length rest (eqb-true (length rest) 0 (sym e)))
+calling_ends names tokens rest calls false c short e = calling_odd names tokens rest calls c short (λ none. eqb-false (length rest) 0 (sym e) (ap length none))
 
 -- what stands behind the keyword is a value and the calls
-behind : (names : List (List ℕ)) (tokens : List Token) (word : List ℕ) (rest : List Token) (answer : WrittenAnswer) → tokens ≡ Word word ∷ rest → (is : IsAnswer names tokens answer) → rest ≡ is.0 ∷ is.1
-behind names tokens word rest answer begins is = let same : Word word ∷ rest ≡ Word (codes "gz") ∷ is.0 ∷ is.1 = sym begins ∙ is.2 in cc
-
--- the keyword by itself queues no answer
-pub no_value : (names : List (List ℕ)) (tokens : List Token) (word : List ℕ) → tokens ≡ Word word ∷ [] → (answer : WrittenAnswer) → ¬ IsAnswer names tokens answer
-no_value names tokens word begins answer is = let bad : [] ≡ is.0 ∷ is.1 = behind names tokens word [] answer begins is in absurd cc
+behind : (names : List (List ℕ)) (tokens rest : List Token) (answer : WrittenAnswer) → tokens ≡ Word (codes "gz") ∷ rest → (is : IsAnswer names tokens answer) → rest ≡ is.0 ∷ is.1
+behind names tokens rest answer begins is = let same : Word (codes "gz") ∷ rest ≡ Word (codes "gz") ∷ is.0 ∷ is.1 = sym begins ∙ is.2 in cc
 
 -- a token that is no value
-pub not_a_value : (names : List (List ℕ)) (tokens : List Token) (word : List ℕ) (value : Token) (calls : List Token) → tokens ≡ Word word ∷ value ∷ calls → ((x : Operand) → ¬ IsNumberOperand names value x) → (answer : WrittenAnswer) → ¬ IsAnswer names tokens answer
-not_a_value names tokens word value calls begins none answer is =
-    let same : value ∷ calls ≡ is.0 ∷ is.1 = behind names tokens word (value ∷ calls) answer begins is in
+pub not_a_value : (names : List (List ℕ)) (tokens : List Token) (value : Token) (calls : List Token) → tokens ≡ Word (codes "gz") ∷ value ∷ calls → ((x : Operand) → ¬ IsNumberOperand names value x) → (answer : WrittenAnswer) → ¬ IsAnswer names tokens answer
+not_a_value names tokens value calls begins none answer is =
+    let same : value ∷ calls ≡ is.0 ∷ is.1 = behind names tokens (value ∷ calls) answer begins is in
     let this : is.0 ≡ value = cc in
     none answer.value (subst (λ (t : Token). IsNumberOperand names t answer.value) this is.3)
 
-calls_are : (names : List (List ℕ)) (tokens : List Token) (word : List ℕ) (value : Token) (calls : List Token) (answer : WrittenAnswer) → tokens ≡ Word word ∷ value ∷ calls → IsAnswer names tokens answer → AreCalls names calls answer.calls
-calls_are names tokens word value calls answer begins is =
-    let same : value ∷ calls ≡ is.0 ∷ is.1 = behind names tokens word (value ∷ calls) answer begins is in
+calls_are : (names : List (List ℕ)) (tokens : List Token) (value : Token) (calls : List Token) (answer : WrittenAnswer) → tokens ≡ Word (codes "gz") ∷ value ∷ calls → IsAnswer names tokens answer → AreCalls names calls answer.calls
+calls_are names tokens value calls answer begins is =
+    let same : value ∷ calls ≡ is.0 ∷ is.1 = behind names tokens (value ∷ calls) answer begins is in
     let these : is.1 ≡ calls = cc in
     subst (λ (t : List Token). AreCalls names t answer.calls) these is.4
 
--- tokens behind the value that are no calls
-pub not_calls : (names : List (List ℕ)) (tokens : List Token) (word : List ℕ) (value : Token) (calls : List Token) → tokens ≡ Word word ∷ value ∷ calls → ((xs : List WrittenCall) → ¬ AreCalls names calls xs) → (answer : WrittenAnswer) → ¬ IsAnswer names tokens answer
-not_calls names tokens word value calls begins none answer is = none answer.calls (calls_are names tokens word value calls answer begins is)
+-- tokens behind the value that are no calls, or too many
+pub not_calls : (names : List (List ℕ)) (tokens : List Token) (value : Token) (calls : List Token) → tokens ≡ Word (codes "gz") ∷ value ∷ calls → ((xs : List WrittenCall) → ¬ AreFewCalls names calls xs) → (answer : WrittenAnswer) → ¬ IsAnswer names tokens answer
+not_calls names tokens value calls begins none answer is = none answer.calls (calls_are names tokens value calls answer begins is, is.5)
 
 -- more calls than an answer may have
-pub too_many : (names : List (List ℕ)) (tokens : List Token) (word : List ℕ) (value : Token) (calls : List Token) (xs : List WrittenCall) → tokens ≡ Word word ∷ value ∷ calls → AreCalls names calls xs → most_calls < length xs → (answer : WrittenAnswer) → ¬ IsAnswer names tokens answer
-too_many names tokens word value calls xs begins are many answer is =
-    let same = ap length (one_calls names calls xs answer.calls are (calls_are names tokens word value calls answer begins is)) in
-    let few = is.5 in
-    absurd (omega (arith, same, few, many))
+pub too_many : (names : List (List ℕ)) (calls : List Token) (xs : List WrittenCall) → AreCalls names calls xs → most_calls < length xs → (others : List WrittenCall) → ¬ AreFewCalls names calls others
+too_many names calls xs are many others few =
+    let same = ap length (one_calls names calls xs others are few.0) in
+    let small = few.1 in
+    absurd (omega (arith, same, small, many))
 
 next_drop : {X : Type 0} (behind : List X) (n : ℕ) → n ≡ min (length behind) 1 → drop n behind ≡ drop 1 behind
 next_drop [] n e = ap (λ (k : ℕ). drop k []) e
@@ -158,6 +148,6 @@ same_word a b differs is none = (bytes_eq-Decides a b).0 (same (bytes_eq a b) (s
     same true e = refl
     same false e = absurd cc
 
--- the word, the value and the calls of an answer
-pub is_answer : (names : List (List ℕ)) (tokens : List Token) (word : List ℕ) (value : Token) (calls : List Token) (answer : WrittenAnswer) → tokens ≡ Word word ∷ value ∷ calls → word ≡ codes "gz" → IsNumberOperand names value answer.value → AreCalls names calls answer.calls → length answer.calls ≤ most_calls → IsAnswer names tokens answer
-is_answer names tokens word value calls answer begins same number are few = (value, calls, begins ∙ ap (λ (w : List ℕ). Word w ∷ value ∷ calls) same, number, are, few)
+-- the value and the calls of an answer
+pub is_answer : (names : List (List ℕ)) (tokens : List Token) (value : Token) (calls : List Token) (answer : WrittenAnswer) → tokens ≡ Word (codes "gz") ∷ value ∷ calls → IsNumberOperand names value answer.value → AreCalls names calls answer.calls → length answer.calls ≤ most_calls → IsAnswer names tokens answer
+is_answer names tokens value calls answer begins number are few = (value, calls, begins, number, are, few)

@@ -1,5 +1,5 @@
 -- Which tokens make a call.
-use Rattle.std.proofs.Common.{◌≡◌, ◌≢◌, ℕ, List, [], ◌∷◌, ◌++◌, Option, Some, None, sym, ap, subst, ◌∙◌}
+use Rattle.std.proofs.Common.{◌≡◌, ℕ, List, [], ◌∷◌, ◌++◌, Option, Some, None, sym, ap, subst, ◌∙◌}
 use Rattle.std.specs.Prelude.{IfSome, IsTrue}
 use Rattle.mac_calls.specs.declared.table.CallName.{CallName}
 use Rattle.script_text.specs.declared.line.CallLine.{CallLine}
@@ -7,7 +7,7 @@ use Rattle.script_text.specs.declared.line.Operand.{Operand}
 use Rattle.script_text.specs.Tokens.{Token, Equals, Word}
 use Rattle.mac_calls.specs.Calls.{signature}
 use Rattle.script_text.specs.Operands.{AreOperands, is_name}
-use Rattle.script_text.specs.Script.{assignment, assigned_by, HasNoFirstWord, IsCall}
+use Rattle.script_text.specs.Script.{assignment, assigned_by, HasNoCall, MayAssign, IsCall}
 use Rattle.mac_calls.proofs.CallNames.{one_call}
 use Rattle.script_text.proofs.OneOperand.{operands_no_equals}
 
@@ -39,18 +39,14 @@ no_call names line p = empty p.0 p.2
     empty None e = absurd cc
     empty (Some name) e = absurd cc
 
--- tokens without a word behind the assignment make no call
-pub no_word : (names : List (List ℕ)) (tokens rest : List Token) (o : Option (List ℕ)) → Parted tokens o rest → HasNoFirstWord rest → (x : CallLine) → ¬ IsCall names tokens x
-no_word names tokens rest o parted none x p = none (signature x.call).name p.1 (behind names tokens rest o x parted p)
+-- tokens without the name of a call behind the assignment make no call
+pub no_named : (names : List (List ℕ)) (tokens rest : List Token) (o : Option (List ℕ)) → Parted tokens o rest → HasNoCall rest → (x : CallLine) → ¬ IsCall names tokens x
+no_named names tokens rest o parted none x p = none x.call p.1 (behind names tokens rest o x parted p)
 
 -- the word is the call's name, and behind it stand the operands
 name_and_operands : (names : List (List ℕ)) (tokens others : List Token) (word : List ℕ) (o : Option (List ℕ)) (x : CallLine) → Parted tokens o (Word word ∷ others) → (p : IsCall names tokens x) → ((signature x.call).name ≡ word) × (p.1 ≡ others)
 name_and_operands names tokens others word o x parted p =
     let same : Word word ∷ others ≡ Word (signature x.call).name ∷ p.1 = behind names tokens (Word word ∷ others) o x parted p in (cc, cc)
-
--- a word that is no call's name makes no call
-pub no_name : (names : List (List ℕ)) (tokens others : List Token) (word : List ℕ) (o : Option (List ℕ)) → Parted tokens o (Word word ∷ others) → ((call : CallName) → (signature call).name ≢ word) → (x : CallLine) → ¬ IsCall names tokens x
-no_name names tokens others word o parted none x p = none x.call (name_and_operands names tokens others word o x parted p).0
 
 -- the name that a call's tokens assign may be assigned, and so may the call's result
 assigned_may : (names : List (List ℕ)) (tokens rest : List Token) (word : List ℕ) (x : CallLine) → Parted tokens (Some word) rest → (p : List Token) → AreOperands names (signature x.call).operands p x.operands → (a : Option (List ℕ)) → tokens ≡ assignment a ++ Word (signature x.call).name ∷ p
@@ -65,11 +61,12 @@ assigned_may names tokens rest word x parted p are (Some a) e may =
     (subst (λ (w : List ℕ). IsTrue (is_name w)) name may.0, may.1)
 
 -- tokens that assign what may not be assigned make no call
-pub no_assigned : (names : List (List ℕ)) (tokens others : List Token) (call : CallName) (o : Option (List ℕ)) (word : List ℕ) → o ≡ Some word → Parted tokens o (Word (signature call).name ∷ others) → ¬ (IsTrue (is_name word) × IsTrue (signature call).is_assignable) → (x : CallLine) → ¬ IsCall names tokens x
-no_assigned names tokens others call o word is parted none x p =
-    let same = name_and_operands names tokens others (signature call).name o x parted p in
+pub no_assigned : (names : List (List ℕ)) (tokens others : List Token) (call : CallName) (o : Option (List ℕ)) → Parted tokens o (Word (signature call).name ∷ others) → ¬ MayAssign (signature call).is_assignable o → (x : CallLine) → ¬ IsCall names tokens x
+no_assigned names tokens others call None parted none x p = none tt
+no_assigned names tokens others call (Some word) parted none x p =
+    let same = name_and_operands names tokens others (signature call).name (Some word) x parted p in
     let this : x.call ≡ call = one_call x.call call same.0 in
-    let may = assigned_may names tokens (Word (signature call).name ∷ others) word x (subst (λ (n : Option (List ℕ)). Parted tokens n (Word (signature call).name ∷ others)) is parted) p.1 p.5 p.0 p.2 p.3 in
+    let may = assigned_may names tokens (Word (signature call).name ∷ others) word x parted p.1 p.5 p.0 p.2 p.3 in
     none (may.0, subst (λ (c : CallName). IsTrue (signature c).is_assignable) this may.1)
 
 -- tokens that are no operands of the call make no call

@@ -1,5 +1,8 @@
 -- Hexadecimal digits that are read pair by pair.
-use Rattle.std.proofs.Common.{◌≡◌, ◌≢◌, ℕ, ◌<◌, List, [], ◌∷◌, ◌++◌, length, refl, sym, ap, subst, ◌∙◌, append_assoc, append-nil, arith}
+use Rattle.std.proofs.Common.{◌≡◌, ◌≢◌, ℕ, ◌<◌, List, [], ◌∷◌, ◌++◌, length, refl, sym, ap, subst, ◌∙◌, append_assoc, append-nil, eqb, Bool, true, false, arith}
+use Rattle.std.specs.Prelude.{MatchBool}
+use Rattle.std.proofs.lemmas.Bool.{eqb-true, eqb-false}
+use Rattle.std.proofs.lemmas.List.{nil_from_length}
 use Rattle.script_text.specs.Operands.{IsByte, AreDigitsOf}
 
 -- the digits in front of `rest` are these bytes: what is left decides on the whole
@@ -40,11 +43,11 @@ decoding_fails digits bytes rest high low d none all h = no_more (d.back all h).
     no_more (byte ∷ others) h = none byte h.0
 
 -- no digit is left
-pub decoding_all : (digits rest bytes : List ℕ) → Decoding digits rest bytes → rest ≡ [] → AreDigitsOf digits bytes
+decoding_all : (digits rest bytes : List ℕ) → Decoding digits rest bytes → rest ≡ [] → AreDigitsOf digits bytes
 decoding_all digits rest bytes d e = subst (λ (t : List ℕ). AreDigitsOf digits t) (append-nil bytes) (d.there [] (subst (λ (t : List ℕ). AreDigitsOf t []) (sym e) tt))
 
 -- one digit is left
-pub decoding_odd : (digits rest bytes : List ℕ) → Decoding digits rest bytes → length rest < 2 → rest ≢ [] → (all : List ℕ) → ¬ AreDigitsOf digits all
+decoding_odd : (digits rest bytes : List ℕ) → Decoding digits rest bytes → length rest < 2 → rest ≢ [] → (all : List ℕ) → ¬ AreDigitsOf digits all
 decoding_odd digits rest bytes d short some all h = odd rest short some (d.back all h).0 (d.back all h).2
   where
     odd : (rest : List ℕ) → length rest < 2 → rest ≢ [] → (more : List ℕ) → ¬ AreDigitsOf rest more
@@ -52,3 +55,8 @@ decoding_odd digits rest bytes d short some all h = odd rest short some (d.back 
     odd (digit ∷ []) short some [] h = absurd h
     odd (digit ∷ []) short some (byte ∷ more) h = absurd h
     odd (digit ∷ other ∷ rest) short some more h = absurd (omega arith)
+
+-- fewer than two digits are left
+pub decoding_ends : (digits rest bytes : List ℕ) (ends : Bool) → Decoding digits rest bytes → length rest < 2 → ends ≡ eqb (length rest) 0 → MatchBool ends (AreDigitsOf digits bytes) ((all : List ℕ) → ¬ AreDigitsOf digits all)
+decoding_ends digits rest bytes true d short e = decoding_all digits rest bytes d (nil_from_length rest (eqb-true (length rest) 0 (sym e)))
+decoding_ends digits rest bytes false d short e = decoding_odd digits rest bytes d short (λ none. eqb-false (length rest) 0 (sym e) (ap length none))

@@ -1,12 +1,12 @@
 -- What the tokens of a line say.
-use Rattle.std.proofs.Common.{◌≡◌, ◌≢◌, ℕ, ◌<◌, ◌≤◌, List, [], ◌∷◌, Option, Some, refl, sym, ap, subst, ◌∙◌, arith, codes}
+use Rattle.std.proofs.Common.{◌≡◌, ◌≢◌, ℕ, ◌<◌, ◌≤◌, List, [], ◌∷◌, Option, Some, refl, sym, ap, subst, ◌∙◌, arith}
 use Rattle.script_text.specs.declared.line.CallLine.{CallLine}
 use Rattle.script_text.specs.declared.line.Statement.{Statement}
 use Rattle.script_text.specs.declared.line.Statement.TheVariants.{Call, Answer}
 use Rattle.script_text.specs.declared.line.WrittenAnswer.{WrittenAnswer}
 use Rattle.script_text.specs.Answers.{IsAnswer}
-use Rattle.script_text.specs.Tokens.{Token, Word, AreTokens, HasNoTokens}
-use Rattle.script_text.specs.Script.{IsCall, IsStatement, MayStand, IsNoLine, with_assigned, max_lines}
+use Rattle.script_text.specs.Tokens.{Token, AreTokens, HasNoTokens}
+use Rattle.script_text.specs.Script.{IsCall, IsStatement, MayStand, IsNoLine, names_after, with_assigned, max_lines}
 use Rattle.script_text.specs.Reading.{Says, Reads}
 use Rattle.script_text.proofs.OneAnswer.{answer_assigns}
 use Rattle.script_text.proofs.TokenLaws.{one_tokens}
@@ -39,14 +39,10 @@ pub no_statement : (names : List (List ℕ)) (tokens : List Token) → ((line : 
 no_statement names tokens call answer (Call line) is = call line is
 no_statement names tokens call answer (Answer line) is = answer line is
 
--- the tokens of a text that queue an answer say what its line says, and assign no name
-pub reads_answer : (number : ℕ) (names after : List (List ℕ)) (text : List ℕ) (tokens : List Token) (answer : WrittenAnswer) → number ≤ max_lines → AreTokens text tokens → IsAnswer names tokens answer → after ≡ names → Reads number names text (Some (record { number = number; statement = Answer answer })) after
-reads_answer number names after text tokens answer small are is same = record {
-  tokens = tokens;
-  are = are;
-  says = says_line number names tokens (Answer answer) small (λ e. nothing (sym e ∙ is.2)) is;
-  named = same ∙ ap (λ (o : Option (List ℕ)). with_assigned names o) (sym (answer_assigns names tokens answer is));
-}
-  where
-    nothing : [] ≡ Word (codes "gz") ∷ is.0 ∷ is.1 → ⊥
-    nothing e = absurd cc
+-- the tokens of a text that make a call or queue an answer say what its line says
+pub reads_statement : (number : ℕ) (names after : List (List ℕ)) (text : List ℕ) (tokens : List Token) (statement : Statement) → number ≤ max_lines → AreTokens text tokens → tokens ≢ [] → IsStatement names tokens statement → after ≡ names_after names tokens → Reads number names text (Some (record { number = number; statement = statement })) after
+reads_statement number names after text tokens statement small are some is named = record { tokens = tokens; are = are; says = says_line number names tokens statement small some is; named = named }
+
+-- tokens that queue an answer assign no name
+pub answer_keeps : (names after : List (List ℕ)) (tokens : List Token) (answer : WrittenAnswer) → after ≡ names → IsAnswer names tokens answer → after ≡ names_after names tokens
+answer_keeps names after tokens answer same is = same ∙ ap (λ (o : Option (List ℕ)). with_assigned names o) (sym (answer_assigns names tokens answer is))

@@ -29,6 +29,10 @@ AreCalls names (name ∷ operand ∷ []) (written ∷ []) = IsWrittenCall names 
 AreCalls names (name ∷ operand ∷ mark ∷ token ∷ tokens) (written ∷ others) = IsWrittenCall names name operand written × (mark ≡ Semicolon) × AreCalls names (token ∷ tokens) others
 AreCalls names tokens calls = ⊥
 
+-- the tokens are these calls, and an answer may have as many
+abbrev pub AreFewCalls : List (List ℕ) → List Token → List WrittenCall → Type 0
+AreFewCalls names tokens calls = AreCalls names tokens calls × (length calls ≤ most_calls)
+
 -- gz value [call operand [; call operand] ..]; the value is a number or a variable that was assigned before
 abbrev pub IsAnswer : List (List ℕ) → List Token → WrittenAnswer → Type 0
 IsAnswer names tokens answer =

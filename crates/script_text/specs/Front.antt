@@ -56,6 +56,27 @@ abbrev pub starts_quote : List ℕ → Bool
 starts_quote [] = false
 starts_quote (byte ∷ rest) = byte == 34
 
+-- a text in single quotes, read from behind the first quote
+abbrev pub single_front : List ℕ → Front
+single_front rest = closed_at (tokens.Single (front (is_quote 39) rest)) (behind (is_quote 39) rest)
+
+-- a text in double quotes, read from behind the first quote
+abbrev pub double_front : List ℕ → Front
+double_front rest = closed_at (tokens.Double (front (is_quote 34) rest)) (behind (is_quote 34) rest)
+
+-- hexadecimal digits in quotes, read from behind the first quote
+abbrev pub hexadecimal_front : List ℕ → Front
+hexadecimal_front rest = closed_at (tokens.Hexadecimal (front (is_quote 34) rest)) (behind (is_quote 34) rest)
+
+-- a word
+abbrev pub word_front : List ℕ → Front
+word_front line = bounded (tokens.Word (front is_no_word_byte line)) (behind is_no_word_byte line)
+
+-- hexadecimal digits in quotes, where `$"` begins them, and else a word
+abbrev pub hexadecimal_or_word_front : List ℕ → Front
+hexadecimal_or_word_front [] = word_front []
+hexadecimal_or_word_front (byte ∷ rest) = if byte == 36 && starts_quote rest then hexadecimal_front (drop 1 rest) else word_front (byte ∷ rest)
+
 -- the first token, where no blank stands before it
 abbrev pub token_front : List ℕ → Front
 token_front [] = End
@@ -63,10 +84,9 @@ token_front (byte ∷ rest) =
     if byte == 35 then End
     else if byte == 61 then Taken tokens.Equals rest
     else if byte == 59 then Taken tokens.Semicolon rest
-    else if byte == 39 then closed_at (tokens.Single (front (is_quote 39) rest)) (behind (is_quote 39) rest)
-    else if byte == 34 then closed_at (tokens.Double (front (is_quote 34) rest)) (behind (is_quote 34) rest)
-    else if byte == 36 && starts_quote rest then closed_at (tokens.Hexadecimal (front (is_quote 34) (drop 1 rest))) (behind (is_quote 34) (drop 1 rest))
-    else bounded (tokens.Word (front is_no_word_byte (byte ∷ rest))) (behind is_no_word_byte (byte ∷ rest))
+    else if byte == 39 then single_front rest
+    else if byte == 34 then double_front rest
+    else hexadecimal_or_word_front (byte ∷ rest)
 
 -- the first token
 abbrev pub first_front : List ℕ → Front

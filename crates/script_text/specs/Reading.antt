@@ -1,5 +1,5 @@
 -- What is read from one line.
-use Rattle.std.specs.Prelude.{◌≡◌, ℕ, ◌≤◌, List, [], ◌∷◌, Option, None, Some}
+use Rattle.std.specs.Prelude.{◌≡◌, ℕ, ◌≤◌, List, [], ◌∷◌, ◌++◌, Option, None, Some, option_to_list}
 use Rattle.script_text.specs.declared.line.Line.{Line}
 use Rattle.script_text.specs.declared.script.Fault.{Fault}
 use Rattle.script_text.specs.declared.script.Fault.TheVariants as fault
@@ -18,6 +18,10 @@ pub record Reads (number : ℕ) (names : List (List ℕ)) (text : List ℕ) (fou
   pub are : AreTokens text tokens
   pub says : Says number names tokens found
   pub named : after ≡ names_after names tokens
+
+-- what a text says stands behind the lines before it
+abbrev pub Adds : ℕ → List (List ℕ) → List ℕ → List Line → List (List ℕ) → List Line → Type 0
+Adds number names text script after longer = (found : Option Line) × Reads number names text found after × (longer ≡ script ++ option_to_list found)
 
 -- the reason why a text is no line with this number holds; want of memory may come at any time
 abbrev pub Fails : ℕ → List (List ℕ) → List ℕ → Fault → Type 0

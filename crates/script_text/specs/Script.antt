@@ -1,5 +1,5 @@
 -- The lines of a script.
-use Rattle.std.specs.Prelude.{◌≡◌, ◌≢◌, ℕ, zero, suc, ◌+◌, ◌^◌, ◌<◌, ◌≤◌, IsTrue, List, [], ◌∷◌, ◌++◌, length, take, Option, None, Some, IfSome, option_map, slice_get}
+use Rattle.std.specs.Prelude.{◌≡◌, ◌≢◌, ℕ, zero, suc, ◌+◌, ◌^◌, ◌<◌, ◌≤◌, Bool, IsTrue, List, [], ◌∷◌, ◌++◌, length, take, Option, None, Some, IfSome, option_map, slice_get}
 use Rattle.std.specs.Str.Lines.{lines}
 use Rattle.script_text.specs.declared.line.CallLine.{CallLine}
 use Rattle.script_text.specs.declared.line.Line.{Line}
@@ -8,6 +8,7 @@ use Rattle.script_text.specs.declared.line.Statement.TheVariants.{Call, Answer}
 use Rattle.script_text.specs.declared.script.Fault.{Fault}
 use Rattle.script_text.specs.declared.script.Fault.TheVariants as fault
 use Rattle.script_text.specs.Tokens.{Token, Equals, Word, AreTokens}
+use Rattle.mac_calls.specs.declared.table.CallName.{CallName}
 use Rattle.mac_calls.specs.Calls.{signature}
 use Rattle.script_text.specs.Answers.{IsAnswer}
 use Rattle.script_text.specs.Operands.{is_name, AreOperands}
@@ -26,6 +27,14 @@ assigned_by tokens = None
 -- the tokens don't begin with a word
 abbrev pub HasNoFirstWord : List Token → Type 0
 HasNoFirstWord tokens = (word : List ℕ) (others : List Token) → tokens ≢ Word word ∷ others
+
+-- the tokens don't begin with the name of a call
+abbrev pub HasNoCall : List Token → Type 0
+HasNoCall tokens = (call : CallName) (others : List Token) → tokens ≢ Word (signature call).name ∷ others
+
+-- a line that assigns this name, if it assigns one, may make a call whose result is assignable, or isn't
+abbrev pub MayAssign : Bool → Option (List ℕ) → Type 0
+MayAssign is_assignable name = IfSome name (λ word. IsTrue (is_name word) × IsTrue is_assignable)
 
 -- [name =] Call operand ..; a variable among the operands was assigned before, and the name takes its own place
 abbrev pub IsCall : List (List ℕ) → List Token → CallLine → Type 0

@@ -1,7 +1,8 @@
 //! What a line says that queues an answer of the grow-zone procedure, from its tokens.
 
-ghost use Rattle.std.specs.Prelude.{◌≡◌, List, ◌∷◌, map, IfOk, MatchBool};
-ghost use Rattle.script_text.specs.Answers.{IsAnswer, AreCalls, IsNamed, IsWrittenCall, MayFollow, releasing_text};
+ghost use Rattle.std.specs.Prelude.{◌≡◌, ◌≢◌, List, [], ◌∷◌, map, codes, IfOk, IfSome, IfNone, MatchBool};
+ghost use Rattle.script_text.specs.Answers.{IsAnswer, AreCalls, AreFewCalls, IsNamed, IsWrittenCall, MayFollow, releasing_text};
+ghost use Rattle.script_text.specs.declared.line.WrittenCall.{WrittenCall};
 ghost use Rattle.script_text.specs.Found.{Finds};
 ghost use Rattle.script_text.specs.Front.{view};
 ghost use Rattle.script_text.specs.Tokens as tokens;
@@ -72,30 +73,61 @@ fn may_follow(behind: &[Token<'_>]) -> bool
     }
 }
 
-/// The calls that tokens are, parted by semicolons.
+/// Puts the calls that tokens are, parted by semicolons, into an empty list, and says whether the tokens are such.
+fn read_calls<'a>(
+    tokens: &[Token<'a>],
+    names: &Names<'_>,
+    calls: &mut Vec<WrittenCall<'a>, &'a Bump>,
+) -> Result<bool, HostFull>
+    requires { calls.old.items ≡ [] }
+    ensures { IfOk result (λ are. MatchBool are
+        (AreCalls names.now (map view tokens.now) calls.new.items)
+        ((calls : List WrittenCall) → ¬ AreCalls names.now (map view tokens.now) calls)) }
+{
+    let mut rest = tokens;
+    while let [name, operand, behind @ ..] = rest {
+        if !may_follow(behind) {
+            return Ok(false);
+        }
+        let Some(call) = written_call(*name, *operand, names)? else {
+            return Ok(false);
+        };
+        calls.push(call)?;
+        rest = &behind[behind.len().min(1)..];
+    }
+    Ok(rest.is_empty())
+}
+
+/// The calls that tokens are, parted by semicolons, if they aren't more than an answer may have.
 fn written_calls<'a>(
     arena: &'a Bump,
     tokens: &[Token<'a>],
     names: &Names<'_>,
 ) -> Result<Option<WrittenCalls<'a>>, HostFull>
-    ensures { IfOk result (λ found. Finds found (AreCalls names.now (map view tokens.now))) }
+    ensures { IfOk result (λ found. Finds found (AreFewCalls names.now (map view tokens.now))) }
 {
     let mut calls = Vec::with_capacity(arena, tokens.len().div_ceil(3))?;
-    let mut rest = tokens;
-    while let [name, operand, behind @ ..] = rest {
-        let Some(call) = written_call(*name, *operand, names)? else {
-            return Ok(None);
-        };
-        if !may_follow(behind) {
-            return Ok(None);
-        }
-        calls.push(call)?;
-        rest = &behind[behind.len().min(1)..];
-    }
-    if !rest.is_empty() {
+    if !read_calls(tokens, names, &mut calls)? || calls.len() > MAX_CALLS {
         return Ok(None);
     }
     Ok(Some(WrittenCalls::new(into_bump_slice(calls))))
+}
+
+/// The token of the value and those behind it, if a line queues an answer.
+fn value_and_calls<'a, 'b>(line: &'b [Token<'a>]) -> Option<(Token<'a>, &'b [Token<'a>])>
+    ensures found { IfSome result (λ parts.
+        map view line.now ≡ tokens.Word (codes "gz") ∷ view parts.0 ∷ map view parts.1.now) }
+    ensures none { IfNone result ((value : tokens.Token) (calls : List tokens.Token) →
+        map view line.now ≢ tokens.Word (codes "gz") ∷ value ∷ calls) }
+{
+    let (word, rest) = first_word(line)?;
+    if word != b"gz".as_slice() {
+        return None;
+    }
+    match rest {
+        [value, calls @ ..] => Some((*value, calls)),
+        [] => None,
+    }
 }
 
 /// The answer that the tokens of a line queue, where these names have been assigned.
@@ -106,23 +138,14 @@ pub fn answer_line<'a>(
 ) -> Result<Option<AnswerLine<'a>>, HostFull>
     ensures { IfOk result (λ found. Finds found (IsAnswer names.now (map view line.now))) }
 {
-    let Some((word, tokens)) = first_word(line) else {
+    let Some((value, calls)) = value_and_calls(line) else {
         return Ok(None);
     };
-    if word != b"gz".as_slice() {
-        return Ok(None);
-    }
-    let [value, tokens @ ..] = tokens else {
+    let Some(value) = number_or_variable(value, names)? else {
         return Ok(None);
     };
-    let Some(value) = number_or_variable(*value, names)? else {
+    let Some(calls) = written_calls(arena, calls, names)? else {
         return Ok(None);
     };
-    let Some(calls) = written_calls(arena, tokens, names)? else {
-        return Ok(None);
-    };
-    if calls.as_slice().len() > MAX_CALLS {
-        return Ok(None);
-    }
     Ok(Some(AnswerLine::new(arena, WrittenAnswer { value, calls })?))
 }

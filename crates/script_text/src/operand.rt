@@ -226,12 +226,8 @@ fn byte_of_digits(high: u8, low: u8) -> Option<u8>
 }
 
 /// The bytes of hexadecimal digits, two for each.
-fn bytes_of_digits<'a>(
-    arena: &'a Bump,
-    digits: &[u8],
-) -> Result<Option<Vec<u8, &'a Bump>>, HostFull>
-    ensures found { IfOk result (λ found. IfSome found (λ bytes. AreDigitsOf digits.now bytes.items)) }
-    ensures none { IfOk result (λ found. IfNone found ((bytes : List ℕ) → AreDigitsOf digits.now bytes → ⊥)) }
+fn bytes_of_digits<'a>(arena: &'a Bump, digits: &[u8]) -> Result<Option<&'a [u8]>, HostFull>
+    ensures { IfOk result (λ found. Finds (option_copied found) (AreDigitsOf digits.now)) }
 {
     let mut bytes = Vec::with_capacity(arena, digits.len() / 2)?;
     let mut rest = digits;
@@ -245,7 +241,7 @@ fn bytes_of_digits<'a>(
     if !rest.is_empty() {
         return Ok(None);
     }
-    Ok(Some(bytes))
+    Ok(Some(into_bump_slice(bytes)))
 }
 
 /// The bytes of a text in quotes behind `$`.
@@ -253,13 +249,10 @@ fn hexadecimal_bytes<'a>(arena: &'a Bump, digits: &[u8]) -> Result<Option<Operan
     ensures { IfOk result (λ found.
         Finds found (IsBytesOperand (Hexadecimal digits.now))) }
 {
-    match bytes_of_digits(arena, digits)? {
-        Some(bytes) => {
-            let bytes = OperandBytes::new(arena, into_bump_slice(bytes))?;
-            Ok(Some(Operand::Bytes(bytes)))
-        }
-        None => Ok(None),
-    }
+    let Some(bytes) = bytes_of_digits(arena, digits)? else {
+        return Ok(None);
+    };
+    Ok(Some(Operand::Bytes(OperandBytes::new(arena, bytes)?)))
 }
 
 /// The type that four bytes are.
@@ -288,7 +281,7 @@ fn hexadecimal_type<'a>(arena: &'a Bump, digits: &[u8]) -> Result<Option<Operand
         Finds found (IsTypeOperand (Hexadecimal digits.now))) }
 {
     match bytes_of_digits(arena, digits)? {
-        Some(bytes) => Ok(type_of_bytes(&bytes)),
+        Some(bytes) => Ok(type_of_bytes(bytes)),
         None => Ok(None),
     }
 }

@@ -1,19 +1,19 @@
 //! The lines of a script.
 
-ghost use Rattle.std.specs.Prelude.{◌≡◌, [], ◌∷◌, ◌<◌, ◌==◌, length, position, IfOk, IfErr, IfSome, OnOk, MatchOption};
+ghost use Rattle.std.specs.Prelude.{◌≡◌, [], ◌∷◌, ◌++◌, ◌<◌, ◌≤◌, ◌==◌, length, position, IfOk, IfErr, IfSome, OnOk, MatchOption};
 ghost use Rattle.std.specs.Str.Lines.{lines, strip_carriage_return};
 ghost use Rattle.script_text.specs.Script as script;
-ghost use Rattle.script_text.specs.Reading.{Reads, Fails};
+ghost use Rattle.script_text.specs.declared.script.Fault.TheVariants.{HostFull};
+ghost use Rattle.script_text.specs.Reading.{Reads, Fails, Adds};
 
-use crate::answer::answer_line;
-use crate::line::{Line, Statement};
+use crate::line::Line;
 use crate::names::Names;
-use crate::statement::call_line;
+use crate::statement::statement;
 use crate::token::{Token, read_tokens};
 use bumpalo::Bump;
 use mac_base::error::HostFull;
 use memchr::memchr;
-use std::alloc::Global;
+use std::alloc::{AllocFailed, Global};
 use thiserror::Error;
 
 /// A script has at most this many bytes.
@@ -32,6 +32,22 @@ pub enum Fault {
     /// The host refused memory.
     #[error("the host has no memory")]
     HostFull,
+}
+
+impl From<HostFull> for Fault {
+    ghost from_gives = { λ _ fault. fault ≡ HostFull };
+
+    fn from(_: HostFull) -> Fault {
+        Fault::HostFull
+    }
+}
+
+impl<T: Drop> From<AllocFailed<T>> for Fault {
+    ghost from_gives = { λ _ fault. fault ≡ HostFull };
+
+    fn from(_: AllocFailed<T>) -> Fault {
+        Fault::HostFull
+    }
 }
 
 /// A line that a newline ends, without the carriage return before it.
@@ -66,45 +82,54 @@ fn first_line(text: &[u8]) -> Option<(&[u8], &[u8])>
     }
 }
 
-/// What the line of this number says, where these names have been assigned: nothing, a call, or an answer. The tokens
-/// are memory to be used again.
-fn read_line<'a>(
+/// Adds the line of this number to those before it, where these names have been assigned: none, if its text says nothing.
+/// The tokens are memory to be used again.
+fn add_line<'a>(
     arena: &'a Bump,
     number: u32,
     text: &'a [u8],
     tokens: &mut Vec<Token<'a>>,
     names: &mut Names<'a>,
-) -> Result<Option<Line<'a>>, Fault>
-    ensures line { IfOk result (λ found. Reads number names.old text.now found names.new) }
+    lines: &mut Vec<Line<'a>>,
+) -> Result<(), Fault>
+    ensures line { OnOk result (Adds number names.old text.now lines.old.items names.new lines.new.items) }
     ensures fault { IfErr result (Fails number names.old text.now) }
 {
-    if number > MAX_LINES {
+    if number > MAX_LINES || !read_tokens(text, tokens)? {
         return Err(Fault::Line(number));
     }
-    match read_tokens(text, tokens) {
-        Ok(true) => {}
-        Ok(false) => return Err(Fault::Line(number)),
-        Err(HostFull) => return Err(Fault::HostFull),
-    }
     if tokens.is_empty() {
-        return Ok(None);
+        return Ok(());
     }
-    match call_line(arena, tokens, names) {
-        Ok(Some(call)) => {
-            let statement = Statement::Call(call);
-            return Ok(Some(Line { number, statement }));
-        }
-        Ok(None) => {}
-        Err(HostFull) => return Err(Fault::HostFull),
+    let Some(statement) = statement(arena, tokens, names)? else {
+        return Err(Fault::Line(number));
+    };
+    lines.push(Line { number, statement })?;
+    Ok(())
+}
+
+/// Puts the lines of a text into an empty list.
+fn add_lines<'a>(
+    alloc: Global,
+    arena: &'a Bump,
+    text: &'a [u8],
+    lines: &mut Vec<Line<'a>>,
+) -> Result<(), Fault>
+    requires small { length text.now ≤ script.max_script }
+    requires none { lines.old.items ≡ [] }
+    ensures script { OnOk result (script.IsScript text.now lines.new.items) }
+    ensures fault { IfErr result (script.IsFault text.now) }
+{
+    let mut names = Names::new(alloc);
+    let mut tokens = Vec::new(alloc);
+    let mut rest = text;
+    let mut number = 0;
+    while let Some((line, behind)) = first_line(rest) {
+        number += 1;
+        add_line(arena, number, line, &mut tokens, &mut names, lines)?;
+        rest = behind;
     }
-    match answer_line(arena, tokens, names) {
-        Ok(Some(answer)) => {
-            let statement = Statement::Answer(answer);
-            Ok(Some(Line { number, statement }))
-        }
-        Ok(None) => Err(Fault::Line(number)),
-        Err(HostFull) => Err(Fault::HostFull),
-    }
+    Ok(())
 }
 
 /// The lines of a script that say something. The text is a script exactly where each of its lines makes a call, queues
@@ -122,19 +147,7 @@ pub fn parse_script<'a>(
         return Err(Fault::Line(0));
     }
     let mut lines = Vec::new(alloc);
-    let mut names = Names::new(alloc);
-    let mut tokens = Vec::new(alloc);
-    let mut rest = text;
-    let mut number = 0;
-    while let Some((line, behind)) = first_line(rest) {
-        number += 1;
-        if let Some(line) = read_line(arena, number, line, &mut tokens, &mut names)? {
-            let Ok(()) = lines.push(line) else {
-                return Err(Fault::HostFull);
-            };
-        }
-        rest = behind;
-    }
+    add_lines(alloc, arena, text, &mut lines)?;
     Ok(lines)
 }
 

@@ -1,14 +1,16 @@
 //! What a line says, from its tokens.
 
-ghost use Rattle.std.specs.Prelude.{◌≡◌, List, ℕ, ◌++◌, ◌∷◌, map, option_map, IfOk, IfSome, IfNone, OnOk};
+ghost use Rattle.std.specs.Prelude.{◌≡◌, List, ℕ, ◌++◌, ◌∷◌, map, option_map, IfOk, IfSome, IfNone, OnOk, MatchBool};
 ghost use Rattle.std.specs.Option.{option_copied};
 ghost use Rattle.script_text.specs.Found.{Finds};
 ghost use Rattle.script_text.specs.Tokens as tokens;
 ghost use Rattle.script_text.specs.Front.{view};
 ghost use Rattle.script_text.specs.Names.{place_for};
-ghost use Rattle.script_text.specs.Script.{assignment, assigned_by, HasNoFirstWord, IsCall, with_assigned, names_after};
+ghost use Rattle.script_text.specs.Script.{assignment, assigned_by, HasNoFirstWord, HasNoCall, MayAssign, IsCall, IsStatement, with_assigned, names_after};
+ghost use Rattle.mac_calls.specs.Calls.{signature};
 
-use crate::line::{CallLine, Name};
+use crate::answer::answer_line;
+use crate::line::{CallLine, Name, Statement};
 use crate::names::Names;
 use crate::operand::{is_name, operands};
 use crate::token::Token;
@@ -51,8 +53,28 @@ fn add_assigned<'a>(names: &mut Names<'a>, word: Option<&'a [u8]>) -> Result<Opt
     }
 }
 
+/// The call whose name the tokens begin with, and those behind it.
+fn named_call<'a, 'b>(line: &'b [Token<'a>]) -> Option<(CallName, &'b [Token<'a>])>
+    ensures found { IfSome result (λ parts.
+        map view line.now ≡ tokens.Word (signature parts.0).name ∷ map view parts.1.now) }
+    ensures none { IfNone result (HasNoCall (map view line.now)) }
+{
+    let (word, rest) = first_word(line)?;
+    Some((CallName::named(word)?, rest))
+}
+
+/// Whether a line may assign this name, if it assigns one, to the first result of a call.
+fn may_assign(name: Option<&[u8]>, is_assignable: bool) -> bool
+    ensures { MatchBool result (MayAssign is_assignable (option_copied name.entry)) (¬ MayAssign is_assignable (option_copied name.entry)) }
+{
+    match name {
+        Some(name) => is_assignable && is_name(name),
+        None => true,
+    }
+}
+
 /// The call that the tokens of a line make, where these names have been assigned.
-pub fn call_line<'a>(
+fn call_line<'a>(
     arena: &'a Bump,
     line: &[Token<'a>],
     names: &mut Names<'a>,
@@ -63,16 +85,11 @@ pub fn call_line<'a>(
     ensures kept { IfOk result (λ found. IfNone found (names.new ≡ names.old)) }
 {
     let (assigned, line) = assigned_name(line);
-    let Some((word, line)) = first_word(line) else {
-        return Ok(None);
-    };
-    let Some(call) = CallName::named(word) else {
+    let Some((call, line)) = named_call(line) else {
         return Ok(None);
     };
     let signature = call.signature();
-    if let Some(name) = assigned
-        && !(is_name(name) && signature.is_assignable)
-    {
+    if !may_assign(assigned, signature.is_assignable) {
         return Ok(None);
     }
     let Some(operands) = operands(arena, signature.operands, line, names)? else {
@@ -84,4 +101,23 @@ pub fn call_line<'a>(
         call,
         operands,
     }))
+}
+
+/// What the tokens of a line say, where these names have been assigned: a call or an answer.
+pub fn statement<'a>(
+    arena: &'a Bump,
+    line: &[Token<'a>],
+    names: &mut Names<'a>,
+) -> Result<Option<Statement<'a>>, HostFull>
+    ensures line { IfOk result (λ found. Finds found (IsStatement names.old (map view line.now))) }
+    ensures names { IfOk result (λ found. IfSome found (λ _.
+        names.new ≡ names_after names.old (map view line.now))) }
+{
+    if let Some(call) = call_line(arena, line, names)? {
+        return Ok(Some(Statement::Call(call)));
+    }
+    match answer_line(arena, line, names)? {
+        Some(answer) => Ok(Some(Statement::Answer(answer))),
+        None => Ok(None),
+    }
 }

@@ -2,7 +2,7 @@
 
 ghost use Rattle.std.specs.Prelude.{◌≡◌, List, [], ◌<◌, length, map, position, MatchBool, IfOk, IfSome, IfNone, OnErr};
 ghost use Rattle.script_text.specs.Tokens as tokens;
-ghost use Rattle.script_text.specs.Front.{view, front, behind, is_no_blank, is_no_word_byte, is_quote, closed_at, Taken, Fault, Shows, first_front};
+ghost use Rattle.script_text.specs.Front.{view, front, behind, is_no_blank, is_no_word_byte, is_quote, closed_at, Taken, Fault, Shows, token_front, single_front, double_front, hexadecimal_front, word_front, hexadecimal_or_word_front};
 
 use mac_base::error::HostFull;
 use memchr::memchr;
@@ -90,48 +90,85 @@ fn split_quote(line: &[u8], quote: u8) -> (&[u8], &[u8])
 }
 
 /// The text up to its quote, and what follows the quote, where a boundary does.
-fn closed(line: &[u8], quote: u8) -> Result<(&[u8], &[u8]), NotAToken>
-    ensures inner { IfOk result (λ parts. parts.0.now ≡ front (is_quote quote) line.now) }
-    ensures rest { IfOk result (λ parts.
+fn closed(line: &[u8], quote: u8) -> Option<(&[u8], &[u8])>
+    ensures inner { IfSome result (λ parts. parts.0.now ≡ front (is_quote quote) line.now) }
+    ensures rest { IfSome result (λ parts.
         (token : tokens.Token) →
         closed_at token (behind (is_quote quote) line.now) ≡ Taken token parts.1.now) }
-    ensures fault { OnErr result ((token : tokens.Token) →
+    ensures fault { IfNone result ((token : tokens.Token) →
         closed_at token (behind (is_quote quote) line.now) ≡ Fault) }
 {
     match split_quote(line, quote) {
-        (inner, [_, rest @ ..]) if is_at_boundary(rest) => Ok((inner, rest)),
-        _ => Err(NotAToken),
+        (inner, [_, rest @ ..]) if is_at_boundary(rest) => Some((inner, rest)),
+        _ => None,
     }
 }
 
-/// The first token of a line, and what follows it.
-fn read_token(line: &[u8]) -> Result<Option<(Token<'_>, &[u8])>, NotAToken>
-    ensures { Shows result (first_front line.now) }
+/// The text in single quotes from behind its first quote, and what follows it.
+fn single(line: &[u8]) -> Result<Option<(Token<'_>, &[u8])>, NotAToken>
+    ensures { Shows result (single_front line.now) }
 {
-    match after_blanks(line) {
-        [] | [b'#', ..] => Ok(None),
-        [b'=', rest @ ..] => Ok(Some((Token::Equals, rest))),
-        [b';', rest @ ..] => Ok(Some((Token::Semicolon, rest))),
-        [b'\'', rest @ ..] => {
-            let (inner, rest) = closed(rest, b'\'')?;
-            Ok(Some((Token::Single(inner), rest)))
-        }
-        [b'"', rest @ ..] => {
-            let (inner, rest) = closed(rest, b'"')?;
-            Ok(Some((Token::Double(inner), rest)))
-        }
-        [b'$', b'"', rest @ ..] => {
-            let (inner, rest) = closed(rest, b'"')?;
-            Ok(Some((Token::Hexadecimal(inner), rest)))
-        }
-        other => {
-            let (word, rest) = split_word(other);
-            if is_at_boundary(rest) {
-                Ok(Some((Token::Word(word), rest)))
-            } else {
-                Err(NotAToken)
-            }
-        }
+    let Some((inner, rest)) = closed(line, b'\'') else {
+        return Err(NotAToken);
+    };
+    Ok(Some((Token::Single(inner), rest)))
+}
+
+/// The text in double quotes from behind its first quote, and what follows it.
+fn double(line: &[u8]) -> Result<Option<(Token<'_>, &[u8])>, NotAToken>
+    ensures { Shows result (double_front line.now) }
+{
+    let Some((inner, rest)) = closed(line, b'"') else {
+        return Err(NotAToken);
+    };
+    Ok(Some((Token::Double(inner), rest)))
+}
+
+/// The hexadecimal digits in quotes from behind the first quote, and what follows them.
+fn hexadecimal(line: &[u8]) -> Result<Option<(Token<'_>, &[u8])>, NotAToken>
+    ensures { Shows result (hexadecimal_front line.now) }
+{
+    let Some((inner, rest)) = closed(line, b'"') else {
+        return Err(NotAToken);
+    };
+    Ok(Some((Token::Hexadecimal(inner), rest)))
+}
+
+/// The word that a line begins with, and what follows it.
+fn word(line: &[u8]) -> Result<Option<(Token<'_>, &[u8])>, NotAToken>
+    ensures { Shows result (word_front line.now) }
+{
+    let (word, rest) = split_word(line);
+    if !is_at_boundary(rest) {
+        return Err(NotAToken);
+    }
+    Ok(Some((Token::Word(word), rest)))
+}
+
+/// The hexadecimal digits in quotes or the word that a line begins with, and what follows.
+fn hexadecimal_or_word(line: &[u8]) -> Result<Option<(Token<'_>, &[u8])>, NotAToken>
+    ensures { Shows result (hexadecimal_or_word_front line.now) }
+{
+    match line {
+        [b'$', b'"', rest @ ..] => hexadecimal(rest),
+        _ => word(line),
+    }
+}
+
+/// The first token of a line that begins with no blank, and what follows it.
+fn token_at(line: &[u8]) -> Result<Option<(Token<'_>, &[u8])>, NotAToken>
+    ensures { Shows result (token_front line.now) }
+{
+    let [first, rest @ ..] = line else {
+        return Ok(None);
+    };
+    match first {
+        b'#' => Ok(None),
+        b'=' => Ok(Some((Token::Equals, rest))),
+        b';' => Ok(Some((Token::Semicolon, rest))),
+        b'\'' => single(rest),
+        b'"' => double(rest),
+        _ => hexadecimal_or_word(line),
     }
 }
 
@@ -144,7 +181,7 @@ fn first_token(line: &[u8]) -> Result<Option<(Token<'_>, &[u8])>, NotAToken>
     ensures shorter { IfOk result (λ found.
         IfSome found (λ pair. length pair.1.now < length line.now)) }
 {
-    read_token(line)
+    token_at(after_blanks(line))
 }
 
 /// Puts the tokens of a line in place of other tokens, and says whether the line has no bytes that are none.

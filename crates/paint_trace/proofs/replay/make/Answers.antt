@@ -12,32 +12,26 @@ returns-in_err-handles-in-NewHandle-clause-others c = others_kept c.args.handles
 pub returns-in_err-handles-in-NewHandle-clause-lent : goal.returns-in_err-handles-in-NewHandle-clause-lent
 returns-in_err-handles-in-NewHandle-clause-lent c = step_keeps_lent c.args.memory.now.shape c.args.memory.now.heap (call.NewHandle c.in-NewHandle.size) (asks_of c.new_handle.new.procedure) _ c.new_handle.new.self.heap c.in_err-handles-in-NewHandle.ensures.step
 
-pub returns-in_err-set_handle_size-in-SetHandleSize-clause-others : goal.returns-in_err-set_handle_size-in-SetHandleSize-clause-others
-returns-in_err-set_handle_size-in-SetHandleSize-clause-others c = others_kept c.args.handles.now c.args.step.block c.index-handles-step.result c.args.memory.now.shape c.args.memory.now.heap (action.SetHandleSize c.in-SetHandleSize.size) (asks_of c.set_handle_size.new.procedure) _ c.set_handle_size.new.self.heap (omega (arith, c.requires, c.told-handles)) (none_answered c.set_handle_size.new.procedure (c.in_err-set_handle_size-in-SetHandleSize.ensures.source ∙ c.without_cushion.ensures.source)) c.in_err-set_handle_size-in-SetHandleSize.ensures.step
-
-pub returns-in_err-set_handle_size-in-SetHandleSize-clause-lent : goal.returns-in_err-set_handle_size-in-SetHandleSize-clause-lent
-returns-in_err-set_handle_size-in-SetHandleSize-clause-lent c = step_keeps_lent c.args.memory.now.shape c.args.memory.now.heap (call.SetHandleSize _ c.in-SetHandleSize.size) (asks_of c.set_handle_size.new.procedure) _ c.set_handle_size.new.self.heap c.in_err-set_handle_size-in-SetHandleSize.ensures.step
-
 pub returns-in_ok-handles-in-NewHandle-clause-others : goal.returns-in_ok-handles-in-NewHandle-clause-others
 returns-in_ok-handles-in-NewHandle-clause-others c = others_given c.args.handles.now c.args.step.block c.in-NewHandle.size c.args.memory.now.shape c.args.memory.now.heap c.new_handle.new.procedure c.in_ok-handles-in-NewHandle.field-0 c.new_handle.new.self.heap (c.in_ok-handles-in-NewHandle.ensures.source ∙ c.without_cushion.ensures.source) c.in_ok-handles-in-NewHandle.ensures.step
 
 pub returns-in_ok-handles-in-NewHandle-clause-lent : goal.returns-in_ok-handles-in-NewHandle-clause-lent
 returns-in_ok-handles-in-NewHandle-clause-lent c = step_keeps_lent c.args.memory.now.shape c.args.memory.now.heap (call.NewHandle c.in-NewHandle.size) (asks_of c.new_handle.new.procedure) _ c.new_handle.new.self.heap c.in_ok-handles-in-NewHandle.ensures.step
 
-pub returns-in_ok-set_handle_size-in-SetHandleSize-clause-others : goal.returns-in_ok-set_handle_size-in-SetHandleSize-clause-others
-returns-in_ok-set_handle_size-in-SetHandleSize-clause-others c = others_kept c.args.handles.now c.args.step.block c.index-handles-step.result c.args.memory.now.shape c.args.memory.now.heap (action.SetHandleSize c.in-SetHandleSize.size) (asks_of c.set_handle_size.new.procedure) _ c.set_handle_size.new.self.heap (omega (arith, c.requires, c.told-handles)) (none_answered c.set_handle_size.new.procedure (c.in_ok-set_handle_size-in-SetHandleSize.ensures.source ∙ c.without_cushion.ensures.source)) c.in_ok-set_handle_size-in-SetHandleSize.ensures.step
+pub returns-in-SetHandleSize-clause-others : goal.returns-in-SetHandleSize-clause-others
+returns-in-SetHandleSize-clause-others c = others_kept c.args.handles.now c.args.step.block c.index-handles-step.result c.args.memory.now.shape c.args.memory.now.heap (action.SetHandleSize c.in-SetHandleSize.size) (asks_of c.set_handle_size.new.procedure) _ c.set_handle_size.new.self.heap (omega (arith, c.requires, c.told-handles)) (none_answered c.set_handle_size.new.procedure (c.set_handle_size.ensures.source ∙ c.without_cushion.ensures.source)) c.set_handle_size.ensures.step
 
-pub returns-in_ok-set_handle_size-in-SetHandleSize-clause-lent : goal.returns-in_ok-set_handle_size-in-SetHandleSize-clause-lent
-returns-in_ok-set_handle_size-in-SetHandleSize-clause-lent c = step_keeps_lent c.args.memory.now.shape c.args.memory.now.heap (call.SetHandleSize _ c.in-SetHandleSize.size) (asks_of c.set_handle_size.new.procedure) _ c.set_handle_size.new.self.heap c.in_ok-set_handle_size-in-SetHandleSize.ensures.step
+pub returns-in-SetHandleSize-clause-lent : goal.returns-in-SetHandleSize-clause-lent
+returns-in-SetHandleSize-clause-lent c = step_keeps_lent c.args.memory.now.shape c.args.memory.now.heap (call.SetHandleSize _ c.in-SetHandleSize.size) (asks_of c.set_handle_size.new.procedure) _ c.set_handle_size.new.self.heap c.set_handle_size.ensures.step
 
-pub returns-in_ok-hlock-in-HLock-clause-others : goal.returns-in_ok-hlock-in-HLock-clause-others
-returns-in_ok-hlock-in-HLock-clause-others c = others_kept c.args.handles.now c.args.step.block c.index-handles-step.result c.args.memory.now.shape c.args.memory.now.heap action.HLock [] _ c.hlock.new.self.heap (omega (arith, c.requires, c.told-handles)) refl c.in_ok-hlock-in-HLock.ensures.step
+pub returns-in-HLock-clause-others : goal.returns-in-HLock-clause-others
+returns-in-HLock-clause-others c = others_kept c.args.handles.now c.args.step.block c.index-handles-step.result c.args.memory.now.shape c.args.memory.now.heap action.HLock [] _ c.hlock.new.self.heap (omega (arith, c.requires, c.told-handles)) refl c.hlock.ensures.step
 
-pub returns-in_ok-hunlock-in-HUnlock-clause-others : goal.returns-in_ok-hunlock-in-HUnlock-clause-others
-returns-in_ok-hunlock-in-HUnlock-clause-others c = others_kept c.args.handles.now c.args.step.block c.index-handles-step.result c.args.memory.now.shape c.args.memory.now.heap action.HUnlock [] _ c.hunlock.new.self.heap (omega (arith, c.requires, c.told-handles)) refl c.in_ok-hunlock-in-HUnlock.ensures.step
+pub returns-in-HUnlock-clause-others : goal.returns-in-HUnlock-clause-others
+returns-in-HUnlock-clause-others c = others_kept c.args.handles.now c.args.step.block c.index-handles-step.result c.args.memory.now.shape c.args.memory.now.heap action.HUnlock [] _ c.hunlock.new.self.heap (omega (arith, c.requires, c.told-handles)) refl c.hunlock.ensures.step
 
-pub returns-in_ok-hpurge-in-HPurge-clause-others : goal.returns-in_ok-hpurge-in-HPurge-clause-others
-returns-in_ok-hpurge-in-HPurge-clause-others c = others_kept c.args.handles.now c.args.step.block c.index-handles-step.result c.args.memory.now.shape c.args.memory.now.heap action.HPurge [] _ c.hpurge.new.self.heap (omega (arith, c.requires, c.told-handles)) refl c.in_ok-hpurge-in-HPurge.ensures.step
+pub returns-in-HPurge-clause-others : goal.returns-in-HPurge-clause-others
+returns-in-HPurge-clause-others c = others_kept c.args.handles.now c.args.step.block c.index-handles-step.result c.args.memory.now.shape c.args.memory.now.heap action.HPurge [] _ c.hpurge.new.self.heap (omega (arith, c.requires, c.told-handles)) refl c.hpurge.ensures.step
 
-pub returns-in_ok-dispose_handle-in-DisposeHandle-clause-others : goal.returns-in_ok-dispose_handle-in-DisposeHandle-clause-others
-returns-in_ok-dispose_handle-in-DisposeHandle-clause-others c = others_kept c.args.handles.now c.args.step.block c.index-handles-step.result c.args.memory.now.shape c.args.memory.now.heap action.DisposeHandle [] _ c.dispose_handle.new.self.heap (omega (arith, c.requires, c.told-handles)) refl c.in_ok-dispose_handle-in-DisposeHandle.ensures.step
+pub returns-in-DisposeHandle-clause-others : goal.returns-in-DisposeHandle-clause-others
+returns-in-DisposeHandle-clause-others c = others_kept c.args.handles.now c.args.step.block c.index-handles-step.result c.args.memory.now.shape c.args.memory.now.heap action.DisposeHandle [] _ c.dispose_handle.new.self.heap (omega (arith, c.requires, c.told-handles)) refl c.dispose_handle.ensures.step

@@ -1,40 +1,16 @@
-use Rattle.std.proofs.Common.{◌≡◌, ◌≢◌, [], ◌∷◌, ◌++◌, get_or, List, map, length, sym, ap, subst, ◌∙◌}
-use Rattle.std.proofs.lemmas.Bool.{eqb-true, eqb-false}
-use Rattle.std.proofs.lemmas.List.{length-map, nil_from_length}
-use Rattle.script_text.specs.declared.token.Token.{Token as Read}
-use Rattle.script_text.specs.declared.token.Token.TheVariants.{Equals}
-use Rattle.script_text.specs.Front.{view}
-use Rattle.script_text.specs.Tokens.{Token}
-use Rattle.script_text.proofs.AnswerLaws.{Calling, calling_more, calling_fails, calling_halts, calling_all, calling_odd, next_tokens}
-use Rattle.script_text.proofs.Lists.{two_and_rest}
+use Rattle.std.proofs.Common.{rules, length, ◌<◌}
+use Rattle.script_text.proofs.AnswerLaws.{too_many}
 use Rattle.script_text.proofs.answer.written_calls.Goals as goal
+use Rattle.script_text.proofs.answer.written_calls.Goals.{then-not-branch-via-then-not-branch, then-not-branch-via-else-not-branch+then-len-gt-MAX_CALLS}
 
-pub returns-in_default-2 : goal.returns-in_default-2
-returns-in_default-2 c =
-    let whole = two_and_rest c.loop-rest.rest.now _ _ c.in-len2-up.len_at_least in
-    let before = subst (λ (t : List Read). Calling c.args.names.now (map view c.args.tokens.now) (map view t) c.loop-rest.calls.items) whole c.loop-rest.invariant in
-    calling_fails _ _ _ _ _ _ before (rw c.in_default-2.is at c.in_ok-call.ensures)
-
-pub returns-then-not-may_follow : goal.returns-then-not-may_follow
-returns-then-not-may_follow c =
-    let whole = two_and_rest c.loop-rest.rest.now _ _ c.in-len2-up.len_at_least in
-    let before = subst (λ (t : List Read). Calling c.args.names.now (map view c.args.tokens.now) (map view t) c.loop-rest.calls.items) whole c.loop-rest.invariant in
-    calling_halts _ _ _ (view (get_or c.loop-rest.rest.now 0 Equals)) (view (get_or c.loop-rest.rest.now 1 Equals)) _ before c.if-not-may_follow.ensures
-
-pub loop-rest-preserved : goal.loop-rest-preserved
-loop-rest-preserved c =
-    let whole = two_and_rest c.loop-rest.rest.now _ _ c.in-len2-up.len_at_least in
-    let before = subst (λ (t : List Read). Calling c.args.names.now (map view c.args.tokens.now) (map view t) c.loop-rest.calls.items) whole c.loop-rest.invariant in
-    let more = calling_more _ _ _ _ _ _ _ before (rw c.in-Some.is at c.in_ok-call.ensures) c.if-not-may_follow.ensures in
-    rw c.in_ok-push.ensures.items
-    (subst (λ (t : List Token). Calling c.args.names.now (map view c.args.tokens.now) t (c.loop-rest.calls.items ++ c.in-Some.call ∷ [])) (next_tokens view _ c.min.result c.min.ensures) more)
-
-pub returns-then-not-is_empty : goal.returns-then-not-is_empty
-returns-then-not-is_empty c =
-    let some : map view c.loop-rest.rest.now ≢ [] = λ e. eqb-false _ _ (sym c.is_empty.ensures ∙ c.if-not-is_empty.true) (sym (length-map c.loop-rest.rest.now view) ∙ ap length e) in
-    calling_odd _ _ _ _ c.loop-rest.invariant (rw length-map c.in_default.len_below) some
-
-pub returns : goal.returns
-returns c =
-    let none : length c.loop-rest.rest.now ≡ 0 = eqb-true _ _ (sym c.is_empty.ensures ∙ c.if-not-is_empty.false) in
-    rw (c.new.ensures, c.into_bump_slice.ensures) (calling_all _ _ _ _ c.loop-rest.invariant (ap (λ (t : List Read). map view t) (nil_from_length _ none)))
+pub returns-then-not-branch : goal.returns-then-not-branch
+returns-then-not-branch c =
+    elim c.then-not-branch.branch [
+      | then-not-branch-via-then-not-branch w ↦
+          let none = rw w.if-not-branch.true at c.in_ok-read_calls.ensures in
+          λ others few. none others few.0
+      | then-not-branch-via-else-not-branch+then-len-gt-MAX_CALLS w ↦
+          let are = rw w.if-not-branch.false at c.in_ok-read_calls.ensures in
+          let many : 8 < length c.read_calls.new.calls.items = search (rules, c.read_calls.new.calls.ok, w.len.ensures, w.if-len-gt-MAX_CALLS.true) in
+          λ others few. too_many _ _ _ are many others few
+    ]

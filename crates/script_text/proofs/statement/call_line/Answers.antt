@@ -1,31 +1,30 @@
-use Rattle.std.proofs.Common.{◌≡◌, ◌∷◌, map, List, true, false, IsTrue, sym, ap, subst, ◌∙◌}
+use Rattle.std.proofs.Common.{◌∷◌, map, List, sym, subst}
 use Rattle.std.specs.Option.{option_copied}
 use Rattle.mac_calls.specs.declared.table.OperandKind.{OperandKind}
 use Rattle.mac_calls.specs.Calls.{signature}
 use Rattle.script_text.specs.Front.{view}
-use Rattle.script_text.specs.Operands.{AreOperands, is_name}
+use Rattle.script_text.specs.Operands.{AreOperands}
 use Rattle.script_text.specs.Tokens.{Word}
-use Rattle.script_text.proofs.CallLines.{Parted, no_word, no_name, no_assigned, no_operands}
+use Rattle.script_text.proofs.CallLines.{Parted, no_named, no_assigned, no_operands}
 use Rattle.script_text.proofs.statement.call_line.Goals as goal
-use Rattle.script_text.proofs.statement.call_line.Goals.{then-is_name, else-is_name}
 
 pub returns-in_default-clause-line : goal.returns-in_default-clause-line
 returns-in_default-clause-line c =
     let parted : Parted (map view c.args.line.now) (option_copied c.assigned_name.result.0) (map view c.assigned_name.result.1.now) = record { parts = c.assigned_name.ensures.parts; by = c.assigned_name.ensures.name } in
-    λ x h. no_word c.args.names.now _ _ _ parted c.in_default.ensures.none x h
+    λ x h. no_named c.args.names.now _ _ _ parted c.in_default.ensures.none x h
 
-pub returns-in_default-named-clause-line : goal.returns-in_default-named-clause-line
-returns-in_default-named-clause-line c =
-    let parted : Parted (map view c.args.line.now) (option_copied c.assigned_name.result.0) (Word c.in-Some.word.now ∷ map view c.in-Some.line.now) =
+pub returns-then-not-may_assign-clause-line : goal.returns-then-not-may_assign-clause-line
+returns-then-not-may_assign-clause-line c =
+    let parted : Parted (map view c.args.line.now) (option_copied c.assigned_name.result.0) (Word (signature c.in-Some.call).name ∷ map view c.in-Some.line.now) =
     record { parts = rw (← c.in-Some.ensures.found) c.assigned_name.ensures.parts; by = c.assigned_name.ensures.name }
     in
-    λ x h. no_name c.args.names.now _ _ _ _ parted c.in_default-named.ensures.none x h
+    λ x h. no_assigned c.args.names.now _ _ c.in-Some.call _ parted (rw c.signature-signature.ensures.is_assignable at c.if-not-may_assign.ensures) x h
 
 pub returns-in_default-2-clause-line : goal.returns-in_default-2-clause-line
 returns-in_default-2-clause-line c =
-    let call = c.in-Some-named.call in
+    let call = c.in-Some.call in
     let parted : Parted (map view c.args.line.now) (option_copied c.assigned_name.result.0) (Word (signature call).name ∷ map view c.in-Some.line.now) =
-    record { parts = rw (c.in-Some-named.ensures.found, ← c.in-Some.ensures.found) c.assigned_name.ensures.parts; by = c.assigned_name.ensures.name }
+    record { parts = rw (← c.in-Some.ensures.found) c.assigned_name.ensures.parts; by = c.assigned_name.ensures.name }
     in
     let none = rw c.in_default-2.is at c.in_ok-operands.ensures in
     λ x h. no_operands c.args.names.now _ _ call _ parted
@@ -33,12 +32,11 @@ returns-in_default-2-clause-line c =
 
 pub returns-clause-line : goal.returns-clause-line
 returns-clause-line c =
-    let call = c.in-Some-named.call in
-    let parted : Parted (map view c.args.line.now) (option_copied c.assigned_name.result.0) (Word (signature call).name ∷ map view c.in-Some.line.now) =
-    record { parts = rw (c.in-Some-named.ensures.found, ← c.in-Some.ensures.found) c.assigned_name.ensures.parts; by = c.assigned_name.ensures.name }
-    in
-    let none : ¬ (IsTrue (is_name c.in-Some-assigned.name.now) × IsTrue (signature call).is_assignable) = λ may. elim c.if-is_name.branch [
-      | then-is_name w ↦ let both : true ≡ false = sym may.1 ∙ sym c.signature-signature.ensures.is_assignable ∙ sym w.value-is ∙ c.if-not-signature.true in absurd (cc both)
-      | else-is_name w ↦ let both : true ≡ false = sym may.0 ∙ sym c.is_name.ensures ∙ w.if-is_name.false in absurd (cc both)
-    ] in
-    λ x h. no_assigned c.args.names.now _ _ call _ c.in-Some-assigned.name.now (ap option_copied c.in-Some-assigned.is) parted none x h
+    let are = rw c.in-Some-2.is at c.in_ok-operands.ensures in (
+      option_copied c.assigned_name.result.0,
+      map view c.in-Some.line.now,
+      rw (← c.in-Some.ensures.found) c.assigned_name.ensures.parts,
+      rw c.signature-signature.ensures.is_assignable at c.if-not-may_assign.ensures,
+      c.in_ok-assigned.ensures.name,
+      subst (λ (kinds : List OperandKind). AreOperands c.args.names.now kinds (map view c.in-Some.line.now) c.in-Some-2.operands) c.signature-signature.ensures.operands are,
+    )

@@ -1,7 +1,7 @@
 use Rattle.std.proofs.Common.{map, length}
 use Rattle.script_text.specs.Front.{view}
 use Rattle.script_text.proofs.AnswerLaws.{Calling}
-use Rattle.script_text.proofs.answer.written_calls.Given as goal
+use Rattle.script_text.proofs.answer.read_calls.Given as goal
 
 -- the tokens so far are the calls so far
 abbrev pub invariant-loop-rest : goal.invariant-loop-rest

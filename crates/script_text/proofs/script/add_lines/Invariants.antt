@@ -1,6 +1,6 @@
 use Rattle.std.proofs.Common.{length}
 use Rattle.script_text.proofs.ScriptLaws.{Parsing}
-use Rattle.script_text.proofs.script.parse_script.Given as goal
+use Rattle.script_text.proofs.script.add_lines.Given as goal
 
 -- the lines so far are those of the front of the text
 abbrev pub invariant-loop-line : goal.invariant-loop-line
