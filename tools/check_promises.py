@@ -2,7 +2,7 @@
 """Checks that the clauses and edits that docs/PROMISES.md names are there.
 
 Below a heading '## `CRATE`: ..', or one that names several crates, each table's second column names clauses of these, as `function: clause`,
-`Type::function: clause` or `function` (for one without a name), and its third column edits of crates/CRATE/must-fail.
+`Type::function: clause` or `function` (for one without a name), and its third column edits of crates/CRATE/must-fail or tools/edits/CRATE.
 """
 import os
 import re
@@ -88,8 +88,8 @@ def main():
                 fault(f"{function} of {' or '.join(crates)} has no clause {clause or 'without a name'}")
         for edit in re.findall(r"`([^`]+)`", row[2]):
             named += 1
-            if not any(os.path.isfile(f"crates/{crate}/must-fail/{edit}.edit") for crate in crates):
-                fault(f"there is no crates/{' or '.join(crates)}/must-fail/{edit}.edit")
+            if not any(os.path.isfile(f"{folder}/{edit}.edit") for crate in crates for folder in (f"crates/{crate}/must-fail", f"tools/edits/{crate}")):
+                fault(f"there is no {edit}.edit in crates/{' or '.join(crates)}/must-fail, nor in tools/edits")
     if not named:
         faults.append(f"{PAGE}: it names no clause")
     for it in faults:
