@@ -4,7 +4,7 @@
 The scripts are those on the way from text to call and from reply to text; with --zone, those whose calls search, cut, join, move, purge and copy
 blocks in a zone of 1,048,576 bytes, each without the time of the script that only makes what is needed before.
 
-Each program reads a script and takes `--zone N`, as macheap does. On each script they run in turn, nine times, and the least
+Each program reads a script and takes `--zone N`, as macheap does. On each script they run in turn, forty times, and the least
 processor time counts. The most memory is told where /usr/bin/time is there. The last column is PROGRAM's time over each PEER's.
 """
 import os
@@ -13,7 +13,7 @@ import sys
 import tempfile
 
 HERE = os.path.dirname(os.path.abspath(__file__))
-RUNS = 9
+RUNS = 40
 CLOCK = "/usr/bin/time"
 MIXES = [
     ("start", "notes 0", 4096),
