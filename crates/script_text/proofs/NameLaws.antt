@@ -1,5 +1,6 @@
 -- No two names have one place, and a name keeps its place.
-use Rattle.std.proofs.Common.{◌≡◌, ℕ, suc, ◌+◌, ◌<◌, Bool, true, false, cond, eqb, List, [], ◌∷◌, ◌++◌, length, get_or, Some, refl, sym, ap, ◌∙◌, arith}
+use Rattle.std.proofs.Common.{◌≡◌, ℕ, suc, ◌+◌, ◌<◌, Bool, true, false, cond, eqb, List, [], ◌∷◌, ◌++◌, length, get_or, Option, Some, None, refl, sym, ap, ◌∙◌, arith}
+use Rattle.std.specs.Borrow.{Bor}
 use Rattle.std.specs.Prelude.{not, ◌||◌}
 use Rattle.std.specs.List.{list_any, position_or_len}
 use Rattle.std.specs.Str.{bytes_eq}
@@ -8,7 +9,7 @@ use Rattle.std.proofs.lemmas.List.{length_push}
 use Rattle.std.proofs.lemmas.List.Folds.{position_or_len_push}
 use Rattle.std.proofs.lemmas.List.Sums.{passes_at_first}
 use Rattle.std.proofs.lemmas.Slice.Eq.{bytes_eq-Decides}
-use Rattle.script_text.specs.Names.{is_named, place_of, place_for, OnePlace, KeepsPlace, TakesPlace}
+use Rattle.script_text.specs.Names.{is_named, place_of, place_for, with_name, IsLast, OnePlace, KeepsPlace, TakesPlace}
 use Rattle.script_text.proofs.Fronts.{position_found, found_at}
 
 -- the name at the place of a word is the word
@@ -72,3 +73,23 @@ taken_by names a false e = pushed_taken names a e
 -- a name that is assigned has its place from then on
 pub takes_place : TakesPlace
 takes_place names a = taken_by names a (is_named names a) refl
+
+stays_by : (names : List (List ℕ)) (a : List ℕ) (place : ℕ) (t : Bool) → is_named names a ≡ t → place_of names a ≡ Some place → names ≡ cond t names (names ++ a ∷ [])
+stays_by names a place true named e = refl
+stays_by names a place false named e =
+    let found = position_found (bytes_eq a) names place e in
+    let past = none_within (bytes_eq a) names named in
+    absurd (omega (arith, past, found.1))
+
+-- a name that has a place is added no more
+pub stays_named : (names : List (List ℕ)) (a : List ℕ) (place : ℕ) → place_of names a ≡ Some place → names ≡ with_name names a
+stays_named names a place e = stays_by names a place (is_named names a) refl e
+
+-- the name that was assigned last has its place when another is assigned
+pub last_kept : (names : List (List ℕ)) (b : List ℕ) (last : Option (Bor (List ℕ) × ℕ)) → IsLast names last → IsLast (with_name names b) last
+last_kept names b None is = tt
+last_kept names b (Some it) is = keeps_place names it.0.now b it.1 is
+
+-- a name that is assigned now is the last
+pub last_taken : (names : List (List ℕ)) (a : Bor (List ℕ)) (place : ℕ) → place ≡ place_for names a.now → IsLast (with_name names a.now) (Some (a, place))
+last_taken names a place e = takes_place names a.now ∙ ap (λ (n : ℕ). Some n) (sym e)

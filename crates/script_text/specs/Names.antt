@@ -1,5 +1,6 @@
 -- The names of variables, in the order in which a script assigns them first.
-use Rattle.std.specs.Prelude.{◌≡◌, ℕ, Bool, if◌then◌else◌, List, [], ◌∷◌, ◌++◌, Option, Some, position}
+use Rattle.std.specs.Prelude.{◌≡◌, ℕ, Bool, if◌then◌else◌, List, [], ◌∷◌, ◌++◌, Option, Some, IfSome, position}
+use Rattle.std.specs.Borrow.{Bor}
 use Rattle.std.specs.List.{list_any, position_or_len}
 use Rattle.std.specs.Str.{bytes_eq}
 
@@ -18,6 +19,10 @@ place_for names word = position_or_len (bytes_eq word) names
 -- the names, and this one, which is the last if it is new
 abbrev pub with_name : List (List ℕ) → List ℕ → List (List ℕ)
 with_name names name = if is_named names name then names else names ++ name ∷ []
+
+-- the name that was assigned last, if there is one, has this place
+abbrev pub IsLast : List (List ℕ) → Option (Bor (List ℕ) × ℕ) → Type 0
+IsLast names last = IfSome last (λ it. place_of names it.0.now ≡ Some it.1)
 
 -- No two names have one place.
 abbrev pub OnePlace : Type 0

@@ -5,6 +5,7 @@ use bumpalo::Bump;
 use bumpalo::collections::into_bump_slice;
 use mac_base::error::HostFull;
 use std::marker::Model;
+use std::slice::from_ref;
 
 /// No bytes.
 static NO_BYTES: &[u8] = &[];
@@ -58,7 +59,28 @@ impl<'a> Model for Operands<'a> {
 }
 
 impl<'a> Operands<'a> {
-    ghost use Rattle.std.specs.Prelude.{◌≡◌, slice_get};
+    ghost use Rattle.std.specs.Prelude.{◌≡◌, [], ◌∷◌, IfOk, slice_get};
+
+    /// This operand and no other.
+    pub(crate) fn one(arena: &'a Bump, operand: Operand<'a>) -> Result<Operands<'a>, HostFull>
+        ensures { IfOk result (λ found. found ≡ operand.entry ∷ []) }
+    {
+        let (kept, bytes) = match operand {
+            Operand::Number(number) => (KeptOperand::Number(number), &NO_BYTES),
+            Operand::Variable(name) => (KeptOperand::Variable(name), &NO_BYTES),
+            Operand::Bytes(bytes) => (KeptOperand::Bytes, bytes.kept()),
+            Operand::Id(id) => (KeptOperand::Id(id), &NO_BYTES),
+            Operand::Type(bytes) => (KeptOperand::Type(bytes), &NO_BYTES),
+            Operand::Missing => (KeptOperand::Missing, &NO_BYTES),
+        };
+        match arena.try_alloc(kept) {
+            Ok(kept) => Ok(Operands {
+                kept: from_ref(kept),
+                bytes,
+            }),
+            Err(_) => Err(HostFull),
+        }
+    }
 
     /// The operand at a place, if there is one.
     pub fn get(&self, place: usize) -> Option<Operand<'a>>

@@ -12,18 +12,23 @@ use std::marker::Model;
 #[derive(Drop)]
 pub struct Names<'a> {
     names: IndexSet<&'a [u8]>,
+    /// The name that was assigned last, and which it is: lines often speak of it.
+    last: Option<(&'a [u8], Name)>,
 }
 
 impl<'a> Model for Names<'a> {
     ghost use Rattle.std.specs.Prelude.{List, ℕ, map};
+    ghost use Rattle.script_text.specs.Names.{IsLast};
 
     ghost Value = { List (List ℕ) };
 
     ghost view = { λ n. map (λ name. name.now) n.names.keys };
+
+    ghost invariant = { λ n. IsLast (map (λ name. name.now) n.names.keys) n.last };
 }
 
 impl<'a> Names<'a> {
-    ghost use Rattle.std.specs.Prelude.{◌≡◌, [], IfOk, OnOk};
+    ghost use Rattle.std.specs.Prelude.{◌≡◌, [], Some, IfOk, IfSome, OnOk};
     ghost use Rattle.script_text.specs.Names.{place_of, place_for, with_name};
 
     /// No names.
@@ -32,6 +37,17 @@ impl<'a> Names<'a> {
     {
         Names {
             names: IndexSet::new(alloc),
+            last: None,
+        }
+    }
+
+    /// The name that was assigned last, if a word is that.
+    fn last_of(&self, word: &[u8]) -> Option<Name>
+        ensures { IfSome result (λ name. place_of self.now word.now ≡ Some name) }
+    {
+        match self.last {
+            Some((last, name)) if last == word => Some(name),
+            _ => None,
         }
     }
 
@@ -39,6 +55,9 @@ impl<'a> Names<'a> {
     pub fn find(&self, word: &[u8]) -> Result<Option<Name>, HostFull>
         ensures { IfOk result (λ found. found ≡ place_of self.now word.now) }
     {
+        if let Some(name) = self.last_of(word) {
+            return Ok(Some(name));
+        }
         match self.names.get_index_of(word) {
             Some(place) => Ok(Some(Name::at(place)?)),
             None => Ok(None),
@@ -50,8 +69,13 @@ impl<'a> Names<'a> {
         ensures place { IfOk result (λ name. name ≡ place_for self.old word.now) }
         ensures names { OnOk result (self.new ≡ with_name self.old word.now) }
     {
+        if let Some(name) = self.last_of(word) {
+            return Ok(name);
+        }
         let (place, _) = self.names.insert_full(word)?;
-        Name::at(place)
+        let name = Name::at(place)?;
+        self.last = Some((word, name));
+        Ok(name)
     }
 }
 

@@ -1,9 +1,10 @@
 //! Operands: numbers, names, bytes, ids and types.
 
-ghost use Rattle.std.specs.Prelude.{◌≡◌, ℕ, ◌<◌, ◌≤◌, ◌^◌, List, IfOk, IfSome, IfNone, SomeIff, ◌∷◌, map, option_map};
+ghost use Rattle.std.specs.Prelude.{◌≡◌, ℕ, ◌<◌, ◌≤◌, ◌^◌, List, IfOk, IfSome, IfNone, SomeIff, [], ◌∷◌, map, option_map};
 ghost use Rattle.std.specs.Char.{digit_value};
 ghost use Rattle.std.specs.List.{list_all};
 ghost use Rattle.std.specs.Option.{option_copied};
+ghost use Rattle.mac_calls.specs.declared.table.OperandKind.TheVariants as kind;
 ghost use Rattle.script_text.specs.Found.{Finds};
 ghost use Rattle.script_text.specs.Tokens.{Word, Single, Double, Hexadecimal};
 ghost use Rattle.script_text.specs.Front.{view};
@@ -287,6 +288,7 @@ fn hexadecimal_type<'a>(arena: &'a Bump, digits: &[u8]) -> Result<Option<Operand
 }
 
 /// The operand of this kind that a token is.
+#[inline(always)]
 fn operand<'a>(
     arena: &'a Bump,
     kind: OperandKind,
@@ -308,6 +310,7 @@ fn operand<'a>(
 }
 
 /// The operand of this kind that the token at a place is, which is missing where there is none and it may be.
+#[inline(always)]
 fn operand_at<'a>(
     arena: &'a Bump,
     kind: OperandKind,
@@ -324,8 +327,65 @@ fn operand_at<'a>(
     }
 }
 
+/// The number or the variable that a word is, where a call has no other operand.
+fn one_number<'a>(
+    arena: &'a Bump,
+    word: &[u8],
+    names: &Names<'_>,
+) -> Result<Option<Operands<'a>>, HostFull>
+    ensures { IfOk result (λ found.
+        Finds found (AreOperands names.now (kind.Number ∷ []) (Word word.now ∷ []))) }
+{
+    if let Some(number) = number(word) {
+        return Ok(Some(Operands::one(arena, Operand::Number(number))?));
+    }
+    match variable(word, names)? {
+        Some(name) => Ok(Some(Operands::one(arena, Operand::Variable(name))?)),
+        None => Ok(None),
+    }
+}
+
+/// The operand of one kind that the tokens are.
+fn one_operand<'a>(
+    arena: &'a Bump,
+    kind: OperandKind,
+    tokens: &[Token<'a>],
+    names: &Names<'_>,
+) -> Result<Option<Operands<'a>>, HostFull>
+    ensures { IfOk result (λ found.
+        Finds found (AreOperands names.now (kind ∷ []) (map view tokens.now))) }
+{
+    // Most calls of one operand take a number.
+    if let (OperandKind::Number, [Token::Word(word)]) = (kind, tokens) {
+        return one_number(arena, word, names);
+    }
+    if tokens.len() > 1 {
+        return Ok(None);
+    }
+    match operand_at(arena, kind, tokens.first(), names)? {
+        Some(operand) => Ok(Some(Operands::one(arena, operand)?)),
+        None => Ok(None),
+    }
+}
+
 /// The operands of these kinds that the tokens are, one token for each kind but those that are missing.
 pub fn operands<'a>(
+    arena: &'a Bump,
+    kinds: &[OperandKind],
+    tokens: &[Token<'a>],
+    names: &Names<'_>,
+) -> Result<Option<Operands<'a>>, HostFull>
+    ensures { IfOk result (λ found.
+        Finds found (AreOperands names.now kinds.now (map view tokens.now))) }
+{
+    match kinds {
+        [kind] => one_operand(arena, *kind, tokens, names),
+        _ => some_operands(arena, kinds, tokens, names),
+    }
+}
+
+/// The operands of these kinds that the tokens are, for any number of kinds.
+fn some_operands<'a>(
     arena: &'a Bump,
     kinds: &[OperandKind],
     tokens: &[Token<'a>],

@@ -69,10 +69,21 @@ fn first_quote(line: &[u8], quote: u8) -> Option<usize>
     memchr(quote, line)
 }
 
-fn after_blanks(line: &[u8]) -> &[u8]
+/// What is left of a line when the blanks at its front are skipped.
+fn skip_blanks(line: &[u8]) -> &[u8]
     ensures { result.now ≡ behind is_no_blank line.now }
 {
     line.split_at(first_no_blank(line).unwrap_or(line.len())).1
+}
+
+fn after_blanks(line: &[u8]) -> &[u8]
+    ensures { result.now ≡ behind is_no_blank line.now }
+{
+    match line {
+        // Most tokens have no blank in front.
+        [first, ..] if *first > b' ' => line,
+        _ => skip_blanks(line),
+    }
 }
 
 fn split_word(line: &[u8]) -> (&[u8], &[u8])

@@ -1,23 +1,35 @@
 use Rattle.std.proofs.Common.{◌≡◌, ◌∙◌, sym, ap, ℕ, List, map}
 use Rattle.std.specs.Borrow.{Bor}
 use Rattle.script_text.specs.Names.{place_for, with_name}
-use Rattle.script_text.proofs.Named.{place_for-map, with_name-map, on_ok}
+use Rattle.script_text.proofs.Named.{place_for-map, with_name-map}
+use Rattle.script_text.proofs.NameLaws.{stays_named, last_taken}
 use Rattle.script_text.proofs.names.Names.add.Goals as goal
 
 pub returns-clause-place : goal.returns-clause-place
 returns-clause-place c =
     let spelled : Bor (List ℕ) → List ℕ = λ k. k.now in
-    let place : c.in_ok-place.place ≡ place_for c.args.self.now c.args.word.now =
-    c.in_ok-place.ensures.index
+    c.in_ok-name.ensures
+    ∙ c.in_ok-place.ensures.index
     ∙ sym (place_for-map spelled c.args.word.now c.self.inside.names.keys)
     ∙ ap (λ (n : List (List ℕ)). place_for n c.args.word.now) c.self.view_is
-    in
-    rw (← place) c.at.ensures
 
 pub returns-clause-names : goal.returns-clause-names
 returns-clause-names c =
     let spelled : Bor (List ℕ) → List ℕ = λ k. k.now in
-    on_ok c.at.result _
-    (ap (λ (keys : List (Bor (List ℕ))). map spelled keys) c.in_ok-place.ensures.keys
+    ap (λ (keys : List (Bor (List ℕ))). map spelled keys) c.in_ok-place.ensures.keys
     ∙ with_name-map spelled c.self.inside.names.keys c.args.word
-    ∙ ap (λ (names : List (List ℕ)). with_name names c.args.word.now) c.self.view_is)
+    ∙ ap (λ (names : List (List ℕ)). with_name names c.args.word.now) c.self.view_is
+
+pub returns-in-Some-clause-names : goal.returns-in-Some-clause-names
+returns-in-Some-clause-names c = stays_named c.args.self.now c.args.word.now c.in-Some.name c.in-Some.ensures
+
+pub invariant_of-self-2 : goal.invariant_of-self-2
+invariant_of-self-2 c =
+    let spelled : Bor (List ℕ) → List ℕ = λ k. k.now in
+    let names : map spelled c.insert_full.new.self.keys ≡ with_name (map spelled c.self.inside.names.keys) c.args.word.now =
+    ap (λ (keys : List (Bor (List ℕ))). map spelled keys) c.in_ok-place.ensures.keys ∙ with_name-map spelled c.self.inside.names.keys c.args.word
+    in
+    let place : c.in_ok-name.name ≡ place_for (map spelled c.self.inside.names.keys) c.args.word.now =
+    c.in_ok-name.ensures ∙ c.in_ok-place.ensures.index ∙ sym (place_for-map spelled c.args.word.now c.self.inside.names.keys)
+    in
+    rw names (last_taken (map spelled c.self.inside.names.keys) c.args.word c.in_ok-name.name place)

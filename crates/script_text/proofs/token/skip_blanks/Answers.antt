@@ -2,7 +2,7 @@ use Rattle.std.proofs.Common.{◌≡◌, ◌∙◌}
 use Rattle.std.specs.List.{position_or_len}
 use Rattle.script_text.specs.Front.{is_no_blank}
 use Rattle.script_text.proofs.Fronts.{position_or_end, position_within}
-use Rattle.script_text.proofs.token.after_blanks.Goals as goal
+use Rattle.script_text.proofs.token.skip_blanks.Goals as goal
 
 pub split_at-requires : goal.split_at-requires
 split_at-requires c =
