@@ -10,7 +10,7 @@ use Rattle.zone_laws.proofs.GapApart.{sizes_possible}
 use Rattle.linked_zone.specs.Fit.{HasSizes}
 use Rattle.linked_zone.specs.Places.{EntryAt, ParcelAt, ParcelUpTo}
 use Rattle.fixed_index.specs.Runs.{none_fixed}
-use Rattle.zone_gaps.proofs.Sizes.{all_parts, first_bytes, total_size-push}
+use Rattle.page_sums.proofs.Sizes.{all_parts, first_bytes, total_size-push}
 
 heads : (d g : Entry) (a b : ZoneMap) → d ∷ a ≡ g ∷ b → (d ≡ g) × (a ≡ b)
 heads d g a b h = (cc h, cc h)

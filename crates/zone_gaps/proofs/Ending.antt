@@ -9,9 +9,9 @@ use Rattle.linked_zone.specs.Fit.{HasSizes}
 use Rattle.linked_zone.specs.Places as places
 use Rattle.linked_zone.specs.Places.{EntryAt, SplitAt, none_free}
 use Rattle.zone_gaps.specs.Runs.{RunAt, UsedFrom, LastFree}
-use Rattle.zone_gaps.proofs.Entries.{entry_size}
+use Rattle.page_sums.proofs.Entries.{entry_size}
 use Rattle.zone_gaps.proofs.Lasts.{no_last, same_last}
-use Rattle.zone_gaps.proofs.Sizes.{all_parts}
+use Rattle.page_sums.proofs.Sizes.{all_parts}
 
 -- the last free one of some blocks and others, where it isn't below the others
 last_among : (from : ℕ) (low blocks front : ZoneMap) (n : ℕ) (passed : ZoneMap) → low ++ blocks ≡ front ++ block Free n ∷ passed → none_free passed ≡ true → 0 < n → total_size low ≤ total_size front

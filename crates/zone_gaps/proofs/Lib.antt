@@ -1,4 +1,3 @@
-pub mod Sizes
 pub mod Between
 pub mod Entries
 pub mod Settling

@@ -18,7 +18,7 @@ use Rattle.zone_gaps.specs.Runs.{RunAt, UsedFrom, LastFree, arranged}
 use Rattle.zone_gaps.proofs.Between.{parcel_up_loose, previous_block}
 use Rattle.zone_gaps.proofs.Lasts.{Last, some_last}
 use Rattle.zone_gaps.proofs.Pressing.{free_entry, some_free, used-front, free-front, run_sizes}
-use Rattle.zone_gaps.proofs.Sizes.{all_parts, all_both, first_bytes, no_bytes}
+use Rattle.page_sums.proofs.Sizes.{all_parts, all_both, first_bytes, no_bytes}
 
 -- up with a free block more
 up-free : (e : Entry) (m : ZoneMap) → is_free e.kind ≡ true → up (e ∷ m) ≡ free_block (e.size + free_bytes m) ++ used_blocks m

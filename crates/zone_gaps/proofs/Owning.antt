@@ -1,53 +1,27 @@
 -- The gap in which the block of an unlocked handle lies, and the block's place in it.
-use Rattle.std.proofs.Common.{◌≡◌, ℕ, ◌+◌, Bool, true, false, cond, [], ◌∷◌, ◌++◌, length, refl, ap, sym, ◌∙◌, append_assoc, arith, Option, Some, None}
+use Rattle.std.proofs.Common.{◌≡◌, ℕ, ◌+◌, Bool, true, false, [], ◌∷◌, ◌++◌, refl, ap, sym, ◌∙◌, append_assoc, arith, Option, Some, None}
 use Rattle.std.specs.Prelude.{◌==◌, is_some}
 use Rattle.std.specs.List.{list_all}
 use Rattle.std.proofs.lemmas.Bool.{and_parts, true≢false}
 use Rattle.std.proofs.lemmas.Bool.Decides.{nat_tests}
-use Rattle.std.proofs.lemmas.List.{length-map}
 use Rattle.mac_base.specs.declared.block.Entry.{Entry}
-use Rattle.mac_base.specs.declared.block.Kind.{Kind}
-use Rattle.mac_base.specs.declared.block.Kind.TheVariants.{Free, Master, Ptr, Rel}
+use Rattle.mac_base.specs.declared.block.Kind.TheVariants.{Rel}
 use Rattle.mac_base.specs.Gap.{Gap, gaps, own_gap}
-use Rattle.mac_base.specs.HandleTable.{HandleTable, is_full, is_locked}
-use Rattle.mac_base.specs.HeadKind.{Shape}
-use Rattle.mac_base.specs.Suits.{Coherent, is_handle_block, is_pointer_block}
-use Rattle.mac_base.specs.ZoneMap.{ZoneMap, block, addresses, address_behind, is_named, sizes}
+use Rattle.mac_base.specs.HandleTable.{is_full, is_locked}
+use Rattle.mac_base.specs.ZoneMap.{ZoneMap, block, address_behind, is_named, sizes}
 use Rattle.mac_base.specs.ZoneState.{ZoneState}
-use Rattle.zone_laws.proofs.GapAppend.{length-addresses_from}
 use Rattle.zone_laws.proofs.GapParts.{IsGap, own_gap-is}
 use Rattle.zone_laws.proofs.NamedPlace.{At-from, InGap, own_gap-parts}
 use Rattle.zone_laws.proofs.OpenedGap.{own-At}
 use Rattle.zone_laws.proofs.Owners.{nothing_passes}
-use Rattle.zone_laws.proofs.SuitsNamed.{full-no_pointer}
 use Rattle.gap_laws.proofs.FittingResize.{own_gap-found, one_size}
 use Rattle.linked_zone.specs.Places.{BlockOf, EntryAt, all_can_move}
 use Rattle.zone_gaps.specs.Gaps.{Settled}
 use Rattle.fixed_index.specs.Runs.{FrontAt, RestAt, none_fixed}
 use Rattle.zone_gaps.specs.Runs.{has_owner}
 use Rattle.zone_gaps.proofs.Settling.{owners-settled, all_move-unfixed}
-use Rattle.zone_gaps.proofs.Sizes.{all_parts}
-
--- the blocks of a number are those of its handle and those of its pointer
-pub length-named : (x : ℕ) (m : ZoneMap) → length (sizes (is_named x) m) ≡ length (sizes (is_handle_block x) m) + length (sizes (is_pointer_block x) m)
-length-named x [] = refl
-length-named x (e ∷ es) = by_kind e.kind (length-named x es)
-  where
-    by_kind : (k : Kind) → length (sizes (is_named x) es) ≡ length (sizes (is_handle_block x) es) + length (sizes (is_pointer_block x) es)
-        → length (cond (is_named x k) (e.size ∷ []) [] ++ sizes (is_named x) es) ≡ length (cond (is_handle_block x k) (e.size ∷ []) [] ++ sizes (is_handle_block x) es) + length (cond (is_pointer_block x k) (e.size ∷ []) [] ++ sizes (is_pointer_block x) es)
-    by_kind Free rest = rest
-    by_kind Master rest = rest
-    by_kind (Ptr p) rest = elim (p == x) as (λ c. length (cond c (e.size ∷ []) [] ++ sizes (is_named x) es) ≡ length (sizes (is_handle_block x) es) + length (cond c (e.size ∷ []) [] ++ sizes (is_pointer_block x) es)) [ true ↦ omega arith | false ↦ rest ]
-    by_kind (Rel g) rest = elim (g == x) as (λ c. length (cond c (e.size ∷ []) [] ++ sizes (is_named x) es) ≡ length (cond c (e.size ∷ []) [] ++ sizes (is_handle_block x) es) + length (sizes (is_pointer_block x) es)) [ true ↦ omega arith | false ↦ rest ]
-
--- a handle with a block names just one
-pub named_alone : (s : Shape) (t : HandleTable) (m : ZoneMap) (x : ℕ) → Coherent s t m → is_full t x ≡ true → length (sizes (is_named x) m) ≡ 1
-named_alone s t m x coherent full =
-    let all = length-named x m in
-    let handles : length (sizes (is_handle_block x) m) ≡ 1 = sym (length-addresses_from (address_behind s []) (is_handle_block x) m) ∙ coherent.handles x ∙ ap (λ c. cond c 1 0) full in
-    let pointers : length (sizes (is_pointer_block x) m) ≡ 0 =
-    sym (length-addresses_from (address_behind s []) (is_pointer_block x) m) ∙ sym (length-map (addresses s (is_pointer_block x) m) _) ∙ ap length (coherent.pointers x) ∙ ap (λ c. length (cond c (x ∷ []) [])) (full-no_pointer t x full) in
-    omega arith
+use Rattle.page_sums.proofs.Naming.{named_alone}
+use Rattle.page_sums.proofs.Sizes.{all_parts}
 
 heads : (d g : Entry) (a b : ZoneMap) → d ∷ a ≡ g ∷ b → (d ≡ g) × (a ≡ b)
 heads d g a b h = (cc h, cc h)

@@ -20,7 +20,7 @@ use Rattle.linked_zone.specs.Places.{none_free, EntryAt, FreePair, ParcelAt, all
 use Rattle.fixed_index.specs.Runs.{none_fixed}
 use Rattle.zone_gaps.specs.Runs.{RunAt, UsedUpTo, begins_unused}
 use Rattle.zone_gaps.proofs.Between.{parcel_loose}
-use Rattle.zone_gaps.proofs.Sizes.{all_both, all_parts, first_bytes, no_bytes}
+use Rattle.page_sums.proofs.Sizes.{all_both, all_parts, first_bytes, no_bytes}
 
 -- a free block is one of its size
 pub free_entry : (e : Entry) → is_free e.kind ≡ true → e ≡ block Free e.size

@@ -24,7 +24,7 @@ use Rattle.fixed_index.specs.Runs.{none_fixed}
 use Rattle.zone_gaps.specs.Runs.{RunAt, arranged}
 use Rattle.zone_gaps.proofs.Owning.{Owned, here_owned, map_owned, moves_owned, parts_owned, can_move_owned}
 use Rattle.zone_gaps.proofs.Between.{parcel_loose}
-use Rattle.zone_gaps.proofs.Sizes.{all_both}
+use Rattle.page_sums.proofs.Sizes.{all_both}
 
 -- of blocks that x doesn't name none is left by one filter
 those_none : (x : ℕ) (a : ZoneMap) → sizes (is_named x) a ≡ [] → filter (λ (e : Entry). is_named x e.kind) a ≡ []

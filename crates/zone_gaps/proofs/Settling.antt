@@ -21,7 +21,7 @@ use Rattle.zone_gaps.specs.Gaps.{Settled, GapAt}
 use Rattle.linked_zone.specs.Places.{can_move, all_can_move}
 use Rattle.fixed_index.specs.Runs.{RestAt, none_fixed}
 use Rattle.zone_gaps.specs.Runs.{HasOwners, RunAt, has_owner}
-use Rattle.zone_gaps.proofs.Sizes.{all_parts}
+use Rattle.page_sums.proofs.Sizes.{all_parts}
 
 -- a sound heap in which what is lent is fixed is settled
 pub settled-sound : (z : ZoneState) → Sound z.shape z.heap → LoansAreFixed z.heap → Settled z

@@ -17,7 +17,7 @@ use Rattle.fixed_index.specs.Runs.{FrontAt, RestAt, none_fixed}
 use Rattle.zone_gaps.specs.Runs.{arranged}
 use Rattle.zone_gaps.proofs.Pressing.{used-front, down-front}
 use Rattle.zone_gaps.proofs.Settling.{run_of_rest}
-use Rattle.zone_gaps.proofs.Sizes.{all_parts, no_bytes}
+use Rattle.page_sums.proofs.Sizes.{all_parts, no_bytes}
 
 module _ (z : ZoneState) (at : ℕ) (from : GapFrom z at) where
   abbrev g : Gap

@@ -21,7 +21,7 @@ use Rattle.zone_gaps.specs.Gaps.{Settled}
 use Rattle.fixed_index.specs.Runs.{RestAt, none_fixed, begins_fixed}
 use Rattle.zone_gaps.specs.Runs.{RunAt, has_owner, arranged}
 use Rattle.zone_gaps.proofs.Settling.{owners-settled, all_move-unfixed}
-use Rattle.zone_gaps.proofs.Sizes.{all_parts, all_both, first_bytes, no_bytes}
+use Rattle.page_sums.proofs.Sizes.{all_parts, all_both, first_bytes, no_bytes}
 
 -- whether the owners of these blocks are live
 abbrev owned : HandleTable → ZoneMap → Bool

@@ -11,13 +11,13 @@ ghost use Rattle.zone_gaps.specs.Gaps.{Settled, GapBetween, GapFrom, with_gap, o
 
 use crate::gap::zone_end;
 use crate::run::{carry_up, press_down, press_up};
-use gap_index::GapZone;
 use mac_base::handle::Handle;
 use mac_base::size::ZONE_HEADER;
+use page_sums::SummedZone;
 
 /// Arranges a gap down, given the address of its first free block: its blocks are moved down, and its free bytes are above
 /// them in one block. The bytes of each block are moved once. Gives the address at which the free bytes begin.
-pub fn squeeze_down(zone: &mut GapZone, at: u32) -> u32
+pub fn squeeze_down(zone: &mut SummedZone, at: u32) -> u32
     requires gap { GapFrom zone.old at }
     requires settled { Settled zone.old }
     ensures zone { (from : GapFrom zone.old at) → zone.new ≡ with_gap zone.old from.gap (down from.gap.blocks) }
@@ -25,13 +25,13 @@ pub fn squeeze_down(zone: &mut GapZone, at: u32) -> u32
     ensures loans { KeepsLoans zone.old zone.new }
     ensures settled { Settled zone.new }
 {
-    let end = zone.gap_end(at);
+    let end = zone.gaps().gap_end(at);
     press_down(zone, at, end)
 }
 
 /// Arranges the gap that begins at an address and ends at another up: its blocks are moved up, and its free bytes are below
 /// them in one block. The bytes of each block are moved once.
-pub fn squeeze_up(zone: &mut GapZone, start: u32, end: u32)
+pub fn squeeze_up(zone: &mut SummedZone, start: u32, end: u32)
     requires gap { GapBetween zone.old start end }
     requires settled { Settled zone.old }
     ensures zone { (gap : GapBetween zone.old start end) → zone.new ≡ with_gap zone.old gap.at.gap (up gap.at.gap.blocks) }
@@ -43,7 +43,7 @@ pub fn squeeze_up(zone: &mut GapZone, start: u32, end: u32)
 
 /// Arranges the gap of an unlocked handle open at it: its block and those below are moved down, those above it up, and
 /// the gap's free bytes stand right behind it in one block.
-pub fn open_after(zone: &mut GapZone, handle: Handle)
+pub fn open_after(zone: &mut SummedZone, handle: Handle)
     requires full { IsTrue (is_full zone.old.heap.table handle) }
     requires unlocked { IsFalse (is_locked zone.old.heap.table handle) }
     requires settled { Settled zone.old }
@@ -52,8 +52,8 @@ pub fn open_after(zone: &mut GapZone, handle: Handle)
     ensures settled { Settled zone.new }
 {
     let at = zone.linked().block_of(handle);
-    let start = zone.gap_start(at);
-    let end = zone.gap_end(at);
+    let start = zone.gaps().gap_start(at);
+    let end = zone.gaps().gap_end(at);
     let middle = at + zone.linked().entry_at(at).size;
     let free = press_down(zone, start, middle);
     press_up(zone, free, end);
@@ -61,7 +61,7 @@ pub fn open_after(zone: &mut GapZone, handle: Handle)
 
 /// Moves the block of an unlocked handle to the high end of its gap: the others are moved down, and the gap's free bytes
 /// stand below it in one block.
-pub fn raise(zone: &mut GapZone, handle: Handle)
+pub fn raise(zone: &mut SummedZone, handle: Handle)
     requires full { IsTrue (is_full zone.old.heap.table handle) }
     requires unlocked { IsFalse (is_locked zone.old.heap.table handle) }
     requires settled { Settled zone.old }
@@ -70,14 +70,14 @@ pub fn raise(zone: &mut GapZone, handle: Handle)
     ensures settled { Settled zone.new }
 {
     let at = zone.linked().block_of(handle);
-    let start = zone.gap_start(at);
-    let end = zone.gap_end(at);
+    let start = zone.gaps().gap_start(at);
+    let end = zone.gaps().gap_end(at);
     let high = carry_up(zone, at, end);
     press_down(zone, start, high);
 }
 
 /// Arranges all gaps down.
-pub fn squeeze_all_down(zone: &mut GapZone)
+pub fn squeeze_all_down(zone: &mut SummedZone)
     requires { Settled zone.old }
     ensures zone { zone.new ≡ with_map (all_down zone.old.heap.table zone.old.heap.map) zone.old }
     ensures loans { KeepsLoans zone.old zone.new }
@@ -86,7 +86,7 @@ pub fn squeeze_all_down(zone: &mut GapZone)
     let top = zone_end(zone.linked());
     let mut at = zone.linked().spec().base() + ZONE_HEADER;
     while at < top {
-        let end = zone.gap_end(at);
+        let end = zone.gaps().gap_end(at);
         press_down(zone, at, end);
         at = end;
         if end < top {

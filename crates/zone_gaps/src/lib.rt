@@ -8,5 +8,5 @@ mod room;
 mod run;
 
 pub use arrange::{open_after, raise, squeeze_all_down, squeeze_down, squeeze_up};
-pub use gap::{FoundGap, is_fixed, zone_end};
+pub use gap::{FoundGap, zone_end};
 pub use room::{gap_behind, own_gap};

@@ -14,7 +14,7 @@ use Rattle.linked_zone.specs.Fit.{Fits, HasSizes}
 use Rattle.linked_zone.specs.Places.{HasOwner, SplitAt}
 use Rattle.fixed_index.specs.Purging.{FirstPurgeable, may_go, none_purgeable}
 use Rattle.zone_laws.proofs.GapApart.{sizes_possible}
-use Rattle.zone_gaps.proofs.Sizes.{all_parts, no_bytes}
+use Rattle.page_sums.proofs.Sizes.{all_parts, no_bytes}
 use Rattle.zone_gaps.specs.Runs.{HasOwners}
 use Rattle.zone_gaps.proofs.Entries.{entry_owner}
 use Rattle.zone_gaps.proofs.Settling.{owners-settled}

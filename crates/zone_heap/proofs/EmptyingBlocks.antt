@@ -22,7 +22,7 @@ use Rattle.zone_laws.proofs.Owners.{nothing_passes}
 use Rattle.zone_laws.proofs.Tables.{eqb_same, eqb_swap, with_live_agrees}
 use Rattle.linked_zone.specs.Changes.{freed, without_block}
 use Rattle.linked_zone.specs.Fit.{HasSizes}
-use Rattle.zone_gaps.proofs.Sizes.{all_both, all_parts, first_bytes, total_size-push}
+use Rattle.page_sums.proofs.Sizes.{all_both, all_parts, first_bytes, total_size-push}
 use Rattle.zone_heap.specs.Attempts.{SoundZone}
 use Rattle.zone_heap.specs.Joins.{all_joined}
 use Rattle.zone_heap.specs.Purge.{AllStay, BlocksAt, FirstToPurge, all_emptied, freed_where, handle_to_purge, may_purge, purged_between}

@@ -16,7 +16,7 @@ use Rattle.zone_laws.proofs.GapAppend.{total_size-append}
 use Rattle.zone_laws.proofs.SuitsNamed.{stays-fixed}
 use Rattle.zone_laws.proofs.Tables.{eqb-true-is, handle_no_pointer}
 use Rattle.zone_gaps.proofs.Lasts.{last_of}
-use Rattle.zone_gaps.proofs.Sizes.{all_parts}
+use Rattle.page_sums.proofs.Sizes.{all_parts}
 use Rattle.zone_heap.specs.Attempts.{SoundZone}
 use Rattle.zone_heap.specs.Purge.{AllStay, BlocksAt, CanCount, FirstToPurge, GapAround, IsLimit, MovesAt, Spanned, bounds_gap, bytes_before, bytes_of_kind, counts, is_kept, may_purge, run_has, run_past, size_if}
 use Rattle.zone_heap.specs.declared.purge.Candidate.{Candidate}

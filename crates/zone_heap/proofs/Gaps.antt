@@ -10,7 +10,7 @@ use Rattle.zone_laws.proofs.GapAppend.{total_size-append}
 use Rattle.linked_zone.specs.Places.{SplitAt}
 use Rattle.fixed_index.specs.Runs.{FrontAt, RestAt, begins_fixed, ends_fixed, none_fixed}
 use Rattle.gap_index.proofs.Splits.{FirstRun, LastRun, first_run, last_run}
-use Rattle.zone_gaps.proofs.Sizes.{all_both}
+use Rattle.page_sums.proofs.Sizes.{all_both}
 use Rattle.zone_heap.specs.Purge.{BlocksAt, GapAround, MovesAt}
 use Rattle.zone_heap.specs.declared.purge.Stretch.{Stretch}
 

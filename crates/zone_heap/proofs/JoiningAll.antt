@@ -17,7 +17,7 @@ use Rattle.linked_zone.specs.Changes.{with_map, joined_pair}
 use Rattle.linked_zone.specs.Fit.{HasSizes}
 use Rattle.linked_zone.specs.Places as places
 use Rattle.linked_zone.specs.Places.{EntryAt, FreePair, SplitAt}
-use Rattle.zone_gaps.proofs.Sizes.{all_both, all_parts, first_bytes}
+use Rattle.page_sums.proofs.Sizes.{all_both, all_parts, first_bytes}
 use Rattle.zone_heap.specs.Joins.{all_joined}
 use Rattle.zone_heap.proofs.Places.{all_large, large-sizes, large-first, same-place, total_size-behind}
 

@@ -14,7 +14,7 @@ use Rattle.zone_laws.proofs.GapApart.{ends_free, free_apart-append, free_apart-b
 use Rattle.zone_laws.proofs.JoinedBlocks.{joined-apart}
 use Rattle.linked_zone.specs.Changes.{joined_pair, with_map}
 use Rattle.linked_zone.specs.Places.{LastFree, SplitAt, none_free}
-use Rattle.zone_gaps.proofs.Sizes.{all_parts, first_bytes}
+use Rattle.page_sums.proofs.Sizes.{all_parts, first_bytes}
 use Rattle.zone_heap.specs.Joins.{all_joined}
 use Rattle.zone_heap.specs.Attempts.{SoundZone}
 use Rattle.zone_heap.specs.Purge.{ApartBeside, BlocksAt, freed_where, may_purge, purged_between}

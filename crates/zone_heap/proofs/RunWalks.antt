@@ -20,7 +20,7 @@ use Rattle.zone_laws.proofs.Joined.{free_apart-joined}
 use Rattle.zone_laws.proofs.GapApart.{free_apart-back, free_apart-front, sizes_possible}
 use Rattle.zone_gaps.proofs.Between.{previous_block}
 use Rattle.zone_gaps.proofs.Lasts.{Last, last_of, some_last}
-use Rattle.zone_gaps.proofs.Sizes.{all_parts, no_bytes}
+use Rattle.page_sums.proofs.Sizes.{all_parts, no_bytes}
 use Rattle.zone_laws.proofs.Maps.{both_true, true_not}
 use Rattle.zone_heap.specs.Attempts.{SoundZone}
 use Rattle.zone_heap.specs.Purge.{AllStay, BlocksAt, FirstToPurge, IsLimit, PurgesTo, all_released, bounds_free, bytes_before, counts, freed_where, may_purge, run_has, run_past}

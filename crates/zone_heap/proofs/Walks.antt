@@ -7,8 +7,8 @@ use Rattle.zone_laws.proofs.GapAppend.{total_size-append}
 use Rattle.zone_laws.proofs.GapApart.{sizes_possible}
 use Rattle.linked_zone.specs.Fit.{HasSizes}
 use Rattle.linked_zone.specs.Places.{EntryAt}
-use Rattle.zone_gaps.proofs.Entries.{entry_size}
-use Rattle.zone_gaps.proofs.Sizes.{all_parts, no_bytes, total_size-push}
+use Rattle.page_sums.proofs.Entries.{entry_size}
+use Rattle.page_sums.proofs.Sizes.{all_parts, no_bytes, total_size-push}
 use Rattle.zone_heap.specs.Purge.{BlocksAt}
 
 -- the blocks below an address are passed

@@ -1,10 +1,8 @@
 pub mod Joins
-pub mod Known
 pub mod WritingBack
 pub mod Placed
 pub mod Attempts
 pub mod Room
-pub mod Zone
 pub mod Resized
 pub mod Squeezed
 pub mod Purge

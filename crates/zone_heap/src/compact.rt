@@ -1,12 +1,11 @@
 //! Blocks moved on a program's own demand, and the handle of a block by its address.
 
-use crate::known::Known;
 use crate::zone::Zone;
-use gap_index::GapZone;
 use linked_zone::LinkedZone;
 use mac_base::block::Kind;
 use mac_base::handle::Handle;
 use mac_base::zone_spec::ADDRESS_END;
+use page_sums::SummedZone;
 use zone_gaps::{raise, squeeze_all_down, squeeze_down, zone_end};
 
 impl Zone {
@@ -38,7 +37,6 @@ impl Zone {
         if needed <= largest {
             return largest;
         }
-        self.known = Known::NOTHING;
         squeeze(&mut self.pointers, needed);
         largest_free(self.pointers.linked())
     }
@@ -49,7 +47,6 @@ impl Zone {
         ensures zone { self.new ≡ with_heap (with_map (all_down self.old.heap.table self.old.heap.map) self.old.heap) self.old }
         ensures loans { KeepsLoans self.old self.new }
     {
-        self.known = Known::NOTHING;
         squeeze_all_down(&mut self.pointers);
     }
 
@@ -61,7 +58,6 @@ impl Zone {
         ensures zone { self.new ≡ with_heap (with_map (moved_high self.old.heap.table handle self.old.heap.map) self.old.heap) self.old }
         ensures loans { KeepsLoans self.old self.new }
     {
-        self.known = Known::NOTHING;
         raise(&mut self.pointers, handle);
     }
 
@@ -103,7 +99,7 @@ fn largest_free(pointers: &LinkedZone) -> u32
 }
 
 /// Moves the blocks of the lowest gap with at least `needed` free bytes down, or those of all gaps where none has so many.
-fn squeeze(pointers: &mut GapZone, needed: u32)
+fn squeeze(pointers: &mut SummedZone, needed: u32)
     requires some { 0 < needed }
     requires settled { Settled pointers.old }
     ensures zone { pointers.new ≡ zone_with_map (squeezed pointers.old.heap.table needed pointers.old.heap.map) pointers.old }

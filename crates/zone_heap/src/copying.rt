@@ -1,6 +1,5 @@
 //! Bytes copied from one block to another.
 
-use crate::known::Known;
 use crate::zone::Zone;
 
 impl Zone {
@@ -21,7 +20,6 @@ impl Zone {
         ensures zone { self.new ≡ copied from start to offset count self.old }
         ensures loans { KeepsLoans self.old self.new }
     {
-        self.known = Known::NOTHING;
         self.pointers.copy(from, start, to, offset, count);
     }
 }

@@ -1,6 +1,5 @@
 //! Growth of the zone to its limit.
 
-use crate::known::Known;
 use crate::zone::{Zone, join};
 
 impl Zone {
@@ -29,7 +28,6 @@ impl Zone {
         let spec = self.pointers.linked().spec();
         if spec.size() < spec.limit() {
             let end = spec.base() + spec.size();
-            self.known = Known::NOTHING;
             self.pointers.extend();
             join(&mut self.pointers, end);
         }

@@ -5,7 +5,6 @@ mod attempt;
 mod compact;
 mod copying;
 mod growth;
-mod known;
 mod place;
 mod purge;
 mod replace;

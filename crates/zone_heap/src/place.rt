@@ -1,12 +1,11 @@
 //! New blocks, each where its definition places it.
 
-use crate::known::Known;
 use crate::shortage::Shortage;
 use crate::zone::{Zone, cut};
-use gap_index::GapZone;
 use mac_base::handle::{Handle, Ptr};
 use mac_base::size::{MASTER_LENGTH, need_for};
 use mac_base::zone_spec::ADDRESS_END;
+use page_sums::SummedZone;
 use zone_gaps::{squeeze_down, squeeze_up};
 
 impl Zone {
@@ -25,7 +24,6 @@ impl Zone {
         ensures attempt { Attempts (NewBlock length) self.old result self.new }
         ensures loans { KeepsLoans self.old self.new }
     {
-        self.known = Known::NOTHING;
         new_block(&mut self.pointers, length)
     }
 
@@ -35,7 +33,6 @@ impl Zone {
         ensures attempt { Attempts NewEmpty self.old result self.new }
         ensures loans { KeepsLoans self.old self.new }
     {
-        self.known = Known::NOTHING;
         new_empty(&mut self.pointers)
     }
 
@@ -47,7 +44,6 @@ impl Zone {
         ensures attempt { Attempts (NewPointer length) self.old result self.new }
         ensures loans { KeepsLoans self.old self.new }
     {
-        self.known = Known::NOTHING;
         new_pointer(&mut self.pointers, length)
     }
 
@@ -58,7 +54,6 @@ impl Zone {
         ensures attempt { Attempts NewMaster self.old result self.new }
         ensures loans { KeepsLoans self.old self.new }
     {
-        self.known = Known::NOTHING;
         new_master(&mut self.pointers)
     }
 
@@ -70,7 +65,6 @@ impl Zone {
         ensures attempt { MatchResult result (λ _. IsServed (Reserve length) self.old 0 self.new) (λ why. IsRefused (Reserve length) self.old why self.new) }
         ensures loans { KeepsLoans self.old self.new }
     {
-        self.known = Known::NOTHING;
         reserve(&mut self.pointers, length)
     }
 }
@@ -84,7 +78,7 @@ ghost use Rattle.zone_heap.specs.Room.{IsCleared, IsOpened, LacksRoom};
 
 /// A new handle with `length` bytes of zero: in the lowest free block that has room, or else in the lowest gap with room,
 /// arranged down.
-pub(crate) fn new_block(zone: &mut GapZone, length: u32) -> Result<Handle, Shortage>
+pub(crate) fn new_block(zone: &mut SummedZone, length: u32) -> Result<Handle, Shortage>
     requires size { length ≤ max_size }
     requires sound { SoundZone zone.old }
     ensures attempt { Attempts (NewBlock length) zone.old result zone.new }
@@ -108,7 +102,7 @@ pub(crate) fn new_block(zone: &mut GapZone, length: u32) -> Result<Handle, Short
 }
 
 /// A new empty handle. There is none exactly where no slot is free.
-pub(crate) fn new_empty(zone: &mut GapZone) -> Result<Handle, Shortage>
+pub(crate) fn new_empty(zone: &mut SummedZone) -> Result<Handle, Shortage>
     requires sound { SoundZone zone.old }
     ensures attempt { Attempts NewEmpty zone.old result zone.new }
     ensures loans { KeepsLoans zone.old zone.new }
@@ -118,7 +112,7 @@ pub(crate) fn new_empty(zone: &mut GapZone) -> Result<Handle, Shortage>
 }
 
 /// A new pointer to `length` bytes of zero, at the start of the lowest gap with room.
-pub(crate) fn new_pointer(zone: &mut GapZone, length: u32) -> Result<Ptr, Shortage>
+pub(crate) fn new_pointer(zone: &mut SummedZone, length: u32) -> Result<Ptr, Shortage>
     requires size { length ≤ max_size }
     requires sound { SoundZone zone.old }
     ensures attempt { Attempts (NewPointer length) zone.old result zone.new }
@@ -134,7 +128,7 @@ pub(crate) fn new_pointer(zone: &mut GapZone, length: u32) -> Result<Ptr, Shorta
 }
 
 /// A new master block, at the start of the lowest gap with room. Gives the address of its first slot.
-pub(crate) fn new_master(zone: &mut GapZone) -> Result<u32, Shortage>
+pub(crate) fn new_master(zone: &mut SummedZone) -> Result<u32, Shortage>
     requires sound { SoundZone zone.old }
     ensures attempt { Attempts NewMaster zone.old result zone.new }
     ensures loans { KeepsLoans zone.old zone.new }
@@ -153,7 +147,7 @@ pub(crate) fn new_master(zone: &mut GapZone) -> Result<u32, Shortage>
 }
 
 /// Room for a pointer to `length` bytes, at the start of the lowest gap with room. It stays free.
-pub(crate) fn reserve(zone: &mut GapZone, length: u32) -> Result<(), Shortage>
+pub(crate) fn reserve(zone: &mut SummedZone, length: u32) -> Result<(), Shortage>
     requires size { length ≤ max_size }
     requires sound { SoundZone zone.old }
     ensures attempt { MatchResult result (λ _. IsServed (Reserve length) zone.old 0 zone.new) (λ why. IsRefused (Reserve length) zone.old why zone.new) }
@@ -169,7 +163,7 @@ pub(crate) fn reserve(zone: &mut GapZone, length: u32) -> Result<(), Shortage>
 
 /// The address of a free block of at least `needed` bytes for a relocatable block: the lowest, or where there is none that
 /// of the lowest gap with room, arranged down.
-pub(crate) fn open_lowest(zone: &mut GapZone, needed: u32) -> Option<u32>
+pub(crate) fn open_lowest(zone: &mut SummedZone, needed: u32) -> Option<u32>
     requires some { 0 < needed }
     requires sound { SoundZone zone.old }
     ensures room { MatchOption result (LacksRoom needed zone.old zone.new) (λ at. IsOpened zone.old needed at zone.new) }
@@ -185,7 +179,7 @@ pub(crate) fn open_lowest(zone: &mut GapZone, needed: u32) -> Option<u32>
 
 /// The start of the lowest gap with room for `needed` bytes. The gap begins with so many free bytes: it is arranged up
 /// where it doesn't yet.
-fn clear_lowest(zone: &mut GapZone, needed: u32) -> Option<u32>
+fn clear_lowest(zone: &mut SummedZone, needed: u32) -> Option<u32>
     requires some { 0 < needed }
     requires sound { SoundZone zone.old }
     ensures room { MatchOption result (LacksRoom needed zone.old zone.new) (λ at. IsCleared zone.old needed at zone.new) }
@@ -193,9 +187,9 @@ fn clear_lowest(zone: &mut GapZone, needed: u32) -> Option<u32>
     ensures sound { SoundZone zone.new }
 {
     let at = zone.lowest_gap(needed)?;
-    let start = zone.gap_start(at);
+    let start = zone.gaps().gap_start(at);
     if start < at || zone.linked().entry_at(at).size < needed {
-        let end = zone.gap_end(at);
+        let end = zone.gaps().gap_end(at);
         squeeze_up(zone, start, end);
     }
     Some(start)

@@ -25,7 +25,6 @@ impl Zone {
         ensures fits { result ≡ fits self.new.shape self.new.heap.table request self.new.heap.map }
         ensures loans { KeepsLoans self.old self.new }
     {
-        self.known = Known::NOTHING;
         purge_for(&mut self.pointers, request, protected)
     }
 
@@ -37,7 +36,6 @@ impl Zone {
         ensures enough { result ≡ nat_le needed (largest_free self.new.heap.map) }
         ensures loans { KeepsLoans self.old self.new }
     {
-        self.known = Known::NOTHING;
         purge_to(&mut self.pointers, needed)
     }
 
@@ -47,7 +45,6 @@ impl Zone {
         ensures zone { self.new ≡ with_heap (all_purged self.old.heap) self.old }
         ensures loans { KeepsLoans self.old self.new }
     {
-        self.known = Known::NOTHING;
         purge_all(&mut self.pointers);
     }
 }
@@ -67,7 +64,6 @@ ghost use Rattle.zone_heap.specs.Attempts.{CanAsk, SoundZone};
 ghost use Rattle.zone_heap.specs.Joins.{all_joined};
 ghost use Rattle.zone_heap.specs.Purge.{ApartBeside, BlocksAt, AllStay, CanCount, FirstToPurge, GapAround, IsLimit, MovesAt, ShortBlocks, ShortGaps, Purges, PurgesFor, PurgesTo, blocks_behind, bounds_gap, bounds_free, bytes_before, bytes_of_kind, counts, handle_to_purge, is_kept, is_protected, may_purge, purged_between, run_past, staying_block, HasBlockIf};
 
-use crate::known::Known;
 use crate::zone::Zone;
 use gap_index::GapZone;
 use linked_zone::LinkedZone;
@@ -76,6 +72,7 @@ use mac_base::handle::{Handle, Ptr};
 use mac_base::request::Request;
 use mac_base::size::{MASTER_LENGTH, ZONE_HEADER, need_for};
 use mac_base::zone_spec::ADDRESS_END;
+use page_sums::SummedZone;
 use zone_gaps::zone_end;
 
 /// Which blocks are purged: those between two addresses that may be. Where the addresses are one, none is.
@@ -136,13 +133,13 @@ fn next_to_purge(zone: &GapZone, start: u32, end: u32, protected: &[u32]) -> Opt
 }
 
 /// Empties the handles that may be purged and have their blocks between two addresses. The blocks are free, and not joined.
-fn empty_between(zone: &mut GapZone, start: u32, end: u32, protected: &[u32])
+fn empty_between(zone: &mut SummedZone, start: u32, end: u32, protected: &[u32])
     requires blocks { BlocksAt zone.old start end }
     requires sound { SoundZone zone.old }
     ensures { (blocks : BlocksAt zone.old start end) → zone.new ≡ purged_between zone.old blocks protected.now }
 {
     let mut at = start;
-    while let Some(next) = next_to_purge(zone, at, end, protected) {
+    while let Some(next) = next_to_purge(zone.gaps(), at, end, protected) {
         zone.empty(next.handle);
         at = next.at + next.size;
     }
@@ -150,7 +147,7 @@ fn empty_between(zone: &mut GapZone, start: u32, end: u32, protected: &[u32])
 
 /// Joins the free neighbours around the blocks between two addresses, beside which there are none. From each free block the walk
 /// goes on to the next one: of the blocks in use only those right behind a free one are read.
-fn join_around(zone: &mut GapZone, start: u32, end: u32)
+fn join_around(zone: &mut SummedZone, start: u32, end: u32)
     requires { ApartBeside zone.old start end }
     ensures { zone.new ≡ all_joined zone.old }
 {
@@ -184,14 +181,14 @@ fn is_free_pair(zone: &LinkedZone, at: u32) -> bool
 
 /// Purges the blocks between two addresses that may be purged: their handles become empty, and free neighbours are joined.
 /// Where there are none, no block is read to join it.
-fn purge_between(zone: &mut GapZone, start: u32, end: u32, protected: &[u32])
+fn purge_between(zone: &mut SummedZone, start: u32, end: u32, protected: &[u32])
     requires blocks { BlocksAt zone.old start end }
     requires sound { SoundZone zone.old }
     ensures zone { (blocks : BlocksAt zone.old start end) → zone.new ≡ with_heap (with_all_emptied (candidates_in zone.old.heap.table protected.now blocks.blocks) zone.old.heap) zone.old }
     ensures loans { KeepsLoans zone.old zone.new }
     ensures sound { SoundZone zone.new }
 {
-    let Some(first) = next_to_purge(zone, start, end, protected) else {
+    let Some(first) = next_to_purge(zone.gaps(), start, end, protected) else {
         return;
     };
     empty_between(zone, first.at, end, protected);
@@ -326,7 +323,7 @@ fn zone_start(zone: &LinkedZone) -> u32
 }
 
 /// Purges all blocks that may be purged.
-pub(crate) fn purge_all(zone: &mut GapZone)
+pub(crate) fn purge_all(zone: &mut SummedZone)
     requires sound { SoundZone zone.old }
     ensures zone { zone.new ≡ with_heap (all_purged zone.old.heap) zone.old }
     ensures loans { KeepsLoans zone.old zone.new }
@@ -437,7 +434,7 @@ fn limit_behind(zone: &GapZone, block: u32, needed: u32, protected: &[u32]) -> L
 
 /// Empties as few handles that may be purged as serve a request, in order of address, and all where none do. Gives whether
 /// the request fits then.
-pub(crate) fn purge_for(zone: &mut GapZone, request: Request, protected: &[u32]) -> bool
+pub(crate) fn purge_for(zone: &mut SummedZone, request: Request, protected: &[u32]) -> bool
     requires sound { SoundZone zone.old }
     requires ready { CanAsk zone.old request }
     requires protects { IsTrue (is_protected protected.now request) }
@@ -447,7 +444,7 @@ pub(crate) fn purge_for(zone: &mut GapZone, request: Request, protected: &[u32])
     ensures loans { KeepsLoans zone.old zone.new }
     ensures sound { SoundZone zone.new }
 {
-    let limit = limit_for(zone, request, protected);
+    let limit = limit_for(zone.gaps(), request, protected);
     purge_between(zone, limit.start, limit.end, protected);
     limit.enough
 }
@@ -522,7 +519,7 @@ fn block_limit(zone: &GapZone, start: u32, end: u32, needed: u32, protected: &[u
 
 /// Empties as few handles that may be purged as leave `needed` free bytes in one block, in order of address, and all where
 /// none do. Gives whether there is such a block then.
-pub(crate) fn purge_to(zone: &mut GapZone, needed: u32) -> bool
+pub(crate) fn purge_to(zone: &mut SummedZone, needed: u32) -> bool
     requires sound { SoundZone zone.old }
     ensures zone { zone.new ≡ with_heap (purged_for needed zone.old.heap) zone.old }
     ensures enough { result ≡ nat_le needed (largest_free zone.new.heap.map) }
@@ -535,7 +532,7 @@ pub(crate) fn purge_to(zone: &mut GapZone, needed: u32) -> bool
     }
     let start = zone_start(linked);
     let end = zone_end(linked);
-    let limit = block_limit(zone, start, end, needed, &[]);
+    let limit = block_limit(zone.gaps(), start, end, needed, &[]);
     purge_between(zone, limit.start, limit.end, &[]);
     limit.enough
 }

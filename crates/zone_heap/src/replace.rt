@@ -8,18 +8,17 @@ ghost use Rattle.mac_base.specs.ZoneMap.{released};
 ghost use Rattle.zone_heap.specs.Attempts.{CanAsk, IsRefused, IsServed, SoundZone};
 ghost use Rattle.zone_heap.specs.Purge.{CanCount};
 
-use crate::known::Known;
 use crate::place::open_lowest;
 use crate::shortage::Shortage;
 use crate::size::{gap_to_grow, grows_to};
 use crate::zone::{Zone, cut, empty};
-use gap_index::GapZone;
 use mac_base::handle::Handle;
 use mac_base::size::need_for;
+use page_sums::SummedZone;
 
 /// Gives a handle a new block of `length` bytes, all of them zero. The old block, if there is one, counts as free while
 /// room is looked for. Where there is none, nothing has changed: so the old block is released only once room is sure.
-pub(crate) fn replace(zone: &mut GapZone, handle: Handle, length: u32) -> Result<(), Shortage>
+pub(crate) fn replace(zone: &mut SummedZone, handle: Handle, length: u32) -> Result<(), Shortage>
     requires ready { CanAsk zone.old (Replace handle length) }
     requires sound { SoundZone zone.old }
     ensures attempt { MatchResult result (λ _. IsServed (Replace handle length) zone.old handle zone.new) (λ why. IsRefused (Replace handle length) zone.old why zone.new) }
@@ -40,7 +39,7 @@ pub(crate) fn replace(zone: &mut GapZone, handle: Handle, length: u32) -> Result
 }
 
 /// Whether some gap has room for `needed` bytes, where the block of an unlocked handle counts as free, if it has one.
-fn has_room(zone: &mut GapZone, needed: u32, handle: Handle) -> bool
+fn has_room(zone: &mut SummedZone, needed: u32, handle: Handle) -> bool
     requires some { 0 < needed }
     requires sound { SoundZone zone.old }
     requires handle { CanCount zone.old (Some handle) }
@@ -55,7 +54,7 @@ fn has_room(zone: &mut GapZone, needed: u32, handle: Handle) -> bool
     if !zone.linked().has_block(block) {
         return false;
     }
-    let gap = gap_to_grow(zone, block);
+    let gap = gap_to_grow(zone.gaps(), block);
     grows_to(zone, gap, block, needed)
 }
 
@@ -74,7 +73,6 @@ impl Zone {
         ensures attempt { MatchResult result (λ _. IsServed (Replace handle length) self.old handle self.new) (λ why. IsRefused (Replace handle length) self.old why self.new) }
         ensures loans { KeepsLoans self.old self.new }
     {
-        self.known = Known::NOTHING;
         replace(&mut self.pointers, handle, length)
     }
 }

@@ -2,7 +2,6 @@
 
 use crate::zone::Zone;
 use mac_base::purge_space::PurgeSpace;
-use zone_reports::{largest_room, purge_space};
 
 impl Zone {
     ghost use Rattle.std.specs.Prelude.{◌≡◌};
@@ -19,33 +18,27 @@ impl Zone {
     /// MaxBlock: the most free bytes that moving blocks would bring together, in one gap (Inside Macintosh: Memory, "Assessing Memory
     /// Conditions").
     ///
-    /// It is remembered until the zone changes.
+    /// The sums of the zone's pages are remembered: only those of pages that have changed are made again.
     pub fn largest_room(&mut self) -> u32
         ensures room { result ≡ largest_room self.old.heap.table self.old.heap.map }
         ensures zone { self.new ≡ self.old }
     {
-        if let Some(room) = self.known.room {
-            return room;
-        }
-        let room = largest_room(&self.pointers);
-        self.known.room = Some(room);
-        room
+        self.pointers.sums().room
     }
 
     /// PurgeSpace: the bytes that would be free if all blocks that may be purged were (Inside Macintosh: Memory, "Assessing
     /// Memory Conditions").
     ///
-    /// It is remembered until the zone changes.
+    /// The sums of the zone's pages are remembered: only those of pages that have changed are made again.
     pub fn purge_space(&mut self) -> PurgeSpace
         ensures total { result.total ≡ purge_space self.old.heap.table self.old.heap.map }
         ensures contiguous { result.contiguous ≡ largest_purge_space self.old.heap.table self.old.heap.map }
         ensures zone { self.new ≡ self.old }
     {
-        if let Some(space) = self.known.space {
-            return space;
+        let sums = self.pointers.sums();
+        PurgeSpace {
+            total: sums.space,
+            contiguous: sums.contiguous,
         }
-        let space = purge_space(&self.pointers);
-        self.known.space = Some(space);
-        space
     }
 }

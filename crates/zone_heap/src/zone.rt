@@ -1,13 +1,12 @@
 //! The zone.
 
-use crate::known::Known;
-use gap_index::GapZone;
 use linked_zone::LinkedZone;
 use mac_base::block::{Block, Flags, HeadKind, Status};
 use mac_base::error::HostFull;
 use mac_base::handle::{Handle, Ptr};
 use mac_base::size::{MASTER_LENGTH, ZONE_HEADER, need_for};
 use mac_base::zone_spec::{ADDRESS_END, ZoneSpec};
+use page_sums::SummedZone;
 use raw_region::Lent;
 use std::alloc::Global;
 use std::marker::Model;
@@ -15,8 +14,7 @@ use std::marker::Model;
 /// A heap zone in raw bytes. Contracts see its shape and its heap: the handle table, the zone map and the free slots.
 /// All host memory is taken by `create`.
 pub struct Zone {
-    pub(crate) pointers: GapZone,
-    pub(crate) known: Known,
+    pub(crate) pointers: SummedZone,
 }
 
 impl Model for Zone {
@@ -24,11 +22,11 @@ impl Model for Zone {
 
     ghost Value = { ZoneState };
 
-    ghost use Rattle.zone_heap.specs.Zone.{zone_of, IsZone};
+    ghost use Rattle.zone_heap.specs.Attempts.{SoundZone};
 
-    ghost view = { zone_of };
+    ghost view = { λ z. z.pointers };
 
-    ghost invariant = { IsZone };
+    ghost invariant = { λ z. SoundZone z.pointers };
 }
 
 impl Drop for Zone {
@@ -38,7 +36,7 @@ impl Drop for Zone {
     fn drop(self)
         requires nothing_lent { self.heap.table.lent ≡ [] }
     {
-        let Zone { pointers, known: _ } = self;
+        let Zone { pointers } = self;
         drop(pointers);
     }
 }
@@ -68,14 +66,11 @@ impl Zone {
     pub fn create(alloc: Global, spec: ZoneSpec) -> Result<Zone, HostFull>
         ensures { IfOk result (λ zone. zone ≡ record { memory = zone.memory; shape = shape_of spec; heap = new_heap (shape_of spec) spec.size }) }
     {
-        let mut pointers = GapZone::create(alloc, spec)?;
+        let mut pointers = SummedZone::create(alloc, spec)?;
         let first = spec.base() + ZONE_HEADER;
         pointers.split(first, need_for(spec.heads(), MASTER_LENGTH));
         pointers.build_master(first);
-        Ok(Zone {
-            pointers,
-            known: Known::NOTHING,
-        })
+        Ok(Zone { pointers })
     }
 
     /// Whether a handle is live: the address of a slot that isn't free.
@@ -136,7 +131,6 @@ impl Zone {
         ensures bytes { result.bytes ≡ bytes_of self.old.heap.table block }
         ensures loans { KeepsLoans self.old self.new }
     {
-        self.known = Known::NOTHING;
         self.pointers.lend(block)
     }
 
@@ -146,7 +140,6 @@ impl Zone {
         ensures zone { self.new ≡ with_heap (returned block loan.bytes self.old.heap) self.old }
         ensures loans { KeepsOtherLoans block self.old self.new }
     {
-        self.known = Known::NOTHING;
         self.pointers.give_back(block, loan);
     }
 
@@ -160,7 +153,6 @@ impl Zone {
         ensures loans { KeepsLoans self.old self.new }
     {
         self.empty(handle);
-        self.known = Known::NOTHING;
         self.pointers.release(handle);
     }
 
@@ -173,7 +165,6 @@ impl Zone {
         ensures loans { KeepsLoans self.old self.new }
     {
         let at = self.pointers.linked().place_of(pointer.number());
-        self.known = Known::NOTHING;
         self.pointers.unfix(pointer);
         join(&mut self.pointers, at);
     }
@@ -187,7 +178,6 @@ impl Zone {
         ensures shape { self.new.shape ≡ self.old.shape }
         ensures loans { KeepsLoans self.old self.new }
     {
-        self.known = Known::NOTHING;
         empty(&mut self.pointers, handle);
     }
 
@@ -207,7 +197,6 @@ impl Zone {
         ensures shape { self.new.shape ≡ self.old.shape }
         ensures loans { KeepsLoans self.old self.new }
     {
-        self.known = Known::NOTHING;
         self.pointers.set_flags(handle, flags);
     }
 
@@ -245,7 +234,6 @@ impl Zone {
         ensures* writes_back { sem 𝓛 (WritesBackBytes self.entry block result) }
         ensures value { result.now ≡ bytes_of self.old.heap.table block }
     {
-        self.known = Known::NOTHING;
         self.pointers.contents_mut(block)
     }
 
@@ -299,7 +287,7 @@ ghost use Rattle.zone_heap.specs.Placed.{resized_there};
 ghost use Rattle.zone_heap.specs.Joins.{CanTake, NewlyFree, with_front, all_joined};
 
 /// Cuts a free block to its first `size` bytes, unless fewer bytes than a block has would be left.
-pub(crate) fn cut(pointers: &mut GapZone, at: u32, size: u32)
+pub(crate) fn cut(pointers: &mut SummedZone, at: u32, size: u32)
     requires { CanTake pointers.old at size }
     ensures { (take : CanTake pointers.old at size) → pointers.new ≡ with_front pointers.old take }
 {
@@ -312,7 +300,7 @@ pub(crate) fn cut(pointers: &mut GapZone, at: u32, size: u32)
 }
 
 /// Joins a free block to its free neighbours, where no two other free blocks are neighbours.
-pub(crate) fn join(pointers: &mut GapZone, at: u32)
+pub(crate) fn join(pointers: &mut SummedZone, at: u32)
     requires { NewlyFree pointers.old at }
     ensures { pointers.new ≡ all_joined pointers.old }
 {
@@ -331,7 +319,7 @@ pub(crate) fn join(pointers: &mut GapZone, at: u32)
 }
 
 /// Empties a live handle: its block, if it has one, is free and joined to its free neighbours, and its slot stays its own.
-pub(crate) fn empty(pointers: &mut GapZone, handle: Handle)
+pub(crate) fn empty(pointers: &mut SummedZone, handle: Handle)
     requires sound { SoundZone pointers.old }
     requires live { IsTrue (is_handle pointers.old.heap.table handle) }
     requires here { IsFalse (is_lent pointers.old.heap.table handle) }
@@ -377,7 +365,7 @@ pub(crate) fn front(pointers: &LinkedZone, whole: u32, needed: u32) -> u32
 
 /// Gives the owner of a block `length` bytes, which need `needed` bytes of the block. What is over is free where it makes
 /// a block, and joined to the free block behind it.
-pub(crate) fn shrink(pointers: &mut GapZone, block: u32, needed: u32, length: u32)
+pub(crate) fn shrink(pointers: &mut SummedZone, block: u32, needed: u32, length: u32)
     requires sound { Sound pointers.old.shape pointers.old.heap }
     requires block { IsTrue (has_block pointers.old.heap.table block) }
     requires here { IsFalse (is_lent pointers.old.heap.table block) }

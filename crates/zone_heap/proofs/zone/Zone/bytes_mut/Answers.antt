@@ -18,9 +18,6 @@ invariant_of-self-lent c w =
     let full = subst (λ (z : ZoneState). status_of z.heap.table x ≡ Full) (sym c.self.view_is) c.requires.full in
     let bytes = overwritten (bytes_of heap.table x) w in
     record {
-      known = record { room = tt; space = tt };
-      zone = record {
-        sound = sound-written s heap x bytes c.self.invariant.zone.sound (full-has_block heap.table x full) (length-overwritten (bytes_of heap.table x) w);
-        fixed = fixed-kept s heap (with_table (with_bytes x bytes heap.table) heap) (keeps-written s heap x bytes (full-here heap.table x full)) c.self.invariant.zone.fixed;
-      };
+      sound = sound-written s heap x bytes c.self.invariant.sound (full-has_block heap.table x full) (length-overwritten (bytes_of heap.table x) w);
+      fixed = fixed-kept s heap (with_table (with_bytes x bytes heap.table) heap) (keeps-written s heap x bytes (full-here heap.table x full)) c.self.invariant.fixed;
     }

@@ -8,8 +8,5 @@ pub invariant_of-self : goal.invariant_of-self
 invariant_of-self c =
     let z = c.self.inside.pointers in
     let small : largest_free z.heap.map < c.args.needed = omega (arith, (rw c.linked.ensures at c.largest_free-largest.ensures), c.if-needed-largest.false) in
-    record {
-      known = record { room = tt; space = tt };
-      zone = zone-compacted z c.squeeze.new.pointers c.self.invariant.zone c.squeeze.ensures.settled c.args.needed
-          (c.squeeze.ensures.zone ∙ ap (λ m. with_map m z) (compacted-squeezed z.heap.table c.args.needed z.heap.map small));
-    }
+    zone-compacted z c.squeeze.new.pointers c.self.invariant c.squeeze.ensures.settled c.args.needed
+    (c.squeeze.ensures.zone ∙ ap (λ m. with_map m z) (compacted-squeezed z.heap.table c.args.needed z.heap.map small))

@@ -12,7 +12,7 @@ prove-unreachable-requires c =
     let z = c.self.inside.pointers in
     let base = c.base.ensures.value ∙ ap (λ (s : ZoneSizes). s.base) (rw c.linked-linked.ensures at c.spec-spec.ensures.sizes) in
     let limit = c.limit.ensures.value ∙ ap (λ (s : ZoneSizes). s.limit) (rw c.linked-linked.ensures at c.spec-spec.ensures.sizes) in
-    let below = below_limit z c.args.handle c.block_of-at.result c.self.invariant.zone.sound (rw c.linked-linked.ensures at c.block_of-at.ensures) in
+    let below = below_limit z c.args.handle c.block_of-at.result c.self.invariant.sound (rw c.linked-linked.ensures at c.block_of-at.ensures) in
     omega (arith, c.if-prove.true)
 
 pub returns : goal.returns
@@ -21,5 +21,5 @@ returns c =
     let full = ap (λ (z : ZoneState). is_full z.heap.table c.args.handle) c.self.view_is ∙ c.requires in
     let size = c.head_size.ensures ∙ ap head_size c.heads.ensures ∙ ap (λ (s : ZoneSizes). head_size s.heads) (rw c.linked-linked.ensures at c.spec-spec.ensures.sizes) in
     ap (λ n. c.block_of-at.result + n) size
-    ∙ contents_there z c.args.handle c.block_of-at.result c.self.invariant.zone.sound full (rw c.linked-linked.ensures at c.block_of-at.ensures)
+    ∙ contents_there z c.args.handle c.block_of-at.result c.self.invariant.sound full (rw c.linked-linked.ensures at c.block_of-at.ensures)
     ∙ ap (λ (z : ZoneState). contents_of z.shape c.args.handle z.heap.map) c.self.view_is

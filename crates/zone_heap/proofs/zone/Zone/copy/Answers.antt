@@ -46,12 +46,9 @@ invariant_of-self c =
     (subst (λ (z : ZoneState). c.args.start + c.args.count ≤ length (bytes_of z.heap.table c.args.from)) (sym c.self.view_is) c.requires.within_source)
     (subst (λ (z : ZoneState). c.args.offset + c.args.count ≤ length (bytes_of z.heap.table c.args.to)) (sym c.self.view_is) c.requires.within_target) in
     record {
-      known = record { room = tt; space = tt };
-      zone = record {
-        sound = subst (λ (w : ZoneState). Sound w.shape w.heap) (sym c.copy.ensures)
-            (sound-written z.shape z.heap c.args.to (written c.args.offset (take c.args.count (drop c.args.start source)) target) c.self.invariant.zone.sound (full-has_block t c.args.to full) long);
-        fixed = changed-fixed z new c.copy.new.self c.copy.ensures (kept (goal.at.invariant_of-self c).After-copy) c.self.invariant.zone.fixed;
-      };
+      sound = subst (λ (w : ZoneState). Sound w.shape w.heap) (sym c.copy.ensures)
+          (sound-written z.shape z.heap c.args.to (written c.args.offset (take c.args.count (drop c.args.start source)) target) c.self.invariant.sound (full-has_block t c.args.to full) long);
+      fixed = changed-fixed z new c.copy.new.self c.copy.ensures (kept (goal.at.invariant_of-self c).After-copy) c.self.invariant.fixed;
     }
 
 pub returns-clause-loans : goal.returns-clause-loans

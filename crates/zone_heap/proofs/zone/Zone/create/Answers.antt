@@ -29,9 +29,6 @@ pub invariant_of-result : goal.invariant_of-result
 invariant_of-result c =
     let is = new-heap c.in_ok-pointers.pointers.memory c.args.spec c.in_ok-pointers.pointers c.split.new.self c.build_master.new.self c.base-first.result c.need_for.result (begun (goal.at.invariant_of-result c).After-need_for) c.split.ensures c.build_master.ensures in
     record {
-      known = record { room = tt; space = tt };
-      zone = record {
-        sound = subst (λ (z : ZoneState). Sound z.shape z.heap) (sym is) (sound-new c.args.spec c.base-first.ensures.possible);
-        fixed = subst (λ (z : ZoneState). LoansAreFixed z.heap) (sym is) (λ x lent. absurd (cc lent));
-      };
+      sound = subst (λ (z : ZoneState). Sound z.shape z.heap) (sym is) (sound-new c.args.spec c.base-first.ensures.possible);
+      fixed = subst (λ (z : ZoneState). LoansAreFixed z.heap) (sym is) (λ x lent. absurd (cc lent));
     }

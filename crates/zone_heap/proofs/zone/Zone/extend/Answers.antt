@@ -18,7 +18,7 @@ join-requires c =
     let below = c.size.ensures.value ∙ ap (λ (s : ZoneSizes). s.size) (rw c.linked.ensures at c.spec-spec.ensures.sizes) in
     let limit = c.limit.ensures.value ∙ ap (λ (s : ZoneSizes). s.limit) (rw c.linked.ensures at c.spec-spec.ensures.sizes) in
     subst (λ w. NewlyFree w (c.base.result + c.size-then-size-limit.result)) (sym c.extend.ensures)
-    (extended-newly z c.self.invariant.zone.sound (c.base.result + c.size-then-size-limit.result) (omega (arith, base, size)) (omega (arith, below, limit, c.if-size-limit.true)))
+    (extended-newly z c.self.invariant.sound (c.base.result + c.size-then-size-limit.result) (omega (arith, base, size)) (omega (arith, below, limit, c.if-size-limit.true)))
 
 -- the zone then
 after : (c : After-join) → c.join.new.pointers ≡ with_heap (grown c.self.inside.pointers.shape c.self.inside.pointers.heap) c.self.inside.pointers
@@ -29,11 +29,8 @@ invariant_of-self c =
     let z = c.self.inside.pointers in
     let is = after (goal.at.invariant_of-self c).After-join in
     record {
-      known = record { room = tt; space = tt };
-      zone = record {
-        sound = subst (λ (w : ZoneState). Sound w.shape w.heap) (sym is) (sound-grown z.shape z.heap c.self.invariant.zone.sound);
-        fixed = changed-fixed z (with_heap (grown z.shape z.heap) z) c.join.new.pointers is (keeps-grown z.shape z.heap) c.self.invariant.zone.fixed;
-      };
+      sound = subst (λ (w : ZoneState). Sound w.shape w.heap) (sym is) (sound-grown z.shape z.heap c.self.invariant.sound);
+      fixed = changed-fixed z (with_heap (grown z.shape z.heap) z) c.join.new.pointers is (keeps-grown z.shape z.heap) c.self.invariant.fixed;
     }
 
 pub returns-then-size-limit-clause-loans : goal.returns-then-size-limit-clause-loans
@@ -46,4 +43,4 @@ returns-else-size-limit-clause-zone c =
     let z = c.self.inside.pointers in
     let size = c.size.ensures.value ∙ ap (λ (s : ZoneSizes). s.size) (rw c.linked.ensures at c.spec-spec.ensures.sizes) in
     let limit = c.limit.ensures.value ∙ ap (λ (s : ZoneSizes). s.limit) (rw c.linked.ensures at c.spec-spec.ensures.sizes) in
-    sym c.self.view_is ∙ grown-full z c.self.invariant.zone.sound (λ below. omega (arith, size, limit, c.if-size-limit.false, below)) ∙ ap (λ (z : ZoneState). with_heap (grown z.shape z.heap) z) c.self.view_is
+    sym c.self.view_is ∙ grown-full z c.self.invariant.sound (λ below. omega (arith, size, limit, c.if-size-limit.false, below)) ∙ ap (λ (z : ZoneState). with_heap (grown z.shape z.heap) z) c.self.view_is

@@ -13,11 +13,8 @@ invariant_of-self c =
     let x = c.args.block in
     let is = subst (λ z. IsLoanOf z x c.args.loan) (sym c.self.view_is) c.requires in
     record {
-      known = record { room = tt; space = tt };
-      zone = record {
-        sound = subst (λ (w : ZoneState). Sound w.shape w.heap) (sym c.give_back.ensures) (sound-returned z.shape z.heap x c.args.loan.bytes c.self.invariant.zone.sound c.self.invariant.zone.fixed is.lent is.long);
-        fixed = subst (λ (w : ZoneState). LoansAreFixed w.heap) (sym c.give_back.ensures) (returned-fixed x c.args.loan.bytes z.heap c.self.invariant.zone.fixed);
-      };
+      sound = subst (λ (w : ZoneState). Sound w.shape w.heap) (sym c.give_back.ensures) (sound-returned z.shape z.heap x c.args.loan.bytes c.self.invariant.sound c.self.invariant.fixed is.lent is.long);
+      fixed = subst (λ (w : ZoneState). LoansAreFixed w.heap) (sym c.give_back.ensures) (returned-fixed x c.args.loan.bytes z.heap c.self.invariant.fixed);
     }
 
 pub returns-clause-loans : goal.returns-clause-loans

@@ -17,15 +17,12 @@ invariant_of-self c =
     let t = z.heap.table in
     let may = ap (λ (z : ZoneState). may_be_lent z.heap.table x) c.self.view_is ∙ c.requires.fixed in
     record {
-      known = record { room = tt; space = tt };
-      zone = record {
-        sound = subst (λ (w : ZoneState). Sound w.shape w.heap) (sym c.lend.ensures.zone) (sound-lent z.shape z.heap (lent_out x z.heap).table.lent c.self.invariant.zone.sound);
-        fixed = subst (λ (w : ZoneState). LoansAreFixed w.heap) (sym c.lend.ensures.zone)
-            (lent_out-fixed z.heap x c.self.invariant.zone.fixed (both_true (is_pointer t x || is_locked t x) (nat_lt (length t.lent) most_loans) may).0);
-      };
+      sound = subst (λ (w : ZoneState). Sound w.shape w.heap) (sym c.lend.ensures.zone) (sound-lent z.shape z.heap (lent_out x z.heap).table.lent c.self.invariant.sound);
+      fixed = subst (λ (w : ZoneState). LoansAreFixed w.heap) (sym c.lend.ensures.zone)
+          (lent_out-fixed z.heap x c.self.invariant.fixed (both_true (is_pointer t x || is_locked t x) (nat_lt (length t.lent) most_loans) may).0);
     }
 
 pub returns-clause-loans : goal.returns-clause-loans
 returns-clause-loans c =
     let z = c.self.inside.pointers in
-    subst (λ old. KeepsLoans old c.lend.new.self) c.self.view_is (subst (KeepsLoans z) (sym c.lend.ensures.zone) (lend-keeps z c.args.block c.self.invariant.zone.sound c.self.invariant.zone.fixed))
+    subst (λ old. KeepsLoans old c.lend.new.self) c.self.view_is (subst (KeepsLoans z) (sym c.lend.ensures.zone) (lend-keeps z c.args.block c.self.invariant.sound c.self.invariant.fixed))

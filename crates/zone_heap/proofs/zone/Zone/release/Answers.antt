@@ -32,11 +32,8 @@ invariant_of-self c =
     let z = c.self.inside.pointers in
     let is = empty (goal.at.invariant_of-self c).After-self in
     record {
-      known = record { room = tt; space = tt };
-      zone = record {
-        sound = subst (λ (w : ZoneState). Sound w.shape w.heap) (sym c.release.ensures) (given_back-sound z c.args.handle c.self.invariant.zone.sound is);
-        fixed = changed-fixed z (given_back c.args.handle z) c.release.new.self c.release.ensures (kept (goal.at.invariant_of-self c).After-self) c.self.invariant.zone.fixed;
-      };
+      sound = subst (λ (w : ZoneState). Sound w.shape w.heap) (sym c.release.ensures) (given_back-sound z c.args.handle c.self.invariant.sound is);
+      fixed = changed-fixed z (given_back c.args.handle z) c.release.new.self c.release.ensures (kept (goal.at.invariant_of-self c).After-self) c.self.invariant.fixed;
     }
 
 pub returns-clause-heap : goal.returns-clause-heap

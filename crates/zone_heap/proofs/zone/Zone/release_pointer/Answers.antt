@@ -22,7 +22,7 @@ join-requires c =
     let live = ap (λ (z : ZoneState). is_pointer z.heap.table p) c.self.view_is ∙ c.requires.live in
     let named = subst (λ x. NamedAt z x c.place_of-at.result) c.number.ensures (rw c.linked.ensures at c.place_of-at.ensures) in
     subst (λ w. NewlyFree w c.place_of-at.result) (sym c.unfix.ensures)
-    (newly-free z p c.place_of-at.result (without p z.heap.table) c.self.invariant.zone.sound (or_right (is_full z.heap.table p) (is_pointer z.heap.table p) live) named)
+    (newly-free z p c.place_of-at.result (without p z.heap.table) c.self.invariant.sound (or_right (is_full z.heap.table p) (is_pointer z.heap.table p) live) named)
 
 -- the zone then
 abbrev after_zone : After-join → ZoneState
@@ -44,11 +44,8 @@ invariant_of-self c =
     let w = (goal.at.invariant_of-self c).After-join in
     let live = ap (λ (z : ZoneState). is_pointer z.heap.table c.args.pointer) c.self.view_is ∙ c.requires.live in
     record {
-      known = record { room = tt; space = tt };
-      zone = record {
-        sound = subst (λ (w : ZoneState). Sound w.shape w.heap) (sym (after w)) (sound-disposed_pointer z.shape z.heap c.args.pointer c.self.invariant.zone.sound live);
-        fixed = changed-fixed z (after_zone w) c.join.new.pointers (after w) (kept w) c.self.invariant.zone.fixed;
-      };
+      sound = subst (λ (w : ZoneState). Sound w.shape w.heap) (sym (after w)) (sound-disposed_pointer z.shape z.heap c.args.pointer c.self.invariant.sound live);
+      fixed = changed-fixed z (after_zone w) c.join.new.pointers (after w) (kept w) c.self.invariant.fixed;
     }
 
 pub returns-clause-loans : goal.returns-clause-loans

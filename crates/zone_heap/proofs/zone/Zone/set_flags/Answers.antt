@@ -22,11 +22,8 @@ invariant_of-self c =
     let z = c.self.inside.pointers in
     let full = ap (λ (z : ZoneState). is_full z.heap.table c.args.handle) c.self.view_is ∙ c.requires.full in
     record {
-      known = record { room = tt; space = tt };
-      zone = record {
-        sound = subst (λ (w : ZoneState). Sound w.shape w.heap) (sym c.set_flags.ensures) (sound-flags z.shape z.heap c.args.handle c.args.flags c.self.invariant.zone.sound full);
-        fixed = changed-fixed z (flagged c.args.handle c.args.flags z) c.set_flags.new.self c.set_flags.ensures (kept (goal.at.invariant_of-self c).After-set_flags) c.self.invariant.zone.fixed;
-      };
+      sound = subst (λ (w : ZoneState). Sound w.shape w.heap) (sym c.set_flags.ensures) (sound-flags z.shape z.heap c.args.handle c.args.flags c.self.invariant.sound full);
+      fixed = changed-fixed z (flagged c.args.handle c.args.flags z) c.set_flags.new.self c.set_flags.ensures (kept (goal.at.invariant_of-self c).After-set_flags) c.self.invariant.fixed;
     }
 
 pub returns-clause-loans : goal.returns-clause-loans

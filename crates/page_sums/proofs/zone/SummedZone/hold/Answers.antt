@@ -1,0 +1,74 @@
+use Rattle.std.proofs.Common.{◌≡◌, ◌+◌, ◌∷◌, true, sym, subst, ◌∙◌, arith}
+use Rattle.mac_base.specs.HandleTable.{has_block}
+use Rattle.mac_base.specs.ZoneState.{ZoneState}
+use Rattle.linked_zone.specs.Changes.{held_there}
+use Rattle.linked_zone.specs.Fit.{Fits}
+use Rattle.linked_zone.specs.Places.{CanHold, NamedAt}
+use Rattle.gap_index.proofs.Named.{named-owner}
+use Rattle.page_sums.proofs.Kept.{forgets-read, named-place, pages-kept, part-ends}
+use Rattle.page_sums.proofs.Parts.{pages-held}
+use Rattle.page_sums.proofs.zone.SummedZone.hold.Goals as goal
+
+pub place_of-at-requires : goal.place_of-at-requires
+place_of-at-requires c =
+    let can = c.requires.room in
+    let same = c.linked-linked.ensures ∙ c.self.view_is in
+    subst (λ (z : ZoneState). has_block z.heap.table c.args.block ≡ true) (sym same)
+    (named-owner c.args.self.now c.args.block can.before can.here can.behind (subst Fits same c.spec-spec.ensures.fits) can.map can.named)
+
+pub page-first-requires-clause-low : goal.page-first-requires-clause-low
+page-first-requires-clause-low c =
+    let can = c.requires.room in
+    let same = c.linked-linked.ensures ∙ c.self.view_is in
+    let named = subst (λ (z : ZoneState). NamedAt z c.args.block c.place_of-at.result) same c.place_of-at.ensures in
+    let place = named.place in
+    omega arith
+
+pub page-first-requires-clause-high : goal.page-first-requires-clause-high
+page-first-requires-clause-high c =
+    let same = c.linked-linked.ensures ∙ c.self.view_is in
+    let named = subst (λ (z : ZoneState). NamedAt z c.args.block c.place_of-at.result) same c.place_of-at.ensures in
+    let place = named.place in
+    let ends = part-ends c.args.self.now named.before (named.here ∷ named.behind) named.map in
+    omega arith
+
+pub overflow_add-at : goal.overflow_add-at
+overflow_add-at c =
+    let can = c.requires.room in
+    let same = c.linked-linked.ensures ∙ c.self.view_is in
+    let named = subst (λ (z : ZoneState). NamedAt z c.args.block c.place_of-at.result) same c.place_of-at.ensures in
+    let place = named-place c.args.self.now c.args.block c.place_of-at.result c.page-first.ensures.fits named can.before can.here can.behind can.map can.named in
+    let ends = part-ends c.args.self.now can.before (can.here ∷ can.behind) can.map in
+    let within = can.fits.within in
+    let reach = c.page-first.ensures.reach in
+    omega arith
+
+pub page-last-requires-clause-low : goal.page-last-requires-clause-low
+page-last-requires-clause-low c =
+    let same = c.linked-linked.ensures ∙ c.self.view_is in
+    let named = subst (λ (z : ZoneState). NamedAt z c.args.block c.place_of-at.result) same c.place_of-at.ensures in
+    let place = named.place in
+    omega arith
+
+pub page-last-requires-clause-high : goal.page-last-requires-clause-high
+page-last-requires-clause-high c =
+    let can = c.requires.room in
+    let same = c.linked-linked.ensures ∙ c.self.view_is in
+    let named = subst (λ (z : ZoneState). NamedAt z c.args.block c.place_of-at.result) same c.place_of-at.ensures in
+    let place = named-place c.args.self.now c.args.block c.place_of-at.result c.page-first.ensures.fits named can.before can.here can.behind can.map can.named in
+    let ends = part-ends c.args.self.now can.before (can.here ∷ can.behind) can.map in
+    let within = can.fits.within in
+    omega arith
+
+pub invariant_of-self : goal.invariant_of-self
+invariant_of-self c =
+    let can = subst (λ (z : ZoneState). CanHold z c.args.block c.args.size c.args.length) (sym c.self.view_is) c.requires.room in
+    let named = subst (λ (z : ZoneState). NamedAt z c.args.block c.place_of-at.result) c.linked-linked.ensures c.place_of-at.ensures in
+    let fits = subst Fits c.linked-linked.ensures c.spec-spec.ensures.fits in
+    let place = named-place c.self.inside.zone c.args.block c.place_of-at.result fits named can.before can.here can.behind can.map can.named in
+    pages-kept c.self.inside.pages c.forget.new.pages (c.forget.auto.pages ∙ c.deref_mut.ensures.len) (c.hold.ensures can)
+    (pages-held c.self.inside.zone c.self.inside.pages.items c.forget.new.pages c.self.invariant can place
+    (forgets-read c.place_of-at.result (c.place_of-at.result + c.args.size) c.self.view_is c.deref_mut.ensures.value c.page-first.ensures.value c.page-last.ensures.value c.forget.ensures))
+
+pub returns : goal.returns
+returns c = subst (λ (z : ZoneState). (can : CanHold z c.args.block c.args.size c.args.length) → c.hold.new.self ≡ held_there z can) c.self.view_is c.hold.ensures

@@ -1,0 +1,5 @@
+pub mod Weights
+pub mod Spans
+pub mod Pages
+pub mod Walk
+pub mod WritingBack

@@ -1,0 +1,53 @@
+-- What is remembered of neighbouring blocks.
+use Rattle.std.specs.Prelude.{◌≡◌, ℕ, ◌+◌, ◌≤◌, max, List, ◌++◌, if◌then◌else◌}
+use Rattle.page_sums.specs.declared.span.Span.{Span}
+use Rattle.page_sums.specs.declared.span.Span.TheVariants.{Whole, Parted}
+use Rattle.page_sums.specs.declared.sums.Sums.{Sums}
+use Rattle.page_sums.specs.declared.weight.Weight.{Weight}
+use Rattle.page_sums.specs.Weights.{bytes_of, space_of, most}
+
+-- the most that one gap has of them
+abbrev pub most_in : Span → ℕ
+most_in (Whole n) = n
+most_in (Parted p) = max p.first (max p.most p.last)
+
+-- blocks and those behind them
+abbrev pub joined : Span → Span → Span
+joined (Whole n) (Whole k) = Whole (n + k)
+joined (Whole n) (Parted q) = Parted (record q { first = n + q.first })
+joined (Parted p) (Whole k) = Parted (record p { last = p.last + k })
+joined (Parted p) (Parted q) = Parted (record { first = p.first; most = max p.most (max (p.last + q.first) q.most); last = q.last })
+
+-- one block
+abbrev pub span_of : (Weight → ℕ) → Weight → Span
+span_of sort w = if w.fixed then Parted (record { first = 0; most = 0; last = 0 }) else Whole (sort w)
+
+-- the most that one gap has of these blocks and those behind, where r lie before the first: f says it of those behind
+abbrev pub passed : Span → ℕ → (ℕ → ℕ) → ℕ
+passed (Whole n) r f = f (r + n)
+passed (Parted p) r f = max (r + p.first) (max p.most (f p.last))
+
+-- it says of these blocks all that those behind them need
+abbrev pub IsSpan : (Weight → ℕ) → List Weight → Span → Type 0
+IsSpan sort ws s = (r : ℕ) (behind : List Weight) → most sort r (ws ++ behind) ≡ passed s r (λ n. most sort n behind)
+
+-- the sums of these blocks
+pub record IsSum (ws : List Weight) (s : Sums) : Type 0 where
+  pub bytes : s.bytes ≡ bytes_of ws
+  pub space : s.space ≡ space_of ws
+  pub free : IsSpan (λ (w : Weight). w.free) ws s.free
+  pub spaces : IsSpan (λ (w : Weight). w.space) ws s.spaces
+
+-- no sum is larger than that of all bytes
+pub record IsWithin (s : Sums) : Type 0 where
+  pub space : s.space ≤ s.bytes
+  pub free : most_in s.free ≤ s.bytes
+  pub spaces : most_in s.spaces ≤ s.bytes
+
+-- those of blocks and of others behind them
+abbrev pub both : Sums → Sums → Sums
+both a b = record { bytes = a.bytes + b.bytes; space = a.space + b.space; free = joined a.free b.free; spaces = joined a.spaces b.spaces }
+
+-- those of one block
+abbrev pub one : Weight → Sums
+one w = record { bytes = w.bytes; space = w.space; free = span_of (λ (w : Weight). w.free) w; spaces = span_of (λ (w : Weight). w.space) w }

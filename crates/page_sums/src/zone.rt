@@ -1,0 +1,142 @@
+//! The zone.
+
+use crate::pages::{PAGE_SIZE, page_of, page_sums};
+use crate::sums::{Sums, ZoneSums};
+use gap_index::GapZone;
+use linked_zone::LinkedZone;
+use mac_base::error::HostFull;
+use mac_base::size::ZONE_HEADER;
+use mac_base::zone_spec::ZoneSpec;
+use std::alloc::Global;
+use std::marker::Model;
+
+/// A zone whose pages' sums are remembered. Contracts see its shape, its handle table, its zone map and its free slots in the
+/// order in which they are given. After `create` no call takes memory of the host.
+pub struct SummedZone {
+    pub(crate) zone: GapZone,
+    /// The sums of the blocks that begin in each page, where they are known.
+    pub(crate) pages: Vec<Option<Sums>>,
+}
+
+impl Model for SummedZone {
+    ghost use Rattle.mac_base.specs.ZoneState.{ZoneState};
+
+    ghost Value = { ZoneState };
+
+    ghost use Rattle.page_sums.specs.Pages.{ArePages};
+
+    ghost view = { λ a. a.zone };
+
+    ghost invariant = { λ a. ArePages a.zone a.pages.items };
+}
+
+impl Drop for SummedZone {
+    ghost use Rattle.std.specs.Prelude.{◌≡◌, []};
+
+    /// A zone ends only when nothing of it is lent.
+    fn drop(self)
+        requires nothing_lent { self.heap.table.lent ≡ [] }
+    {
+        let SummedZone { zone, pages } = self;
+        drop(zone);
+        drop(pages);
+    }
+}
+
+impl SummedZone {
+    ghost use Rattle.std.specs.Prelude.{◌≡◌, ◌/◌, ◌^◌, ◌<◌, ◌≤◌, IfOk};
+    ghost use Rattle.mac_base.specs.Reports.{largest_purge_space, largest_room, purge_space};
+    ghost use Rattle.mac_base.specs.ZoneMap.{address_behind};
+    ghost use Rattle.linked_zone.specs.Changes.{bare_zone};
+    ghost use Rattle.linked_zone.specs.Fit.{Fits, HasSizes};
+    ghost use Rattle.page_sums.specs.Pages.{page, page_size};
+
+    /// A new zone: one free block, and no slot.
+    pub fn create(alloc: Global, spec: ZoneSpec) -> Result<SummedZone, HostFull>
+        ensures { IfOk result (λ zone. zone ≡ bare_zone zone.memory spec) }
+    {
+        Ok(SummedZone {
+            zone: GapZone::create(alloc, spec)?,
+            pages: vec![in alloc; None; (spec.limit() / PAGE_SIZE) as usize + 1]?,
+        })
+    }
+
+    /// The zone and its gaps, for all that only reads.
+    pub fn gaps(&self) -> &GapZone
+        ensures { result.now ≡ self.now }
+    {
+        &self.zone
+    }
+
+    /// The zone, for all that only reads.
+    pub fn linked(&self) -> &LinkedZone
+        ensures { result.now ≡ self.now }
+    {
+        self.zone.linked()
+    }
+
+    /// What the zone has room for: the sums over its pages, of which only those are gone through that changed since they were last
+    /// asked for.
+    pub fn sums(&mut self) -> ZoneSums
+        ensures zone { self.new ≡ self.old }
+        ensures space { result.space ≡ purge_space self.old.heap.table self.old.heap.map }
+        ensures room { result.room ≡ largest_room self.old.heap.table self.old.heap.map }
+        ensures contiguous { result.contiguous ≡ largest_purge_space self.old.heap.table self.old.heap.map }
+    {
+        zone_sums(self.zone.linked(), &mut self.pages)
+    }
+
+    /// The page of an address.
+    pub(crate) fn page(&self, at: u32) -> usize
+        requires low { self.now.shape.base ≤ at }
+        requires high { at ≤ address_behind self.now.shape self.now.heap.map }
+        ensures value { result ≡ page self.now.shape at }
+        ensures inside { result ≤ self.now.shape.limit / page_size }
+        ensures reach { address_behind self.now.shape self.now.heap.map < 2 ^ 32 }
+        ensures fits { Fits self.now }
+        ensures sizes { HasSizes self.now }
+    {
+        page_of(self.zone.linked().spec().base(), at)
+    }
+}
+
+ghost use Rattle.std.specs.Prelude.{◌≡◌};
+ghost use Rattle.mac_base.specs.Reports.{largest_purge_space, largest_room, purge_space};
+ghost use Rattle.page_sums.specs.Pages.{ArePages};
+ghost use Rattle.page_sums.specs.Spans.{IsSum};
+ghost use Rattle.page_sums.specs.Weights.{weights};
+
+/// What a zone has room for, by the sums of its pages.
+fn zone_sums(zone: &LinkedZone, pages: &mut [Option<Sums>]) -> ZoneSums
+    requires pages { ArePages zone.now pages.old }
+    ensures pages { ArePages zone.now pages.new }
+    ensures space { result.space ≡ purge_space zone.now.heap.table zone.now.heap.map }
+    ensures room { result.room ≡ largest_room zone.now.heap.table zone.now.heap.map }
+    ensures contiguous { result.contiguous ≡ largest_purge_space zone.now.heap.table zone.now.heap.map }
+{
+    let all = all_pages(zone, pages);
+    let _spec = zone.spec();
+    ZoneSums {
+        space: all.space,
+        room: all.free.most(),
+        contiguous: all.spaces.most(),
+    }
+}
+
+/// The sums of all blocks, page by page.
+fn all_pages(zone: &LinkedZone, pages: &mut [Option<Sums>]) -> Sums
+    requires pages { ArePages zone.now pages.old }
+    ensures pages { ArePages zone.now pages.new }
+    ensures sums { IsSum (weights zone.now.heap.table zone.now.heap.map) result }
+{
+    let spec = zone.spec();
+    let end = spec.base() + spec.size();
+    let mut at = spec.base() + ZONE_HEADER;
+    let mut all = Sums::NONE;
+    while at < end {
+        let here = page_sums(zone, pages, at);
+        all = all.join(here);
+        at += here.bytes;
+    }
+    all
+}
