@@ -66,6 +66,7 @@ TYPES = empty_types(65000)
 LATE = fork_of([(b"TEXT", it, None, 0) for it in range(8191)] + [(b"TEXT", 8191, None, 1000)], struct.pack(">I", 496) + bytes(496))
 FULL = fork_of([(b"TEXT", it, None, 0) for it in range(5458)], bytes(4))
 ALMOST = fork_of([(b"TEXT", it, None, 0) for it in range(5457)], bytes(4))
+APART = fork_of([(b"TEXT", it, None, 4 * it) for it in range(5458)], bytes(4 * 5458))
 ONE_EACH = fork_of([(b"%04d" % it, 1, None, 0) for it in range(3000)], bytes(4))
 
 
@@ -198,6 +199,9 @@ RUNS = [
     ("PurgeSpace among 32,000 blocks of no bytes, and a flag that is set", [], ["h=NewHandle 8"] + handles(32000, 0) + ["HPurge h", "PurgeSpace"] * LINES),
     ("MaxBlock among 10,000 free blocks, and a lock that comes and goes", [], locked_by_turns(["HLock h", "MaxBlock", "HUnlock h", "MaxBlock"])),
     ("PurgeSpace among 10,000 free blocks, and a flag that is set", [], locked_by_turns(["HPurge h", "PurgeSpace"])),
+    ("PurgeSpace among 32,000 blocks of no bytes, and a block that comes and goes", [], ["h=NewHandle 8", "HPurge h"] + handles(32000, 0) + ["x=NewHandle 0", "PurgeSpace", "DisposeHandle x", "PurgeSpace"] * LINES),
+    ("MaxBlock among 10,000 free blocks, and a block that comes and goes", [], locked_by_turns(["x=NewHandle 8", "MaxBlock", "DisposeHandle x", "MaxBlock"])),
+    ("PurgeSpace among 10,000 free blocks, and a block that moves", [], below_free_blocks(["HPurge h"], ["ReallocateHandle h 40", "PurgeSpace", "ReallocateHandle h 8", "PurgeSpace"])),
     ("CompactMem among 20,000 blocks", [], handles(20000, 8) + ["CompactMem 1000000"] * LINES),
     ("RecoverHandle among 20,000 blocks", [], named(20000, 8) + ["a=Deref h4E1F"] + ["RecoverHandle a"] * LINES),
     ("a last handle that grows and shrinks", [], named(20000, 8) + ["SetHandleSize h1 300", "SetHandleSize h1 8"] * LINES),
@@ -213,7 +217,9 @@ RUNS = [
     ("eight files of 8,192 resources", [SHARED] * 8, [f"OpenResFile {it}" for it in range(2, 9)] + ["GetResource 'TEXT' 5000"] * LINES),
     ("eight files of 8,192 resources, and a handle of none", [SHARED] * 8, [f"OpenResFile {it}" for it in range(2, 9)] + ["h=NewHandle 4"] + ["GetResInfo h"] * LINES),
     ("eight files of 8,192 resources, and handles that come and go", [SHARED] * 8, [f"OpenResFile {it}" for it in range(2, 9)] + ["h=NewHandle 4", "DisposeHandle h"] * LINES),
+    # (an open reads the header, the map and each resource's length anew, with a call of the device each: time by the lines)
     ("a fork of 8,192 resources that is refused at each of 200 lines", [b"", LATE], ["OpenResFile 2"] * 200),
+    ("a fork of 5,458 resources that is opened and closed at 200 lines", [b"", APART], ["OpenResFile 2", "CloseResFile 2"] * 100),
     ("3,000 types of one resource", [ONE_EACH], ["CountTypes", "GetIndType 3000", "GetResource '2999' 1", "CountResources '2999'"] * LINES),
     ("updates of 4 MB", [WIDE], ["h=GetResource 'TEXT' 3999"] + ["ChangedResource h", "UpdateResFile"] * 20),
     ("resources added and removed", [b""], named(5458, 8) + [f"AddResource h{it:X} 'TEXT' {it}" for it in range(5458)] + [f"RemoveResource h{it:X}" for it in range(5458)] + [f"AddResource h{it:X} 'TEXT' {it}" for it in range(5458)] + ["DisposeHandle h%X" % it for it in range(5458)]),
