@@ -192,6 +192,8 @@ RUNS = [
     ("the highest handle makes way and comes back", [], above_others(["HPurge h", "x=NewHandle 645604", "DisposeHandle x", "ReallocateHandle h 8"])),
     ("HLockHi among 20,000 blocks", [], below_others([], ["HLockHi h", "HUnlock h"])),
     ("10,000 free blocks in a gap that a lock cuts in two", [], locked_by_turns(["HLock h", "NewHandle 760000", "HUnlock h"])),
+    ("10,000 free blocks in a gap that a lock cuts in two, and pointers", [], locked_by_turns(["HLock h", "NewPtr 760000", "HUnlock h"])),
+    ("10,000 free blocks in a gap that a lock cuts in two, and smaller requests", [], locked_by_turns(["HLock h", "NewPtr 32764", "HUnlock h"])),
     ("MaxBlock and PurgeSpace among 20,000 blocks", [], handles(20000, 8) + ["MaxBlock", "PurgeSpace"] * LINES),
     ("MaxBlock among 20,000 blocks, free ones at both ends", [], ["h=NewHandle 8"] + handles(20000, 8) + ["DisposeHandle h"] + ["MaxBlock"] * LINES),
     ("PurgeSpace among 20,000 blocks, the highest purgeable", [], handles(20000, 8) + ["h=NewHandle 8", "HPurge h"] + ["PurgeSpace"] * LINES),

@@ -16,3 +16,4 @@ pub mod Kept
 pub mod Parts
 pub mod Tables
 pub mod Changing
+pub mod Rooms

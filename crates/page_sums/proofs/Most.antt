@@ -14,7 +14,7 @@ use Rattle.page_sums.specs.Spans.{IsSpan, most_in, passed}
 use Rattle.page_sums.specs.Weights.{most, weigh, weights}
 
 -- a number and others
-fold-max : (n : ℕ) (ns : List ℕ) → fold max n ns ≡ max n (largest ns)
+pub fold-max : (n : ℕ) (ns : List ℕ) → fold max n ns ≡ max n (largest ns)
 fold-max n [] = omega arith
 fold-max n (k ∷ ns) = let first = fold-max (max n k) ns in let rest = fold-max (max 0 k) ns in omega arith
 
