@@ -15,3 +15,5 @@ pub mod Updated
 pub mod PlacedRows
 pub mod Rewritten
 pub mod Crash
+pub mod KnownForks
+pub mod ReopenedRows

@@ -38,7 +38,7 @@ module _ {S : Type 0} (fork : S → List ℕ) (is_ready is_honest : S → Type 0
   pub within : k - 1 < length stores
   within = omega (arith, low, there)
 
-  here : slice_get stores (k - 1) ≡ Some old
+  pub here : slice_get stores (k - 1) ≡ Some old
   here = slice_get_read stores (length stores) (k - 1) old refl within value
 
   -- the files stand on the stores still

@@ -65,7 +65,7 @@ left_changed {D} k change chain same =
     same_changed k change (λ rows. rows) chain same ∙ ap (λ (files : List (OpenFile D)). let now : OpenFiles D = record { files = files; current = chain.current } in now) (left_in k chain.files)
 
 -- the table of a file whose rows are changed
-table_changed : {D : Type 0} (k : ℕ) (change : List (Row D) → List (Row D)) (files : List (OpenFile D)) → find (is_numbered k) (changed_file k change files) ≡ option_map (with_rows change) (find (is_numbered k) files)
+pub table_changed : {D : Type 0} (k : ℕ) (change : List (Row D) → List (Row D)) (files : List (OpenFile D)) → find (is_numbered k) (changed_file k change files) ≡ option_map (with_rows change) (find (is_numbered k) files)
 table_changed k change [] = refl
 table_changed {D} k change (f ∷ files) = by (is_numbered k f) refl (table_changed k change files)
   where
@@ -94,7 +94,7 @@ changed_nowhere : {D : Type 0} (at : ℕ) (change : Row D → Row D) (rows : Lis
 changed_nowhere {D} at change rows is = ap (λ (found : Option (Row D)). option_map_or (λ x. set rows at (change x)) found rows) is
 
 -- it is changed twice
-changed_twice : {D : Type 0} (at : ℕ) (change more both : Row D → Row D) (rows : List (Row D)) (r : Row D) → slice_get rows at ≡ Some r → more (change r) ≡ both r
+pub changed_twice : {D : Type 0} (at : ℕ) (change more both : Row D → Row D) (rows : List (Row D)) (r : Row D) → slice_get rows at ≡ Some r → more (change r) ≡ both r
     → changed_at at more (changed_at at change rows) ≡ changed_at at both rows
 changed_twice {D} at change more both rows r is same =
     ap (changed_at at more) (changed_here at change rows r is)
@@ -143,7 +143,7 @@ pub none_placed : (selection : Selection) (at : ℕ) (rows : List (Row Place)) �
 none_placed selection at [] = refl
 none_placed selection at (r ∷ rows) = refl
 
-changed_behind : (n : ℕ) (change : Row Place → Row Place) (r : Row Place) (rows : List (Row Place)) → changed_at (suc n) change (r ∷ rows) ≡ r ∷ changed_at n change rows
+pub changed_behind : (n : ℕ) (change : Row Place → Row Place) (r : Row Place) (rows : List (Row Place)) → changed_at (suc n) change (r ∷ rows) ≡ r ∷ changed_at n change rows
 changed_behind n change r rows = by (slice_get rows n)
   where
     by : (found : Option (Row Place)) → option_map_or (λ x. r ∷ set rows n (change x)) found (r ∷ rows) ≡ r ∷ option_map_or (λ x. set rows n (change x)) found rows

@@ -1,11 +1,11 @@
 -- The store of an open file is written anew: how the files stand then, and how they are seen.
-use Rattle.std.proofs.Common.{◌≡◌, refl, sym, ap, ◌∙◌, subst, arith, ℕ, zero, suc, ◌+◌, ◌-◌, ◌<◌, ◌≤◌, List, [], ◌∷◌, length, map, set, get_or, slice_get, unwrap_or, Bool, true, false, Option, None, Some, Result, Ok, Err, IfSome, All, IsTrue}
+use Rattle.std.proofs.Common.{◌≡◌, refl, sym, ap, ◌∙◌, subst, arith, ℕ, zero, suc, ◌+◌, ◌-◌, ◌<◌, ◌≤◌, List, [], ◌∷◌, length, map, set, get_or, slice_get, unwrap_or, Bool, true, false, Option, None, Some, Result, Ok, Err, IfSome, All, IsTrue, find}
 use Rattle.std.specs.Prelude.{◌↔◌, ◌&&◌, IsFalse, IsErrOf, if◌then◌else◌}
 use Rattle.std.specs.List.{AllByRecursion}
 use Rattle.std.specs.Option.{option_map, option_map_or}
 use Rattle.std.proofs.lemmas.List.{length-set}
 use Rattle.std.proofs.lemmas.List.Elements.{All-cons, All-nil, All-head, All-tail}
-use Rattle.std.proofs.lemmas.Option.{slice_get-map, slice_get_read}
+use Rattle.std.proofs.lemmas.Option.{slice_get-map, slice_get_read, same_Some}
 use Rattle.mac_base.specs.HandleTable.{HandleTable}
 use Rattle.fork_bytes.specs.Fork.{max_rows, StandsFor}
 use Rattle.fork_bytes.specs.Laws.{IsGrouped}
@@ -17,9 +17,12 @@ use Rattle.fork_reader.specs.declared.place.Place.{Place}
 use Rattle.res_table.specs.declared.row.Row.{Row}
 use Rattle.res_table.specs.declared.chain.ResourceTable.{ResourceTable}
 use Rattle.res_table.specs.declared.chain.OpenFile.{OpenFile}
-use Rattle.res_table.specs.Rows.{is_changed}
-use Rattle.res_table.specs.OpenFiles.{OpenFiles, is_open, table_of, rows_changed, without, last_number, is_current, file_closed}
-use Rattle.res_calls.specs.Changes.{Files, FileRow, FileTable, rows_of, rows_in, saved_table}
+use Rattle.res_table.specs.Rows.{is_changed, opened_row}
+use Rattle.res_table.specs.Saved.{saved_rows}
+use Rattle.res_table.specs.OpenFiles.{OpenFiles, is_open, is_numbered, table_in, table_of, with_rows, rows_changed, without, last_number, is_current, file_closed}
+use Rattle.res_calls.specs.Changes.{Files, FileRow, FileTable, rows_of, rows_in, saved_table, opened_table}
+use Rattle.res_calls.specs.Device.{Reads}
+use Rattle.res_calls.specs.Device as device
 use Rattle.res_calls.specs.Tests.{is_lent_row}
 use Rattle.res_update.specs.declared.fault.UpdateFault.{UpdateFault}
 use Rattle.res_update.specs.declared.fault.UpdateFault.TheVariants.{TooBig, HostFull, Device}
@@ -28,14 +31,18 @@ use Rattle.res_update.specs.declared.selection.Selection.TheVariants.{AllChanged
 use Rattle.res_update.specs.Drafts.{is_selected}
 use Rattle.res_update.specs.Placed.{bytes_on, rows_on, table_on, AreInside, IsInside, IsNear}
 use Rattle.res_update.specs.Selected.{updated, reads_lent, CountsUpdate}
+use Rattle.res_update.proofs.Saving.{itself}
 use Rattle.res_files.specs.FilesOn.{FilesOn, fork_of, forks_with}
+use Rattle.res_files.specs.Known.{IsSaved, reopened_table}
 use Rattle.res_files.specs.Standing.{fork_at, files_on, AreSmall, Holds, StandsOn, StandOn}
 use Rattle.res_files.specs.Updating.{row_placed, rows_placed}
 use Rattle.res_files.proofs.Grouped.{placed_grouped, updated_grouped}
+use Rattle.res_files.proofs.KnownForks.{rows_reopened}
 use Rattle.res_files.proofs.Mapped.{mapped_row, mapped_rows, mapped_table, any-mapped, get-mapped, set-mapped, table-mapped, without-mapped, closed-mapped}
 use Rattle.res_files.proofs.On.{seen, bytes_in}
+use Rattle.res_files.proofs.PlacedRows.{table_changed}
 use Rattle.res_files.proofs.Stands.{table_stands, stand_closed, any_changed, apart_changed}
-use Rattle.res_files.proofs.Stores.{stand_set}
+use Rattle.res_files.proofs.Stores.{new_set, stand_set}
 use Rattle.res_files.proofs.Updated.{all_placed, one_placed}
 use Rattle.res_files.proofs.Using.{mine}
 use Rattle.res_files.proofs.Written.{others_seen, one_seen, rest_seen, others_stand, one_stands, rest_stands}
@@ -216,6 +223,50 @@ module _ {S : Type 0} (fork : S → List ℕ) (is_ready is_honest : S → Type 0
           (one_seen k low (map fork stores) (fork new) own rows chain.files (from_one fork is_ready is_honest stores chain.files stand.each) stand.apart
           (subst (λ (found : Option (ResourceTable Place)). IfSome found (λ (table : ResourceTable Place). rows_on (fork_at forks' k) (own table.rows) ≡ rows)) (sym here) mine_is))
           ∙ ap (λ (v : FilesOn S). rows_changed k (λ _. rows) v.files) view_is)
+
+      -- once the file is closed, what is read of it is what was written
+      updated_is : (t : HandleTable) (selection : Selection) (shown : FileTable) → updated t selection shown ≡ record { rows = (updated t selection shown).rows; extra = shown.extra; map_attributes = shown.map_attributes }
+      updated_is t AllChanged shown = refl
+      updated_is t (RowAt index) shown = refl
+
+      pub saved_written : (same : is_honest old ↔ is_honest new) (t : HandleTable) (selection : Selection) (places : List Place) (more : OpenFiles Place) → more ≡ rows_changed k (λ rows. rows_placed selection 0 rows places) chain
+          → (is_honest old → map (bytes_on (fork new)) places ≡ map (λ (r : FileRow). r.resource.datum) (updated t selection (table_on (fork old) table)).rows)
+          → (is_honest old → IsGrouped (saved_table (updated t selection (table_on (fork old) table))).rows → StandsFor (fork new) (saved_table (updated t selection (table_on (fork old) table))))
+          → IsSaved fork is_honest (set stores (k - 1) new) more (Some k)
+      saved_written same t selection places more more_is bytes stands =
+          subst (λ (now : OpenFiles Place). IsSaved fork is_honest (set stores (k - 1) new) now (Some k)) (sym more_is)
+          (subst (λ (found : Option (ResourceTable Place)). IfSome found (λ table. IfSome (slice_get (set stores (k - 1) new) (k - 1)) (ReadsAs table))) (sym table_now) (new_set (ReadsAs placed) stores (k - 1) new reads_new))
+        where
+          ReadsAs : ResourceTable Place → S → Type 0
+          ReadsAs table store = is_honest store → Reads (fork store) (Ok (table_on (fork store) (reopened_table table)))
+
+          own : List (Row Place) → List (Row Place)
+          own rows = rows_placed selection 0 rows places
+
+          placed : ResourceTable Place
+          placed = record { rows = own table.rows; extra = table.extra; map_attributes = table.map_attributes }
+
+          table_now : table_of k (rows_changed k own chain) ≡ Some placed
+          table_now = ap (option_map table_in) (table_changed k own chain.files) ∙ by (find (is_numbered k) chain.files) here
+            where
+              by : (found : Option (OpenFile Place)) → option_map table_in found ≡ Some table → option_map table_in (option_map (with_rows own) found) ≡ Some placed
+              by None is = absurd (cc is)
+              by (Some f) is = ap (λ (t : ResourceTable Place). let now : ResourceTable Place = record { rows = own t.rows; extra = t.extra; map_attributes = t.map_attributes } in Some now) (same_Some f.table table is)
+
+          table_with : List FileRow → FileTable
+          table_with rows = record { rows = rows; extra = table.extra; map_attributes = table.map_attributes }
+
+          shown_is : is_honest old → opened_table (saved_table (updated t selection (table_on (fork old) table))) ≡ table_on (fork new) (reopened_table placed)
+          shown_is was =
+              ap (λ (shown : FileTable). opened_table (saved_table shown)) (updated_is t selection (table_on (fork old) table))
+              ∙ ap (λ (rows : List FileRow). table_with (map opened_row (saved_rows itself rows))) (sym (placed_seen t selection places (bytes was)))
+              ∙ ap table_with (rows_reopened (fork new) (own table.rows))
+
+          reads_new : ReadsAs placed new
+          reads_new honest =
+              let was = same.1 honest in
+              subst (λ (shown : FileTable). Reads (fork new) (Ok shown)) (shown_is was)
+              (device.fork (saved_table (updated t selection (table_on (fork old) table))) (stands was (updated_grouped t selection (fork old) table small.grouped)))
 
       -- the others, once it is closed
       closed_on : files_on forks' (file_closed k chain) ≡ files_on (map fork stores) (file_closed k chain)

@@ -14,7 +14,7 @@ use Rattle.res_files.specs.FilesOn.{SomeFailed}
 use Rattle.res_files.specs.Standing.{Holds, StandsOn, StandOn}
 
 -- what holds at an index holds there still
-held_set : {S : Type 0} (P : S → Type 0) (xs : List S) (i n : ℕ) (y d : S) → (P (get_or xs i d) → P y) → IfSome (slice_get xs n) P → IfSome (slice_get (set xs i y) n) P
+pub held_set : {S : Type 0} (P : S → Type 0) (xs : List S) (i n : ℕ) (y d : S) → (P (get_or xs i d) → P y) → IfSome (slice_get xs n) P → IfSome (slice_get (set xs i y) n) P
 held_set P [] i n y d step held = held
 held_set P (x ∷ xs) zero zero y d step held = step held
 held_set P (x ∷ xs) zero (suc n) y d step held = held

@@ -9,6 +9,7 @@ ghost use Rattle.res_files.specs.Crash.{history_of, OthersAreCalm};
 ghost use Rattle.res_files.specs.FilesOn.{fork_of, SomeFailed};
 
 use crate::files::ResourceFiles;
+use crate::known::{known_by, learn, recall};
 use crate::tables::{code_of, read_table};
 use fork_disk::store::ForkStore;
 use mac_base::error::{HostFull, OsErr};
@@ -37,10 +38,16 @@ impl<S: ForkStore> ResourceFiles<S> {
         ensures settled { All S.is_honest self.old.stores → S.has_journal → IfOk result (λ done. OnOk done
             (Finds S.may_find (λ found. found ≡ fork_of S.fork number self.new.stores) (history_of S.history number self.new.stores))) }
     {
-        let store = &mut self.stores[number as usize - 1];
-        let table = match read_table(self.alloc, store) {
+        let at = number as usize - 1;
+        self.saved = None;
+        let known = recall(&mut self.known, at);
+        let store = &mut self.stores[at];
+        let table = match read_table(self.alloc, store, known) {
             Ok(table) => table,
-            Err(fault) => return Ok(Err(code_of(fault)?)),
+            Err(fault) => {
+                learn(&mut self.known, at, known_by(fault));
+                return Ok(Err(code_of(fault)?));
+            }
         };
         self.chain.open(number, table)?;
         Ok(Ok(()))

@@ -18,6 +18,13 @@ use res_update::selection::Selection;
 /// The bits of all attributes but resChanged.
 const UNMARKED_BITS: u8 = 253;
 
+/// The attributes without resChanged.
+pub(crate) fn unmarked(attributes: ResAttrs) -> ResAttrs
+    ensures { result ≡ unmarked attributes }
+{
+    ResAttrs::from_bits_retain(attributes.bits() & UNMARKED_BITS)
+}
+
 /// The attributes of the row at an index once the file is written: one that was selected is no longer changed.
 fn saved_attributes(selection: Selection, index: usize, row: &Row<Place>) -> ResAttrs
     ensures { result ≡ (if is_selected selection index row.now then unmarked row.now.resource.attributes else row.now.resource.attributes) }
@@ -27,7 +34,7 @@ fn saved_attributes(selection: Selection, index: usize, row: &Row<Place>) -> Res
         Selection::RowAt(at) => index == at,
     };
     if selected {
-        ResAttrs::from_bits_retain(row.resource.attributes.bits() & UNMARKED_BITS)
+        unmarked(row.resource.attributes)
     } else {
         row.resource.attributes
     }

@@ -6,8 +6,10 @@ ghost use Rattle.fork_rows.specs.Opening.{CountsDevice};
 ghost use Rattle.res_calls.specs.Device.{Reads};
 ghost use Rattle.res_update.specs.Placed.{table_on, AreInside};
 ghost use Rattle.res_files.specs.Opening.{code_of, RefusesFile};
+ghost use Rattle.res_files.specs.Known.{IsKnown};
 ghost use Rattle.res_files.specs.Standing.{AreSmall};
 
+use crate::known::Known;
 use fork_bytes::fault::ForkFault;
 use fork_disk::store::ForkStore;
 use fork_reader::place::Place;
@@ -30,23 +32,19 @@ pub(crate) fn code_of(fault: OpenFault) -> Result<OsErr, HostFull>
     }
 }
 
-/// Makes a store ready, and reads the table of the file on it: without bytes it has no resources.
-pub(crate) fn read_table<S: ForkStore>(
-    alloc: Global,
-    store: &mut S,
-) -> Result<ResourceTable<Place>, OpenFault>
+/// Reads the table of the file on a store that is ready: without bytes it has no resources.
+fn read_anew<S: ForkStore>(alloc: Global, store: &mut S) -> Result<ResourceTable<Place>, OpenFault>
+    requires { S.is_honest store.old → S.is_ready store.old }
     ensures reads { S.is_honest store.old → IfOk result (λ table. Reads (S.fork store.old) (Ok (table_on (S.fork store.old) table))) }
     ensures inside { S.is_honest store.old → IfOk result (λ table. AreInside (S.fork store.old) table.rows) }
     ensures small { IfOk result (λ table. AreSmall table.rows) }
     ensures refuses { S.is_honest store.old → IfErr result (RefusesFile (S.fork store.old)) }
     ensures same { S.is_honest store.old → S.fork store.new ≡ S.fork store.old }
-    ensures ready { S.is_honest store.old → OnOk result (S.is_ready store.new) }
-    ensures still { S.is_honest store.old → S.is_ready store.old → S.is_ready store.new }
+    ensures ready { S.is_honest store.old → S.is_ready store.new }
     ensures honest { S.is_honest store.old ↔ S.is_honest store.new }
     ensures cause { CountsDevice (S.failures store.old) (S.failures store.new) result }
-    ensures any_moment { S.is_honest store.old → AlwaysFinds S.may_find (S.may_find (S.history store.old)) (S.history store.old) (S.history store.new) }
+    ensures calm { S.is_honest store.old → S.history store.new ≡ S.history store.old }
 {
-    store.recover()?;
     if store.len()? == 0 {
         return Ok(ResourceTable {
             rows: Rows::new(alloc),
@@ -63,4 +61,30 @@ pub(crate) fn read_table<S: ForkStore>(
         extra: table.extra,
         map_attributes: table.map_attributes,
     })
+}
+
+/// Makes a store ready, and gives the table of the file on it. It is read where nothing is known of the fork.
+pub(crate) fn read_table<S: ForkStore>(
+    alloc: Global,
+    store: &mut S,
+    known: Known,
+) -> Result<ResourceTable<Place>, OpenFault>
+    requires { IsKnown S.fork S.is_honest store.old known }
+    ensures reads { S.is_honest store.old → IfOk result (λ table. Reads (S.fork store.old) (Ok (table_on (S.fork store.old) table))) }
+    ensures inside { S.is_honest store.old → IfOk result (λ table. AreInside (S.fork store.old) table.rows) }
+    ensures small { IfOk result (λ table. AreSmall table.rows) }
+    ensures refuses { S.is_honest store.old → IfErr result (RefusesFile (S.fork store.old)) }
+    ensures same { S.is_honest store.old → S.fork store.new ≡ S.fork store.old }
+    ensures ready { S.is_honest store.old → OnOk result (S.is_ready store.new) }
+    ensures still { S.is_honest store.old → S.is_ready store.old → S.is_ready store.new }
+    ensures honest { S.is_honest store.old ↔ S.is_honest store.new }
+    ensures cause { CountsDevice (S.failures store.old) (S.failures store.new) result }
+    ensures any_moment { S.is_honest store.old → AlwaysFinds S.may_find (S.may_find (S.history store.old)) (S.history store.old) (S.history store.new) }
+{
+    store.recover()?;
+    match known {
+        Known::Nothing => read_anew(alloc, store),
+        Known::Refused(why) => Err(OpenFault::Fork(why)),
+        Known::Table(table) => Ok(table),
+    }
 }

@@ -12,6 +12,7 @@ ghost use Rattle.res_files.specs.Crash.{history_of, OthersAreCalm};
 ghost use Rattle.res_files.specs.FilesOn.{fork_of, forks_with, NoneFailed, SomeFailed};
 
 use crate::files::ResourceFiles;
+use crate::known::{Known, learn};
 use crate::placing::place_rows;
 use fork_disk::store::{ForkStore, ReplaceFault};
 use fork_reader::place::Place;
@@ -79,13 +80,17 @@ impl<S: ForkStore> ResourceFiles<S> {
         ensures settled { All S.is_honest self.old.stores → S.has_journal → OnOk result
             (Finds S.may_find (λ found. found ≡ fork_of S.fork number self.new.stores) (history_of S.history number self.new.stores)) }
     {
+        self.saved = None;
+        let at = number as usize - 1;
+        learn(&mut self.known, at, Known::Nothing);
         let Some(table) = self.chain.table(number) else {
             return Ok(());
         };
-        let store = &mut self.stores[number as usize - 1];
+        let store = &mut self.stores[at];
         match write_table(self.alloc, store, table, selection, contents) {
             Ok(places) => {
                 place_rows(&mut self.chain, number, selection, &places);
+                self.saved = Some(number);
                 Ok(())
             }
             Err(fault) => {

@@ -36,7 +36,7 @@ abbrev pub itself : List ℕ → List ℕ
 itself bytes = bytes
 
 -- resChanged is taken off once
-unmarked_twice : (a : ResAttrs) → unmarked (unmarked a) ≡ unmarked a
+pub unmarked_twice : (a : ResAttrs) → unmarked (unmarked a) ≡ unmarked a
 unmarked_twice a = ap (λ (n : ℕ). record { 0 = n }) (and_assoc 253 a.0 253 ∙ ap (bit_and a.0) (and_self 253))
 
 -- a row as it is saved

@@ -1,0 +1,48 @@
+use Rattle.std.proofs.Common.{◌≡◌, ◌≤◌, ◌∙◌, List, ℕ, length, map, replicate, Ok, sym, ap, subst, arith}
+use Rattle.std.proofs.lemmas.Result.{err_from_is_err_and}
+use Rattle.fork_bytes.specs.Fork.{StandsFor}
+use Rattle.fork_reader.specs.declared.place.Place.{Place}
+use Rattle.fork_reader.specs.Reading.{IsWithin}
+use Rattle.std.specs.List.{AllByRecursion}
+use Rattle.fork_rows.specs.Opening.{filled, RefusesToOpen}
+use Rattle.res_table.specs.declared.row.Row.{Row}
+use Rattle.res_table.specs.Rows.{opened_row}
+use Rattle.res_calls.specs.Device.{Reads}
+use Rattle.res_update.specs.Placed.{table_on}
+use Rattle.res_files.proofs.TablesRead.{reads_empty, reads_fork, inside_opened, small_opened, refused}
+use Rattle.res_files.proofs.tables.read_anew.Goals as goal
+
+pub returns-then-branch-eq0-clause-reads : goal.returns-then-branch-eq0-clause-reads
+returns-then-branch-eq0-clause-reads g c = λ honest.
+    let fork = g.S.ForkStore.fork c.args.store.now in
+    let none : c.in_ok-len.field-0 ≡ 0 = omega arith in
+    let empty : length fork ≡ 0 = sym (c.in_ok-len.ensures.value honest) ∙ none in
+    let P : List (Row Place) → Type 0 = λ rows. Reads fork (Ok (table_on fork (record { rows = rows; extra = replicate 240 0; map_attributes = 0 }))) in
+    subst P (sym c.new.ensures) (reads_empty fork empty)
+
+pub returns-in_err-table-clause-refuses : goal.returns-in_err-table-clause-refuses
+returns-in_err-table-clause-refuses g c = λ honest. (
+    let S = g.S.ForkStore in let fork = S.fork c.args.store.now in
+    let e2 : S.fork c.len.new.self ≡ fork = c.len.ensures.same honest in
+    let long : c.in_ok-len.field-0 ≡ length fork = c.in_ok-len.ensures.value honest in
+    let more : 1 ≤ c.in_ok-len.field-0 = omega arith in
+    let fault = c.in_err-table.field-0.0 in
+    let P : List ℕ → Type 0 = λ f. RefusesToOpen f fault in
+    let p = err_from_is_err_and c.from_residual-in_err-table.result c.from_residual-in_err-table.ensures.1 in
+    rw (p.1, p.2) (refused fork fault (λ none. omega (arith, long, more, none)) (subst P e2 (c.in_err-table.ensures.refuses (c.len.ensures.honest.0 honest)))))
+
+pub returns-clause-reads : goal.returns-clause-reads
+returns-clause-reads g c = λ honest.
+    let S = g.S.ForkStore in let fork = S.fork c.args.store.now in
+    let P : List ℕ → Type 0 = λ f. StandsFor f (filled f c.in_ok-table.table) in
+    reads_fork fork c.in_ok-table.table c.in-Ok.rows (c.in-Ok.ensures ∙ ap (map opened_row) c.into_vec.ensures) (subst P (c.len.ensures.same honest) (c.in_ok-table.ensures.table (c.len.ensures.honest.0 honest)))
+
+pub returns-clause-inside : goal.returns-clause-inside
+returns-clause-inside g c = λ honest.
+    let S = g.S.ForkStore in let fork = S.fork c.args.store.now in
+    let P : List ℕ → Type 0 = λ f. AllByRecursion (IsWithin f) c.in_ok-table.table.rows in
+    inside_opened fork c.in_ok-table.table.rows c.in-Ok.rows (c.in-Ok.ensures ∙ ap (map opened_row) c.into_vec.ensures) (subst P (c.len.ensures.same honest) (c.in_ok-table.ensures.within (c.len.ensures.honest.0 honest)))
+
+pub returns-clause-small : goal.returns-clause-small
+returns-clause-small g c =
+    small_opened c.in_ok-table.table.rows c.in-Ok.rows (c.in-Ok.ensures ∙ ap (map opened_row) c.into_vec.ensures) c.in_ok-table.ensures.inside c.in_ok-table.ensures.most c.in_ok-table.ensures.grouped
