@@ -151,12 +151,12 @@ rows_reopened fork (r ∷ rows) =
     ∙ ap (λ (rest : List FileRow). row_on fork (reopened_row r) ∷ rest) (rows_reopened fork rows)
 
 -- the number that is told
-pub saved_as : (saved : Option ℕ) (k : ℕ) → true ≡ option_eq eqb saved (Some k) → saved ≡ Some k
+saved_as : (saved : Option ℕ) (k : ℕ) → true ≡ option_eq eqb saved (Some k) → saved ≡ Some k
 saved_as None k is = absurd (cc is)
 saved_as (Some n) k is = ap Some (eqb-true n k (sym is))
 
 -- what is known of a file that was written, once it is closed
-pub closed_known : {S : Type 0} (fork : S → List ℕ) (is_ready is_honest : S → Type 0) (stores : List S) (k : ℕ) (chain : OpenFiles Place) (table : ResourceTable Place)
+closed_known : {S : Type 0} (fork : S → List ℕ) (is_ready is_honest : S → Type 0) (stores : List S) (k : ℕ) (chain : OpenFiles Place) (table : ResourceTable Place)
     → StandOn fork is_ready is_honest stores chain → table_of k chain ≡ Some table → IsSaved fork is_honest stores chain (Some k)
     → IfSome (slice_get stores (k - 1)) (λ store. IsKnown fork is_honest store (Table (reopened_table table)))
 closed_known {S} fork is_ready is_honest stores k chain table stand is saved =
@@ -172,3 +172,15 @@ closed_known {S} fork is_ready is_honest stores k chain table stand is saved =
     by : (found : Option S) → IfSome found (Holds fork is_ready is_honest table.rows) → IfSome found (ReadsAs table) → IfSome found (λ store. IsKnown fork is_honest store (Table (reopened_table table)))
     by None held reads = tt
     by (Some store) held reads = (small, λ honest. (reads honest, all_reopened (IsInside (fork store)) table.rows (held honest).1))
+
+pub known_closed : {S : Type 0} (fork : S → List ℕ) (is_ready is_honest : S → Type 0) (stores : List S) (k : ℕ) (chain : OpenFiles Place) (table : ResourceTable Place) (known : List Known) (saved : Option ℕ) (now : ResourceTable Place)
+    → StandOn fork is_ready is_honest stores chain → table_of k chain ≡ Some table → true ≡ option_eq eqb saved (Some k) → IsSaved fork is_honest stores chain saved
+    → AreKnown fork is_honest stores known → now ≡ reopened_table table → AreKnown fork is_honest stores (set known (k - 1) (Table now))
+known_closed {S} fork is_ready is_honest stores k chain table known saved now stand here same reads all now_is =
+    known_put fork is_honest stores known (k - 1) (Table now) (subst Knows (sym now_is) mine) all
+  where
+    Knows : ResourceTable Place → Type 0
+    Knows t = IfSome (slice_get stores (k - 1)) (λ store. IsKnown fork is_honest store (Table t))
+
+    mine : Knows (reopened_table table)
+    mine = closed_known fork is_ready is_honest stores k chain table stand here (subst (IsSaved fork is_honest stores chain) (saved_as saved k same) reads)

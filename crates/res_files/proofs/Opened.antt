@@ -1,5 +1,5 @@
 -- A file is opened on its store: how the files stand then, and how they are seen.
-use Rattle.std.proofs.Common.{◌≡◌, refl, sym, ap, ◌∙◌, subst, arith, ℕ, ◌-◌, ◌<◌, ◌≤◌, List, [], length, map, set, get_or, slice_get, unwrap_or, Bool, false, Option, Some, Result, Ok, Err, OnErr, All, ◌⊎◌, inl, inr}
+use Rattle.std.proofs.Common.{◌≡◌, ◌≢◌, refl, sym, ap, ◌∙◌, subst, arith, ℕ, ◌-◌, ◌<◌, ◌≤◌, List, [], length, map, set, get_or, slice_get, unwrap_or, Bool, false, Option, Some, Result, Ok, Err, OnErr, All, ◌⊎◌, inl, inr}
 use Rattle.std.specs.Prelude.{◌↔◌, IsFalse}
 use Rattle.std.specs.Option.{option_map, option_map_or}
 use Rattle.std.proofs.Math.Seq.{map-set_same}
@@ -16,15 +16,15 @@ use Rattle.res_table.specs.OpenFiles.{OpenFiles, is_open, file_opened}
 use Rattle.res_calls.specs.Changes.{FileTable}
 use Rattle.res_calls.specs.Device.{Reads}
 use Rattle.res_update.specs.Placed.{table_on, AreInside}
-use Rattle.res_files.specs.FilesOn.{FilesOn, fork_of, SomeFailed}
+use Rattle.res_files.specs.FilesOn.{FilesOn, fork_of, NoneFailed, SomeFailed}
 use Rattle.res_files.specs.Opening.{RefusesFile, code_of}
 use Rattle.res_files.specs.Standing.{fork_at, files_on, AreSmall, Holds, StandOn}
 use Rattle.res_files.proofs.Mapped.{open-mapped, opened-mapped}
 use Rattle.res_files.proofs.On.{seen, bytes_in, asked}
 use Rattle.res_files.proofs.Stands.{stand_opened}
 use Rattle.res_files.proofs.Stores.{new_set, stand_set}
-use Rattle.res_files.proofs.TablesRead.{told_by_code}
-use Rattle.res_files.proofs.Using.{mine, same_forks, same_files, same_honest, some_failed}
+use Rattle.res_files.proofs.TablesRead.{caused_by_code, told_by_code}
+use Rattle.res_files.proofs.Using.{mine, same_forks, same_files, same_honest, none_failed, some_failed}
 
 module _ {S : Type 0} (fork : S → List ℕ) (is_ready is_honest : S → Type 0) (chain : OpenFiles Place) (loads : Bool) (stores : List S) (now : FilesOn S) (view_is : seen fork chain loads stores ≡ now)
     (k : ℕ) (low : 1 ≤ k) (high : k ≤ length now.stores) (old new : S) (value : old ≡ get_or stores (k - 1) old)
@@ -100,6 +100,16 @@ module _ {S : Type 0} (fork : S → List ℕ) (is_ready is_honest : S → Type 0
       by : Reads (fork old) (Err c) ⊎ ((c ≡ IoErr) × Rose (failures old) (failures new)) → Reads (fork_of fork k now.stores) (Err c) ⊎ ((c ≡ IoErr) × SomeFailed failures now.stores (set stores (k - 1) new))
       by (inl reads) = inl (subst (λ (bytes : List ℕ). Reads bytes (Err c)) (sym fork_is) reads)
       by (inr failed) = inr (failed.0, some_failed fork is_honest chain loads stores now view_is (k - 1) within old new value failures failed.1)
+
+  -- a device failed where the code is ioErr, and only there
+  pub caused : (failures : S → ℕ) (fault : OpenFault) (c : OsErr) → Ok c ≡ code_of fault → CountsFault (failures old) (failures new) fault
+      → ((c ≡ IoErr) × SomeFailed failures now.stores (set stores (k - 1) new)) ⊎ ((c ≢ IoErr) × NoneFailed failures now.stores (set stores (k - 1) new))
+  caused failures fault c is counts = by (caused_by_code (failures old) (failures new) fault c is counts)
+    where
+      by : ((c ≡ IoErr) × Rose (failures old) (failures new)) ⊎ ((c ≢ IoErr) × (failures new ≡ failures old))
+          → ((c ≡ IoErr) × SomeFailed failures now.stores (set stores (k - 1) new)) ⊎ ((c ≢ IoErr) × NoneFailed failures now.stores (set stores (k - 1) new))
+      by (inl failed) = inl (failed.0, some_failed fork is_honest chain loads stores now view_is (k - 1) within old new value failures failed.1)
+      by (inr same) = inr (same.0, none_failed fork is_honest chain loads stores now view_is (k - 1) within old new value failures same.1)
 
 -- what holds in any case holds where there is an error
 pub on_err : {A E : Type 0} (r : Result A E) (P : Type 0) → P → OnErr r P

@@ -1,11 +1,11 @@
 -- The table of a file that was read, and why it isn't.
-use Rattle.std.proofs.Common.{◌≡◌, refl, sym, ap, ◌∙◌, subst, arith, ℕ, ◌≤◌, ◌<◌, List, [], ◌∷◌, length, map, Result, Ok, Err, All, ◌⊎◌, inl, inr}
+use Rattle.std.proofs.Common.{◌≡◌, ◌≢◌, refl, sym, ap, ◌∙◌, subst, arith, ℕ, ◌≤◌, ◌<◌, List, [], ◌∷◌, length, map, Result, Ok, Err, All, ◌⊎◌, inl, inr}
 use Rattle.std.specs.List.{AllByRecursion}
 use Rattle.std.proofs.lemmas.List.{length-map}
 use Rattle.std.proofs.lemmas.List.Elements.{All-cons, All-nil}
 use Rattle.mac_base.specs.declared.error.HostFull.{HostFull}
 use Rattle.mac_base.specs.declared.error.OsErr.{OsErr}
-use Rattle.mac_base.specs.declared.error.OsErr.TheVariants.{IoErr}
+use Rattle.mac_base.specs.declared.error.OsErr.TheVariants.{EofErr, MapReadErr, IoErr}
 use Rattle.fork_disk.specs.Disk.{Rose}
 use Rattle.fork_bytes.specs.Fork.{max_rows, StandsFor}
 use Rattle.fork_bytes.specs.declared.fault.ForkFault.TheVariants as bytes
@@ -88,3 +88,10 @@ told_by_code disk before now (Fork bytes.EndOfFile) c is told counts = inl (subs
 told_by_code disk before now (Fork (bytes.BadMap condition)) c is told counts = inl (subst (λ (e : OsErr). Reads disk (Err e)) (sym (ap (λ r. code r IoErr) is)) told)
 told_by_code disk before now (Fork bytes.HostFull) c is told counts = absurd (cc is)
 told_by_code disk before now Device c is told counts = inr (ap (λ r. code r IoErr) is, counts)
+
+-- the code of a fault is ioErr where the device failed, and only there
+pub caused_by_code : (before now : ℕ) (fault : OpenFault) (c : OsErr) → Ok c ≡ code_of fault → CountsFault before now fault → ((c ≡ IoErr) × Rose before now) ⊎ ((c ≢ IoErr) × (now ≡ before))
+caused_by_code before now (Fork bytes.EndOfFile) c is counts = inr (λ same. let e : EofErr ≡ IoErr = sym (ap (λ r. code r IoErr) is) ∙ same in absurd (cc e), counts)
+caused_by_code before now (Fork (bytes.BadMap condition)) c is counts = inr (λ same. let e : MapReadErr ≡ IoErr = sym (ap (λ r. code r IoErr) is) ∙ same in absurd (cc e), counts)
+caused_by_code before now (Fork bytes.HostFull) c is counts = absurd (cc is)
+caused_by_code before now Device c is counts = inl (ap (λ r. code r IoErr) is, counts)

@@ -1,12 +1,12 @@
 //! A resource file is opened.
 
-ghost use Rattle.std.specs.Prelude.{◌≡◌, ◌≤◌, ◌⊎◌, ◌↔◌, length, map, All, IsFalse, IfOk, IfErr, OnOk, OnErr, Ok, Err};
+ghost use Rattle.std.specs.Prelude.{◌≡◌, ◌≢◌, ◌≤◌, ◌⊎◌, ◌↔◌, length, map, All, IsFalse, IfOk, IfErr, OnOk, OnErr, Ok, Err, MatchResult};
 ghost use Rattle.res_table.specs.OpenFiles.{is_open, file_opened};
 ghost use Rattle.res_calls.specs.Changes.{FileTable};
 ghost use Rattle.res_calls.specs.Device.{Reads};
 ghost use Rattle.fork_disk.specs.Crash.{AlwaysFinds, Finds};
 ghost use Rattle.res_files.specs.Crash.{history_of, OthersAreCalm};
-ghost use Rattle.res_files.specs.FilesOn.{fork_of, SomeFailed};
+ghost use Rattle.res_files.specs.FilesOn.{fork_of, NoneFailed, SomeFailed};
 
 use crate::files::ResourceFiles;
 use crate::known::{known_by, learn, recall};
@@ -25,6 +25,9 @@ impl<S: ForkStore> ResourceFiles<S> {
             × Reads (fork_of S.fork number self.old.stores) (Ok table) × (self.new.files ≡ file_opened number table self.old.files))) }
         ensures refused { All S.is_honest self.old.stores → IfOk result (λ done. IfErr done (λ code.
             Reads (fork_of S.fork number self.old.stores) (Err code) ⊎ ((code ≡ OsErr.IoErr) × SomeFailed S.failures self.old.stores self.new.stores))) }
+        // For any stores: a device failed exactly where the code is ioErr.
+        ensures cause { IfOk result (λ done. MatchResult done (λ _. NoneFailed S.failures self.old.stores self.new.stores) (λ code.
+            ((code ≡ OsErr.IoErr) × SomeFailed S.failures self.old.stores self.new.stores) ⊎ ((code ≢ OsErr.IoErr) × NoneFailed S.failures self.old.stores self.new.stores))) }
         ensures same { All S.is_honest self.old.stores → IfOk result (λ done. OnErr done (self.new.files ≡ self.old.files)) }
         ensures full { All S.is_honest self.old.stores → OnErr result (self.new.files ≡ self.old.files) }
         ensures forks { All S.is_honest self.old.stores → map S.fork self.new.stores ≡ map S.fork self.old.stores }

@@ -1,14 +1,11 @@
-use Rattle.std.proofs.Common.{◌≡◌, ◌∙◌, ◌-◌, sym, subst, map, arith, Some, IfSome, slice_get}
+use Rattle.std.proofs.Common.{◌∙◌, sym, subst, map, arith}
 use Rattle.fork_reader.specs.declared.place.Place.{Place}
-use Rattle.res_table.specs.declared.chain.ResourceTable.{ResourceTable}
 use Rattle.res_table.specs.OpenFiles.{OpenFiles, file_closed}
 use Rattle.res_files.proofs.Mapped.{closed-mapped}
 use Rattle.res_files.proofs.Stands.{stand_closed, table_stands}
 use Rattle.res_files.specs.Standing.{StandOn}
-use Rattle.res_files.specs.Known.{AreKnown, IsKnown, IsSaved}
-use Rattle.res_files.specs.declared.known.Known.{Known}
-use Rattle.res_files.specs.declared.known.Known.TheVariants.{Table}
-use Rattle.res_files.proofs.KnownForks.{closed_known, known_put, saved_as}
+use Rattle.res_files.specs.Known.{AreKnown}
+use Rattle.res_files.proofs.KnownForks.{known_closed}
 use Rattle.res_files.proofs.On.{bytes_in, changed}
 use Rattle.res_files.proofs.files.ResourceFiles.close.Goals as goal
 
@@ -38,14 +35,9 @@ pub invariant_of-self-then-was_saved : goal.invariant_of-self-then-was_saved
 invariant_of-self-then-was_saved g c = record {
   stand = subst (λ (chain : OpenFiles Place). StandOn g.S.ForkStore.fork g.S.ForkStore.is_ready g.S.ForkStore.is_honest c.self.inside.stores.items chain) (sym c.close.ensures.closed) (stand_closed g.S.ForkStore.fork g.S.ForkStore.is_ready g.S.ForkStore.is_honest c.self.inside.stores.items c.args.number c.self.inside.chain c.self.invariant.stand);
   tells =
-      let table_is = sym c.close.ensures.table ∙ c.in-Some.is in
-      let was : c.self.inside.saved ≡ Some c.args.number = saved_as c.self.inside.saved c.args.number (c.if-was_saved.ensures) in
-      let reads = subst (IsSaved g.S.ForkStore.fork g.S.ForkStore.is_honest c.self.inside.stores.items c.self.inside.chain) was c.self.invariant.reads_back in
-      let Knows : Known → Type 0 = λ known. IfSome (slice_get c.self.inside.stores.items (c.args.number - 1)) (λ store. IsKnown g.S.ForkStore.fork g.S.ForkStore.is_honest store known) in
-      let mine = closed_known g.S.ForkStore.fork g.S.ForkStore.is_ready g.S.ForkStore.is_honest c.self.inside.stores.items c.args.number c.self.inside.chain c.in-Some.table c.self.invariant.stand table_is reads in
       subst (AreKnown g.S.ForkStore.fork g.S.ForkStore.is_honest c.self.inside.stores.items) (sym c.learn.ensures)
-      (known_put g.S.ForkStore.fork g.S.ForkStore.is_honest c.self.inside.stores.items c.self.inside.known (c.args.number - 1) (Table c.reopened.result)
-      (subst (λ (table : ResourceTable Place). Knows (Table table)) (sym c.reopened.ensures) mine) c.self.invariant.tells);
+      (known_closed g.S.ForkStore.fork g.S.ForkStore.is_ready g.S.ForkStore.is_honest c.self.inside.stores.items c.args.number c.self.inside.chain c.in-Some.table c.self.inside.known c.self.inside.saved c.reopened.result
+      c.self.invariant.stand (sym c.close.ensures.table ∙ c.in-Some.is) c.if-was_saved.ensures c.self.invariant.reads_back c.self.invariant.tells c.reopened.ensures);
   reads_back = tt;
 }
 

@@ -7,7 +7,8 @@ use Rattle.res_files.specs.Known.{AreKnown}
 use Rattle.res_files.specs.declared.known.Known.{Known}
 use Rattle.res_files.specs.declared.known.Known.TheVariants.{Nothing}
 use Rattle.res_files.proofs.KnownForks.{known_set, nothing_of, recalled, refused_known}
-use Rattle.res_files.proofs.Opened.{here, within, stand_kept, stand_more, closed_there, files_kept, forks_kept, honest_kept, seen_more, seen_refused, on_err}
+use Rattle.res_files.proofs.Opened.{here, caused, within, stand_kept, stand_more, closed_there, files_kept, forks_kept, honest_kept, seen_more, seen_refused, on_err}
+use Rattle.res_files.proofs.Using.{none_failed}
 use Rattle.std.proofs.lemmas.List.{length-set}
 use Rattle.res_files.specs.FilesOn.{FilesOn}
 use Rattle.res_files.proofs.files.ResourceFiles.open.Goals as goal
@@ -156,3 +157,10 @@ returns-clause-count g c = length-set c.self.inside.stores.items (c.args.number 
 
 pub returns-in-Err-clause-count : goal.returns-in-Err-clause-count
 returns-in-Err-clause-count g c = length-set c.self.inside.stores.items (c.args.number - 1) c.read_table.new.store ∙ ap (λ (on : FilesOn _). length on.stores) c.self.view_is
+
+pub returns-clause-cause : goal.returns-clause-cause
+returns-clause-cause g c =
+    none_failed g.S.ForkStore.fork g.S.ForkStore.is_honest c.self.inside.chain c.self.inside.loads c.self.inside.stores.items c.args.self.now c.self.view_is (c.args.number - 1) (within g.S.ForkStore.fork g.S.ForkStore.is_ready g.S.ForkStore.is_honest c.self.inside.chain c.self.inside.loads c.self.inside.stores.items c.args.self.now c.self.view_is c.args.number c.requires.there.0 c.requires.there.1 c.index_mut-store.result.now c.read_table.new.store c.index_mut-store.ensures.value c.read_table.ensures.honest c.read_table.ensures.same) c.index_mut-store.result.now c.read_table.new.store c.index_mut-store.ensures.value g.S.ForkStore.failures c.in-Ok.ensures.cause
+
+pub returns-in-Err-clause-cause : goal.returns-in-Err-clause-cause
+returns-in-Err-clause-cause g c = caused g.S.ForkStore.fork g.S.ForkStore.is_ready g.S.ForkStore.is_honest c.self.inside.chain c.self.inside.loads c.self.inside.stores.items c.args.self.now c.self.view_is c.args.number c.requires.there.0 c.requires.there.1 c.index_mut-store.result.now c.read_table.new.store c.index_mut-store.ensures.value c.read_table.ensures.honest c.read_table.ensures.same g.S.ForkStore.failures c.in-Err.fault c.in_ok-code_of-in-Err.field-0 c.in_ok-code_of-in-Err.ensures c.in-Err.ensures.cause
