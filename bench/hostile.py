@@ -67,6 +67,7 @@ LATE = fork_of([(b"TEXT", it, None, 0) for it in range(8191)] + [(b"TEXT", 8191,
 FULL = fork_of([(b"TEXT", it, None, 0) for it in range(5458)], bytes(4))
 ALMOST = fork_of([(b"TEXT", it, None, 0) for it in range(5457)], bytes(4))
 APART = fork_of([(b"TEXT", it, None, 4 * it) for it in range(5458)], bytes(4 * 5458))
+ONE_BYTE_EACH = fork_of([(b"TEXT", it, None, 5 * it) for it in range(5458)], struct.pack(">IB", 1, 0) * 5458)
 ONE_EACH = fork_of([(b"%04d" % it, 1, None, 0) for it in range(3000)], bytes(4))
 
 
@@ -219,9 +220,10 @@ RUNS = [
     ("eight files of 8,192 resources", [SHARED] * 8, [f"OpenResFile {it}" for it in range(2, 9)] + ["GetResource 'TEXT' 5000"] * LINES),
     ("eight files of 8,192 resources, and a handle of none", [SHARED] * 8, [f"OpenResFile {it}" for it in range(2, 9)] + ["h=NewHandle 4"] + ["GetResInfo h"] * LINES),
     ("eight files of 8,192 resources, and handles that come and go", [SHARED] * 8, [f"OpenResFile {it}" for it in range(2, 9)] + ["h=NewHandle 4", "DisposeHandle h"] * LINES),
-    # (an open reads the header, the map and each resource's length anew, with a call of the device each: time by the lines)
-    ("a fork of 8,192 resources that is refused at each of 200 lines", [b"", LATE], ["OpenResFile 2"] * 200),
-    ("a fork of 5,458 resources that is opened and closed at 200 lines", [b"", APART], ["OpenResFile 2", "CloseResFile 2"] * 100),
+    ("a fork of 8,192 resources that is refused at each line", [b"", LATE], ["OpenResFile 2"] * LINES),
+    # (each closing and each update writes the whole file, and reads what it keeps of each resource: time by the lines)
+    ("a fork of 5,458 resources that is opened and closed at 4,000 lines", [b"", APART], ["OpenResFile 2", "CloseResFile 2"] * 2000),
+    ("updates of 5,458 resources of one byte at 200 lines", [ONE_BYTE_EACH], ["UpdateResFile"] * 200),
     ("3,000 types of one resource", [ONE_EACH], ["CountTypes", "GetIndType 3000", "GetResource '2999' 1", "CountResources '2999'"] * LINES),
     ("updates of 4 MB", [WIDE], ["h=GetResource 'TEXT' 3999"] + ["ChangedResource h", "UpdateResFile"] * 20),
     ("resources added and removed", [b""], named(5458, 8) + [f"AddResource h{it:X} 'TEXT' {it}" for it in range(5458)] + [f"RemoveResource h{it:X}" for it in range(5458)] + [f"AddResource h{it:X} 'TEXT' {it}" for it in range(5458)] + ["DisposeHandle h%X" % it for it in range(5458)]),

@@ -8,3 +8,4 @@ pub mod Resources
 pub mod Sorting
 pub mod Expanded
 pub mod Types
+pub mod TypeRuns

@@ -62,7 +62,7 @@ few_changes last (k ∷ ks) = by (is_other last k) (few_changes (Some k) ks)
     by false few = omega arith
 
 -- the same type as often as one likes isn't another
-same_kind : (kind : List ℕ) → bytes_eq kind kind ≡ true
+pub same_kind : (kind : List ℕ) → bytes_eq kind kind ≡ true
 same_kind kind = (bytes_eq-Decides kind kind).1 refl
 
 not_other : (kind : List ℕ) (n : ℕ) (ks : List (List ℕ)) → changes (Some kind) (replicate n kind ++ ks) ≡ changes (Some kind) ks

@@ -1,5 +1,5 @@
 -- The types of rows, in order: one for each row.
-use Rattle.std.specs.Prelude.{ℕ, suc, ◌+◌, Bool, false, not, ◌&&◌, if◌then◌else◌, List, [], ◌∷◌, ◌++◌, map, replicate, bytes_eq, nat_lt, Option, None, Some}
+use Rattle.std.specs.Prelude.{ℕ, suc, ◌+◌, Bool, true, false, not, ◌&&◌, if◌then◌else◌, List, [], ◌∷◌, ◌++◌, map, replicate, bytes_eq, nat_lt, Option, None, Some}
 use Rattle.std.specs.List.{list_any}
 use Rattle.std.specs.Option.{option_map_or}
 use Rattle.fork_bytes.specs.declared.layout.TypeCount.{TypeCount}
@@ -39,6 +39,11 @@ is_other last kind = not (option_map_or (λ k. bytes_eq k kind) last false)
 abbrev pub changes : Option (List ℕ) → List (List ℕ) → ℕ
 changes last [] = 0
 changes last (k ∷ ks) = if is_other last k then suc (changes (Some k) ks) else changes (Some k) ks
+
+-- whether each run has rows, and of another type than the run before it, where this type stands before the first
+abbrev pub are_types : Option (List ℕ) → List TypeCount → Bool
+are_types last [] = true
+are_types last (run ∷ runs) = (nat_lt 0 run.count && is_other last run.kind) && are_types (Some run.kind) runs
 
 -- where those of some types stand that are this one, where the first stands here
 abbrev pub places_of : ℕ → List ℕ → List (List ℕ) → List ℕ

@@ -1,6 +1,6 @@
 //! The keys by which rows are found.
 
-ghost use Rattle.std.specs.Prelude.{◌≡◌, ◌<◌, ◌/◌, ◌%◌, ◌^◌};
+ghost use Rattle.std.specs.Prelude.{◌≡◌, ◌<◌, ◌/◌, ◌%◌, ◌^◌, bytes_eq};
 ghost use Rattle.std.specs.Int.{w16, w32, cast_signed, from_be_bytes, to_be_bytes};
 ghost use Rattle.res_table.specs.Keyed.{key_of_handle, key_of_resource};
 
@@ -34,4 +34,11 @@ pub(crate) fn key_of_resource(kind: ResType, id: i16) -> u64
     ensures few { result < 2 ^ 48 }
 {
     u64::from(number_of(kind)) * 65536 + u64::from(id.cast_unsigned())
+}
+
+/// Whether two types are the same, told by their numbers, which takes less time than byte by byte.
+pub(crate) fn is_same_kind(first: ResType, second: ResType) -> bool
+    ensures { result ≡ bytes_eq first second }
+{
+    number_of(first) == number_of(second)
 }

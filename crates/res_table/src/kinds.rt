@@ -1,9 +1,11 @@
 //! The types of rows, in order: how many rows of one type stand together.
 
-ghost use Rattle.std.specs.Prelude.{◌≡◌, ◌≤◌, ◌<◌, ◌+◌, ◌^◌, ◌++◌, ◌∷◌, [], length, take, drop, get_or, remove, true, false, not, bytes_eq, nat_lt, ◌&&◌, if◌then◌else◌, Some, None, IfSome, IfNone, OnOk, vec_len, vec_capacity};
-ghost use Rattle.res_table.specs.Kinds.{is_run_of, expanded, has_kind, kind_in, count_of, changes, places_of, end_of, with_kind};
+ghost use Rattle.std.specs.Prelude.{◌≡◌, ◌≤◌, ◌<◌, ◌+◌, ◌^◌, ◌++◌, ◌∷◌, [], length, map, take, drop, get_or, remove, true, false, not, bytes_eq, nat_lt, ◌&&◌, if◌then◌else◌, Some, None, IfSome, IfNone, IsTrue, OnOk, vec_len, vec_capacity};
+ghost use Rattle.res_table.specs.Kinds.{are_types, is_run_of, is_other, expanded, has_kind, kind_in, count_of, changes, places_of, end_of, with_kind};
 ghost use Rattle.res_table.specs.Rows.{ith};
+ghost use Rattle.res_table.specs.Saved.{kind_of};
 
+use crate::keys::is_same_kind;
 use fork_bytes::layout::TypeCount;
 use mac_base::error::HostFull;
 use res_base::resource::ResType;
@@ -13,7 +15,7 @@ use std::alloc::Global;
 fn is_run_of(run: TypeCount, kind: ResType) -> bool
     ensures { result ≡ is_run_of kind run }
 {
-    run.kind == kind && run.count > 0
+    is_same_kind(run.kind, kind) && run.count > 0
 }
 
 /// Whether a run has rows, and not of the type of the last before it that has any.
@@ -34,7 +36,11 @@ fn last_with_rows(last: &TypeCount, run: &TypeCount) -> TypeCount
 fn counted(run: TypeCount, kind: ResType) -> usize
     ensures { result ≡ (if bytes_eq run.kind kind then run.count else 0) }
 {
-    if run.kind == kind { run.count } else { 0 }
+    if is_same_kind(run.kind, kind) {
+        run.count
+    } else {
+        0
+    }
 }
 
 /// The last run that has rows of a type, if there is one.
@@ -70,10 +76,47 @@ fn run_with(runs: &[TypeCount], place: usize) -> usize
     unreachable!()
 }
 
+/// Whether a run is of the type that stands before it, if there is one.
+fn repeats(last: Option<ResType>, run: &TypeCount) -> bool
+    ensures { not result ≡ is_other last run.now.kind }
+{
+    match last {
+        Some(kind) => is_same_kind(kind, run.kind),
+        None => false,
+    }
+}
+
+/// Whether each run has rows, and of another type than the run before it.
+fn are_types(runs: &[TypeCount]) -> bool
+    ensures { result ≡ are_types None runs.now }
+{
+    let mut last = None;
+    for run in runs {
+        if run.count == 0 || repeats(last, run) {
+            return false;
+        }
+        last = Some(run.kind);
+    }
+    true
+}
+
+/// The i-th of some types, counted from 1.
+pub(crate) fn ith_type(types: &[TypeCount], i: usize) -> Option<ResType>
+    ensures { result ≡ ith i (map kind_of types.now) }
+{
+    if i == 0 || i > types.len() {
+        return None;
+    }
+    Some(types[i - 1].kind)
+}
+
 /// The types of rows, in order: each with how many rows of it stand together. So what is asked of a type doesn't go through the rows.
 #[derive(Drop)]
 pub(crate) struct Kinds {
     runs: Vec<TypeCount>,
+    /// It was seen that no run is of the type of the run before it: so it is while the rows of each type stand together.
+    seen: bool,
+    ghost told: { IsTrue seen → IsTrue (are_types None runs.items) },
 }
 
 impl Kinds {
@@ -83,6 +126,7 @@ impl Kinds {
     {
         Kinds {
             runs: Vec::new(alloc),
+            seen: false,
         }
     }
 
@@ -95,15 +139,30 @@ impl Kinds {
         Ok(())
     }
 
-    /// Adds the type of a row behind all others.
+    /// Sees whether the runs are types.
+    pub(crate) fn settle(&mut self)
+        ensures { self.new.runs.items ≡ self.old.runs.items }
+    {
+        self.seen = are_types(&self.runs);
+    }
+
+    /// The types in order, each with how many rows it has, where it was seen that the runs are these.
+    pub(crate) fn types(&self) -> Option<&[TypeCount]>
+        ensures { IfSome result (λ types. (types.now ≡ self.now.runs.items) × IsTrue (are_types None types.now)) }
+    {
+        if self.seen { Some(&self.runs) } else { None }
+    }
+
+    /// Adds the type of a row behind all others. Whether the runs are types is to be seen again.
     pub(crate) fn push(&mut self, kind: ResType) -> Result<(), HostFull>
         requires { length (expanded self.old.runs.items) + 1 < 2 ^ 64 }
         ensures { OnOk result (expanded self.new.runs.items ≡ expanded self.old.runs.items ++ kind ∷ []) }
     {
+        self.seen = false;
         let count = self.runs.len();
         if count > 0 {
             let last = self.runs[count - 1];
-            if last.kind == kind {
+            if is_same_kind(last.kind, kind) {
                 self.runs[count - 1] = TypeCount {
                     kind,
                     count: last.count + 1,
@@ -189,6 +248,17 @@ impl Kinds {
         requires room { vec_len self.old.runs < vec_capacity self.old.runs }
         ensures { expanded self.new.runs.items ≡ with_kind kind (expanded self.old.runs.items) }
     {
+        self.count_one_more(kind);
+        self.settle();
+    }
+
+    /// Counts one more of a type, in its last run or in one behind all others.
+    fn count_one_more(&mut self, kind: ResType)
+        requires small { length (expanded self.old.runs.items) + 1 < 2 ^ 64 }
+        requires room { vec_len self.old.runs < vec_capacity self.old.runs }
+        ensures { expanded self.new.runs.items ≡ with_kind kind (expanded self.old.runs.items) }
+    {
+        self.seen = false;
         match last_run(&self.runs, kind) {
             Some(index) => {
                 let run = self.runs[index];
@@ -208,6 +278,16 @@ impl Kinds {
         requires { place < length (expanded self.old.runs.items) }
         ensures { expanded self.new.runs.items ≡ remove (expanded self.old.runs.items) place }
     {
+        self.count_one_less(place);
+        self.settle();
+    }
+
+    /// Counts one less in the run of the row at an index.
+    fn count_one_less(&mut self, place: usize)
+        requires { place < length (expanded self.old.runs.items) }
+        ensures { expanded self.new.runs.items ≡ remove (expanded self.old.runs.items) place }
+    {
+        self.seen = false;
         let index = run_with(&self.runs, place);
         let run = self.runs[index];
         if run.count == 1 {

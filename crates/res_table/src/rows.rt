@@ -2,7 +2,7 @@
 
 use crate::keyed::{Keyed, Pair};
 use crate::keys::{key_of_handle, key_of_resource};
-use crate::kinds::Kinds;
+use crate::kinds::{Kinds, ith_type};
 use crate::row::Row;
 use crate::runs::{MAX_OFFSET, names_fit, run_end};
 use fork_bytes::layout::MAX_ROWS;
@@ -83,6 +83,7 @@ impl<D> Rows<D> {
             })?;
             rows.push(row)?;
         }
+        kinds.settle();
         let mut handles = Keyed::new(alloc);
         handles.reserve(rows.len())?;
         Ok(Rows {
@@ -239,11 +240,24 @@ impl<D> Rows<D> {
         ensures types { result ≡ length (row_types self.now) }
         ensures few { result ≤ length self.now }
     {
-        self.kinds.count_types()
+        match self.kinds.types() {
+            Some(types) => types.len(),
+            None => self.kinds.count_types(),
+        }
     }
 
     /// The i-th type, counted from 1, or None where there are fewer (GetIndType).
     pub fn type_of_ith(&self, i: usize) -> Option<ResType>
+        ensures { result ≡ ith i (map kind_of (row_types self.now)) }
+    {
+        match self.kinds.types() {
+            Some(types) => ith_type(types, i),
+            None => self.type_of_ith_run(i),
+        }
+    }
+
+    /// The type of the i-th run of rows that stand together, counted from 1.
+    fn type_of_ith_run(&self, i: usize) -> Option<ResType>
         ensures { result ≡ ith i (map kind_of (row_types self.now)) }
     {
         let mut at = 0;

@@ -1,4 +1,4 @@
-use Rattle.std.proofs.Common.{rules, ◌+◌, ◌-◌, ◌<◌, List, ap, ◌∙◌, arith}
+use Rattle.std.proofs.Common.{rules, ◌+◌, ◌-◌, ◌<◌, List, sym, ap, ◌∙◌, arith}
 use Rattle.fork_bytes.specs.declared.layout.TypeCount.{TypeCount}
 use Rattle.res_table.specs.Kinds.{expanded}
 use Rattle.res_table.proofs.Expanded.{run_pushed, run_few, runs_more}
@@ -7,13 +7,13 @@ use Rattle.res_table.proofs.kinds.Kinds.push.Goals as goal
 pub overflow_add-last : goal.overflow_add-last
 overflow_add-last c =
     let runs = c.args.self.now.runs.items in let ok = c.args.self.now.runs.ok.0 in let n = c.len-count.ensures in let some = c.if-count-gt0.true in
-    let few = run_few runs (c.len-count.result - 1) c.index.result.now (omega arith) c.index.ensures in let small = c.requires in
-    let fits : c.index.result.now.count + 1 < 18446744073709551616 = omega arith in search (rules, fits)
+    let few = run_few runs (c.len-count.result - 1) c.index-last.result.now (omega arith) c.index-last.ensures in let small = c.requires in
+    let fits : c.index-last.result.now.count + 1 < 18446744073709551616 = omega arith in search (rules, fits)
 
-pub returns-then-eq : goal.returns-then-eq
-returns-then-eq c =
+pub returns-then-is_same_kind : goal.returns-then-is_same_kind
+returns-then-is_same_kind c =
     let runs = c.args.self.now.runs.items in let ok = c.args.self.now.runs.ok.0 in let n = c.len-count.ensures in let some = c.if-count-gt0.true in
-    run_pushed c.args.kind runs (c.len-count.result - 1) c.index.result.now (omega arith) c.index.ensures (search (rules, c.if-eq.true, c.eq.ensures))
+    run_pushed c.args.kind runs (c.len-count.result - 1) c.index-last.result.now (omega arith) c.index-last.ensures (sym c.is_same_kind.ensures ∙ c.if-is_same_kind.true)
 
 pub returns : goal.returns
 returns c = ap (λ (rs : List TypeCount). expanded rs) c.in_ok-push.ensures.items ∙ runs_more c.args.self.now.runs.items (record { kind = c.args.kind; count = 1 })

@@ -7,7 +7,8 @@ use Rattle.res_table.specs.declared.row.Row.{Row}
 use Rattle.res_table.specs.declared.keyed.Pair.{Pair}
 use Rattle.res_table.specs.Rows.{opened_row, name_size, names_size}
 use Rattle.res_table.specs.Keyed.{handle_key, key_of_resource, in_order, pairs_of, IsTold}
-use Rattle.res_table.specs.Kinds.{kinds_of}
+use Rattle.fork_bytes.specs.declared.layout.TypeCount.{TypeCount}
+use Rattle.res_table.specs.Kinds.{expanded, kinds_of}
 use Rattle.res_table.proofs.Pairs.{opened_pairs}
 use Rattle.res_table.proofs.Sorting.{listed, listed_more, listed_are}
 use Rattle.res_table.proofs.Expanded.{as_many, kinds_more}
@@ -38,7 +39,7 @@ invariant_of-result g c =
     let len = c.len-2.ensures in let room = c.in_ok-reserve.ensures.room in let ok = c.loop-resource.rows.ok.0 in (
       c.reserve.ensures.same ∙ c.new-handles.ensures ∙ sym (ap (pairs_of handle_key) c.loop-resource.invariant.0 ∙ opened_pairs 0 c.loop-resource.yielded),
       omega arith,
-      c.loop-resource.invariant.1,
+      ap (λ (runs : List TypeCount). expanded runs) c.settle.ensures ∙ c.loop-resource.invariant.1,
       c.sorted.ensures ∙ ap in_order c.loop-resource.invariant.2 ∙ listed_are 0 c.loop-resource.rows.items,
       c.loop-resource.invariant.3,
       c.loop-resource.invariant.4,

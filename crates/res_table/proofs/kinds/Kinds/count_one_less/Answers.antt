@@ -2,7 +2,7 @@ use Rattle.std.proofs.Common.{ℕ, ◌+◌, ◌<◌, ◌≤◌, List, length, ta
 use Rattle.fork_bytes.specs.declared.layout.TypeCount.{TypeCount}
 use Rattle.res_table.specs.Kinds.{expanded}
 use Rattle.res_table.proofs.Expanded.{some_left, run_taken, run_shorter}
-use Rattle.res_table.proofs.kinds.Kinds.remove.Goals as goal
+use Rattle.res_table.proofs.kinds.Kinds.count_one_less.Goals as goal
 
 -- what is said of the runs
 abbrev Told : ℕ → ℕ → List TypeCount → Type 0

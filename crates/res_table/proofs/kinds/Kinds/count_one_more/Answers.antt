@@ -3,7 +3,7 @@ use Rattle.std.specs.Prelude.{is_ok}
 use Rattle.fork_bytes.specs.declared.layout.TypeCount.{TypeCount}
 use Rattle.res_table.specs.Kinds.{is_run_of, has_kind, expanded}
 use Rattle.res_table.proofs.Expanded.{run_added, run_few, runs_more, kind_last}
-use Rattle.res_table.proofs.kinds.Kinds.add.Goals as goal
+use Rattle.res_table.proofs.kinds.Kinds.count_one_more.Goals as goal
 
 -- what is said of the runs
 abbrev Told : List ℕ → ℕ → List TypeCount → Type 0

@@ -2,7 +2,7 @@ use Rattle.std.proofs.Common.{length, ◌-◌, ◌≡◌, ◌≤◌, drop, map}
 use Rattle.fork_bytes.specs.Written.{types_of}
 use Rattle.res_table.specs.Rows.{ith}
 use Rattle.res_table.specs.Saved.{bare, kind_of}
-use Rattle.res_table.proofs.rows.Rows.type_of_ith.Given as goal
+use Rattle.res_table.proofs.rows.Rows.type_of_ith_run.Given as goal
 
 -- the type is the one of the others that is left
 abbrev pub invariant-loop-at : goal.invariant-loop-at
