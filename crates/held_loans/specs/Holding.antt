@@ -21,6 +21,10 @@ held_at places = flat_map option_to_list places
 abbrev pub loans_of : List Held → Loans
 loans_of held = map (λ (h : Held). (h.block, h.loan.bytes)) held
 
+-- the blocks that are lent
+abbrev pub blocks_of : List Held → List ℕ
+blocks_of held = map (λ (h : Held). h.block) held
+
 -- whether the loan of x is held
 abbrev pub is_held : ℕ → List Held → Bool
 is_held x held = list_any (λ (h : Held). h.block == x) held

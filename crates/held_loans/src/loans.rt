@@ -1,9 +1,10 @@
 //! The loans that a program has.
 
 ghost use Rattle.std.specs.Prelude.{◌≡◌, ◌+◌, ◌<◌, ◌≤◌, ◌++◌, ◌∷◌, [], None, IfSome, IfNone, IsFalse, length};
-ghost use Rattle.held_loans.specs.Holding.{held_at, is_held, loan_written, StandsAt, FreeAt, IsFirst};
+ghost use Rattle.held_loans.specs.Holding.{blocks_of, held_at, is_held, loan_written, StandsAt, FreeAt, IsFirst};
 
 use crate::window::{Window, window_on};
+use arrayvec::ArrayVec;
 use raw_region::Lent;
 use std::marker::Model;
 use std::mem;
@@ -42,9 +43,10 @@ impl Drop for Loans {
 }
 
 impl Loans {
-    ghost use Rattle.std.specs.Prelude.{◌≡◌, ◌+◌, ◌<◌, ◌≤◌, [], ◌∷◌, ◌++◌, length, is_some, IfSome, IfNone, IsFalse};
+    ghost use Rattle.std.specs.List.{list_any};
+    ghost use Rattle.std.specs.Prelude.{◌≡◌, ◌==◌, ℕ, ◌+◌, ◌<◌, ◌≤◌, [], ◌∷◌, ◌++◌, length, is_some, IfSome, IfNone, IsFalse};
     ghost use Rattle.mac_calls.specs.Loans.{held_bytes};
-    ghost use Rattle.held_loans.specs.Holding.{is_held, held_written, loans_of, IsOnLoan, TakenOut};
+    ghost use Rattle.held_loans.specs.Holding.{blocks_of, is_held, held_written, loans_of, IsOnLoan, TakenOut};
 
     /// No loans.
     pub fn new() -> Loans
@@ -63,6 +65,14 @@ impl Loans {
         let place = place_of(&self.places, block)?;
         let held = self.places[place].as_ref()?;
         Some(held.loan.bytes())
+    }
+
+    /// The blocks that are lent, in order of lending.
+    pub fn blocks(&self) -> ArrayVec<u32, 8>
+        ensures blocks { result.items ≡ blocks_of self.now }
+        ensures told { (x : ℕ) → list_any (λ y. y == x) result.items ≡ is_held x self.now }
+    {
+        blocks_at(&self.places)
     }
 
     /// One more loan.
@@ -117,6 +127,20 @@ impl Loans {
         let loan = self.take_out(block)?;
         Some(Held { block, loan })
     }
+}
+
+/// The blocks whose loans stand at places, in their order.
+fn blocks_at(places: &[Option<Held>]) -> ArrayVec<u32, 8>
+    requires { length places.now ≤ 8 }
+    ensures { result.items ≡ blocks_of (held_at places.now) }
+{
+    let mut blocks = ArrayVec::new();
+    for place in places {
+        if let Some(held) = place {
+            blocks.push(held.block);
+        }
+    }
+    blocks
 }
 
 /// The place of a block's loan, if it has one.

@@ -3,9 +3,12 @@
 ghost use Rattle.std.specs.Prelude.{◌≡◌, ◌+◌, ◌≤◌, ◌++◌, ◌∷◌, List, length, drop, All, IfSome, IfNone, Some, None};
 ghost use Rattle.res_table.specs.declared.row.Row.{Row};
 ghost use Rattle.fork_reader.specs.declared.place.Place.{Place};
+ghost use Rattle.std.specs.List.{list_any};
+ghost use Rattle.res_files.specs.Handles.{counts_among, is_among};
 
 use fork_reader::place::Place;
 use mac_base::handle::Handle;
+use res_table::row::Row;
 use res_table::rows::Rows;
 
 /// The first row with a handle from an index on, and the handle.
@@ -23,4 +26,35 @@ pub(crate) fn next_handle(rows: &Rows<Place>, from: usize) -> Option<(usize, Han
         at += 1;
     }
     None
+}
+
+/// Whether a row has one of these handles.
+fn is_among(row: &Row<Place>, handles: &[u32]) -> bool
+    ensures { result ≡ is_among handles.now row.now }
+{
+    match row.handle {
+        Some(handle) => handles.contains(&handle.number()),
+        None => false,
+    }
+}
+
+/// Whether a row counts and has one of these handles: each counts, or just a changed one.
+fn counts_among(row: &Row<Place>, handles: &[u32], just_changed: bool) -> bool
+    ensures { result ≡ counts_among just_changed handles.now row.now }
+{
+    (!just_changed || row.is_changed()) && is_among(row, handles)
+}
+
+/// Whether there is a row that counts and has one of these handles.
+pub(crate) fn has_row_among(rows: &Rows<Place>, handles: &[u32], just_changed: bool) -> bool
+    ensures { result ≡ list_any (counts_among just_changed handles.now) rows.now }
+{
+    let mut at = 0;
+    while at < rows.len() {
+        if counts_among(rows.row(at), handles, just_changed) {
+            return true;
+        }
+        at += 1;
+    }
+    false
 }

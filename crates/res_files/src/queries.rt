@@ -8,10 +8,12 @@ ghost use Rattle.res_table.specs.Rows.{count_of_type, unique_id, ith, index_of_i
 ghost use Rattle.res_calls.specs.Changes.{FileRow, current_rows, rows_of};
 ghost use Rattle.res_calls.specs.Files.{current_types};
 ghost use Rattle.res_files.specs.FilesOn.{Shows};
+ghost use Rattle.res_files.specs.Handles.{counts_among};
+ghost use Rattle.std.specs.List.{list_any};
 
 use crate::current::current_rows;
 use crate::files::ResourceFiles;
-use crate::handles::next_handle;
+use crate::handles::{has_row_among, next_handle};
 use fork_disk::store::ForkStore;
 use fork_reader::place::Place;
 use mac_base::handle::Handle;
@@ -138,6 +140,16 @@ impl<S: ForkStore> ResourceFiles<S> {
         match self.chain.table(number) {
             Some(table) => next_handle(&table.rows, from),
             None => None,
+        }
+    }
+
+    /// Whether there is a row of the file of a number that has one of these handles; where just the changed rows count, one of them.
+    pub fn has_row_among(&self, number: u8, handles: &[u32], just_changed: bool) -> bool
+        ensures { result ≡ list_any (counts_among just_changed handles.now) (rows_of number self.now.files) }
+    {
+        match self.chain.table(number) {
+            Some(table) => has_row_among(&table.rows, handles, just_changed),
+            None => false,
         }
     }
 }

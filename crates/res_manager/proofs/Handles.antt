@@ -1,6 +1,6 @@
 -- The walk over the rows of a file that have handles.
-use Rattle.std.proofs.Common.{◌≡◌, ℕ, zero, suc, ◌+◌, ◌<◌, ◌≤◌, Bool, true, false, ◌||◌, List, [], ◌∷◌, ◌++◌, All, length, drop, slice_get, Option, Some, None, option_and_then, refl, sym, ap, subst, ◌∙◌, add-one, arith, length-append, length-drop}
-use Rattle.std.specs.Prelude.{◌&&◌}
+use Rattle.std.proofs.Common.{◌≡◌, ℕ, zero, suc, ◌+◌, ◌<◌, ◌≤◌, Bool, false, ◌||◌, List, [], ◌∷◌, ◌++◌, All, length, drop, slice_get, Option, Some, None, option_and_then, refl, sym, ap, subst, ◌∙◌, add-one, arith, length-append, length-drop}
+use Rattle.std.specs.Prelude.{◌==◌, ◌&&◌}
 use Rattle.std.specs.List.{list_any}
 use Rattle.std.specs.Option.{option_map_or}
 use Rattle.std.proofs.lemmas.List.{drop-drop}
@@ -14,6 +14,7 @@ use Rattle.mac_calls.specs.Outcomes.{Outcome}
 use Rattle.res_calls.specs.Changes.{Files, FileRow, FileTable, rows_in, rows_of}
 use Rattle.res_calls.specs.Tests.{is_lent_row}
 use Rattle.res_calls.specs.Updates.{disposed, handles_of}
+use Rattle.res_files.specs.Handles.{is_among}
 use Rattle.res_table.specs.OpenFiles.{row_at, table_of}
 
 -- the handles of a row and of others, where the row has none
@@ -85,31 +86,14 @@ pub row_found : (files : Files) (k from index : ℕ) (before : List FileRow) (r 
 row_found files k from index before r behind is at =
     in_file (table_of k files) index ∙ rw at (sym (at_drop from (rows_of k files) (length before)) ∙ ap (λ (rows : List FileRow). slice_get rows (length before)) is ∙ at_front before r behind)
 
-and_false : (b : Bool) → (b && false) ≡ false
-and_false true = refl
-and_false false = refl
-
--- rows without handles aren't lent
-none_lent : (t : HandleTable) (counts : FileRow → Bool) (before rest : List FileRow) → All (λ (r : FileRow). r.handle ≡ None) before → list_any (λ r. counts r && is_lent_row t r) (before ++ rest) ≡ list_any (λ r. counts r && is_lent_row t r) rest
-none_lent t counts [] rest none = refl
-none_lent t counts (r ∷ rows) rest none =
-    ap (λ (h : Option ℕ). (counts r && option_map_or (is_lent t) h false) || list_any (λ x. counts x && is_lent_row t x) (rows ++ rest)) (All-head (λ (x : FileRow). x.handle ≡ None) r rows none)
-    ∙ ap (λ b. b || list_any (λ x. counts x && is_lent_row t x) (rows ++ rest)) (and_false (counts r))
-    ∙ none_lent t counts rows rest (All-tail (λ (x : FileRow). x.handle ≡ None) r rows none)
-
--- the next row with a handle is lent, or one behind it
-pub lent_next : (t : HandleTable) (counts : FileRow → Bool) (rows : List FileRow) (from index h : ℕ) (before : List FileRow) (r : FileRow) (behind : List FileRow) → drop from rows ≡ before ++ r ∷ behind → All (λ (other : FileRow). other.handle ≡ None) before
-    → r.handle ≡ Some h → index ≡ from + length before → list_any (λ x. counts x && is_lent_row t x) (drop from rows) ≡ ((counts r && is_lent t h) || list_any (λ x. counts x && is_lent_row t x) (drop (index + 1) rows))
-lent_next t counts rows from index h before r behind is none has at =
-    let rest : drop (index + 1) rows ≡ behind = rw at (sym (drop-drop (length before + 1) from rows ∙ ap (λ n. drop n rows) (omega arith)) ∙ ap (drop (length before + 1)) is ∙ rw (add-one) (behind_found before r behind)) in
-    ap (list_any (λ x. counts x && is_lent_row t x)) is ∙ none_lent t counts before (r ∷ behind) none
-    ∙ ap (λ (o : Option ℕ). (counts r && option_map_or (is_lent t) o false) || list_any (λ x. counts x && is_lent_row t x) behind) has
-    ∙ ap (λ (rs : List FileRow). (counts r && is_lent t h) || list_any (λ x. counts x && is_lent_row t x) rs) (sym rest)
-
--- where no further row has a handle, none is lent
-pub lent_none : (t : HandleTable) (counts : FileRow → Bool) (rows : List FileRow) → All (λ (other : FileRow). other.handle ≡ None) rows → list_any (λ x. counts x && is_lent_row t x) rows ≡ false
-lent_none t counts [] none = refl
-lent_none t counts (r ∷ rows) none =
-    ap (λ (h : Option ℕ). (counts r && option_map_or (is_lent t) h false) || list_any (λ x. counts x && is_lent_row t x) rows) (All-head (λ (x : FileRow). x.handle ≡ None) r rows none)
-    ∙ ap (λ b. b || list_any (λ x. counts x && is_lent_row t x) rows) (and_false (counts r))
-    ∙ lent_none t counts rows (All-tail (λ (x : FileRow). x.handle ≡ None) r rows none)
+-- rows whose handles are among the blocks that are lent are those that are lent
+pub lent_among : (t : HandleTable) (lent : List ℕ) (counts : FileRow → Bool) → ((x : ℕ) → is_lent t x ≡ list_any (λ y. y == x) lent) → (rows : List FileRow)
+    → list_any (λ r. counts r && is_among lent r) rows ≡ list_any (λ r. counts r && is_lent_row t r) rows
+lent_among t lent counts are [] = refl
+lent_among t lent counts are (r ∷ rows) =
+    ap (λ b. (counts r && b) || list_any (λ x. counts x && is_among lent x) rows) (by r.handle)
+    ∙ ap (λ b. (counts r && is_lent_row t r) || b) (lent_among t lent counts are rows)
+  where
+    by : (h : Option ℕ) → option_map_or (λ h. list_any (λ x. x == h) lent) h false ≡ option_map_or (is_lent t) h false
+    by None = refl
+    by (Some h) = sym (are h)

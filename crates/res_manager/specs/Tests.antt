@@ -1,5 +1,7 @@
 -- Which tests of a call come before all work. Whether a fork can hold what is written is seen when it is written.
-use Rattle.std.specs.Prelude.{◌≡◌, Bool, true, false, List, [], ◌∷◌, None, Some, if◌then◌else◌, Result}
+use Rattle.std.specs.Prelude.{◌≡◌, ℕ, ◌==◌, Bool, true, false, List, [], ◌∷◌, None, Some, if◌then◌else◌, Result}
+use Rattle.std.specs.List.{list_any}
+use Rattle.mac_base.specs.HandleTable.{HandleTable, is_lent}
 use Rattle.mac_base.specs.declared.error.OsErr.{OsErr}
 use Rattle.mac_base.specs.declared.error.OsErr.TheVariants.{ResNotFound, RmvResFailed, ResAttrErr}
 use Rattle.mac_calls.specs.declared.resource_call.ResourceCall.{ResourceCall}
@@ -63,3 +65,7 @@ Tests state tests result = Answers (first_refused_for state tests) result
 -- the tests pass
 abbrev pub Passes : ResState → List ResourceTest → Type 0
 Passes state tests = first_refused_for state tests ≡ None
+
+-- just these blocks are lent
+abbrev pub AreLent : HandleTable → List ℕ → Type 0
+AreLent table blocks = (x : ℕ) → is_lent table x ≡ list_any (λ y. y == x) blocks

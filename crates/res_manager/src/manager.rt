@@ -8,7 +8,7 @@ ghost use Rattle.res_calls.specs.Steps.{work_of};
 ghost use Rattle.res_manager.specs.Crash.{CrashLeaves, IsSettled, file_settled};
 ghost use Rattle.res_manager.specs.Ends.{EndsQuietly, copies, is_calm, is_quiet};
 ghost use Rattle.res_manager.specs.Steps.{ReadsBack, ResourceSteps, state_of, takes_memory, update_in};
-ghost use Rattle.res_manager.specs.Tests.{Passes, early_tests};
+ghost use Rattle.res_manager.specs.Tests.{AreLent, Passes, early_tests};
 
 use crate::getting::get;
 use crate::opening::open;
@@ -26,17 +26,19 @@ use std::alloc::Global;
 const MOST_FILES: usize = 8;
 
 /// Makes a call of the Resource Manager. One that loads a resource makes its place by a call of the Memory Manager, which asks the
-/// grow-zone procedure where it finds no room. HostFull comes only where the call isn't refused, from calls that take host memory for
+/// grow-zone procedure where it finds no room. The blocks that are lent are told in any order. HostFull comes only where the call isn't refused, from calls that take host memory for
 /// a row, a name, a fork or a table, and before any device call of an update; then neither zone nor files have changed. A file that
 /// was updated with success reads back as the table that was saved.
 pub fn make<S: ForkStore, G: GrowZone>(
     files: &mut ResourceFiles<S>,
     memory: &mut MemoryManager,
+    lent: &[u32],
     alloc: Global,
     call: &ResourceCall<'_>,
     procedure: &mut G,
 ) -> Result<Outcome, HostFull>
-    requires { G.asks procedure.old ≡ [] }
+    requires lent { AreLent memory.old.heap.table lent.now }
+    requires unasked { G.asks procedure.old ≡ [] }
     ensures step { All S.is_honest files.old.stores → IfOk result (λ outcome.
         ResourceSteps S.fork S.failures S.may_leave memory.old files.old call.now (G.asks procedure.new) outcome memory.new files.new) }
     ensures reads_back { All S.is_honest files.old.stores → IfOk result (λ outcome. ReadsBack (state_of S.fork memory.old files.old) call.now outcome (state_of S.fork memory.new files.new)) }
@@ -58,7 +60,7 @@ pub fn make<S: ForkStore, G: GrowZone>(
     ensures full { All S.is_honest files.old.stores → OnErr result (IsTrue (takes_memory (state_of S.fork memory.old files.old) call.now)) }
     ensures late { All S.is_honest files.old.stores → OnErr result (resource_refusal (state_of S.fork memory.old files.old) call.now ≡ None) }
 {
-    if let Err(code) = test_call(files, memory, call) {
+    if let Err(code) = test_call(files, memory, lent, call) {
         return Ok(Err(code));
     }
     match *call {

@@ -3,7 +3,7 @@
 ghost use Rattle.std.specs.Prelude.{◌≡◌, ℕ, [], ◌∷◌, ◌≤◌, ◌&&◌, ◌||◌, not, false, nat_le, length, is_some, option_copied, IfOk, IsTrue, Some};
 ghost use Rattle.std.specs.List.{list_any};
 ghost use Rattle.std.specs.Option.{option_map_or};
-ghost use Rattle.mac_base.specs.HandleTable.{is_full, is_lent};
+ghost use Rattle.mac_base.specs.HandleTable.{HandleTable, is_full, is_lent};
 ghost use Rattle.mac_calls.specs.Tests.{unless_passed};
 ghost use Rattle.mem_calls.specs.Testing.{Answers};
 ghost use Rattle.res_calls.specs.Changes.{FileRow, rows_of};
@@ -12,10 +12,10 @@ ghost use Rattle.res_calls.specs.Attributes.{has_bit, res_protected};
 ghost use Rattle.res_calls.specs.Tests.{IsOpen, ChangedUnlent, AllUnlent, is_id, may_be_added, is_lent_row};
 ghost use Rattle.res_calls.specs.Updates.{new_row, row_passes};
 ghost use Rattle.res_table.specs.Attributes.{res_changed};
-ghost use Rattle.res_table.specs.OpenFiles.{is_open, place_of_handle, row_at};
+ghost use Rattle.res_table.specs.OpenFiles.{is_open, place_of_handle};
 ghost use Rattle.res_table.specs.Rows.{is_changed};
 ghost use Rattle.res_manager.specs.Steps.{state_of};
-ghost use Rattle.res_manager.specs.Tests.{Tests, needs_file, row_tests, operand_tests, early_tests};
+ghost use Rattle.res_manager.specs.Tests.{AreLent, Tests, needs_file, row_tests, operand_tests, early_tests};
 
 use crate::rows::row_of;
 use bitflags::Flags;
@@ -28,7 +28,6 @@ use mem_calls::MemoryManager;
 use res_base::name::MAX_NAME;
 use res_base::resource::{ResAttrs, ResType};
 use res_files::ResourceFiles;
-use res_table::chain::RowPlace;
 
 /// The most blocks that may be lent at a time.
 const MOST_LOANS: u32 = 8;
@@ -37,14 +36,16 @@ const MOST_LOANS: u32 = 8;
 pub(crate) fn test_call<S: ForkStore>(
     files: &ResourceFiles<S>,
     memory: &MemoryManager,
+    lent: &[u32],
     call: &ResourceCall<'_>,
 ) -> Result<(), OsErr>
+    requires { AreLent memory.now.heap.table lent.now }
     ensures { Tests (state_of S.fork memory.now files.now) (early_tests call.now) result }
 {
     if needs_file(call) {
         require(files.current().is_some(), OsErr::ResFNotFound)?;
     }
-    test_operands(files, memory, call)
+    test_operands(files, memory, lent, call)
 }
 
 /// Whether a call is refused where no file is open.
@@ -61,8 +62,10 @@ fn needs_file(call: &ResourceCall<'_>) -> bool
 fn test_operands<S: ForkStore>(
     files: &ResourceFiles<S>,
     memory: &MemoryManager,
+    lent: &[u32],
     call: &ResourceCall<'_>,
 ) -> Result<(), OsErr>
+    requires { AreLent memory.now.heap.table lent.now }
     ensures { Tests (state_of S.fork memory.now files.now) (operand_tests call.now) result }
 {
     match *call {
@@ -88,8 +91,8 @@ fn test_operands<S: ForkStore>(
             let passes = may_be_added(files, memory, handle, kind, id, name);
             require(passes, OsErr::AddResFailed)
         }
-        ResourceCall::UpdateResFile(named) => test_changed(files, memory, named),
-        ResourceCall::CloseResFile(named) => test_closing(files, memory, named),
+        ResourceCall::UpdateResFile(named) => test_changed(files, memory, lent, named),
+        ResourceCall::CloseResFile(named) => test_closing(files, memory, lent, named),
         ResourceCall::GetIndType(index) => {
             require(files.type_of_ith(index).is_some(), OsErr::ResNotFound)
         }
@@ -205,13 +208,15 @@ pub(crate) fn test_open<S: ForkStore>(
 fn test_changed<S: ForkStore>(
     files: &ResourceFiles<S>,
     memory: &MemoryManager,
+    lent: &[u32],
     named: Option<u32>,
 ) -> Result<(), OsErr>
+    requires { AreLent memory.now.heap.table lent.now }
     ensures { Tests (state_of S.fork memory.now files.now) (IsOpen named ∷ ChangedUnlent named ∷ []) result }
 {
     let number = test_open(files, named)?;
     require(
-        !has_lent_row(files, memory, number, true),
+        !has_lent_row(files, lent, number, true),
         OsErr::MemLockedErr,
     )
 }
@@ -220,68 +225,30 @@ fn test_changed<S: ForkStore>(
 fn test_closing<S: ForkStore>(
     files: &ResourceFiles<S>,
     memory: &MemoryManager,
+    lent: &[u32],
     named: Option<u32>,
 ) -> Result<(), OsErr>
+    requires { AreLent memory.now.heap.table lent.now }
     ensures { Tests (state_of S.fork memory.now files.now) (IsOpen named ∷ AllUnlent named ∷ []) result }
 {
     let number = test_open(files, named)?;
     require(
-        !has_lent_row(files, memory, number, false),
+        !has_lent_row(files, lent, number, false),
         OsErr::MemLockedErr,
     )
 }
 
-/// Whether the handle of some row of an open file is lent, or where just the changed rows count, of one of these.
+/// Whether the handle of some row of a file is among the blocks that are lent, or where just the changed rows count, of one of these.
 fn has_lent_row<S: ForkStore>(
     files: &ResourceFiles<S>,
-    memory: &MemoryManager,
+    lent: &[u32],
     number: u8,
     just_changed: bool,
 ) -> bool
-    requires { IsTrue (is_open number files.now.files) }
-    ensures { result ≡ list_any (λ r. (not just_changed || is_changed r) && is_lent_row memory.now.heap.table r) (rows_of number files.now.files) }
+    ensures { (table : HandleTable) → AreLent table lent.now
+        → result ≡ list_any (λ r. (not just_changed || is_changed r) && is_lent_row table r) (rows_of number files.now.files) }
 {
-    let mut from = 0;
-    while let Some(found) = files.next_handle(number, from) {
-        let (index, handle) = found;
-        let place = RowPlace {
-            file: number,
-            index,
-        };
-        if is_lent_row(files, memory, place, handle, just_changed) {
-            return true;
-        }
-        from = index + 1;
-    }
-    false
-}
-
-/// Whether the row at a place counts, and its handle is lent.
-fn is_lent_row<S: ForkStore>(
-    files: &ResourceFiles<S>,
-    memory: &MemoryManager,
-    place: RowPlace,
-    handle: Handle,
-    just_changed: bool,
-) -> bool
-    ensures { (r : FileRow) → row_at place files.now.files ≡ Some r → result ≡ ((not just_changed || is_changed r) && is_lent memory.now.heap.table handle) }
-{
-    let counts = counts(files, place, just_changed);
-    let lent = is_lent(memory, handle);
-    counts && lent
-}
-
-/// Whether the row at a place counts: where just the changed ones do, it is one of these.
-fn counts<S: ForkStore>(files: &ResourceFiles<S>, place: RowPlace, just_changed: bool) -> bool
-    ensures { (r : FileRow) → row_at place files.now.files ≡ Some r → result ≡ (not just_changed || is_changed r) }
-{
-    if !just_changed {
-        return true;
-    }
-    match files.row(place) {
-        Some(row) => row.is_changed(),
-        None => false,
-    }
+    files.has_row_among(number, lent, just_changed)
 }
 
 /// Whether the row of a handle is changed; so it counts where there is none.

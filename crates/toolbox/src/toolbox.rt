@@ -171,9 +171,11 @@ impl<S: ForkStore> Toolbox<S> {
         ensures full { OnErr result (WhereHonest S.ForkStore self.old (Resource call.now) (IsTrue (takes_memory S.ForkStore self.old (Resource call.now)))) }
         ensures late { OnErr result (WhereHonest S.ForkStore self.old (Resource call.now) (refusal_of S.ForkStore self.old (Resource call.now) ≡ None)) }
     {
+        let lent = self.loans.blocks();
         res_manager::make(
             &mut self.files,
             &mut self.memory,
+            lent.as_slice(),
             self.alloc,
             call,
             procedure,
