@@ -59,6 +59,14 @@ def empty_types(count):
     return header + bytes(240) + the_map
 
 
+def shared_types(count):
+    """A fork of so many types, whose only resource is the same reference."""
+    at = 2 + 8 * count
+    entries = b"".join(struct.pack(">4s2H", b"%04x" % it, 0, at) for it in range(count))
+    the_map = bytes(24) + struct.pack(">3H", 28, min(28 + at + 12, 65535), count - 1) + entries + struct.pack(">hH", 1, 0xFFFF) + bytes(8)
+    return struct.pack(">4I", 256, 260, 4, len(the_map)) + bytes(244) + the_map
+
+
 SHARED = fork_of([(b"TEXT", it, None, 0) for it in range(-4096, 4096)], struct.pack(">I", 496) + bytes(496))
 WIDE = fork_of([(b"TEXT", it, None, 1004 * it) for it in range(4000)], b"".join(struct.pack(">I", 1000) + bytes(1000) for _ in range(4000)))
 TYPES = empty_types(65000)
@@ -68,6 +76,11 @@ FULL = fork_of([(b"TEXT", it, None, 0) for it in range(5458)], bytes(4))
 ALMOST = fork_of([(b"TEXT", it, None, 0) for it in range(5457)], bytes(4))
 APART = fork_of([(b"TEXT", it, None, 4 * it) for it in range(5458)], bytes(4 * 5458))
 ONE_BYTE_EACH = fork_of([(b"TEXT", it, None, 5 * it) for it in range(5458)], struct.pack(">IB", 1, 0) * 5458)
+# as many types as there may be, which share one reference
+ALL_TYPES = shared_types(8191)
+SOME_TYPES = shared_types(3270)
+# their data take almost as many bytes as a fork may have, though they stand once
+WEIGHTY = fork_of([(b"TEXT", it, None, 0) for it in range(5450)], struct.pack(">I", 760) + bytes(760))
 ONE_EACH = fork_of([(b"%04d" % it, 1, None, 0) for it in range(3000)], bytes(4))
 
 
@@ -156,6 +169,15 @@ def everything_kept():
     return lines + ["gz 1"] * (LINES - len(lines) - 1) + ["UpdateResFile 1"]
 
 
+def all_loaded(change, lines):
+    """All resources of a file have handles, and were changed or not; the last is lent, and seven pointers."""
+    lines = ["SetResLoad 0"] + [f"h=GetIndResource 'TEXT' {it + 1}" + change for it in range(5449)] + ["SetResLoad 1", "h=GetResource 'TEXT' 5449", "HLock h"] + lines
+    return "\n".join(lines).split("\n")
+
+
+LOANS = ["p=NewPtr 4", "Lend p"] * 7 + ["Lend h"]
+TOO_BIG = ["h=GetResource 'TEXT' 5", "SetHandleSize h 500000", "ChangedResource h"]
+
 # name, the forks and the script
 RUNS = [
     ("20,000 blocks, and requests that fail", [], handles(20000, 8) + ["NewHandle 900000"] * LINES),
@@ -225,6 +247,16 @@ RUNS = [
     ("a fork of 5,458 resources that is opened and closed at 4,000 lines", [b"", APART], ["OpenResFile 2", "CloseResFile 2"] * 2000),
     ("updates of 5,458 resources of one byte at 200 lines", [ONE_BYTE_EACH], ["UpdateResFile"] * 200),
     ("3,000 types of one resource", [ONE_EACH], ["CountTypes", "GetIndType 3000", "GetResource '2999' 1", "CountResources '2999'"] * LINES),
+    ("8,191 types, counted", [ALL_TYPES], ["CountTypes"] * LINES),
+    ("8,191 types, the last one asked for", [ALL_TYPES], ["GetIndType 8191"] * LINES),
+    ("8,191 types, the resource of the last one asked for", [ALL_TYPES], ["SetResLoad 0"] + ["GetIndResource '1ffe' 1"] * LINES),
+    ("8,191 types, and a resource that is one too many", [ALL_TYPES], ["h=NewHandle 8"] + ["AddResource h 'ZZZZ' 1"] * LINES),
+    ("a resource that is added to the first of 3,270 types and removed", [SOME_TYPES], ["h=NewHandle 8"] + ["AddResource h '0000' 1", "RemoveResource h"] * LINES),
+    ("a resource that is added as the last of 3,271 types and removed", [SOME_TYPES], ["h=NewHandle 8"] + ["AddResource h 'ZZZZ' 1", "RemoveResource h"] * LINES),
+    ("an update that is too big", [WEIGHTY], TOO_BIG + ["UpdateResFile"] * LINES),
+    ("a file that can't be closed since it is too big", [WEIGHTY], TOO_BIG + ["CloseResFile"] * LINES),
+    ("a file with 5,450 handles that can't be closed since the last is lent", [WEIGHTY], all_loaded("", LOANS) + ["CloseResFile"] * LINES),
+    ("a file with 5,450 changed resources that can't be updated since the last is lent", [WEIGHTY], all_loaded("\nChangedResource h", LOANS) + ["UpdateResFile"] * LINES),
     ("updates of 4 MB", [WIDE], ["h=GetResource 'TEXT' 3999"] + ["ChangedResource h", "UpdateResFile"] * 20),
     ("resources added and removed", [b""], named(5458, 8) + [f"AddResource h{it:X} 'TEXT' {it}" for it in range(5458)] + [f"RemoveResource h{it:X}" for it in range(5458)] + [f"AddResource h{it:X} 'TEXT' {it}" for it in range(5458)] + ["DisposeHandle h%X" % it for it in range(5458)]),
     ("a resource that is one too many for its file", [FULL], ["h=NewHandle 8"] + ["AddResource h 'TEXT' 1"] * LINES),
