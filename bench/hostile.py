@@ -171,7 +171,7 @@ def everything_kept():
 
 def all_loaded(change, lines):
     """All resources of a file have handles, and were changed or not; the last is lent, and seven pointers."""
-    lines = ["SetResLoad 0"] + [f"h=GetIndResource 'TEXT' {it + 1}" + change for it in range(5449)] + ["SetResLoad 1", "h=GetResource 'TEXT' 5449", "HLock h"] + lines
+    lines = ["SetResLoad 0"] + [f"h=GetIndResource 'TEXT' {it + 1}" + change for it in range(5449)] + ["SetResLoad 1", "h=GetResource 'TEXT' 5449" + change, "HLock h"] + lines
     return "\n".join(lines).split("\n")
 
 

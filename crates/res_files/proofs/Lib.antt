@@ -17,3 +17,4 @@ pub mod Rewritten
 pub mod Crash
 pub mod KnownForks
 pub mod ReopenedRows
+pub mod AmongHandles

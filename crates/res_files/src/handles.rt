@@ -1,6 +1,6 @@
 //! The handles of the rows of a file.
 
-ghost use Rattle.std.specs.Prelude.{◌≡◌, ◌+◌, ◌≤◌, ◌++◌, ◌∷◌, List, length, drop, All, IfSome, IfNone, Some, None};
+ghost use Rattle.std.specs.Prelude.{◌≡◌, ◌+◌, ◌≤◌, ◌++◌, ◌∷◌, true, List, length, drop, All, IfSome, IfNone, Some, None};
 ghost use Rattle.res_table.specs.declared.row.Row.{Row};
 ghost use Rattle.fork_reader.specs.declared.place.Place.{Place};
 ghost use Rattle.std.specs.List.{list_any};
@@ -38,23 +38,47 @@ fn is_among(row: &Row<Place>, handles: &[u32]) -> bool
     }
 }
 
-/// Whether a row counts and has one of these handles: each counts, or just a changed one.
-fn counts_among(row: &Row<Place>, handles: &[u32], just_changed: bool) -> bool
-    ensures { result ≡ counts_among just_changed handles.now row.now }
+/// Whether a row is changed and has one of these handles.
+fn is_changed_among(row: &Row<Place>, handles: &[u32]) -> bool
+    ensures { result ≡ counts_among true handles.now row.now }
 {
-    (!just_changed || row.is_changed()) && is_among(row, handles)
+    row.is_changed() && is_among(row, handles)
 }
 
-/// Whether there is a row that counts and has one of these handles.
-pub(crate) fn has_row_among(rows: &Rows<Place>, handles: &[u32], just_changed: bool) -> bool
-    ensures { result ≡ list_any (counts_among just_changed handles.now) rows.now }
+/// Whether there is a row that has one of these handles.
+fn has_any_row(rows: &Rows<Place>, handles: &[u32]) -> bool
+    ensures { result ≡ list_any (is_among handles.now) rows.now }
+{
+    for handle in handles {
+        if rows.row_of_handle(Handle::new(*handle)).is_some() {
+            return true;
+        }
+    }
+    false
+}
+
+/// Whether there is a changed row that has one of these handles.
+fn has_changed_row(rows: &Rows<Place>, handles: &[u32]) -> bool
+    ensures { result ≡ list_any (counts_among true handles.now) rows.now }
 {
     let mut at = 0;
     while at < rows.len() {
-        if counts_among(rows.row(at), handles, just_changed) {
+        if is_changed_among(rows.row(at), handles) {
             return true;
         }
         at += 1;
     }
     false
+}
+
+/// Whether there is a row that counts and has one of these handles: each counts, or just a changed one. The rows are gone through only
+/// where some row has one of them, and just a changed one counts.
+pub(crate) fn has_row_among(rows: &Rows<Place>, handles: &[u32], just_changed: bool) -> bool
+    ensures { result ≡ list_any (counts_among just_changed handles.now) rows.now }
+{
+    let found = has_any_row(rows, handles);
+    if found && just_changed {
+        return has_changed_row(rows, handles);
+    }
+    found
 }
