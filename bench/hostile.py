@@ -75,6 +75,8 @@ LATE = fork_of([(b"TEXT", it, None, 0) for it in range(8191)] + [(b"TEXT", 8191,
 FULL = fork_of([(b"TEXT", it, None, 0) for it in range(5458)], bytes(4))
 ALMOST = fork_of([(b"TEXT", it, None, 0) for it in range(5457)], bytes(4))
 APART = fork_of([(b"TEXT", it, None, 4 * it) for it in range(5458)], bytes(4 * 5458))
+# the first 4,000 have no bytes, and the others refer to the same
+UNEVEN = fork_of([(b"TEXT", it, None, 0 if it < 4000 else 4) for it in range(5450)], bytes(4) + struct.pack(">I", 2800) + bytes(2800))
 ONE_BYTE_EACH = fork_of([(b"TEXT", it, None, 5 * it) for it in range(5458)], struct.pack(">IB", 1, 0) * 5458)
 # as many types as there may be, which share one reference
 ALL_TYPES = shared_types(8191)
@@ -255,6 +257,8 @@ RUNS = [
     ("a resource that is added as the last of 3,271 types and removed", [SOME_TYPES], ["h=NewHandle 8"] + ["AddResource h 'ZZZZ' 1", "RemoveResource h"] * LINES),
     ("an update that is too big", [WEIGHTY], TOO_BIG + ["UpdateResFile"] * LINES),
     ("a file that can't be closed since it is too big", [WEIGHTY], TOO_BIG + ["CloseResFile"] * LINES),
+    # (the zone is asked for the bytes of each changed resource)
+    ("an update that is too big, and 4,000 changed resources", [UNEVEN], "\n".join(["SetResLoad 0"] + [f"h=GetIndResource 'TEXT' {it + 1}\nChangedResource h" for it in range(4000)] + ["SetResLoad 1", "h=GetResource 'TEXT' 5449"] + TOO_BIG[1:]).split("\n") + ["UpdateResFile"] * LINES),
     ("a file with 5,450 handles that can't be closed since the last is lent", [WEIGHTY], all_loaded("", LOANS) + ["CloseResFile"] * LINES),
     ("a file with 5,450 changed resources that can't be updated since the last is lent", [WEIGHTY], all_loaded("\nChangedResource h", LOANS) + ["UpdateResFile"] * LINES),
     ("updates of 4 MB", [WIDE], ["h=GetResource 'TEXT' 3999"] + ["ChangedResource h", "UpdateResFile"] * 20),
