@@ -4,6 +4,7 @@
 mod changes;
 mod copying;
 mod flags;
+mod lengths;
 mod loans;
 mod relocating;
 mod sizes;
