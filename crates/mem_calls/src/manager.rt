@@ -41,6 +41,7 @@ impl MemoryManager {
     ghost use Rattle.std.specs.Prelude.{◌≡◌, ◌+◌, ◌<◌, ◌≤◌, IfOk, IfErr, IsTrue, [], length};
     ghost use Rattle.mac_base.specs.declared.error.OsErr.TheVariants.{MemLockedErr};
     ghost use Rattle.linked_zone.specs.Image.{IsImage};
+    ghost use Rattle.linked_zone.specs.Lengths.{total_length};
     ghost use Rattle.std.specs.Borrow.{sem};
     ghost use Rattle.mac_base.specs.BlockStatus.{status_of};
     ghost use Rattle.mac_base.specs.HandleTable.{bytes_of, has_block};
@@ -68,6 +69,15 @@ impl MemoryManager {
         ensures { result ≡ length (bytes_of self.now.heap.table block) }
     {
         self.zone.length(block)
+    }
+
+    /// How many bytes these handles have together, at most 65,536 of them. One that isn't live, or empty, has none; one that is lent
+    /// has those that it had.
+    pub fn total_length(&self, handles: &[Handle]) -> usize
+        requires { length handles.now ≤ 65536 }
+        ensures { result ≡ total_length self.now.heap.table handles.now }
+    {
+        self.zone.total_length(handles)
     }
 
     /// Whether a number is live, empty or lent.
