@@ -84,6 +84,10 @@ SOME_TYPES = shared_types(3270)
 # their data take almost as many bytes as a fork may have, though they stand once
 WEIGHTY = fork_of([(b"TEXT", it, None, 0) for it in range(5450)], struct.pack(">I", 760) + bytes(760))
 ONE_EACH = fork_of([(b"%04d" % it, 1, None, 0) for it in range(3000)], bytes(4))
+# with 5,457 resources of eight bytes beside it the fork has one byte more than a fork may have
+LARGE = fork_of([(b"TEXT", 0, None, 0)], struct.pack(">I", 4063027) + bytes(4063027))
+# its names take more bytes than the offset of a name may be, but the last one begins where it may
+NAMED = fork_of([(b"TEXT", it, b"n" * 255 if it < 256 else None, 0) for it in range(5450)], struct.pack(">I", 744) + bytes(744))
 
 
 def purged_each_time():
@@ -177,6 +181,11 @@ def all_loaded(change, lines):
     return "\n".join(lines).split("\n")
 
 
+def added_to(lines):
+    """5,457 resources that are added to a file, in an order by which handles of different master blocks stand side by side."""
+    return named(5457, 8) + [f"AddResource h{it * 2503 % 5457:X} 'TEXT' {it + 1}" for it in range(5457)] + lines
+
+
 LOANS = ["p=NewPtr 4", "Lend p"] * 7 + ["Lend h"]
 TOO_BIG = ["h=GetResource 'TEXT' 5", "SetHandleSize h 500000", "ChangedResource h"]
 
@@ -257,7 +266,13 @@ RUNS = [
     ("a resource that is added as the last of 3,271 types and removed", [SOME_TYPES], ["h=NewHandle 8"] + ["AddResource h 'ZZZZ' 1", "RemoveResource h"] * LINES),
     ("an update that is too big", [WEIGHTY], TOO_BIG + ["UpdateResFile"] * LINES),
     ("a file that can't be closed since it is too big", [WEIGHTY], TOO_BIG + ["CloseResFile"] * LINES),
+    ("an update of one resource that is too big", [WEIGHTY], TOO_BIG + ["WriteResource h"] * LINES),
+    ("an update that is too big, with names", [NAMED], TOO_BIG + ["UpdateResFile"] * LINES),
+    ("an update that is too big, with a handle for each resource, of which the last is lent", [WEIGHTY], all_loaded("", LOANS) + TOO_BIG + ["UpdateResFile"] * LINES),
     # (the zone is asked for the bytes of each changed resource)
+    ("an update that is too big by a byte, and 5,457 changed resources", [LARGE], added_to(["UpdateResFile"] * LINES)),
+    ("an update that is too big by a byte, and 5,457 changed resources, one of which grows and shrinks", [LARGE], added_to(["SetHandleSize h0 9", "UpdateResFile", "SetHandleSize h0 8", "UpdateResFile"] * LINES)),
+    ("a file that is too big to be closed, and 5,457 changed resources", [LARGE], added_to(["CloseResFile"] * LINES)),
     ("an update that is too big, and 4,000 changed resources", [UNEVEN], "\n".join(["SetResLoad 0"] + [f"h=GetIndResource 'TEXT' {it + 1}\nChangedResource h" for it in range(4000)] + ["SetResLoad 1", "h=GetResource 'TEXT' 5449"] + TOO_BIG[1:]).split("\n") + ["UpdateResFile"] * LINES),
     ("a file with 5,450 handles that can't be closed since the last is lent", [WEIGHTY], all_loaded("", LOANS) + ["CloseResFile"] * LINES),
     ("a file with 5,450 changed resources that can't be updated since the last is lent", [WEIGHTY], all_loaded("\nChangedResource h", LOANS) + ["UpdateResFile"] * LINES),

@@ -9,7 +9,7 @@ use Rattle.mac_base.specs.declared.block.Kind.{Kind}
 use Rattle.mac_base.specs.declared.block.Kind.TheVariants as kind
 use Rattle.mac_base.specs.HeadKind.{head_size}
 use Rattle.mac_base.specs.ZoneMap.{ZoneMap, block, is_named, addresses_from, address_behind, contents_of, total_size}
-use Rattle.mac_base.specs.HandleTable.{Live, EmptyHandle, FullHandle, Pointer, live_at, live_bytes, live_full, live_flags, live_handle, live_pointer, no_flags, flags_of, is_full, is_handle, is_pointer, has_block, is_lent, bytes_of}
+use Rattle.mac_base.specs.HandleTable.{Live, EmptyHandle, FullHandle, Pointer, live_at, live_full, live_flags, live_handle, live_pointer, no_flags, flags_of, is_full, is_handle, is_pointer, has_block, is_lent, bytes_of}
 use Rattle.mac_base.specs.Suits.{slots, is_handle_block, is_pointer_block, wanted_length}
 use Rattle.mac_base.specs.ZoneState.{ZoneState}
 use Rattle.zone_laws.proofs.Owners.{nothing_passes, no_length}
@@ -118,16 +118,6 @@ full-said z x flags contents is = by_case (live_at z.heap.table x) is
 pub none-said : (z : ZoneState) (x : ℕ) (said : Slot) → ((n : ℕ) × (said ≡ slot.Free n)) ⊎ (said ≡ slot.Empty) → said ≡ slot_of z x → is_full z.heap.table x ≡ false
 none-said z x said (inl free) is = sym (slot-full z x) ∙ ap says_full (sym is ∙ free.1)
 none-said z x said (inr empty) is = sym (slot-full z x) ∙ ap says_full (sym is ∙ empty)
-
--- what is no handle with a block, and no pointer, has no bytes
-pub none-there : (z : ZoneState) (x : ℕ) → is_full z.heap.table x ≡ false → is_pointer z.heap.table x ≡ false → bytes_of z.heap.table x ≡ []
-none-there z x = by_case (live_at z.heap.table x)
-  where
-    by_case : (o : Option Live) → live_full o ≡ false → live_pointer o ≡ false → live_bytes o ≡ []
-    by_case None empty other = refl
-    by_case (Some EmptyHandle) empty other = refl
-    by_case (Some (FullHandle flags bytes)) empty other = absurd (cc empty)
-    by_case (Some (Pointer bytes)) empty other = absurd (cc other)
 
 -- ---- flags
 

@@ -8,6 +8,5 @@ pub mod WritingBack
 pub mod Following
 pub mod Flags
 pub mod Image
-pub mod Lengths
 pub mod Loans
 pub mod Copying

@@ -1,5 +1,5 @@
 -- Places of blocks in a zone map, by the address of the header.
-use Rattle.std.specs.Prelude.{◌≡◌, ℕ, ◌+◌, ◌-◌, ◌<◌, ◌≤◌, ◌⊎◌, Bool, true, false, not, ◌&&◌, IsTrue, Contains, ◌%◌, [], ◌∷◌, ◌++◌, ⊤}
+use Rattle.std.specs.Prelude.{◌≡◌, ℕ, ◌+◌, ◌-◌, ◌<◌, ◌≤◌, ◌⊎◌, Bool, true, false, not, ◌&&◌, IsTrue, [], ◌∷◌, ◌++◌, ⊤}
 use Rattle.std.specs.List.{list_all}
 use Rattle.mac_base.specs.declared.block.Entry.{Entry}
 use Rattle.mac_base.specs.declared.block.Kind.TheVariants.{Free, Master, Ptr, Rel}
@@ -7,7 +7,7 @@ use Rattle.mac_base.specs.declared.block.Kind.{Kind}
 use Rattle.mac_base.specs.HandleTable.{HandleTable, is_handle}
 use Rattle.mac_base.specs.Loans.{is_here}
 use Rattle.mac_base.specs.ZoneMap.{ZoneMap, block, has_free, is_free, is_named, address_behind, total_size}
-use Rattle.mac_base.specs.Suits.{is_block_size, has_length, slots}
+use Rattle.mac_base.specs.Suits.{is_block_size, has_length}
 use Rattle.mac_base.specs.HeadKind.{Shape}
 use Rattle.mac_base.specs.ZoneState.{ZoneState}
 
@@ -183,7 +183,3 @@ pub record FirstFree (blocks : ZoneMap) (from at : ℕ) : Type 0 where
   pub splits : blocks ≡ passed ++ block Free size ∷ behind
   pub used : IsTrue (none_free passed)
   pub place : at ≡ from + total_size passed
-
--- the 64 slots of a master block stand from this address on, four bytes each
-abbrev pub HasSlots : ZoneState → ℕ → Type 0
-HasSlots z first = (h : ℕ) → first ≤ h → h < first + 256 → (h - first) % 4 ≡ 0 → Contains (slots z.shape z.heap.map) h

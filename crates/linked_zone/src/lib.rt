@@ -4,7 +4,6 @@
 mod changes;
 mod copying;
 mod flags;
-mod lengths;
 mod loans;
 mod relocating;
 mod sizes;

@@ -155,6 +155,17 @@ impl LinkedZone {
         self.records.length_at(self.place_of(block))
     }
 
+    /// How many bytes a handle or a pointer has: none where it isn't live, or empty.
+    pub fn length_if_any(&self, block: u32) -> u32
+        ensures { result ≡ length (bytes_of self.now.heap.table block) }
+    {
+        if self.has_block(block) {
+            self.length(block)
+        } else {
+            0
+        }
+    }
+
     /// The address of the block of a handle or a pointer that has one.
     pub fn place_of(&self, block: u32) -> u32
         requires { IsTrue (has_block self.now.heap.table block) }

@@ -41,7 +41,7 @@ impl MemoryManager {
     ghost use Rattle.std.specs.Prelude.{◌≡◌, ◌+◌, ◌<◌, ◌≤◌, IfOk, IfErr, IsTrue, [], length};
     ghost use Rattle.mac_base.specs.declared.error.OsErr.TheVariants.{MemLockedErr};
     ghost use Rattle.linked_zone.specs.Image.{IsImage};
-    ghost use Rattle.linked_zone.specs.Lengths.{total_length};
+    ghost use Rattle.std.specs.List.{sum_by};
     ghost use Rattle.std.specs.Borrow.{sem};
     ghost use Rattle.mac_base.specs.BlockStatus.{status_of};
     ghost use Rattle.mac_base.specs.HandleTable.{bytes_of, has_block};
@@ -75,7 +75,7 @@ impl MemoryManager {
     /// has those that it had.
     pub fn total_length(&self, handles: &[Handle]) -> usize
         requires { length handles.now ≤ 65536 }
-        ensures { result ≡ total_length self.now.heap.table handles.now }
+        ensures { result ≡ sum_by (λ h. length (bytes_of self.now.heap.table h)) handles.now }
     {
         self.zone.total_length(handles)
     }

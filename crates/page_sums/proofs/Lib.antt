@@ -17,3 +17,5 @@ pub mod Parts
 pub mod Tables
 pub mod Changing
 pub mod Rooms
+pub mod Noted
+pub mod Measured

@@ -3,3 +3,5 @@ pub mod Spans
 pub mod Pages
 pub mod Walk
 pub mod WritingBack
+pub mod Lengths
+pub mod Zone

@@ -1,4 +1,5 @@
-//! The changes of a zone, each of which forgets the sums of the pages whose blocks it changes.
+//! The changes of a zone, each of which forgets the sums of the pages whose blocks it changes, and notes how many bytes a handle has
+//! then.
 
 use crate::pages::forget;
 use crate::zone::SummedZone;
@@ -27,7 +28,9 @@ impl SummedZone {
             (λ handle. (self.old.heap.free_slots ≡ handle ∷ drop 1 self.old.heap.free_slots) × (self.new ≡ taken handle self.old)) }
     {
         let _spec = self.zone.linked().spec();
-        self.zone.take()
+        let handle = self.zone.take()?;
+        self.lengths.note(handle.number(), 0);
+        Some(handle)
     }
 
     /// Makes an empty handle's slot the next to be given.
@@ -106,6 +109,8 @@ impl SummedZone {
         let page = self.page(at);
         forget(&mut self.pages, page, page);
         self.zone.point(handle, at, length);
+        self.lengths.reach(handle.number());
+        self.lengths.note(handle.number(), length);
     }
 
     /// Makes a free block that of a new pointer, with `length` bytes of zero. The pointer is the address of the first.
@@ -117,6 +122,7 @@ impl SummedZone {
         let page = self.page(at);
         forget(&mut self.pages, page, page);
         let pointer = self.zone.fix(at, length);
+        self.lengths.note(pointer.number(), length);
         let _spec = self.zone.linked().spec();
         pointer
     }
@@ -130,6 +136,7 @@ impl SummedZone {
         let page = self.page(self.zone.linked().place_of(pointer.number()));
         forget(&mut self.pages, page, page);
         self.zone.unfix(pointer);
+        self.lengths.note(pointer.number(), 0);
     }
 
     /// Empties a handle that has a block: the block is free, and the handle stays live.
@@ -141,6 +148,7 @@ impl SummedZone {
         let page = self.page(self.zone.linked().block_of(handle));
         forget(&mut self.pages, page, page);
         self.zone.empty(handle);
+        self.lengths.note(handle.number(), 0);
     }
 
     /// Makes a free block a master block. Its slots are the next to be given, in order of address.
@@ -177,6 +185,7 @@ impl SummedZone {
         forget(&mut self.pages, from, from);
         forget(&mut self.pages, to, to);
         self.zone.relocate(handle, at, length);
+        self.lengths.note(handle.number(), length);
     }
 
     /// Gives a handle or a pointer `length` bytes in the first `size` bytes of its block; the others are free. Bytes
@@ -193,6 +202,7 @@ impl SummedZone {
         let last = self.page(at + size);
         forget(&mut self.pages, first, last);
         self.zone.hold(block, size, length);
+        self.lengths.note(block, length);
     }
 
     /// Gives a handle or a pointer `length` bytes in the first `size` bytes of its block and the free one right behind
@@ -209,6 +219,7 @@ impl SummedZone {
         let last = self.page(at + size);
         forget(&mut self.pages, first, last);
         self.zone.grow(block, size, length);
+        self.lengths.note(block, length);
     }
 
     /// The bytes of a handle or a pointer that has a block, to be written.

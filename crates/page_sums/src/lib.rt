@@ -1,8 +1,10 @@
-//! A zone that remembers the sums of its pages, so that what room it has is known without a walk over all blocks.
+//! A zone that remembers the sums of its pages, so that what room it has is known without a walk over all blocks, and how many bytes
+//! its handles have, so that no block is looked at for it.
 #![tactic(auto)]
 
 mod changes;
 mod gap;
+mod lengths;
 mod pages;
 mod span;
 mod sums;

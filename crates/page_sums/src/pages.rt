@@ -1,6 +1,7 @@
 //! The pages of a zone, and what is remembered of them.
 
-ghost use Rattle.std.specs.Prelude.{◌≡◌, ◌-◌, ◌/◌, ◌≤◌, ◌<◌, length};
+ghost use Rattle.std.specs.Prelude.{◌≡◌, ℕ, ◌-◌, ◌/◌, ◌≤◌, ◌<◌, length, slice_get, IfOk, Some};
+ghost use Rattle.page_sums.specs.declared.sums.Sums.{Sums};
 ghost use Rattle.linked_zone.specs.Places.{EntryAt};
 ghost use Rattle.page_sums.specs.Pages.{ArePages, Forgets, page, page_size, page_weights};
 ghost use Rattle.page_sums.specs.Spans.{IsSum};
@@ -9,6 +10,7 @@ ghost use Rattle.page_sums.specs.Walk.{FirstOfPage};
 use crate::sums::Sums;
 use crate::weight::weigh;
 use linked_zone::LinkedZone;
+use std::alloc::{AllocError, Global};
 
 /// The bytes of a page.
 pub const PAGE_SIZE: u32 = 0x1000;
@@ -19,6 +21,14 @@ pub fn page_of(base: u32, at: u32) -> usize
     ensures { result ≡ (at - base) / page_size }
 {
     ((at - base) / PAGE_SIZE) as usize
+}
+
+/// So many pages of which nothing is known.
+pub fn unknown_pages(alloc: Global, count: usize) -> Result<Vec<Option<Sums>>, AllocError>
+    ensures places { IfOk result (λ pages. length pages.items ≡ count) }
+    ensures unknown { IfOk result (λ pages. (c : ℕ) (s : Sums) → slice_get pages.items c ≡ Some (Some s) → ⊥) }
+{
+    vec![in alloc; None; count]
 }
 
 /// Forgets what is remembered of the pages from one to another.

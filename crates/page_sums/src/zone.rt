@@ -1,21 +1,25 @@
 //! The zone.
 
-use crate::pages::{PAGE_SIZE, page_of, page_sums};
+use crate::lengths::Lengths;
+use crate::pages::{PAGE_SIZE, page_of, page_sums, unknown_pages};
 use crate::sums::{Sums, ZoneSums};
 use gap_index::GapZone;
 use linked_zone::LinkedZone;
 use mac_base::error::HostFull;
+use mac_base::handle::Handle;
 use mac_base::size::ZONE_HEADER;
 use mac_base::zone_spec::ZoneSpec;
 use std::alloc::Global;
 use std::marker::Model;
 
-/// A zone whose pages' sums are remembered. Contracts see its shape, its handle table, its zone map and its free slots in the
-/// order in which they are given. After `create` no call takes memory of the host.
+/// A zone whose pages' sums are remembered, and how many bytes its handles have. Contracts see its shape, its handle table, its zone
+/// map and its free slots in the order in which they are given. After `create` no call takes memory of the host.
 pub struct SummedZone {
     pub(crate) zone: GapZone,
     /// The sums of the blocks that begin in each page, where they are known.
     pub(crate) pages: Vec<Option<Sums>>,
+    /// How many bytes handles have, where that is known.
+    pub(crate) lengths: Lengths,
 }
 
 impl Model for SummedZone {
@@ -23,11 +27,11 @@ impl Model for SummedZone {
 
     ghost Value = { ZoneState };
 
-    ghost use Rattle.page_sums.specs.Pages.{ArePages};
+    ghost use Rattle.page_sums.specs.Zone.{zone_of, IsRemembered};
 
-    ghost view = { λ a. a.zone };
+    ghost view = { zone_of };
 
-    ghost invariant = { λ a. ArePages a.zone a.pages.items };
+    ghost invariant = { IsRemembered };
 }
 
 impl Drop for SummedZone {
@@ -37,14 +41,21 @@ impl Drop for SummedZone {
     fn drop(self)
         requires nothing_lent { self.heap.table.lent ≡ [] }
     {
-        let SummedZone { zone, pages } = self;
+        let SummedZone {
+            zone,
+            pages,
+            lengths,
+        } = self;
         drop(zone);
         drop(pages);
+        drop(lengths);
     }
 }
 
 impl SummedZone {
-    ghost use Rattle.std.specs.Prelude.{◌≡◌, ◌/◌, ◌^◌, ◌<◌, ◌≤◌, IfOk};
+    ghost use Rattle.std.specs.Prelude.{◌≡◌, ◌/◌, ◌^◌, ◌<◌, ◌≤◌, length, IfOk};
+    ghost use Rattle.mac_base.specs.HandleTable.{bytes_of};
+    ghost use Rattle.std.specs.List.{sum_by};
     ghost use Rattle.mac_base.specs.Reports.{largest_purge_space, largest_room, purge_space};
     ghost use Rattle.mac_base.specs.ZoneMap.{address_behind};
     ghost use Rattle.linked_zone.specs.Changes.{bare_zone};
@@ -57,7 +68,8 @@ impl SummedZone {
     {
         Ok(SummedZone {
             zone: GapZone::create(alloc, spec)?,
-            pages: vec![in alloc; None; (spec.limit() / PAGE_SIZE) as usize + 1]?,
+            pages: unknown_pages(alloc, (spec.limit() / PAGE_SIZE) as usize + 1)?,
+            lengths: Lengths::create(alloc, spec.base(), spec.limit() as usize / 4)?,
         })
     }
 
@@ -84,6 +96,28 @@ impl SummedZone {
         ensures contiguous { result.contiguous ≡ largest_purge_space self.old.heap.table self.old.heap.map }
     {
         zone_sums(self.zone.linked(), &mut self.pages)
+    }
+
+    /// How many bytes a handle has: none where it isn't live, or empty. The zone is asked where that isn't remembered.
+    fn length_of(&self, handle: Handle) -> u32
+        ensures { result ≡ length (bytes_of self.now.heap.table handle) }
+    {
+        match self.lengths.told(handle.number()) {
+            Some(length) => length,
+            None => self.zone.linked().length_if_any(handle.number()),
+        }
+    }
+
+    /// How many bytes these handles have together, at most 65,536 of them. One that isn't live, or empty, has none.
+    pub fn total_length(&self, handles: &[Handle]) -> usize
+        requires { length handles.now ≤ 65536 }
+        ensures { result ≡ sum_by (λ h. length (bytes_of self.now.heap.table h)) handles.now }
+    {
+        let mut total = 0;
+        for handle in handles {
+            total += self.length_of(*handle) as usize;
+        }
+        total
     }
 
     /// The page of an address.

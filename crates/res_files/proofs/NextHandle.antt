@@ -1,6 +1,5 @@
 -- The next row with a handle: in the rows with places, and in those that are seen.
-use Rattle.std.proofs.Common.{◌≡◌, refl, sym, ap, ◌∙◌, subst, arith, ℕ, zero, suc, ◌+◌, ◌-◌, ◌≤◌, List, [], ◌∷◌, ◌++◌, length, map, take, drop, slice_get, ◌||◌, Bool, Option, None, Some, IfSome, IfNone, All}
-use Rattle.std.specs.List.{list_any}
+use Rattle.std.proofs.Common.{◌≡◌, refl, sym, ap, ◌∙◌, subst, arith, ℕ, zero, suc, ◌+◌, ◌-◌, ◌≤◌, List, [], ◌∷◌, ◌++◌, length, map, take, drop, slice_get, Bool, Option, None, Some, IfSome, IfNone, All}
 use Rattle.std.specs.Option.{option_map, option_map_or}
 use Rattle.std.proofs.lemmas.List.{length-map, length-drop, take_all}
 use Rattle.std.proofs.lemmas.List.Elements.{All-cons, All-nil, All-head, All-tail}
@@ -59,12 +58,6 @@ module _ (rows : List (Row Place)) (from at : ℕ) (low : from ≤ at) (none : A
   none_left past =
       let long = length-drop from rows in
       subst (λ (rest : List (Row Place)). All HasNone rest) (take_all (at - from) (drop from rows) (omega (arith, long, past, low))) none
-
--- whether one of the elements from an index on passes a test
-pub any_at : {X : Type 0} (test : X → Bool) (xs : List X) (at : ℕ) (x : X) → slice_get xs at ≡ Some x → list_any test (drop at xs) ≡ (test x || list_any test (drop (at + 1) xs))
-any_at test [] at x is = absurd (cc is)
-any_at test (y ∷ xs) zero x is = ap (λ z. test z || list_any test xs) (same_Some y x is)
-any_at test (y ∷ xs) (suc at) x is = let next : suc at + 1 ≡ suc (at + 1) = omega arith in any_at test xs at x is ∙ ap (λ (n : ℕ). test x || list_any test (drop n (y ∷ xs))) (sym next)
 
 all_mapped : {D E : Type 0} (f : D → E) (rows : List (Row D)) → All HasNone rows → All HasNone (mapped_rows f rows)
 all_mapped f [] all = All-nil HasNone

@@ -8,7 +8,6 @@ ghost use Rattle.res_files.specs.Handles.{counts_among, is_among};
 
 use fork_reader::place::Place;
 use mac_base::handle::Handle;
-use res_table::row::Row;
 use res_table::rows::Rows;
 
 /// The first row with a handle from an index on, and the handle.
@@ -28,23 +27,6 @@ pub(crate) fn next_handle(rows: &Rows<Place>, from: usize) -> Option<(usize, Han
     None
 }
 
-/// Whether a row has one of these handles.
-fn is_among(row: &Row<Place>, handles: &[u32]) -> bool
-    ensures { result ≡ is_among handles.now row.now }
-{
-    match row.handle {
-        Some(handle) => handles.contains(&handle.number()),
-        None => false,
-    }
-}
-
-/// Whether a row is changed and has one of these handles.
-fn is_changed_among(row: &Row<Place>, handles: &[u32]) -> bool
-    ensures { result ≡ counts_among true handles.now row.now }
-{
-    row.is_changed() && is_among(row, handles)
-}
-
 /// Whether there is a row that has one of these handles.
 fn has_any_row(rows: &Rows<Place>, handles: &[u32]) -> bool
     ensures { result ≡ list_any (is_among handles.now) rows.now }
@@ -61,24 +43,22 @@ fn has_any_row(rows: &Rows<Place>, handles: &[u32]) -> bool
 fn has_changed_row(rows: &Rows<Place>, handles: &[u32]) -> bool
     ensures { result ≡ list_any (counts_among true handles.now) rows.now }
 {
-    let mut at = 0;
-    while at < rows.len() {
-        if is_changed_among(rows.row(at), handles) {
+    for handle in handles {
+        if rows.has_changed(Handle::new(*handle)) {
             return true;
         }
-        at += 1;
     }
     false
 }
 
-/// Whether there is a row that counts and has one of these handles: each counts, or just a changed one. The rows are gone through only
-/// where some row has one of them, and just a changed one counts.
+/// Whether there is a row that counts and has one of these handles: each counts, or just a changed one. The rows of a handle are found
+/// without going through the others.
 pub(crate) fn has_row_among(rows: &Rows<Place>, handles: &[u32], just_changed: bool) -> bool
     ensures { result ≡ list_any (counts_among just_changed handles.now) rows.now }
 {
-    let found = has_any_row(rows, handles);
-    if found && just_changed {
-        return has_changed_row(rows, handles);
+    if just_changed {
+        has_changed_row(rows, handles)
+    } else {
+        has_any_row(rows, handles)
     }
-    found
 }

@@ -41,4 +41,8 @@ impl<'a> Contents for MemoryContents<'a> {
             Status::Lent | Status::Empty | Status::NotLive => &[],
         }
     }
+
+    fn total_length(&self, handles: &[Handle]) -> usize {
+        self.memory.total_length(handles)
+    }
 }

@@ -1,10 +1,11 @@
 -- Rows as they are saved: what is read of them at an index, and what looks at no datum.
-use Rattle.std.proofs.Common.{◌≡◌, refl, sym, ap, ◌∙◌, arith, ℕ, zero, suc, ◌+◌, ◌*◌, ◌<◌, ◌≤◌, List, [], ◌∷◌, length, map, get_or, drop, IfSome, IsTrue, subst, Bool, true, false, bytes_eq, slice_get, Some, ◌-◌, ◌≢◌, if◌then◌else◌}
+use Rattle.std.proofs.Common.{◌≡◌, refl, sym, ap, ◌∙◌, arith, ℕ, zero, suc, ◌+◌, ◌*◌, ◌<◌, ◌≤◌, List, [], ◌∷◌, length, map, get_or, drop, IfSome, IsTrue, subst, Bool, true, false, bytes_eq, slice_get, Option, None, Some, ◌-◌, ◌≢◌, if◌then◌else◌}
 use Rattle.std.proofs.lemmas.List.{drop_more, length-drop}
+use Rattle.std.proofs.lemmas.List.Sums.{sum_by-cons}
 use Rattle.fork_bytes.specs.Fork.{max_rows}
 use Rattle.fork_bytes.specs.Rows as fork
 use Rattle.fork_bytes.proofs.Counted.{run_more, run_apart, run_last, said_of_found, said_at}
-use Rattle.res_table.specs.Rows.{is_of_type, ith}
+use Rattle.res_table.specs.Rows.{is_of_type, ith, name_size, names_size}
 use Rattle.fork_bytes.specs.Written.{types_of, counted_before, name_text, NamesFit}
 use Rattle.fork_bytes.specs.declared.layout.TypeCount.{TypeCount}
 use Rattle.res_table.specs.declared.row.Row.{Row}
@@ -87,6 +88,21 @@ low_fit {D} rows fit = let long = length-saved (λ (_ : D). []) rows in let low 
 
 pub names_fit : {D : Type 0} (rows : List (Row D)) → RowsFit rows → NamesFit 0 (bare rows)
 names_fit rows fit = (fit (λ _. []) [] 0).names
+
+-- names that take no more bytes than the largest offset fit
+names_fit_from : {D : Type 0} (at : ℕ) (rows : List (Row D)) → at + names_size rows ≤ 65534 → NamesFit at (bare rows)
+names_fit_from at [] low = tt
+names_fit_from at (r ∷ rows) low = (here r.resource.name, names_fit_from (at + length (name_text r.resource.name)) rows (omega (arith, low, all)))
+  where
+    all : names_size (r ∷ rows) ≡ length (name_text r.resource.name) + names_size rows
+    all = sum_by-cons name_size r rows
+
+    here : (name : Option (List ℕ)) → IfSome name (λ _. at ≤ 65534)
+    here None = tt
+    here (Some name) = omega (arith, low)
+
+pub names_fit_few : {D : Type 0} (rows : List (Row D)) → names_size rows ≤ 65534 → NamesFit 0 (bare rows)
+names_fit_few rows low = names_fit_from 0 rows (omega arith)
 
 -- one thing less to pass over
 pub ith_next : {X : Type 0} (i : ℕ) (x : X) (xs : List X) → i ≢ 1 → ith (i - 1) xs ≡ ith i (x ∷ xs)

@@ -1,6 +1,6 @@
 -- Keys that pairs have, ids that rows of a type have, and the first that none has.
-use Rattle.std.proofs.Common.{◌≡◌, refl, sym, ap, ◌∙◌, subst, arith, ℕ, ℤ, zero, suc, ◌+◌, ◌-◌, ◌*◌, ◌<◌, ◌≤◌, pos, ◌+ℤ◌, to_z, of_z, w16, List, [], ◌∷◌, length, get_or, take, drop, Bool, true, false, ◌||◌, ◌&&◌, ◌==◌, if◌then◌else◌}
-use Rattle.std.specs.Prelude.{nat_lt, ◌/◌, ◌%◌, All}
+use Rattle.std.proofs.Common.{◌≡◌, refl, sym, ap, ◌∙◌, subst, arith, ℕ, ℤ, zero, suc, ◌+◌, ◌-◌, ◌*◌, ◌<◌, ◌≤◌, pos, ◌+ℤ◌, to_z, of_z, w16, List, [], ◌∷◌, length, get_or, take, drop, Bool, true, false, ◌||◌, ◌==◌, if◌then◌else◌}
+use Rattle.std.specs.Prelude.{◌/◌, ◌%◌, All}
 use Rattle.std.specs.Int.{w32, cast_signed, from_be_bytes, to_be_bytes}
 use Rattle.std.specs.List.{list_any}
 use Rattle.std.proofs.lemmas.Bool.Decides.{nat_tests}
@@ -9,44 +9,19 @@ use Rattle.std.proofs.lemmas.List.{drop_all, drop_more, length-drop, take_all}
 use Rattle.std.proofs.lemmas.List.Elements.{All-head, All-tail}
 use Rattle.res_table.specs.declared.row.Row.{Row}
 use Rattle.res_table.specs.declared.keyed.Pair.{Pair}
-use Rattle.res_table.specs.Keyed.{key_of_resource, resource_key, is_before, rank, with_pair, pairs_from, pairs_of, has_pair, IsTold, NoneBefore, AreInOrder}
+use Rattle.res_table.specs.Keyed.{key_of_resource, resource_key, rank, pairs_from, pairs_of, has_pair, IsTold, NoneBefore, AreInOrder}
 use Rattle.res_table.specs.Rows.{is_resource, free_id_from, unique_id}
-use Rattle.res_table.proofs.Pairs.{starts, has_key, order_dropped, few_pairs}
+use Rattle.res_table.proofs.Pairs.{has_key, order_dropped, few_pairs}
+use Rattle.res_table.proofs.AnyPair.{below, above, alike, any_with, any_from, none_behind}
 use Rattle.res_table.proofs.Resources.{told_by_key}
-
--- another key
-smaller : (g h k : ℕ) → nat_lt g h ≡ true → h ≤ k → (g == k) ≡ false
-smaller g h k less least = grind (arith, nat_tests)
-
-larger : (g h k a b : ℕ) → (nat_lt g h || (g == h && nat_lt a b)) ≡ false → k < h → (g == k) ≡ false
-larger g h k a b first less = grind (arith, nat_tests)
-
-below : (g k : ℕ) → g < k → (g == k) ≡ false
-below g k less = grind (arith, nat_tests)
-
-above : (g k : ℕ) → k < g → (g == k) ≡ false
-above g k less = grind (arith, nat_tests)
-
-alike : (g k : ℕ) → g ≡ k → (g == k) ≡ true
-alike g k same = grind (arith, nat_tests)
 
 -- no pair before the first one of a key has it, or a larger one
 behind_rank : (h k : ℕ) (ps : List Pair) → h ≤ k → has_pair k ps ≡ has_pair k (drop (rank (record { key = h; place = 0 }) ps) ps)
-behind_rank h k [] least = refl
-behind_rank h k (p ∷ ps) least = by (is_before p (record { key = h; place = 0 })) refl (behind_rank h k ps least)
-  where
-    r : ℕ
-    r = rank (record { key = h; place = 0 }) ps
-
-    by : (b : Bool) → is_before p (record { key = h; place = 0 }) ≡ b → has_pair k ps ≡ has_pair k (drop r ps)
-        → ((p.key == k) || has_pair k ps) ≡ has_pair k (drop (if b then suc r else 0) (p ∷ ps))
-    by true e deeper = ap (λ (t : Bool). t || has_pair k ps) (smaller p.key h k (sym (starts p h) ∙ e) least) ∙ deeper
-    by false e deeper = refl
+behind_rank h k ps least = any_from (λ p. p.key == k) h ps (λ p less. below p.key k (omega arith))
 
 -- nor does one behind a pair with a larger one
 none_has : (p : Pair) (ps : List Pair) (k : ℕ) → NoneBefore p ps → k < p.key → has_pair k ps ≡ false
-none_has p [] k none less = refl
-none_has p (q ∷ qs) k none less = ap (λ (t : Bool). t || has_pair k qs) (larger q.key p.key k q.place p.place none.0 less) ∙ none_has p qs k none.1 less
+none_has p ps k none less = none_behind (λ q. q.key == k) p ps none (λ q least. above q.key k (omega arith))
 
 -- pairs have the keys up to this one, and from it on those that are left tell
 abbrev pub AreTaken : ℕ → ℕ → List Pair → List Pair → Type 0
@@ -102,23 +77,10 @@ pub part_few : (start : ℕ) (ps part : List Pair) → part ≡ drop start ps �
 part_few start ps part is = let long = length-drop start ps in let same = ap (λ (qs : List Pair). length qs) is in omega arith
 
 -- a pair of rows has the key of one of them
-one_of_two : (a b c : Bool) → (a || (b || c)) ≡ (b || (a || c))
-one_of_two true true c = refl
-one_of_two true false c = refl
-one_of_two false b c = refl
-
-has_with : (k : ℕ) (p : Pair) (ps : List Pair) → has_pair k (with_pair p ps) ≡ ((p.key == k) || has_pair k ps)
-has_with k p [] = refl
-has_with k p (q ∷ qs) = by (is_before q p) (has_with k p qs)
-  where
-    by : (b : Bool) → has_pair k (with_pair p qs) ≡ ((p.key == k) || has_pair k qs) → has_pair k (if b then q ∷ with_pair p qs else p ∷ q ∷ qs) ≡ ((p.key == k) || ((q.key == k) || has_pair k qs))
-    by true deeper = ap (λ (t : Bool). (q.key == k) || t) deeper ∙ one_of_two (q.key == k) (p.key == k) (has_pair k qs)
-    by false deeper = refl
-
 has_from : {D : Type 0} (k at : ℕ) (rows : List (Row D)) → has_pair k (pairs_from resource_key at rows) ≡ list_any (has_key resource_key k) rows
 has_from k at [] = refl
 has_from k at (r ∷ rows) =
-    has_with k (record { key = key_of_resource r.resource.kind r.resource.id; place = at }) (pairs_from resource_key (at + 1) rows) ∙ ap (λ (t : Bool). has_key resource_key k r || t) (has_from k (at + 1) rows)
+    any_with (λ p. p.key == k) (record { key = key_of_resource r.resource.kind r.resource.id; place = at }) (pairs_from resource_key (at + 1) rows) ∙ ap (λ (t : Bool). has_key resource_key k r || t) (has_from k (at + 1) rows)
 
 -- and so that row's type and id
 told_any : {D : Type 0} (kind : List ℕ) (id : ℤ) (k : ℕ) (rows : List (Row D)) → k ≡ key_of_resource kind id → to_be_bytes w32 (k / 65536) ≡ kind → cast_signed w16 (k % 65536) ≡ id → All IsTold rows

@@ -2,6 +2,8 @@ pub mod Adding
 pub mod Forgetting
 pub mod FreeIds
 pub mod Bare
+pub mod AnyPair
+pub mod Changed
 pub mod Files
 pub mod Pairs
 pub mod Resources

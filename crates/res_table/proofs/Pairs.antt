@@ -264,7 +264,7 @@ order_without None a ps order = order
 order_without (Some g) a ps order = order_removed ps _ order
 
 -- those before a pair stand at the front
-none_at : (p : Pair) (ps : List Pair) (j : ℕ) (d : Pair) → NoneBefore p ps → j < length ps → is_before (get_or ps j d) p ≡ false
+pub none_at : (p : Pair) (ps : List Pair) (j : ℕ) (d : Pair) → NoneBefore p ps → j < length ps → is_before (get_or ps j d) p ≡ false
 none_at p [] j d none within = absurd (omega arith)
 none_at p (q ∷ qs) zero d none within = none.0
 none_at p (q ∷ qs) (suc j) d none within = none_at p qs j d none.1 (omega arith)
@@ -497,7 +497,7 @@ below n = omega arith
 same_key : (g h : ℕ) → (key_of_handle g == key_of_handle h) ≡ true → g ≡ h
 same_key g h is = one_key g h _ _ (below (g * 2654435761)) (below (h * 2654435761)) refl refl (same_number (key_of_handle g) (key_of_handle h) is)
 
-key_tells : (g h : ℕ) → (key_of_handle g == key_of_handle h) ≡ (g == h)
+pub key_tells : (g h : ℕ) → (key_of_handle g == key_of_handle h) ≡ (g == h)
 key_tells g h = by (key_of_handle g == key_of_handle h) (g == h) refl refl
   where
     by : (e f : Bool) → (key_of_handle g == key_of_handle h) ≡ e → (g == h) ≡ f → e ≡ f

@@ -26,6 +26,10 @@ is_resource kind id r = is_of_type kind r && int_eq r.resource.id id
 abbrev pub is_changed : {D : Type 0} → Row D → Bool
 is_changed r = is_marked r.resource.attributes
 
+-- whether a changed row has the handle
+abbrev pub has_changed : {D : Type 0} → ℕ → List (Row D) → Bool
+has_changed h rows = list_any (λ r. is_changed r && has_handle h r) rows
+
 -- the contents of a row: the bytes of its handle, and none where it has no handle or an empty one
 abbrev pub contents : {D : Type 0} → HandleTable → Row D → List ℕ
 contents t r = option_map_or (bytes_of t) r.handle []

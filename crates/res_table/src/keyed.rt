@@ -1,6 +1,6 @@
 //! Where the rows stand that have a key.
 
-ghost use Rattle.std.specs.Prelude.{◌≡◌, ◌<◌, ◌≤◌, ◌+◌, ◌^◌, ◌↔◌, ℕ, true, false, [], length, map, All, OnOk, IfSome, IsTrue, vec_len, vec_capacity};
+ghost use Rattle.std.specs.Prelude.{◌≡◌, ◌<◌, ◌≤◌, ◌+◌, ◌^◌, ◌↔◌, ℕ, true, false, [], length, drop, map, All, OnOk, IfSome, IsTrue, vec_len, vec_capacity};
 ghost use Rattle.res_table.specs.Keyed.{in_order, is_before, rank, with_pair, without_pair, with_key, without_key, pushed_back, pulled_up, first_place, has_pair, AreInOrder};
 
 use mac_base::error::HostFull;
@@ -215,6 +215,15 @@ impl Keyed {
         }
     }
 
+    /// The pairs from the first one with a key on, or from where it would stand.
+    pub(crate) fn from_key(&self, key: u64) -> &[Pair]
+        requires { AreInOrder self.now.pairs.items }
+        ensures { result.now ≡ drop (rank (record { key = key; place = 0 }) self.now.pairs.items) self.now.pairs.items }
+    {
+        let first = self.rank(Pair { key, place: 0 });
+        &self.pairs[first..]
+    }
+
     /// The least key from this one on that no row has.
     pub(crate) fn first_free_key(&self, key: u64) -> u64
         requires order { AreInOrder self.now.pairs.items }
@@ -224,9 +233,8 @@ impl Keyed {
         ensures taken { (k : ℕ) → key ≤ k → k < result → has_pair k self.now.pairs.items ≡ true }
         ensures free { has_pair result self.now.pairs.items ≡ false }
     {
-        let first = self.rank(Pair { key, place: 0 });
         let mut free = key;
-        for pair in &self.pairs[first..] {
+        for pair in self.from_key(key) {
             if pair.key > free {
                 return free;
             }

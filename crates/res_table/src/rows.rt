@@ -4,7 +4,7 @@ use crate::keyed::{Keyed, Pair};
 use crate::keys::{key_of_handle, key_of_resource};
 use crate::kinds::{Kinds, ith_type};
 use crate::row::Row;
-use crate::runs::{MAX_OFFSET, names_fit, run_end};
+use crate::runs::{MAX_NAME_OFFSET, MAX_OFFSET, names_fit, run_end};
 use fork_bytes::layout::MAX_ROWS;
 use mac_base::error::HostFull;
 use mac_base::handle::Handle;
@@ -46,7 +46,7 @@ impl<D> Rows<D> {
     ghost use Rattle.std.specs.Prelude.{◌≡◌, ◌<◌, [], length, position, remove, slice_get, get_or, count_by, ◌≤◌, OnOk, OnErr, IfOk, Some, map, ◌↔◌, pos, IsTrue};
     ghost use Rattle.fork_bytes.specs.Fork.{max_rows};
     ghost use Rattle.res_table.specs.Saved.{row_types, kind_of, RowsFit};
-    ghost use Rattle.res_table.specs.Rows.{has_handle, is_resource, is_of_type, added, forgotten, changed_at, with_handle, with_attributes, with_datum, opened_row, count_of_type, index_of_ith, ith, names_size, unique_id};
+    ghost use Rattle.res_table.specs.Rows.{has_handle, has_changed, is_resource, is_of_type, added, forgotten, changed_at, with_handle, with_attributes, with_datum, opened_row, count_of_type, index_of_ith, ith, names_size, unique_id};
     ghost use Rattle.res_table.specs.Behind.{end_of_type};
 
     /// No rows. This takes no memory of the host.
@@ -124,6 +124,22 @@ impl<D> Rows<D> {
         ensures { result ≡ position (has_handle handle) self.now }
     {
         self.handles.find(key_of_handle(handle))
+    }
+
+    /// Whether a changed row has a handle. Just the rows that have it are looked at.
+    pub fn has_changed(&self, handle: Handle) -> bool
+        ensures { result ≡ has_changed handle self.now }
+    {
+        let key = key_of_handle(handle);
+        for pair in self.handles.from_key(key) {
+            if pair.key != key {
+                return false;
+            }
+            if self.rows[pair.place].is_changed() {
+                return true;
+            }
+        }
+        false
     }
 
     /// Gives the row at an index this handle, or none.
@@ -282,7 +298,8 @@ impl<D> Rows<D> {
         FIRST_ID + (free - first) as i16
     }
 
-    /// Whether the table of these rows fits a fork: there are at most 8,192, and two bytes hold each offset in the map.
+    /// Whether the table of these rows fits a fork: there are at most 8,192, and two bytes hold each offset in the map. The rows are
+    /// gone through only where their names together have more bytes than the largest offset of a name.
     pub fn fits(&self) -> bool
         ensures { IsTrue result ↔ RowsFit self.now }
     {
@@ -293,6 +310,6 @@ impl<D> Rows<D> {
         if names > MAX_OFFSET {
             return false;
         }
-        names_fit(&self.rows)
+        self.names <= MAX_NAME_OFFSET || names_fit(&self.rows)
     }
 }

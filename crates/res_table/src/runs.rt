@@ -8,7 +8,7 @@ use crate::row::Row;
 use res_base::name::Name;
 
 /// The largest offset of a name: one more says that there is none.
-const MAX_NAME_OFFSET: usize = 65534;
+pub(crate) const MAX_NAME_OFFSET: usize = 65534;
 
 /// The largest offset of a list in the map.
 pub(crate) const MAX_OFFSET: usize = 65535;

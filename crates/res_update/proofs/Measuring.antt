@@ -11,7 +11,7 @@ use Rattle.fork_bytes.specs.Rows as forks
 use Rattle.fork_bytes.specs.Fork.{max_fork, max_rows}
 use Rattle.fork_bytes.specs.Written.{types_of, counted_before, types_text, names_offset, data_text, name_text, names_text, references_text, header_for, map_header_text, front_text, map_text, written, NamesFit}
 use Rattle.fork_bytes.proofs.Lengths.{AreFour, length-written}
-use Rattle.fork_bytes.proofs.Steps.{length-data, length-names}
+use Rattle.fork_bytes.proofs.Steps.{length-data}
 use Rattle.fork_reader.specs.declared.place.Place.{Place}
 use Rattle.res_table.specs.declared.row.Row.{Row}
 use Rattle.res_table.specs.Saved.{saved_row, bare, RowsFit}
@@ -27,13 +27,6 @@ pub data_here : (f : ℕ → Row Place → List ℕ) (rows : List (Row Place)) (
 data_here f rows i r is =
     ap (λ (rest : List (Row Place)). length (data_text (rows_with f i rest))) (drop_here rows i r is)
     ∙ length-data (saved_row (λ (_ : Place). f i r) r) (rows_with f (i + 1) (drop (i + 1) rows))
-
--- the names of a row and those behind it
-pub names_here : (f : ℕ → Row Place → List ℕ) (rows : List (Row Place)) (i : ℕ) (r : Row Place) → slice_get rows i ≡ Some r
-    → length (names_text (rows_with f i (drop i rows))) ≡ length (name_text r.resource.name) + length (names_text (rows_with f (i + 1) (drop (i + 1) rows)))
-names_here f rows i r is =
-    ap (λ (rest : List (Row Place)). length (names_text (rows_with f i rest))) (drop_here rows i r is)
-    ∙ length-names (saved_row (λ (_ : Place). f i r) r) (rows_with f (i + 1) (drop (i + 1) rows))
 
 -- rows without bytes
 abbrev none : ℕ → Row Place → List ℕ

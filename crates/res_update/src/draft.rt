@@ -71,7 +71,7 @@ pub(crate) type DraftRow<'a> = Resource<DraftBytes<'a>>;
 const SAVED_BITS: u8 = 253;
 
 /// The bytes of a row's handle: none where it has no handle.
-pub(crate) fn handle_bytes<'a, C: Contents>(handles: &'a C, row: &Row<Place>) -> &'a [u8]
+fn handle_bytes<'a, C: Contents>(handles: &'a C, row: &Row<Place>) -> &'a [u8]
     requires { IsFalse (is_lent_row (C.table handles.now) row.now) }
     ensures { result.now ≡ contents (C.table handles.now) row.now }
 {

@@ -59,7 +59,7 @@ impl Zone {
     ghost use Rattle.zone_heap.specs.Placed.{placed_lowest, placed_empty, placed_pointer, resized_there};
     ghost use Rattle.mac_base.specs.BlockReport.{report_at};
     ghost use Rattle.linked_zone.specs.Image.{IsImage};
-    ghost use Rattle.linked_zone.specs.Lengths.{total_length};
+    ghost use Rattle.std.specs.List.{sum_by};
     ghost use Rattle.block_bytes.specs.Walk.{Walks};
     ghost use Rattle.zone_heap.specs.WritingBack.{WritesBackBytes};
 
@@ -224,9 +224,9 @@ impl Zone {
     /// How many bytes these handles have together, at most 65,536 of them. One that isn't live, or empty, has none.
     pub fn total_length(&self, handles: &[Handle]) -> usize
         requires { length handles.now ≤ 65536 }
-        ensures { result ≡ total_length self.now.heap.table handles.now }
+        ensures { result ≡ sum_by (λ h. length (bytes_of self.now.heap.table h)) handles.now }
     {
-        self.pointers.linked().total_length(handles)
+        self.pointers.total_length(handles)
     }
 
     /// The bytes of a handle or a pointer that has a block.

@@ -13,7 +13,7 @@ use Rattle.block_bytes.specs.Layout.{RawBlock, Layout, BlockAt, WordAt, size_of,
 use Rattle.block_bytes.specs.Finding.{HoldsByte, LiesOutside}
 use Rattle.zone_records.specs.declared.slot.Slot.{Slot}
 use Rattle.zone_records.specs.Records.{Master, BlockRecord, block_record, ZoneRecords}
-use Rattle.zone_records.specs.Places.{SlotAt, AreSlots, can_say}
+use Rattle.zone_records.specs.Places.{SlotAt, can_say}
 use Rattle.zone_records.specs.Changes.{with_slot}
 use Rattle.zone_records.specs.Word.{slot_word, slot_in, slots_in, words_of}
 use Rattle.zone_records.specs.Reading.{content_in, record_in, has_use, is_sound}
@@ -158,13 +158,6 @@ module _ (l : Layout) (z : ZoneRecords) (held : Held l z) where
         blocks = r.blocks ∙ ap (λ h. r.before ++ h ∷ r.behind) rec;
         place = omega arith;
       }
-
-  -- so all numbers from the first on are, as far as the slots go
-  pub slots-made : (x start first : ℕ) (h : HoldsByte l x start) → first ≡ start + head_size l.heads → h.block.here.role ≡ role.Master → AreSlots z first
-  slots-made x start first h is master y low high even =
-      let b = h.block in
-      let long = master-long l.heads l.base b.here (sound-one l b.before b.here b.behind held.sound b.blocks) master in
-      slot-made y start first (record { block = b; low = omega arith; high = omega arith }) is master low high even
 
   -- the contents of a block that has a byte, and a master block's slots, lie within 24 bits
   pub holder-range : (x start : ℕ) (h : HoldsByte l x start) → start + size_of l.heads h.block.here ≤ 0x100_0000

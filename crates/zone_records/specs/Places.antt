@@ -1,5 +1,5 @@
 -- Places in a zone's list of blocks, by address, and what can be done there.
-use Rattle.std.specs.Prelude.{◌≡◌, ℕ, ◌+◌, ◌-◌, ◌*◌, ◌≤◌, ◌<◌, ◌⊎◌, ◌^◌, ◌%◌, Bool, true, false, not, ◌&&◌, ◌==◌, nat_le, nat_lt, if◌then◌else◌, IsTrue, List, [], ◌∷◌, ◌++◌, length}
+use Rattle.std.specs.Prelude.{◌≡◌, ℕ, ◌+◌, ◌-◌, ◌*◌, ◌≤◌, ◌⊎◌, ◌^◌, ◌%◌, Bool, true, false, not, ◌&&◌, ◌==◌, nat_le, nat_lt, if◌then◌else◌, IsTrue, List, [], ◌∷◌, ◌++◌, length}
 use Rattle.std.specs.List.{list_all}
 use Rattle.mac_base.specs.declared.block.HeadKind.{HeadKind}
 use Rattle.mac_base.specs.declared.block.HeadKind.TheVariants.{Bits24, Bits32}
@@ -79,10 +79,6 @@ pub record SlotAt (z : ZoneRecords) (h : ℕ) : Type 0 where
   pub behind : List BlockRecord
   pub blocks : z.blocks ≡ before ++ block_record (Master (slots_before ++ here ∷ slots_behind)) size ∷ behind
   pub place : h ≡ address_behind z.shape before + head_size z.shape.heads + 4 * length slots_before
-
--- the 64 slots of a master block stand from this address on, four bytes each
-abbrev pub AreSlots : ZoneRecords → ℕ → Type 0
-AreSlots z first = (h : ℕ) → first ≤ h → h < first + 256 → (h - first) % 4 ≡ 0 → SlotAt z h
 
 -- how many bytes at its end a block can say are over
 abbrev pub most_over : HeadKind → ℕ

@@ -51,7 +51,7 @@ impl Records {
     ghost use Rattle.mac_base.specs.ZoneMap.{block};
     ghost use Rattle.zone_records.specs.Records.{ZoneRecords, Fixed, Master, Relocatable, sizes_of, kind_of, length_of, bytes_of, lent_count, address_behind, NothingLent};
     ghost use Rattle.mac_base.specs.Loans.{most_loans};
-    ghost use Rattle.zone_records.specs.Places.{AreSlots, RecordAt, FreeAt, HeldAt, HandleBlockAt, SlotAt, RoomFor, CanCut, FreePair, CanHold, CanGrow, PairAt, ParcelAt, IsLoanOf, LowestAt, has_free, can_say, can_flag, ParcelUpTo, SplitAt, FirstFree, LastFree, none_free, free_total};
+    ghost use Rattle.zone_records.specs.Places.{RecordAt, FreeAt, HeldAt, HandleBlockAt, SlotAt, RoomFor, CanCut, FreePair, CanHold, CanGrow, PairAt, ParcelAt, IsLoanOf, LowestAt, has_free, can_say, can_flag, ParcelUpTo, SplitAt, FirstFree, LastFree, none_free, free_total};
     ghost use Rattle.zone_records.specs.Changes.{new_records, with_front, extended, filled, chained, emptied, flagged, with_slot, cut_in_two, joined_pair, held_there, enlarged, exchanged, carried, sunk, lent_out, loan_of, taken_back};
     ghost use Rattle.zone_records.specs.Fitting.{fitted, CanKeep};
     ghost use Rattle.zone_records.specs.Copying.{CanCopy, copied};
@@ -170,32 +170,18 @@ impl Records {
         self.blocks.lowest_free(needed)
     }
 
-    /// Where the first slot of a master block stands, if this is the address of one of its slots: 64 stand there, four bytes each.
-    pub fn first_slot(&self, at: u32) -> Option<u32>
-        ensures slot { IfSome result (λ first. SlotAt self.now at) }
-        ensures slots { IfSome result (λ first. AreSlots self.now first) }
-        ensures none { IfNone result (SlotAt self.now at → ⊥) }
-    {
-        let Some(start) = self.blocks.holder(at) else {
-            return None;
-        };
-        let first = start + self.head_size();
-        if self.blocks.entry_at(start).role == Role::Master
-            && first <= at
-            && at < first + MASTER_LENGTH
-            && (at - first) % 4 == 0
-        {
-            Some(first)
-        } else {
-            None
-        }
-    }
-
     /// Whether an address is that of a slot.
     pub fn is_slot(&self, at: u32) -> bool
         ensures { IsTrue result ↔ SlotAt self.now at }
     {
-        self.first_slot(at).is_some()
+        let Some(start) = self.blocks.holder(at) else {
+            return false;
+        };
+        let first = start + self.head_size();
+        self.blocks.entry_at(start).role == Role::Master
+            && first <= at
+            && at < first + MASTER_LENGTH
+            && (at - first) % 4 == 0
     }
 
     /// What the slot at an address says.

@@ -6,14 +6,14 @@ use Rattle.res_files.proofs.AmongHandles.{among_none, any_this, none_more, some_
 use Rattle.res_files.proofs.handles.has_any_row.Goals as goal
 
 pub loop-handle-init : goal.loop-handle-init
-loop-handle-init c = among_none c.args.rows.now
+loop-handle-init c = among_none false c.args.rows.now
 
 pub returns-then-is_some : goal.returns-then-is_some
 returns-then-is_some c =
     let has : list_any (has_handle (get_or c.args.handles.now c.loop-handle.handle-index 0)) c.args.rows.now ≡ true = ap (λ h. list_any (has_handle h) c.args.rows.now) (sym c.new.ensures) ∙ sym (some_position (has_handle c.new.result) c.args.rows.now) ∙ ap is_some (sym c.row_of_handle.ensures) ∙ sym c.is_some.ensures ∙ c.if-is_some.true in
-    sym (any_this c.args.handles.now c.loop-handle.handle-index 0 c.loop-handle-test.true c.args.rows.now has)
+    sym (any_this false c.args.handles.now c.loop-handle.handle-index 0 c.loop-handle-test.true c.args.rows.now has)
 
 pub loop-handle-preserved : goal.loop-handle-preserved
 loop-handle-preserved c =
     let none : list_any (has_handle (get_or c.args.handles.now c.loop-handle.handle-index 0)) c.args.rows.now ≡ false = ap (λ h. list_any (has_handle h) c.args.rows.now) (sym c.new.ensures) ∙ sym (some_position (has_handle c.new.result) c.args.rows.now) ∙ ap is_some (sym c.row_of_handle.ensures) ∙ sym c.is_some.ensures ∙ c.if-is_some.false in
-    none_more c.args.handles.now c.loop-handle.handle-index 0 c.loop-handle-test.true c.args.rows.now c.loop-handle.invariant none
+    none_more false c.args.handles.now c.loop-handle.handle-index 0 c.loop-handle-test.true c.args.rows.now c.loop-handle.invariant none

@@ -1,15 +1,18 @@
-use Rattle.std.proofs.Common.{◌+◌, ◌||◌, ap, sym, ◌∙◌, drop, true}
+use Rattle.std.proofs.Common.{◌≡◌, sym, ap, ◌∙◌, get_or, true, false}
 use Rattle.std.specs.List.{list_any}
-use Rattle.res_files.specs.Handles.{counts_among}
-use Rattle.res_files.proofs.NextHandle.{any_at}
+use Rattle.res_table.specs.Rows.{has_changed}
+use Rattle.res_files.proofs.AmongHandles.{counts_with, among_none, any_this, none_more}
 use Rattle.res_files.proofs.handles.has_changed_row.Goals as goal
 
-pub returns-then-is_changed_among : goal.returns-then-is_changed_among
-returns-then-is_changed_among c =
-    let test = counts_among true c.args.handles.now in let rows = c.args.rows.now in let at = c.loop-at.at in
-    sym (sym c.loop-at.invariant ∙ any_at test rows at c.row.result.now c.row.ensures ∙ ap (λ b. b || list_any test (drop (at + 1) rows)) (sym c.is_changed_among.ensures ∙ c.if-is_changed_among.true))
+pub loop-handle-init : goal.loop-handle-init
+loop-handle-init c = among_none true c.args.rows.now
 
-pub loop-at-preserved : goal.loop-at-preserved
-loop-at-preserved c =
-    let test = counts_among true c.args.handles.now in let rows = c.args.rows.now in let at = c.loop-at.at in
-    sym (any_at test rows at c.row.result.now c.row.ensures ∙ ap (λ b. b || list_any test (drop (at + 1) rows)) (sym c.is_changed_among.ensures ∙ c.if-is_changed_among.false)) ∙ c.loop-at.invariant
+pub returns-then-has_changed : goal.returns-then-has_changed
+returns-then-has_changed c =
+    let has : list_any (counts_with true (get_or c.args.handles.now c.loop-handle.handle-index 0)) c.args.rows.now ≡ true = ap (λ h. has_changed h c.args.rows.now) (sym c.new.ensures) ∙ sym c.has_changed.ensures ∙ c.if-has_changed.true in
+    sym (any_this true c.args.handles.now c.loop-handle.handle-index 0 c.loop-handle-test.true c.args.rows.now has)
+
+pub loop-handle-preserved : goal.loop-handle-preserved
+loop-handle-preserved c =
+    let none : list_any (counts_with true (get_or c.args.handles.now c.loop-handle.handle-index 0)) c.args.rows.now ≡ false = ap (λ h. has_changed h c.args.rows.now) (sym c.new.ensures) ∙ sym c.has_changed.ensures ∙ c.if-has_changed.false in
+    none_more true c.args.handles.now c.loop-handle.handle-index 0 c.loop-handle-test.true c.args.rows.now c.loop-handle.invariant none

@@ -11,7 +11,7 @@ contradicted is isnt = absurd (cc (sym is ∙ isnt))
 pub returns-then-not-fits : goal.returns-then-not-fits
 returns-then-not-fits g c =
     let table = c.args.table.now in
-    sym (no_rows (draft_bytes (g.C.Contents.table c.args.handles.now) c.args.selection) table.rows table.extra table.map_attributes
+    sym (no_rows (draft_bytes (g.C.Contents.table c.args.contents.now) c.args.selection) table.rows table.extra table.map_attributes
     (λ (fit : RowsFit table.rows). contradicted (c.fits.ensures.1 fit) c.if-not-fits.true))
 
 pub overflow_mul-lists : goal.overflow_mul-lists
@@ -46,5 +46,5 @@ returns-in-Some g c =
     let table = c.args.table.now in
     let extra : length table.extra ≡ 240 = c.known.ensures in
     let types = c.count_types.ensures.types in let count = c.len.ensures in let text = c.in-Some.ensures.some in
-    by_length (draft_bytes (g.C.Contents.table c.args.handles.now) c.args.selection) table.rows table.extra table.map_attributes _
+    by_length (draft_bytes (g.C.Contents.table c.args.contents.now) c.args.selection) table.rows table.extra table.map_attributes _
     (c.fits.ensures.0 c.if-not-fits.false) c.in-Some.ensures.four (omega (arith, extra, types, count, text))

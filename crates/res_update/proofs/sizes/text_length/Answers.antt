@@ -1,37 +1,33 @@
-use Rattle.std.proofs.Common.{List, ℕ, Bool, length, sym, ap, ◌∙◌, arith}
-use Rattle.res_update.specs.Drafts.{row_bytes, draft_bytes, HasKind}
-use Rattle.res_update.proofs.Measuring.{data_here, names_here}
-use Rattle.res_update.proofs.Selecting.{unlent_at, each_here}
+use Rattle.std.proofs.Common.{◌≡◌, List, length, take, arith}
+use Rattle.std.proofs.lemmas.List.{at_drop_all}
+use Rattle.fork_bytes.specs.Written.{data_text}
+use Rattle.fork_reader.specs.declared.place.Place.{Place}
+use Rattle.res_table.specs.declared.row.Row.{Row}
+use Rattle.res_update.specs.Drafts.{rows_with, draft_bytes, handles_length}
+use Rattle.res_update.proofs.Gathering.{names_counted}
 use Rattle.res_update.proofs.sizes.text_length.Goals as goal
-
-pub row_length-bytes-requires : goal.row_length-bytes-requires
-row_length-bytes-requires g c = λ selected. unlent_at (g.C.Contents.table c.args.handles.now) c.args.selection c.args.rows.now c.loop-index.index c.row-row.result.now
-    c.row-row.ensures c.requires (sym c.takes.ensures ∙ selected)
-
-pub returns-then-bytes-gt-MAX_FORK-clause-none : goal.returns-then-bytes-gt-MAX_FORK-clause-none
-returns-then-bytes-gt-MAX_FORK-clause-none g c =
-    let t = g.C.Contents.table c.args.handles.now in let f = draft_bytes t c.args.selection in
-    let rows = c.args.rows.now in let i = c.loop-index.index in let r = c.row-row.result.now in
-    let bytes_here = data_here f rows i r c.row-row.ensures in let names = names_here f rows i r c.row-row.ensures in
-    let bytes = c.row_length-bytes.ensures ∙ ap (λ (b : Bool). length (row_bytes t b r)) c.takes.ensures in
-    let over = c.if-bytes-gt-MAX_FORK.true in let all = c.loop-index.invariant.0 in omega arith
 
 pub returns-then-total-gt-MAX_FORK-clause-none : goal.returns-then-total-gt-MAX_FORK-clause-none
 returns-then-total-gt-MAX_FORK-clause-none g c =
-    let t = g.C.Contents.table c.args.handles.now in let f = draft_bytes t c.args.selection in
-    let rows = c.args.rows.now in let i = c.loop-index.index in let r = c.row-row.result.now in
-    let bytes_here = data_here f rows i r c.row-row.ensures in let names = names_here f rows i r c.row-row.ensures in
-    let bytes = c.row_length-bytes.ensures ∙ ap (λ (b : Bool). length (row_bytes t b r)) c.takes.ensures in
-    let name = c.name_length.ensures.length in
-    let over = c.if-total-gt-MAX_FORK.true in let all = c.loop-index.invariant.0 in omega arith
+    let names = names_counted (draft_bytes (g.C.Contents.table c.args.contents.now) c.args.selection) 0 c.args.rows.now in omega arith
 
-pub loop-index-preserved : goal.loop-index-preserved
-loop-index-preserved g c =
-    let t = g.C.Contents.table c.args.handles.now in let f = draft_bytes t c.args.selection in
-    let rows = c.args.rows.now in let i = c.loop-index.index in let r = c.row-row.result.now in
-    let bytes_here = data_here f rows i r c.row-row.ensures in let names = names_here f rows i r c.row-row.ensures in
-    let bytes = c.row_length-bytes.ensures ∙ ap (λ (b : Bool). length (row_bytes t b r)) c.takes.ensures in
-    let name = c.name_length.ensures.length in
-    let under = c.if-total-gt-MAX_FORK.false in let all = c.loop-index.invariant.0 in
-    let kind : HasKind r = sym (ap (λ (xs : List ℕ). length xs) (c.bytes-four.ensures.same ∙ c.kind.ensures)) ∙ c.bytes-four.ensures.four in
-    (omega arith, omega arith, λ others. c.loop-index.invariant.2 (each_here HasKind rows i r c.row-row.ensures kind others))
+pub returns-then-held-gt-MAX_FORK-clause-none : goal.returns-then-held-gt-MAX_FORK-clause-none
+returns-then-held-gt-MAX_FORK-clause-none g c =
+    let t = g.C.Contents.table c.args.contents.now in let part = c.gather-part.result in
+    let names = names_counted (draft_bytes t c.args.selection) 0 c.args.rows.now in
+    let held : c.total_length-held.result ≡ handles_length t (take part.count part.handles) = c.total_length-held.ensures in
+    let between = c.gather-part.ensures.data t in omega arith
+
+pub returns-then-total-gt-MAX_FORK-2-clause-none : goal.returns-then-total-gt-MAX_FORK-2-clause-none
+returns-then-total-gt-MAX_FORK-2-clause-none g c =
+    let t = g.C.Contents.table c.args.contents.now in let part = c.gather-part.result in
+    let names = names_counted (draft_bytes t c.args.selection) 0 c.args.rows.now in
+    let held : c.total_length-held.result ≡ handles_length t (take part.count part.handles) = c.total_length-held.ensures in
+    let between = c.gather-part.ensures.data t in omega arith
+
+pub returns-clause-some : goal.returns-clause-some
+returns-clause-some g c =
+    let f = draft_bytes (g.C.Contents.table c.args.contents.now) c.args.selection in
+    let rows = c.args.rows.now in let from = c.loop-from.from in
+    let names = names_counted f 0 rows in
+    let rest = at_drop_all (λ (left : List (Row Place)). length (data_text (rows_with f from left))) rows from (omega arith) in omega arith

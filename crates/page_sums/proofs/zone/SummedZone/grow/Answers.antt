@@ -1,4 +1,4 @@
-use Rattle.std.proofs.Common.{◌≡◌, ◌+◌, ◌∷◌, true, sym, subst, ◌∙◌, arith}
+use Rattle.std.proofs.Common.{◌≡◌, ◌+◌, ◌∷◌, true, sym, subst, ◌∙◌, arith, refl}
 use Rattle.mac_base.specs.declared.block.Kind.TheVariants.{Free}
 use Rattle.mac_base.specs.HandleTable.{has_block}
 use Rattle.mac_base.specs.ZoneMap.{block}
@@ -9,6 +9,7 @@ use Rattle.linked_zone.specs.Places.{CanGrow, NamedAt}
 use Rattle.gap_index.proofs.Named.{named-owner}
 use Rattle.page_sums.proofs.Kept.{forgets-read, named-place, pages-kept, part-ends}
 use Rattle.page_sums.proofs.Parts.{pages-grown}
+use Rattle.page_sums.proofs.Measured.{lengths-of, lengths-sized}
 use Rattle.page_sums.proofs.zone.SummedZone.grow.Goals as goal
 
 pub place_of-at-requires : goal.place_of-at-requires
@@ -63,14 +64,19 @@ page-last-requires-clause-high c =
     omega arith
 
 pub invariant_of-self : goal.invariant_of-self
-invariant_of-self c =
-    let can = subst (λ (z : ZoneState). CanGrow z c.args.block c.args.size c.args.length) (sym c.self.view_is) c.requires.room in
-    let named = subst (λ (z : ZoneState). NamedAt z c.args.block c.place_of-at.result) c.linked-linked.ensures c.place_of-at.ensures in
-    let fits = subst Fits c.linked-linked.ensures c.spec-spec.ensures.fits in
-    let place = named-place c.self.inside.zone c.args.block c.place_of-at.result fits named can.before can.here (block Free can.free ∷ can.behind) can.map can.named in
-    pages-kept c.self.inside.pages c.forget.new.pages (c.forget.auto.pages ∙ c.deref_mut.ensures.len) (c.grow.ensures can)
-    (pages-grown c.self.inside.zone c.self.inside.pages.items c.forget.new.pages c.self.invariant can place
-    (forgets-read c.place_of-at.result (c.place_of-at.result + c.args.size) c.self.view_is c.deref_mut.ensures.value c.page-first.ensures.value c.page-last.ensures.value c.forget.ensures))
+invariant_of-self c = record {
+  pages = (let can = subst (λ (z : ZoneState). CanGrow z c.args.block c.args.size c.args.length) (sym c.self.view_is) c.requires.room in
+      let named = subst (λ (z : ZoneState). NamedAt z c.args.block c.place_of-at.result) c.linked-linked.ensures c.place_of-at.ensures in
+      let fits = subst Fits c.linked-linked.ensures c.spec-spec.ensures.fits in
+      let place = named-place c.self.inside.zone c.args.block c.place_of-at.result fits named can.before can.here (block Free can.free ∷ can.behind) can.map can.named in
+      pages-kept c.self.inside.pages c.forget.new.pages (c.forget.auto.pages ∙ c.deref_mut.ensures.len) (c.grow.ensures can)
+      (pages-grown c.self.inside.zone c.self.inside.pages.items c.forget.new.pages c.self.invariant.pages can place
+      (forgets-read c.place_of-at.result (c.place_of-at.result + c.args.size) c.self.view_is c.deref_mut.ensures.value c.page-first.ensures.value c.page-last.ensures.value c.forget.ensures)));
+  lengths = (let can = subst (λ (z : ZoneState). CanGrow z c.args.block c.args.size c.args.length) (sym c.self.view_is) c.requires.room in
+      let fits = subst Fits c.linked-linked.ensures c.spec-spec.ensures.fits in
+      let has = named-owner c.self.inside.zone c.args.block can.before can.here (block Free can.free ∷ can.behind) fits can.map can.named in
+      lengths-of c.note.new.self (c.grow.ensures can) (lengths-sized c.self.inside.zone.heap.table c.self.inside.lengths c.note.new.self c.args.block c.args.block c.args.length refl c.self.invariant.lengths c.note.ensures has));
+}
 
 pub returns : goal.returns
 returns c = subst (λ (z : ZoneState). (can : CanGrow z c.args.block c.args.size c.args.length) → c.grow.new.self ≡ enlarged z can) c.self.view_is c.grow.ensures

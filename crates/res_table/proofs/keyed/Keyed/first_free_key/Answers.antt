@@ -1,32 +1,15 @@
-use Rattle.std.proofs.Common.{rules, arith, ℕ, List, ◌+◌, ◌-◌, ◌*◌, ◌<◌, ◌≤◌, length, get_or, take, drop, ap, sym, subst}
-use Rattle.res_table.specs.Keyed.{AreInOrder}
-use Rattle.res_table.proofs.Pairs.{rank_within, order_dropped}
-use Rattle.res_table.proofs.FreeIds.{AreTaken, part_is, part_few, taken_first, taken_same, taken_more, free_before, free_last}
+use Rattle.std.proofs.Common.{rules, arith, refl, ℕ, ◌+◌, ◌<◌, get_or, drop, sym, subst}
+use Rattle.res_table.specs.Keyed.{rank, AreInOrder}
+use Rattle.res_table.proofs.Pairs.{order_dropped}
+use Rattle.res_table.proofs.FreeIds.{AreTaken, part_few, taken_first, taken_same, taken_more, free_before, free_last}
 use Rattle.res_table.specs.declared.keyed.Pair.{Pair}
 use Rattle.res_table.proofs.keyed.Keyed.first_free_key.Goals.{then-pair-free-2, else-pair-free-2}
 use Rattle.res_table.proofs.keyed.Keyed.first_free_key.Goals as goal
 
-within : (c : goal.After-deref) → c.rank-first.result ≤ length c.deref.result.now
-within c =
-    let most = rank_within (record { key = c.args.key; place = 0 }) c.args.self.now.pairs.items in
-    let is = c.rank-first.ensures in let same = ap (λ (ps : List Pair). length ps) c.deref.ensures.value in omega arith
-
-pub offset_bounds-deref-first : goal.offset_bounds-deref-first
-offset_bounds-deref-first c =
-    let most = within c in let small = c.deref.type_inv in
-    let low : c.rank-first.result * 16 < 18446744073709551616 = omega arith in search (rules, low)
-
-pub slice_bounds-pair-items-count : goal.slice_bounds-pair-items-count
-slice_bounds-pair-items-count c = within c
-
-pub slice_bounds-pair-items-start : goal.slice_bounds-pair-items-start
-slice_bounds-pair-items-start c = within c
-
 pub loop-pair-init : goal.loop-pair-init
 loop-pair-init c =
-    let ps = c.args.self.now.pairs.items in let start = c.rank-first.result in let all = c.deref.result.now in
-    let is = part_is start ps all c.deref.ensures.value in
-    let taken = taken_first c.args.key start ps (take (length all - start) (drop start all)) c.rank-first.ensures is in
+    let ps = c.args.self.now.pairs.items in let start = rank (record { key = c.args.key; place = 0 }) ps in let is = c.from_key-pair-items.ensures in
+    let taken = taken_first c.args.key start ps _ refl is in
     (subst AreInOrder (sym is) (order_dropped ps start c.requires.order), part_few start ps _ is, omega arith, omega arith, taken)
 
 pub returns-then-pair-free-clause-free : goal.returns-then-pair-free-clause-free
@@ -43,7 +26,7 @@ overflow_add-free c =
 pub loop-pair-preserved : goal.loop-pair-preserved
 loop-pair-preserved c =
     let kept = c.loop-pair.invariant in let inside = c.loop-pair-test.true in let ps = c.args.self.now.pairs.items in
-    let start = c.rank-first.result in let all = c.deref.result.now in let rest = take (length all - start) (drop start all) in let d : Pair = record { key = 0; place = 0 } in
+    let rest = c.from_key-pair-items.result.now in let d : Pair = record { key = 0; place = 0 } in
     let key = c.args.key in let i = c.loop-pair.pair-index in let free = c.loop-pair.free in let least = kept.2 in let few = kept.3 in
     elim c.if-pair-free-2.branch [
       | then-pair-free-2 w ↦

@@ -8,7 +8,7 @@ use Rattle.mac_base.specs.declared.block.HeadKind.TheVariants.{Bits24, Bits32}
 use Rattle.mac_base.specs.HeadKind.{head_size, smallest_block, zone_header}
 use Rattle.mac_base.specs.ZoneSizes.{ZoneSizes, ArePossible}
 use Rattle.block_bytes.specs.declared.header.Role.TheVariants as role
-use Rattle.block_bytes.specs.Layout.{RawBlock, free_raw_block, is_possible, size_of, total_of}
+use Rattle.block_bytes.specs.Layout.{RawBlock, Layout, free_raw_block, is_possible, size_of, total_of}
 use Rattle.block_bytes.specs.NewLayout.{new_layout}
 use Rattle.block_bytes.proofs.Walking.{is_possible-from}
 use Rattle.zone_records.specs.Reading.{AreSound, HasWords, records_in}

@@ -1,0 +1,137 @@
+#!/usr/bin/env python3
+"""Looks for slow scripts at random: search.py PROGRAM SECONDS [SEED].
+
+PROGRAM is a macheap. One of the hostile zones and files below is made, and then one to four random calls on it are repeated. What
+each line takes is reckoned up to a script of 65,536 lines; where that is more than two seconds, the calls are told, with the seconds and the
+bytes that were printed. A line may take long for what it prints, writes to a file or moves: so each that is told is to be looked at. It ends
+after so many seconds.
+"""
+import os
+import random
+import sys
+import tempfile
+import time
+
+from hostile import ALL_TYPES, ALMOST, APART, FULL, LARGE, NAMED, ONE_EACH, SHARED, SOME_TYPES, TYPES, UNEVEN, WEIGHTY, ZONE, added_to, all_loaded, handles, named, run, small_gaps
+
+LIMIT = 2.0
+# so many lines are made of the calls; first a few, since each may write a file
+REPEATED = 1500
+FIRST = 40
+
+
+class State:
+    """A zone and files: the forks, the lines that make it, names of handles and pointers in it, and types and ids in its files."""
+
+    def __init__(self, name, forks, lines, blocks, pointers=(), kinds=("TEXT",), ids=(0, 1, 100)):
+        self.name, self.forks, self.lines = name, forks, lines
+        self.blocks, self.pointers = list(blocks), list(pointers) or ["$00100000"]
+        self.kinds, self.ids = kinds, ids
+        self.base = None
+
+
+def spread(count, prefix="h"):
+    """Some of so many names: the first, the last and some between."""
+    return [f"{prefix}{it:X}" for it in sorted({0, 1, 2, count // 3, count // 2, count // 2 + 1, count - 2, count - 1})]
+
+
+def holes(count, size):
+    """Every second of so many blocks is free."""
+    return named(count, size) + [f"DisposeHandle h{it:X}" for it in range(1, count, 2)]
+
+
+def marked(count, size, call, step):
+    return named(count, size) + [f"{call} h{it:X}" for it in range(0, count, step)]
+
+
+EVEN = [f"h{it:X}" for it in (0, 2, 4, 4000, 4002, 9996, 9998)]
+LENT = ["p=NewPtr 4", "Lend p"] * 7
+
+STATES = [
+    State("20,000 blocks", [], named(20000, 8), spread(20000)),
+    State("20,000 blocks, master blocks first", [], ["MoreMasters"] * 313 + named(20000, 8), spread(20000)),
+    State("32,000 blocks of no bytes", [], named(32000, 0), spread(32000)),
+    State("20,000 blocks, each second free", [], holes(20000, 8), EVEN),
+    State("16,000 purgeable blocks", [], marked(16000, 8, "HPurge", 1), spread(16000)),
+    State("16,000 blocks, each third purgeable", [], marked(16000, 8, "HPurge", 3), spread(16000)),
+    State("16,000 blocks, each third locked", [], marked(16000, 8, "HLock", 3), spread(16000)),
+    State("16,000 blocks, each 40th locked", [], marked(16000, 8, "HLock", 40), spread(16000)),
+    State("16,000 empty handles", [], named(16000, 0) + [f"EmptyHandle h{it:X}" for it in range(16000)], spread(16000)),
+    State("10,000 small gaps between pointers", [], small_gaps(10000) + ["h=NewHandle 8", "g=NewHandle 40", "p=NewPtr 8"], ["h", "g"], ["p"]),
+    State("40 large blocks", [], named(40, 20000), spread(40)),
+    State("7 blocks are lent", [], named(10000, 8) + LENT, spread(10000), ["p"]),
+    State("8,192 references to one datum, in eight files", [SHARED] * 8, [f"OpenResFile {it}" for it in range(2, 9)] + ["SetResLoad 0"] + named(100, 8), spread(100), ids=(-4096, 0, 4095, 5000)),
+    State("5,450 resources with handles", [WEIGHTY], all_loaded("", []) + ["g=NewHandle 8", "i=GetResource 'TEXT' 7"], ["h", "g", "i"], ids=(0, 1, 2000, 5449)),
+    State("5,450 changed resources", [WEIGHTY], all_loaded("\nChangedResource h", []) + ["g=NewHandle 8", "i=GetResource 'TEXT' 7"], ["h", "g", "i"], ids=(0, 1, 2000, 5449)),
+    State("5,450 resources, of which some are lent", [WEIGHTY], all_loaded("", LENT + ["Lend h"]) + ["g=NewHandle 8", "i=GetResource 'TEXT' 7"], ["h", "g", "i"], ["p"], ids=(0, 1, 2000, 5449)),
+    State("5,457 resources that were added", [LARGE], added_to([]), spread(5457), ids=(0, 1, 2, 2000, 5457)),
+    State("8,191 types", [ALL_TYPES], ["SetResLoad 0", "h=GetResource '0000' 1", "g=GetResource '1ffe' 1"], ["h", "g"], kinds=("0000", "1000", "1ffe", "ZZZZ"), ids=(1, 2)),
+    State("3,270 types and those of another file", [SOME_TYPES, ALL_TYPES], ["SetResLoad 0", "OpenResFile 2", "h=GetResource '0000' 1", "g=NewHandle 4"], ["h", "g"], kinds=("0000", "0100", "0cc5", "ZZZZ"), ids=(1, 2)),
+    State("65,000 types without resources", [TYPES], ["h=NewHandle 8"], ["h"]),
+    State("names of 65,536 bytes", [NAMED], ["SetResLoad 0", "h=GetResource 'TEXT' 3", "g=GetResource 'TEXT' 300", "i=NewHandle 8"], ["h", "g", "i"], ids=(3, 300, 5449, 5450)),
+    State("5,457 resources", [ALMOST, FULL], ["h=NewHandle 8", "OpenResFile 2", "UseResFile 1", "g=GetResource 'TEXT' 3"], ["h", "g"], ids=(3, 300, 5456, 5457)),
+    State("3,000 types of one resource", [ONE_EACH, UNEVEN], ["h=NewHandle 8", "g=GetResource '2999' 1", "OpenResFile 2", "UseResFile 1"], ["h", "g"], kinds=("0000", "2999", "1500", "TEXT"), ids=(1, 2)),
+    State("5,458 resources that stand apart", [APART, WEIGHTY], ["OpenResFile 2", "h=GetResource 'TEXT' 3", "g=NewHandle 8"], ["h", "g"], ids=(0, 3, 5457)),
+]
+
+SIZES = (0, 1, 8, 12, 16, 24, 40, 100, 500, 4000, 32764, 32768, 60000, 300000, 700000, 900000, 2000000)
+OF_HANDLE = "DisposeHandle GetHandleSize HLock HUnlock HPurge HNoPurge HSetRBit HClrRBit HGetState EmptyHandle MoveHHi HLockHi HandToHand Deref Lend Return HomeResFile LoadResource ReleaseResource DetachResource RemoveResource ChangedResource WriteResource GetResAttrs GetResInfo SizeResource".split()
+OF_HANDLE_AND_SIZE = "SetHandleSize ReallocateHandle".split()
+OF_SIZE = "NewHandle NewPtr CompactMem PurgeMem ReserveMem".split()
+PLAIN = "NewEmptyHandle MaxMem MoreMasters MaxApplZone FreeMem MaxBlock PurgeSpace MemError CurResFile CountTypes ResError UpdateResFile CloseResFile".split()
+
+
+def call(state, rng):
+    """A random call on what the state has."""
+    block, other, pointer = rng.choice(state.blocks + ["x"]), rng.choice(state.blocks), rng.choice(state.pointers + ["y"])
+    size, kind, number = rng.choice(SIZES), rng.choice(state.kinds), rng.choice(state.ids)
+    pick = rng.randrange(9)
+    if pick < 3:
+        return f"{rng.choice(OF_HANDLE)} {block}"
+    if pick == 3:
+        return f"{rng.choice(OF_HANDLE_AND_SIZE)} {block} {size}"
+    if pick == 4:
+        return rng.choice(["x=", "x=", ""]) + f"NewHandle {size}" if rng.random() < 0.4 else f"{rng.choice(OF_SIZE)} {size}"
+    if pick == 5:
+        return rng.choice(PLAIN)
+    if pick == 6:
+        return rng.choice([f"y=NewPtr {size}", f"DisposePtr {pointer}", f"SetPtrSize {pointer} {size}", f"PtrToHand {pointer} 4", f"PtrAndHand {pointer} {block} 4", f"HandAndHand {other} {block}", f"BlockMove {block} 0 {other} 0 4", f"RecoverHandle {pointer}", "gz 1", f"gz 1 DisposeHandle {block}"])
+    if pick == 7:
+        return rng.choice([f"GetResource '{kind}' {number}", f"Get1Resource '{kind}' {number}", f"GetIndResource '{kind}' {abs(number) + 1}", f"UniqueID '{kind}'", f"CountResources '{kind}'", f"GetIndType {abs(number) + 1}"])
+    return rng.choice([f"AddResource {block} '{kind}' {number}", f"AddResource {block} '{kind}' {number} \"name\"", f"SetResAttrs {block} {rng.choice((0, 8, 32))}", f"SetResLoad {rng.randrange(2)}", f"UseResFile {rng.randrange(1, 9)}", f"OpenResFile {rng.randrange(1, 9)}", f"CloseResFile {rng.randrange(1, 9)}", f"UpdateResFile {rng.randrange(1, 9)}", f"x=GetResource '{kind}' {number}"])
+
+
+def seconds_of(program, folder, state, lines):
+    status, used, _most, size, begin = run(program, folder, state.forks, "\n".join(lines) + "\n")
+    return used.ru_utime + used.ru_stime, size, status, begin
+
+
+def main(program, seconds, seed):
+    rng = random.Random(seed)
+    tried = 0
+    end = time.monotonic() + seconds
+    with tempfile.TemporaryDirectory() as folder:
+        for state in STATES:
+            setup = ["x=NewHandle 8", "y=NewPtr 8"] + state.lines
+            state.base = min(seconds_of(program, folder, state, setup)[0] for _ in range(3))
+        while time.monotonic() < end:
+            state = rng.choice(STATES)
+            calls = [call(state, rng) for _ in range(rng.choice((1, 1, 2, 2, 3, 4)))]
+            setup = ["x=NewHandle 8", "y=NewPtr 8"] + state.lines
+            lines = FIRST
+            took, size, status, begin = seconds_of(program, folder, state, setup + (calls * lines)[:lines])
+            if took - state.base < 0.1:
+                lines = REPEATED
+                took, size, status, begin = seconds_of(program, folder, state, setup + (calls * lines)[:lines])
+            tried += 1
+            whole = state.base + (took - state.base) / lines * (65536 - len(setup))
+            if whole > LIMIT or status != 0:
+                told = "" if status == 0 else f" ENDED WITH {status} {begin!r}"
+                print(f"{whole:7.2f} s  {state.name}: {'; '.join(calls)}  ({size} bytes printed){told}", flush=True)
+    print(f"{tried} tried")
+
+
+if __name__ == "__main__":
+    if len(sys.argv) not in (3, 4) or not os.access(sys.argv[1], os.X_OK):
+        sys.exit(__doc__)
+    main(os.path.realpath(sys.argv[1]), float(sys.argv[2]), int(sys.argv[3]) if len(sys.argv) == 4 else 1)
