@@ -29,6 +29,7 @@ impl SummedZone {
     {
         let _spec = self.zone.linked().spec();
         let handle = self.zone.take()?;
+        self.lengths.reach(handle.number());
         self.lengths.note(handle.number(), 0);
         Some(handle)
     }
@@ -109,7 +110,6 @@ impl SummedZone {
         let page = self.page(at);
         forget(&mut self.pages, page, page);
         self.zone.point(handle, at, length);
-        self.lengths.reach(handle.number());
         self.lengths.note(handle.number(), length);
     }
 

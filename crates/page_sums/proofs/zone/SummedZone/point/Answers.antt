@@ -8,7 +8,7 @@ use Rattle.linked_zone.specs.Places.{RoomFor}
 use Rattle.page_sums.proofs.Changing.{pages-pointed}
 use Rattle.page_sums.proofs.Kept.{forgets-read, pages-kept, part-ends}
 use Rattle.std.proofs.lemmas.List.{length-replicate}
-use Rattle.page_sums.proofs.Measured.{lengths-given, lengths-of, lengths-still}
+use Rattle.page_sums.proofs.Measured.{lengths-given, lengths-of}
 use Rattle.page_sums.proofs.zone.SummedZone.point.Goals as goal
 
 pub page-page-requires-clause-high : goal.page-page-requires-clause-high
@@ -27,8 +27,7 @@ invariant_of-self c = record {
       (forgets-read c.args.at c.args.at c.self.view_is c.deref_mut.ensures.value c.page-page.ensures.value c.page-page.ensures.value c.forget.ensures) c.args.handle c.args.length room.free empty));
   lengths = (let room = subst (λ (z : ZoneState). RoomFor z c.args.at c.args.length) (sym c.self.view_is) c.requires.room in
       let long = length-replicate c.args.length 0 in
-      let reached = lengths-still c.self.inside.zone.heap.table c.self.inside.lengths c.reach.new.self c.self.invariant.lengths c.reach.ensures in
-      lengths-of c.note.new.self (c.point.ensures room) (lengths-given c.self.inside.zone.heap.table c.reach.new.self c.note.new.self c.args.handle c.number-2.result c.args.length c.number-2.ensures reached c.note.ensures (FullHandle no_flags (zeros c.args.length)) long));
+      lengths-of c.note.new.self (c.point.ensures room) (lengths-given c.self.inside.zone.heap.table c.self.inside.lengths c.note.new.self c.args.handle c.number.result c.args.length c.number.ensures c.self.invariant.lengths c.note.ensures (FullHandle no_flags (zeros c.args.length)) long));
 }
 
 pub returns : goal.returns
