@@ -1,10 +1,10 @@
 #!/usr/bin/env python3
 """Looks for slow scripts at random: search.py PROGRAM SECONDS [SEED].
 
-PROGRAM is a macheap. One of the hostile zones and files below is made, and then one to four random calls on it are repeated. What
-each line takes is reckoned up to a script of 65,536 lines; where that is more than two seconds, the calls are told, with the seconds and the
-bytes that were printed. A line may take long for what it prints, writes to a file or moves: so each that is told is to be looked at. It ends
-after so many seconds.
+PROGRAM is a macheap. One of the hostile zones and files below is made, and then one to four random calls on it are repeated, some hundred
+times. What the later ones of these lines take is reckoned up to a script of 65,536 lines; where that is more than two seconds, the whole
+script is run, and where it does take so long, it is told with its seconds of processor time and the bytes that it printed. A line may take
+long for what it prints, writes to a file or moves: so each that is told is to be looked at. It ends after so many seconds.
 """
 import os
 import random
@@ -12,12 +12,13 @@ import sys
 import tempfile
 import time
 
-from hostile import ALL_TYPES, ALMOST, APART, FULL, LARGE, NAMED, ONE_EACH, SHARED, SOME_TYPES, TYPES, UNEVEN, WEIGHTY, ZONE, added_to, all_loaded, handles, named, run, small_gaps
+from hostile import ALL_TYPES, ALMOST, APART, FULL, LARGE, NAMED, ONE_EACH, SHARED, SOME_TYPES, TYPES, UNEVEN, WEIGHTY, added_to, all_loaded, cut, named, run, small_gaps
 
 LIMIT = 2.0
-# so many lines are made of the calls; first a few, since each may write a file
-REPEATED = 1500
-FIRST = 40
+# the calls are repeated so often first, and then so often more; less often where they write files
+FIRST = 300
+MORE = 900
+LAST = 65536
 
 
 class State:
@@ -27,7 +28,6 @@ class State:
         self.name, self.forks, self.lines = name, forks, lines
         self.blocks, self.pointers = list(blocks), list(pointers) or ["$00100000"]
         self.kinds, self.ids = kinds, ids
-        self.base = None
 
 
 def spread(count, prefix="h"):
@@ -102,33 +102,41 @@ def call(state, rng):
 
 
 def seconds_of(program, folder, state, lines):
-    status, used, _most, size, begin = run(program, folder, state.forks, "\n".join(lines) + "\n")
+    script = cut("\n".join(lines).split("\n"))
+    status, used, _most, size, begin = run(program, folder, state.forks, script)
     return used.ru_utime + used.ru_stime, size, status, begin
+
+
+def tried(program, folder, state, calls):
+    """Tries calls: what is told of them, if they are slow."""
+    setup = ["x=NewHandle 8", "y=NewPtr 8"] + state.lines
+    few = 10 if any("ResFile" in it or "WriteResource" in it for it in calls) else 1
+    first, more = FIRST // few, MORE // few
+    one = seconds_of(program, folder, state, setup + (calls * first)[:first])[0]
+    two = seconds_of(program, folder, state, setup + (calls * (first + more))[: first + more])[0]
+    each = (two - one) / more
+    if one + each * (LAST - len(setup)) <= LIMIT:
+        return None
+    took, size, status, begin = seconds_of(program, folder, state, setup + (calls * LAST)[:LAST])
+    if took <= LIMIT and status == 0:
+        return None
+    ended = "" if status == 0 else f"  ENDED WITH {status} {begin!r}"
+    return f"{took:7.2f} s {size:10} bytes printed  {state.name}: {'; '.join(calls)}{ended}"
 
 
 def main(program, seconds, seed):
     rng = random.Random(seed)
-    tried = 0
+    count = 0
     end = time.monotonic() + seconds
     with tempfile.TemporaryDirectory() as folder:
-        for state in STATES:
-            setup = ["x=NewHandle 8", "y=NewPtr 8"] + state.lines
-            state.base = min(seconds_of(program, folder, state, setup)[0] for _ in range(3))
         while time.monotonic() < end:
             state = rng.choice(STATES)
             calls = [call(state, rng) for _ in range(rng.choice((1, 1, 2, 2, 3, 4)))]
-            setup = ["x=NewHandle 8", "y=NewPtr 8"] + state.lines
-            lines = FIRST
-            took, size, status, begin = seconds_of(program, folder, state, setup + (calls * lines)[:lines])
-            if took - state.base < 0.1:
-                lines = REPEATED
-                took, size, status, begin = seconds_of(program, folder, state, setup + (calls * lines)[:lines])
-            tried += 1
-            whole = state.base + (took - state.base) / lines * (65536 - len(setup))
-            if whole > LIMIT or status != 0:
-                told = "" if status == 0 else f" ENDED WITH {status} {begin!r}"
-                print(f"{whole:7.2f} s  {state.name}: {'; '.join(calls)}  ({size} bytes printed){told}", flush=True)
-    print(f"{tried} tried")
+            told = tried(program, folder, state, calls)
+            count += 1
+            if told:
+                print(told, flush=True)
+    print(f"{count} tried")
 
 
 if __name__ == "__main__":

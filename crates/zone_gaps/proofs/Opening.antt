@@ -1,18 +1,15 @@
 -- A gap opened at the block of a handle, in two runs.
 use Rattle.std.proofs.Common.{◌≡◌, ℕ, ◌+◌, Bool, true, false, not, cond, [], ◌∷◌, ◌++◌, refl, ap, sym, ◌∙◌, subst, append_assoc, arith, inr}
 use Rattle.std.specs.Option.{option_map_or}
-use Rattle.std.specs.List.{list_all}
 use Rattle.std.proofs.lemmas.Bool.{and_from, and_parts}
 use Rattle.std.proofs.lemmas.List.Elements.{filter-append}
 use Rattle.mac_base.specs.declared.block.Entry.{Entry}
 use Rattle.mac_base.specs.Arrangement.{used_blocks, down, up, open_at}
 use Rattle.mac_base.specs.Gap.{Gap, filled, is_fixed}
-use Rattle.mac_base.specs.Suits.{is_block_size}
 use Rattle.mac_base.specs.ZoneMap.{ZoneMap, free_block, free_bytes, is_free, total_size, address_behind}
 use Rattle.mac_base.specs.ZoneState.{ZoneState}
-use Rattle.zone_laws.proofs.Arranging.{named-used, free_bytes-free_block, used_blocks-free_block, list_all-free_block, total_size-free_block, total_size-used, down-IsArrangement}
+use Rattle.zone_laws.proofs.Arranging.{named-used, free_bytes-free_block, used_blocks-free_block, list_all-free_block, total_size-free_block, total_size-used}
 use Rattle.zone_laws.proofs.GapAppend.{total_size-append, free_bytes-append}
-use Rattle.zone_laws.proofs.GapApart.{free_bytes-possible}
 use Rattle.zone_laws.proofs.NamedPlace.{used_blocks-around, open_at-parts}
 use Rattle.linked_zone.specs.Changes.{with_map}
 use Rattle.linked_zone.specs.Fit.{HasSizes}
@@ -20,7 +17,8 @@ use Rattle.zone_gaps.specs.Gaps.{Settled, opened_after}
 use Rattle.linked_zone.specs.Places.{all_can_move, can_move}
 use Rattle.fixed_index.specs.Runs.{none_fixed}
 use Rattle.zone_gaps.specs.Runs.{RunAt, arranged}
-use Rattle.zone_gaps.proofs.Owning.{Owned, here_owned, map_front, moves_owned, parts_owned, can_move_owned}
+use Rattle.zone_gaps.proofs.Owning.{Owned, here_owned, map_front, moves_owned, can_move_owned}
+use Rattle.zone_gaps.proofs.Pressing.{sizes-pressed}
 use Rattle.page_sums.proofs.Sizes.{all_both}
 
 regroup : (a u f r b : ZoneMap) → a ++ ((u ++ f) ++ (r ++ b)) ≡ (a ++ u) ++ ((f ++ r) ++ b)
@@ -41,7 +39,7 @@ module _ (z : ZoneState) (h at : ℕ) (settled : Settled z) (o : Owned z h at) w
   map_lower = map_front z h at o ∙ ap (λ m. (o.gap).before ++ m) (sym (append_assoc (o.place).front (here_owned z h at o ∷ []) ((o.place).back ++ (o.gap).behind)))
 
   -- the handle's block is in use
-  used_here : is_free (o.place).kind ≡ false
+  pub used_here : is_free (o.place).kind ≡ false
   used_here = named-used h (o.place).kind ((o.place).at).named
 
   moves_lower : (all_can_move z.heap.table lower ≡ true) × (all_can_move z.heap.table (o.place).back ≡ true)
@@ -72,21 +70,16 @@ module _ (z : ZoneState) (h at : ℕ) (settled : Settled z) (o : Owned z h at) w
       unfolding run_lower
       zone_lower = pressed run_lower
 
-      free_lower : free ≡ start + total_size (used_blocks lower)
+      pub free_lower : free ≡ start + total_size (used_blocks lower)
       unfolding run_lower
       free_lower = free_is run_lower
 
       -- sizes stay possible
       pub sizes_lower : HasSizes new
-      sizes_lower =
-          let p : Entry → Bool = λ e. is_block_size z.shape e.size in
-          let parts = parts_owned z h at o p settled.sizes in
-          let all : list_all p lower ≡ true = all_both p (o.place).front (here_owned z h at o ∷ []) parts.1 (and_from _ _ parts.2 refl) in
-          let middle : list_all p (down lower) ≡ true = (down-IsArrangement lower).kept p all (free_bytes-possible z.shape lower all) in
-          subst HasSizes (sym zone_lower) (all_both p (o.gap).before (down lower ++ ((o.place).back ++ (o.gap).behind)) parts.0 (all_both p (down lower) ((o.place).back ++ (o.gap).behind) middle (all_both p (o.place).back (o.gap).behind parts.3 parts.4)))
+      sizes_lower = subst HasSizes (sym (pressed run_lower)) (sizes-pressed z run_lower settled.sizes)
 
       -- the free bytes of the lower part, and the blocks above
-      abbrev upper : ZoneMap
+      abbrev pub upper : ZoneMap
       upper = free_block (free_bytes lower) ++ (o.place).back
 
       map_upper : new.heap.map ≡ ((o.gap).before ++ used_blocks lower) ++ (upper ++ (o.gap).behind)
@@ -123,6 +116,16 @@ module _ (z : ZoneState) (h at : ℕ) (settled : Settled z) (o : Owned z h at) w
       pub run_upper : RunAt new free end
       run_upper = record { before = (o.gap).before ++ used_blocks lower; blocks = upper; behind = (o.gap).behind; map = map_upper; place = place_upper; long = long_upper; moves = moves_upper; loose = loose_upper }
 
+      -- what the zone is once that run is arranged
+      pub arranged_upper : (arrange : ZoneMap → ZoneMap) (after : ZoneState) → ((run : RunAt new free end) → after ≡ arranged new run (arrange run.blocks)) → after ≡ with_map (((o.gap).before ++ used_blocks lower) ++ (arrange upper ++ (o.gap).behind)) z
+      unfolding run_upper
+      arranged_upper arrange after is = is run_upper ∙ ap (with_map (((o.gap).before ++ used_blocks lower) ++ (arrange upper ++ (o.gap).behind))) zone_lower
+
+      -- and where its blocks in use end
+      pub used_upper : (next : ℕ) → ((run : RunAt new free end) → next ≡ free + total_size (used_blocks run.blocks)) → next ≡ free + total_size (used_blocks upper)
+      unfolding run_upper
+      used_upper next is = is run_upper
+
       -- the gap is opened
       opened_blocks : ((o.gap).before ++ used_blocks lower) ++ (up upper ++ (o.gap).behind) ≡ filled o.gap (open_at h (o.gap).blocks)
       opened_blocks =
@@ -144,7 +147,4 @@ module _ (z : ZoneState) (h at : ℕ) (settled : Settled z) (o : Owned z h at) w
           ∙ ap (λ b. (a ++ b) ++ c) (sym (open_at-parts h (o.gap).blocks o.size (o.place).front (o.place).kind (o.place).back (o.place).at))
 
       pub opened : (after : ZoneState) → ((run : RunAt new free end) → after ≡ arranged new run (up run.blocks)) → after ≡ with_map (opened_after z.heap.table h z.heap.map) z
-      unfolding run_upper
-      opened after is =
-          let m : ZoneMap = ((o.gap).before ++ used_blocks lower) ++ (up upper ++ (o.gap).behind) in
-          is run_upper ∙ ap (with_map m) zone_lower ∙ ap (λ m. with_map m z) (opened_blocks ∙ ap (λ found. option_map_or (λ (g : Gap). filled g (open_at h g.blocks)) found z.heap.map) (sym o.found))
+      opened after is = arranged_upper up after is ∙ ap (λ m. with_map m z) (opened_blocks ∙ ap (λ found. option_map_or (λ (g : Gap). filled g (open_at h g.blocks)) found z.heap.map) (sym o.found))

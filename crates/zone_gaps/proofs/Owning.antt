@@ -1,8 +1,8 @@
 -- The gap in which the block of an unlocked handle lies, and the block's place in it.
-use Rattle.std.proofs.Common.{◌≡◌, ℕ, ◌+◌, Bool, true, false, [], ◌∷◌, ◌++◌, refl, ap, sym, ◌∙◌, append_assoc, arith, Option, Some, None}
+use Rattle.std.proofs.Common.{◌≡◌, ℕ, true, false, [], ◌∷◌, ◌++◌, refl, ap, sym, ◌∙◌, append_assoc, arith, Option, Some, None}
 use Rattle.std.specs.Prelude.{◌==◌, is_some}
 use Rattle.std.specs.List.{list_all}
-use Rattle.std.proofs.lemmas.Bool.{and_parts, true≢false}
+use Rattle.std.proofs.lemmas.Bool.{true≢false}
 use Rattle.std.proofs.lemmas.Bool.Decides.{nat_tests}
 use Rattle.mac_base.specs.declared.block.Entry.{Entry}
 use Rattle.mac_base.specs.declared.block.Kind.TheVariants.{Rel}
@@ -100,15 +100,6 @@ module _ (z : ZoneState) (h at : ℕ) (o : Owned z h at) where
   -- those from it on
   abbrev pub rest_owned : RestAt z at
   rest_owned = record { before = (o.gap).before ++ (o.place).front; blocks = here_owned ∷ (o.place).back; behind = (o.gap).behind; map = map_owned; place = o.at_is; moves = moves_owned.1; above = (o.is).above }
-
-  -- what holds of each block of the map, in parts
-  pub parts_owned : (p : Entry → Bool) → list_all p z.heap.map ≡ true → (list_all p (o.gap).before ≡ true) × (list_all p (o.place).front ≡ true) × (p here_owned ≡ true) × (list_all p (o.place).back ≡ true) × (list_all p (o.gap).behind ≡ true)
-  parts_owned p all =
-      let outer = all_parts p (o.gap).before ((o.place).front ++ here_owned ∷ ((o.place).back ++ (o.gap).behind)) (ap (list_all p) (sym map_front) ∙ all) in
-      let inner = all_parts p (o.place).front (here_owned ∷ ((o.place).back ++ (o.gap).behind)) outer.1 in
-      let here = and_parts (p here_owned) (list_all p ((o.place).back ++ (o.gap).behind)) inner.1 in
-      let back = all_parts p (o.place).back (o.gap).behind here.1 in
-      (outer.0, inner.0, here.0, back.0, back.1)
 
   -- all its blocks can be moved
   pub can_move_owned : Settled z → (all_can_move z.heap.table (o.place).front ≡ true) × (all_can_move z.heap.table (here_owned ∷ (o.place).back) ≡ true)

@@ -18,7 +18,7 @@ use Rattle.linked_zone.specs.Changes.{with_map, joined_pair, carried_up}
 use Rattle.linked_zone.specs.Fit.{HasSizes}
 use Rattle.linked_zone.specs.Places.{none_free, EntryAt, FreePair, ParcelAt, all_can_move}
 use Rattle.fixed_index.specs.Runs.{none_fixed}
-use Rattle.zone_gaps.specs.Runs.{RunAt, UsedUpTo, begins_unused}
+use Rattle.zone_gaps.specs.Runs.{RunAt, arranged, UsedUpTo, begins_unused}
 use Rattle.zone_gaps.proofs.Between.{parcel_loose}
 use Rattle.page_sums.proofs.Sizes.{all_both, all_parts, first_bytes, no_bytes}
 
@@ -108,6 +108,15 @@ module _ {start end : ℕ} (z : ZoneState) (run : RunAt z start end) where
   run_sizes sizes =
       let whole = subst (λ m. sizes_possible z.shape m ≡ true) run.map sizes in
       (all_parts _ run.blocks run.behind (all_parts _ run.before (run.blocks ++ run.behind) whole).1).0
+
+  -- and stay so where it is pressed down
+  pub sizes-pressed : HasSizes z → HasSizes (arranged z run (down run.blocks))
+  sizes-pressed sizes =
+      let p : Entry → Bool = λ e. is_block_size z.shape e.size in
+      let outer = all_parts p run.before (run.blocks ++ run.behind) (ap (sizes_possible z.shape) (sym run.map) ∙ sizes) in
+      let inner = all_parts p run.blocks run.behind outer.1 in
+      let middle : list_all p (down run.blocks) ≡ true = (down-IsArrangement run.blocks).kept p inner.0 (free_bytes-possible z.shape run.blocks inner.0) in
+      all_both p run.before (down run.blocks ++ run.behind) outer.0 (all_both p (down run.blocks) run.behind middle inner.1)
 
   module _ (new : ZoneState) (free next : ℕ) where
     -- the bytes that are left

@@ -5,7 +5,7 @@ use Rattle.mac_base.specs.declared.block.Entry.{Entry}
 use Rattle.mac_base.specs.declared.block.Kind.{Kind}
 use Rattle.mac_base.specs.declared.block.Kind.TheVariants.{Free, Master, Ptr, Rel}
 use Rattle.mac_base.specs.HandleTable.{HandleTable, is_handle}
-use Rattle.mac_base.specs.ZoneMap.{ZoneMap, block, is_free, address_behind, total_size}
+use Rattle.mac_base.specs.ZoneMap.{ZoneMap, block, free_block, is_free, address_behind, total_size}
 use Rattle.mac_base.specs.ZoneState.{ZoneState}
 use Rattle.linked_zone.specs.Changes.{with_map}
 use Rattle.linked_zone.specs.Places.{all_can_move, none_free}
@@ -36,6 +36,25 @@ pub record RunAt (z : ZoneState) (start end : ℕ) : Type 0 where
 -- the zone with other blocks in place of a run
 abbrev pub arranged : {start end : ℕ} → (z : ZoneState) → RunAt z start end → ZoneMap → ZoneState
 arranged z run blocks = with_map (run.before ++ (blocks ++ run.behind)) z
+
+-- a block stands at an address, others behind it end at a second, and free bytes behind those at a third; the blocks can be
+-- moved, and none of them is fixed
+pub record PackedAt (z : ZoneState) (at free end : ℕ) : Type 0 where
+  pub before : ZoneMap
+  pub here : Entry
+  pub blocks : ZoneMap
+  pub bytes : ℕ
+  pub behind : ZoneMap
+  pub map : z.heap.map ≡ before ++ (here ∷ blocks ++ (free_block bytes ++ behind))
+  pub place : at ≡ address_behind z.shape before
+  pub long : free ≡ at + (here.size + total_size blocks)
+  pub ends : end ≡ free + bytes
+  pub moves : IsTrue (all_can_move z.heap.table (here ∷ blocks))
+  pub loose : IsTrue (none_fixed z.heap.table (here ∷ blocks))
+
+-- the zone with the block behind the others and the free bytes
+abbrev pub topped : {at free end : ℕ} → (z : ZoneState) → PackedAt z at free end → ZoneState
+topped z packed = with_map (packed.before ++ (packed.blocks ++ (free_block packed.bytes ++ packed.here ∷ packed.behind))) z
 
 -- whether the first is free, if there is one
 abbrev pub begins_unused : ZoneMap → Bool

@@ -6,8 +6,10 @@ ghost use Rattle.mac_base.specs.Compaction.{all_down, moved_high};
 ghost use Rattle.mac_base.specs.HandleTable.{is_full, is_locked};
 ghost use Rattle.mac_base.specs.ZoneMap.{address_behind};
 ghost use Rattle.linked_zone.specs.Changes.{with_map};
+ghost use Rattle.linked_zone.specs.Fit.{HasSizes};
 ghost use Rattle.linked_zone.specs.Loans.{KeepsLoans};
 ghost use Rattle.zone_gaps.specs.Gaps.{Settled, GapBetween, GapFrom, with_gap, opened_after};
+ghost use Rattle.zone_gaps.specs.Runs.{PackedAt, topped};
 
 use crate::gap::zone_end;
 use crate::run::{carry_up, press_down, press_up};
@@ -60,7 +62,8 @@ pub fn open_after(zone: &mut SummedZone, handle: Handle)
 }
 
 /// Moves the block of an unlocked handle to the high end of its gap: the others are moved down, and the gap's free bytes
-/// stand below it in one block.
+/// stand below it in one block. No free byte is moved. The bytes of a block below the handle's are moved once at most, those of
+/// one above it twice, and its own three times.
 pub fn raise(zone: &mut SummedZone, handle: Handle)
     requires full { IsTrue (is_full zone.old.heap.table handle) }
     requires unlocked { IsFalse (is_locked zone.old.heap.table handle) }
@@ -72,8 +75,23 @@ pub fn raise(zone: &mut SummedZone, handle: Handle)
     let at = zone.linked().block_of(handle);
     let start = zone.gaps().gap_start(at);
     let end = zone.gaps().gap_end(at);
-    let high = carry_up(zone, at, end);
-    press_down(zone, start, high);
+    let size = zone.linked().entry_at(at).size;
+    let below = press_down(zone, start, at + size);
+    let free = press_down(zone, below, end);
+    put_on_top(zone, below - size, free, end);
+}
+
+/// Moves a block up past the blocks behind it, which end at `free`, and past the free bytes behind those, which end at
+/// `end`. The bytes of the blocks turn in one rotation, and then the block alone slides over the free bytes.
+fn put_on_top(zone: &mut SummedZone, at: u32, free: u32, end: u32)
+    requires packed { PackedAt zone.old at free end }
+    requires sizes { HasSizes zone.old }
+    ensures { (packed : PackedAt zone.old at free end) → zone.new ≡ topped zone.old packed }
+{
+    let high = carry_up(zone, at, free);
+    if free < end {
+        zone.sink(high, free);
+    }
 }
 
 /// Arranges all gaps down.
