@@ -1,5 +1,5 @@
 -- What is remembered of lengths stays so.
-use Rattle.std.proofs.Common.{◌≡◌, ℕ, ◌+◌, ◌≤◌, ◌-◌, List, [], ◌++◌, length, take, drop, replicate, Option, Some, None, Bool, true, false, cond, eqb, inl, inr, refl, ap, sym, ◌∙◌, subst, arith}
+use Rattle.std.proofs.Common.{◌≡◌, ℕ, ◌+◌, ◌≤◌, ◌-◌, List, [], ◌++◌, length, take, drop, Option, Some, None, true, false, eqb, inl, inr, refl, ap, sym, ◌∙◌, subst, arith}
 use Rattle.std.specs.Prelude.{◌||◌}
 use Rattle.std.proofs.lemmas.List.{length-append, length-take, length-drop, length-replicate}
 use Rattle.mac_base.specs.declared.block.Flags.{Flags}

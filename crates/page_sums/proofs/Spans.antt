@@ -1,16 +1,18 @@
 -- What is remembered of neighbouring blocks.
-use Rattle.std.proofs.Common.{◌≡◌, ℕ, ◌+◌, ◌≤◌, true, false, cond, List, [], ◌∷◌, ◌++◌, refl, ap, sym, ◌∙◌, append_assoc, append-nil, arith}
-use Rattle.std.specs.Prelude.{max}
+use Rattle.std.proofs.Common.{◌≡◌, ℕ, ◌+◌, ◌≤◌, Bool, true, false, cond, List, [], ◌∷◌, ◌++◌, refl, ap, sym, ◌∙◌, append_assoc, append-nil, arith}
+use Rattle.std.specs.Prelude.{max, nat_lt, not, ◌&&◌, ◌||◌}
 use Rattle.mac_base.specs.declared.block.Entry.{Entry}
 use Rattle.mac_base.specs.Gap.{is_fixed}
 use Rattle.mac_base.specs.HandleTable.{HandleTable}
 use Rattle.mac_base.specs.ZoneMap.{ZoneMap, total_size, free_size, is_free}
+use Rattle.page_sums.specs.declared.order.Order.{Order}
+use Rattle.page_sums.specs.declared.order.Passed.{Passed}
 use Rattle.page_sums.specs.declared.span.Span.{Span}
 use Rattle.page_sums.specs.declared.span.Span.TheVariants.{Whole, Parted}
 use Rattle.page_sums.specs.declared.sums.Sums.{Sums}
 use Rattle.page_sums.specs.declared.weight.Weight.{Weight}
-use Rattle.page_sums.specs.Weights.{is_space, space_size, weigh, weights, bytes_of, space_of, most}
-use Rattle.page_sums.specs.Spans.{most_in, joined, span_of, passed, IsSpan, IsSum, IsWithin, both, one}
+use Rattle.page_sums.specs.Weights.{is_space, space_size, weigh, weights, bytes_of, space_of, in_order, most}
+use Rattle.page_sums.specs.Spans.{most_in, joined, span_of, passed, behind_of, ordered, order_of, passed_on, IsOrder, IsSpan, IsSum, IsWithin, both, one}
 use Rattle.page_sums.proofs.Begun.{bytes-weights}
 
 -- what is said of blocks and those behind them
@@ -39,6 +41,47 @@ pub span-one : (sort : Weight → ℕ) (w : Weight) → IsSpan sort (w ∷ []) (
 span-one sort w = λ r behind. elim w.fixed as (λ c. cond c (max r (most sort 0 behind)) (most sort (r + sort w) behind)
     ≡ passed (cond c (Parted (record { first = 0; most = 0; last = 0 })) (Whole (sort w))) r (λ n. most sort n behind)) [ true ↦ omega arith | false ↦ refl ]
 
+and-assoc : (a b c : Bool) → (a && (b && c)) ≡ ((a && b) && c)
+and-assoc true b c = refl
+and-assoc false b c = refl
+
+and-true : (a : Bool) → (a && true) ≡ a
+and-true true = refl
+and-true false = refl
+
+-- what is found behind two parts
+behind-ordered : (s q : Order) (free : Bool) → behind_of (ordered s q) free ≡ passed_on (behind_of s free) q
+behind-ordered s q true = refl
+behind-ordered s q false = refl
+
+-- the order of two parts
+pub order-join : (a b : List Weight) (s q : Order) → IsOrder a s → IsOrder b q → IsOrder (a ++ b) (ordered s q)
+order-join a b s q here there = λ free behind.
+    let p = behind_of s free in let r = behind_of q p.free in
+    ap (in_order free) (append_assoc a b behind) ∙ here free (b ++ behind) ∙ ap (λ c. p.arranged && c) (there p.free behind)
+    ∙ and-assoc p.arranged r.arranged (in_order r.free behind) ∙ sym (ap (λ (o : Passed). o.arranged && in_order o.free behind) (behind-ordered s q free))
+
+-- that of none
+abbrev pub no_order : Order
+no_order = record { after_free = record { arranged = true; free = true }; after_other = record { arranged = true; free = false } }
+
+-- no block
+abbrev pub nothing : Sums
+nothing = record { bytes = 0; space = 0; free = Whole 0; spaces = Whole 0; order = no_order }
+
+pub order-none : IsOrder [] no_order
+order-none = λ free behind. elim free as (λ f. in_order f behind
+    ≡ ((behind_of no_order f).arranged
+    && in_order (behind_of no_order f).free behind)) [ true ↦ refl | false ↦ refl ]
+
+-- of one
+pub order-one : (w : Weight) → IsOrder (w ∷ []) (order_of w)
+order-one w = λ free behind. elim free as (λ f. ((not f || w.fixed) && in_order (nat_lt 0 w.free) behind) ≡ ((behind_of (order_of w) f).arranged && in_order (behind_of (order_of w) f).free behind)) [ true ↦ refl | false ↦ refl ]
+
+-- of all blocks
+pub order-all : (ws : List Weight) (o : Order) → IsOrder ws o → o.after_other.arranged ≡ in_order false ws
+order-all ws o is = sym (and-true o.after_other.arranged) ∙ sym (is false []) ∙ ap (in_order false) (append-nil ws)
+
 bytes-append : (a b : List Weight) → bytes_of (a ++ b) ≡ bytes_of a + bytes_of b
 bytes-append [] b = omega arith
 bytes-append (w ∷ ws) b = let rest = bytes-append ws b in omega arith
@@ -54,15 +97,16 @@ sum-join a b s q here there = record {
   space = (let all = space-append a b in let m = here.space in let n = there.space in omega arith);
   free = span-join (λ (w : Weight). w.free) a b s.free q.free here.free there.free;
   spaces = span-join (λ (w : Weight). w.space) a b s.spaces q.spaces here.spaces there.spaces;
+  order = order-join a b s.order q.order here.order there.order;
 }
 
 -- of none
-pub sum-none : IsSum [] (record { bytes = 0; space = 0; free = Whole 0; spaces = Whole 0 })
-sum-none = record { bytes = refl; space = refl; free = span-none (λ (w : Weight). w.free); spaces = span-none (λ (w : Weight). w.space) }
+pub sum-none : IsSum [] nothing
+sum-none = record { bytes = refl; space = refl; free = span-none (λ (w : Weight). w.free); spaces = span-none (λ (w : Weight). w.space); order = order-none }
 
 -- of one
 pub sum-one : (w : Weight) → IsSum (w ∷ []) (one w)
-sum-one w = record { bytes = omega arith; space = omega arith; free = span-one (λ (w : Weight). w.free) w; spaces = span-one (λ (w : Weight). w.space) w }
+sum-one w = record { bytes = omega arith; space = omega arith; free = span-one (λ (w : Weight). w.free) w; spaces = span-one (λ (w : Weight). w.space) w; order = order-one w }
 
 passed-all : (s : Span) → passed s 0 (λ n. n) ≡ most_in s
 passed-all (Whole n) = omega arith

@@ -11,7 +11,6 @@ use Rattle.zone_laws.proofs.GapAppend.{total_size-append}
 use Rattle.zone_laws.proofs.GapApart.{sizes_possible}
 use Rattle.linked_zone.specs.Fit.{HasSizes}
 use Rattle.linked_zone.specs.Places.{EntryAt}
-use Rattle.page_sums.specs.declared.span.Span.TheVariants.{Whole}
 use Rattle.page_sums.specs.declared.sums.Sums.{Sums}
 use Rattle.page_sums.specs.Weights.{weigh, weights, bytes_of}
 use Rattle.page_sums.specs.Spans.{IsSum, IsWithin, both, one}
@@ -19,7 +18,7 @@ use Rattle.page_sums.specs.Pages.{begun, page, page_start, page_weights}
 use Rattle.page_sums.specs.Walk.{AllBelow, FirstOfPage}
 use Rattle.page_sums.proofs.Sizes.{all_parts, first_bytes, no_bytes, total_size-push}
 use Rattle.page_sums.proofs.Begun.{weights-append, bytes-weights, begun-append, begun-above, begun-below, begun-between, below-append, below-higher}
-use Rattle.page_sums.proofs.Spans.{sum-join, sum-none, sum-one, sum-within}
+use Rattle.page_sums.proofs.Spans.{nothing, sum-join, sum-none, sum-one, sum-within}
 
 -- Blocks begin in one page: those before them begin below it, and those behind in a higher one.
 pub record Filling (z : ZoneState) (c : ℕ) (blocks : ZoneMap) : Type 0 where
@@ -71,7 +70,7 @@ pub record Measured (z : ZoneState) (first at : ℕ) (s : Sums) : Type 0 where
   pub sums : IsSum (weights z.heap.table done) s
 
 -- at first none is
-pub none_measured : (z : ZoneState) (first : ℕ) → FirstOfPage z first → Measured z first first (record { bytes = 0; space = 0; free = Whole 0; spaces = Whole 0 })
+pub none_measured : (z : ZoneState) (first : ℕ) → FirstOfPage z first → Measured z first first nothing
 none_measured z first f =
     let e = f.entry in
     record { before = e.before; done = []; behind = e.here ∷ e.behind; map = e.map; start = e.place; place = omega arith; below = f.below; inside = tt; sums = sum-none }
@@ -175,7 +174,7 @@ pub record Walked (z : ZoneState) (at : ℕ) (s : Sums) : Type 0 where
   pub sums : IsSum (weights z.heap.table before) s
 
 -- at first none is
-pub none_walked : (z : ZoneState) (at : ℕ) → at ≡ address_behind z.shape [] → Walked z at (record { bytes = 0; space = 0; free = Whole 0; spaces = Whole 0 })
+pub none_walked : (z : ZoneState) (at : ℕ) → at ≡ address_behind z.shape [] → Walked z at nothing
 none_walked z at place = record { before = []; behind = z.heap.map; map = refl; place = place; below = inr tt; sums = sum-none }
 
 -- a page begins there

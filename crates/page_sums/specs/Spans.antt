@@ -1,10 +1,12 @@
 -- What is remembered of neighbouring blocks.
-use Rattle.std.specs.Prelude.{◌≡◌, ℕ, ◌+◌, ◌≤◌, max, List, ◌++◌, if◌then◌else◌}
+use Rattle.std.specs.Prelude.{◌≡◌, ℕ, ◌+◌, ◌≤◌, max, nat_lt, Bool, true, ◌&&◌, List, ◌++◌, if◌then◌else◌}
+use Rattle.page_sums.specs.declared.order.Order.{Order}
+use Rattle.page_sums.specs.declared.order.Passed.{Passed}
 use Rattle.page_sums.specs.declared.span.Span.{Span}
 use Rattle.page_sums.specs.declared.span.Span.TheVariants.{Whole, Parted}
 use Rattle.page_sums.specs.declared.sums.Sums.{Sums}
 use Rattle.page_sums.specs.declared.weight.Weight.{Weight}
-use Rattle.page_sums.specs.Weights.{bytes_of, space_of, most}
+use Rattle.page_sums.specs.Weights.{bytes_of, space_of, in_order, most}
 
 -- the most that one gap has of them
 abbrev pub most_in : Span → ℕ
@@ -31,12 +33,32 @@ passed (Parted p) r f = max (r + p.first) (max p.most (f p.last))
 abbrev pub IsSpan : (Weight → ℕ) → List Weight → Span → Type 0
 IsSpan sort ws s = (r : ℕ) (behind : List Weight) → most sort r (ws ++ behind) ≡ passed s r (λ n. most sort n behind)
 
+-- what is found behind these blocks, where a free one stands before them, or none
+abbrev pub behind_of : Order → Bool → Passed
+behind_of o free = if free then o.after_free else o.after_other
+
+-- blocks and those behind them
+abbrev pub passed_on : Passed → Order → Passed
+passed_on p o = let q = behind_of o p.free in record { arranged = p.arranged && q.arranged; free = q.free }
+
+abbrev pub ordered : Order → Order → Order
+ordered a b = record { after_free = passed_on a.after_free b; after_other = passed_on a.after_other b }
+
+-- one block
+abbrev pub order_of : Weight → Order
+order_of w = record { after_free = record { arranged = w.fixed; free = nat_lt 0 w.free }; after_other = record { arranged = true; free = nat_lt 0 w.free } }
+
+-- it says of these blocks all that those behind them need
+abbrev pub IsOrder : List Weight → Order → Type 0
+IsOrder ws o = (free : Bool) (behind : List Weight) → in_order free (ws ++ behind) ≡ ((behind_of o free).arranged && in_order (behind_of o free).free behind)
+
 -- the sums of these blocks
 pub record IsSum (ws : List Weight) (s : Sums) : Type 0 where
   pub bytes : s.bytes ≡ bytes_of ws
   pub space : s.space ≡ space_of ws
   pub free : IsSpan (λ (w : Weight). w.free) ws s.free
   pub spaces : IsSpan (λ (w : Weight). w.space) ws s.spaces
+  pub order : IsOrder ws s.order
 
 -- no sum is larger than that of all bytes
 pub record IsWithin (s : Sums) : Type 0 where
@@ -46,8 +68,8 @@ pub record IsWithin (s : Sums) : Type 0 where
 
 -- those of blocks and of others behind them
 abbrev pub both : Sums → Sums → Sums
-both a b = record { bytes = a.bytes + b.bytes; space = a.space + b.space; free = joined a.free b.free; spaces = joined a.spaces b.spaces }
+both a b = record { bytes = a.bytes + b.bytes; space = a.space + b.space; free = joined a.free b.free; spaces = joined a.spaces b.spaces; order = ordered a.order b.order }
 
 -- those of one block
 abbrev pub one : Weight → Sums
-one w = record { bytes = w.bytes; space = w.space; free = span_of (λ (w : Weight). w.free) w; spaces = span_of (λ (w : Weight). w.space) w }
+one w = record { bytes = w.bytes; space = w.space; free = span_of (λ (w : Weight). w.free) w; spaces = span_of (λ (w : Weight). w.space) w; order = order_of w }

@@ -1,5 +1,5 @@
 -- What blocks weigh in the sums of a zone.
-use Rattle.std.specs.Prelude.{ℕ, ◌+◌, max, Bool, true, false, if◌then◌else◌, List, [], ◌∷◌, map}
+use Rattle.std.specs.Prelude.{ℕ, ◌+◌, max, nat_lt, Bool, true, false, not, ◌&&◌, ◌||◌, if◌then◌else◌, List, [], ◌∷◌, map}
 use Rattle.mac_base.specs.declared.block.Entry.{Entry}
 use Rattle.mac_base.specs.declared.block.Kind.{Kind}
 use Rattle.mac_base.specs.declared.block.Kind.TheVariants.{Free, Master, Ptr, Rel}
@@ -41,3 +41,9 @@ space_of (w ∷ ws) = w.space + space_of ws
 abbrev pub most : (Weight → ℕ) → ℕ → List Weight → ℕ
 most sort r [] = r
 most sort r (w ∷ ws) = if w.fixed then max r (most sort 0 ws) else most sort (r + sort w) ws
+
+-- whether right behind a free block there is none or a fixed one, where the first stands behind a free one, or not: then no block can
+-- be moved down
+abbrev pub in_order : Bool → List Weight → Bool
+in_order free [] = true
+in_order free (w ∷ ws) = (not free || w.fixed) && in_order (nat_lt 0 w.free) ws

@@ -5,6 +5,7 @@
 mod changes;
 mod gap;
 mod lengths;
+mod order;
 mod pages;
 mod span;
 mod sums;

@@ -1,5 +1,6 @@
 //! The sums of neighbouring blocks.
 
+use crate::order::Order;
 use crate::span::Span;
 use crate::weight::Weight;
 
@@ -12,6 +13,8 @@ pub struct ZoneSums {
     pub room: u32,
     /// The most bytes that one gap has of blocks that are free or may be purged.
     pub contiguous: u32,
+    /// Whether no block can be moved down: the free bytes of each gap are one block above the others.
+    pub arranged: bool,
 }
 
 /// The sums of neighbouring blocks.
@@ -25,6 +28,8 @@ pub struct Sums {
     pub free: Span,
     /// What gaps have of bytes that are free or may be purged.
     pub spaces: Span,
+    /// Whether blocks can be moved down.
+    pub order: Order,
 }
 
 impl Sums {
@@ -37,6 +42,7 @@ impl Sums {
         space: 0,
         free: Span::Whole(0),
         spaces: Span::Whole(0),
+        order: Order::NONE,
     };
 
     /// Those of one block.
@@ -53,6 +59,7 @@ impl Sums {
             space: weight.space,
             free,
             spaces,
+            order: Order::of(weight),
         }
     }
 
@@ -68,6 +75,7 @@ impl Sums {
             space: self.space + next.space,
             free: self.free.join(next.free),
             spaces: self.spaces.join(next.spaces),
+            order: self.order.join(next.order),
         }
     }
 }

@@ -14,3 +14,4 @@ pub mod Sweeping
 pub mod Laws
 pub mod LoansKept
 pub mod Rooms
+pub mod Arranged

@@ -94,8 +94,20 @@ fn put_on_top(zone: &mut SummedZone, at: u32, free: u32, end: u32)
     }
 }
 
-/// Arranges all gaps down.
+/// Arranges all gaps down. They aren't gone through where no block can be moved down.
 pub fn squeeze_all_down(zone: &mut SummedZone)
+    requires { Settled zone.old }
+    ensures zone { zone.new ≡ with_map (all_down zone.old.heap.table zone.old.heap.map) zone.old }
+    ensures loans { KeepsLoans zone.old zone.new }
+    ensures settled { Settled zone.new }
+{
+    if !zone.sums().arranged {
+        press_all_down(zone);
+    }
+}
+
+/// Arranges all gaps down, one after another.
+fn press_all_down(zone: &mut SummedZone)
     requires { Settled zone.old }
     ensures zone { zone.new ≡ with_map (all_down zone.old.heap.table zone.old.heap.map) zone.old }
     ensures loans { KeepsLoans zone.old zone.new }

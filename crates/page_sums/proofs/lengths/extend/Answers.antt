@@ -1,4 +1,4 @@
-use Rattle.std.proofs.Common.{◌≡◌, slice_get, Some, ap, sym, ◌∙◌}
+use Rattle.std.proofs.Common.{slice_get, ap, sym, ◌∙◌}
 use Rattle.page_sums.proofs.Noted.{get-added}
 use Rattle.page_sums.proofs.lengths.extend.Goals as goal
 

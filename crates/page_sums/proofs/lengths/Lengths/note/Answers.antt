@@ -1,4 +1,4 @@
-use Rattle.std.proofs.Common.{◌≡◌, slice_get, Some, refl, sym, ap, ◌∙◌, arith}
+use Rattle.std.proofs.Common.{Some, refl, arith}
 use Rattle.std.proofs.lemmas.Option.{slice_get_within}
 use Rattle.page_sums.proofs.Noted.{noted-in, noted-out}
 use Rattle.page_sums.proofs.lengths.Lengths.note.Goals as goal

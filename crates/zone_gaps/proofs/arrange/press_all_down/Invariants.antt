@@ -1,6 +1,6 @@
 use Rattle.std.proofs.Common.{◌-◌}
 use Rattle.zone_gaps.proofs.Sweeping.{Swept}
-use Rattle.zone_gaps.proofs.arrange.squeeze_all_down.Given as goal
+use Rattle.zone_gaps.proofs.arrange.press_all_down.Given as goal
 
 -- the gaps below are pressed down
 abbrev pub invariant-loop-at : goal.invariant-loop-at
