@@ -1,6 +1,6 @@
 //! The list of a zone's blocks.
 
-ghost use Rattle.std.specs.Prelude.{◌≡◌, ℕ, ◌+◌, ◌-◌, ◌*◌, ◌<◌, ◌≤◌, ◌^◌, ◌++◌, ◌∷◌, [], length, replicate, slice_index, IfOk, IfSome, IfNone, IsTrue, IsFalse};
+ghost use Rattle.std.specs.Prelude.{◌≡◌, ℕ, ◌+◌, ◌-◌, ◌*◌, ◌/◌, nat_lt, ◌<◌, ◌≤◌, ◌^◌, ◌++◌, ◌∷◌, [], length, replicate, slice_index, IfOk, IfSome, IfNone, IsTrue, IsFalse};
 ghost use Rattle.std.specs.Borrow.{sem};
 ghost use Rattle.std.specs.List.{list_all};
 ghost use Rattle.byteorder.specs.Endian.{big_bytes, big_number};
@@ -28,6 +28,9 @@ const LENT_MARK: u32 = 2;
 
 /// Where the first of some blocks has as many bytes, few of their numbers in the index are thought to be above 0.
 const SPARSE_SIZE: u32 = 1024;
+
+/// Where a block changes places with so many times fewer bytes than it has, it takes less time to move the numbers of these one by one.
+const FEW_BYTES: usize = 256;
 
 /// The blocks of a zone in one run of bytes, from the zone's start to its limit. A contract sees the list of the
 /// blocks, each with all bytes behind its header, beside the bytes up to the limit and the number in the zone's header that
@@ -72,6 +75,13 @@ impl Drop for Blocks {
         drop(memory);
         drop(index);
     }
+}
+
+/// Whether a block has so many times more bytes than change places with it that the numbers of these are moved one by one.
+fn are_few(count: usize, size: usize) -> bool
+    ensures { result ≡ nat_lt count (size / 256) }
+{
+    count < size / FEW_BYTES
 }
 
 /// Where the search for the lowest free block begins, once the index has changed from a place on: there, or where the
@@ -463,6 +473,7 @@ impl Blocks {
         let start = (at - base) as usize;
         let count = (end - at) as usize - size;
         self.memory.carry(heads, start, count, header);
+        let sparse = sparse | are_few(count, size);
         self.index
             .shift_down((start + size) / 4, start / 4, count / 4, sparse);
         self.index.set(start / 4 + count / 4, header.mark());
@@ -483,6 +494,7 @@ impl Blocks {
         let first = (start - base) as usize;
         let count = (at - start) as usize;
         self.memory.sink(heads, first, count, header);
+        let sparse = sparse | are_few(count, size);
         self.index
             .shift_up(first / 4, (first + size) / 4, count / 4, sparse);
         self.index.set(first / 4, header.mark());
