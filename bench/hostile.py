@@ -240,7 +240,7 @@ RUNS = [
     ("PurgeSpace among 10,000 free blocks, and a block that moves", [], below_free_blocks(["HPurge h"], ["ReallocateHandle h 40", "PurgeSpace", "ReallocateHandle h 8", "PurgeSpace"])),
     ("CompactMem among 20,000 blocks", [], handles(20000, 8) + ["CompactMem 1000000"] * LINES),
     # (all gaps are gone through where there is something to move)
-    ("MaxMem among 10,000 small gaps, and a handle that MoveHHi moves", [], small_gaps(10000) + ["h=NewHandle 8"] + ["MoveHHi h", "MaxMem"] * LINES),
+    ("MaxMem among 10,000 small gaps, and a handle that MoveHHi moves", [], small_gaps(10000) + ["h=NewHandle 40"] + ["MoveHHi h", "MaxMem"] * LINES),
     ("MaxMem among 10,000 small gaps", [], small_gaps(10000) + ["MaxMem"] * LINES),
     ("CompactMem among 16,000 blocks, each third locked", [], named(16000, 8) + [f"HLock h{it:X}" for it in range(0, 16000, 3)] + ["CompactMem 900000"] * LINES),
     ("RecoverHandle among 20,000 blocks", [], named(20000, 8) + ["a=Deref h4E1F"] + ["RecoverHandle a"] * LINES),
