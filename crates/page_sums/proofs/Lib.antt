@@ -19,3 +19,4 @@ pub mod Changing
 pub mod Rooms
 pub mod Noted
 pub mod Measured
+pub mod OutOfOrder

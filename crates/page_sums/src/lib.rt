@@ -3,6 +3,7 @@
 #![tactic(auto)]
 
 mod changes;
+mod disorder;
 mod gap;
 mod lengths;
 mod order;

@@ -67,7 +67,7 @@ impl Order {
     }
 
     /// What is found behind, where a free block stands before, or none.
-    fn behind(self, free: bool) -> Passed
+    pub fn behind(self, free: bool) -> Passed
         ensures { result ≡ behind_of self free }
     {
         if free {

@@ -13,8 +13,6 @@ pub struct ZoneSums {
     pub room: u32,
     /// The most bytes that one gap has of blocks that are free or may be purged.
     pub contiguous: u32,
-    /// Whether no block can be moved down: the free bytes of each gap are one block above the others.
-    pub arranged: bool,
 }
 
 /// The sums of neighbouring blocks.

@@ -53,7 +53,7 @@ impl Drop for SummedZone {
 }
 
 impl SummedZone {
-    ghost use Rattle.std.specs.Prelude.{◌≡◌, ◌/◌, ◌^◌, ◌<◌, ◌≤◌, false, length, IfOk};
+    ghost use Rattle.std.specs.Prelude.{◌≡◌, ◌/◌, ◌^◌, ◌<◌, ◌≤◌, length, IfOk};
     ghost use Rattle.mac_base.specs.HandleTable.{bytes_of};
     ghost use Rattle.std.specs.List.{sum_by};
     ghost use Rattle.mac_base.specs.Reports.{largest_purge_space, largest_room, purge_space};
@@ -61,7 +61,6 @@ impl SummedZone {
     ghost use Rattle.linked_zone.specs.Changes.{bare_zone};
     ghost use Rattle.linked_zone.specs.Fit.{Fits, HasSizes};
     ghost use Rattle.page_sums.specs.Pages.{page, page_size};
-    ghost use Rattle.page_sums.specs.Weights.{in_order, weights};
 
     /// A new zone: one free block, and no slot.
     pub fn create(alloc: Global, spec: ZoneSpec) -> Result<SummedZone, HostFull>
@@ -95,7 +94,6 @@ impl SummedZone {
         ensures space { result.space ≡ purge_space self.old.heap.table self.old.heap.map }
         ensures room { result.room ≡ largest_room self.old.heap.table self.old.heap.map }
         ensures contiguous { result.contiguous ≡ largest_purge_space self.old.heap.table self.old.heap.map }
-        ensures arranged { result.arranged ≡ in_order false (weights self.old.heap.table self.old.heap.map) }
     {
         zone_sums(self.zone.linked(), &mut self.pages)
     }
@@ -136,11 +134,11 @@ impl SummedZone {
     }
 }
 
-ghost use Rattle.std.specs.Prelude.{◌≡◌, false};
+ghost use Rattle.std.specs.Prelude.{◌≡◌};
 ghost use Rattle.mac_base.specs.Reports.{largest_purge_space, largest_room, purge_space};
 ghost use Rattle.page_sums.specs.Pages.{ArePages};
 ghost use Rattle.page_sums.specs.Spans.{IsSum};
-ghost use Rattle.page_sums.specs.Weights.{in_order, weights};
+ghost use Rattle.page_sums.specs.Weights.{weights};
 
 /// What a zone has room for, by the sums of its pages.
 fn zone_sums(zone: &LinkedZone, pages: &mut [Option<Sums>]) -> ZoneSums
@@ -149,7 +147,6 @@ fn zone_sums(zone: &LinkedZone, pages: &mut [Option<Sums>]) -> ZoneSums
     ensures space { result.space ≡ purge_space zone.now.heap.table zone.now.heap.map }
     ensures room { result.room ≡ largest_room zone.now.heap.table zone.now.heap.map }
     ensures contiguous { result.contiguous ≡ largest_purge_space zone.now.heap.table zone.now.heap.map }
-    ensures arranged { result.arranged ≡ in_order false (weights zone.now.heap.table zone.now.heap.map) }
 {
     let all = all_pages(zone, pages);
     let _spec = zone.spec();
@@ -157,7 +154,6 @@ fn zone_sums(zone: &LinkedZone, pages: &mut [Option<Sums>]) -> ZoneSums
         space: all.space,
         room: all.free.most(),
         contiguous: all.spaces.most(),
-        arranged: all.order.after_other.arranged,
     }
 }
 

@@ -15,3 +15,4 @@ pub mod Laws
 pub mod LoansKept
 pub mod Rooms
 pub mod Arranged
+pub mod Around

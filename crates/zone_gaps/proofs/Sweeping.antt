@@ -36,12 +36,12 @@ all_down-run t run (e ∷ es) behind moves =
     ∙ all_down-run t (run ++ e ∷ []) es behind parts.1 ∙ ap (λ r. all_down_behind t r behind) (append_assoc run (e ∷ []) es)
 
 -- a fixed block ends it
-all_down-fixed : (t : HandleTable) (blocks : ZoneMap) (e : Entry) (es : ZoneMap) → none_fixed t blocks ≡ true → is_fixed t e.kind ≡ true → all_down t (blocks ++ e ∷ es) ≡ down blocks ++ e ∷ all_down t es
+pub all_down-fixed : (t : HandleTable) (blocks : ZoneMap) (e : Entry) (es : ZoneMap) → none_fixed t blocks ≡ true → is_fixed t e.kind ≡ true → all_down t (blocks ++ e ∷ es) ≡ down blocks ++ e ∷ all_down t es
 all_down-fixed t blocks e es moves fixed =
     all_down-run t [] blocks (e ∷ es) moves ∙ ap (λ c. cond c (down blocks ++ e ∷ all_down_behind t [] es) (all_down_behind t (blocks ++ e ∷ []) es)) fixed
 
 -- or the end does
-all_down-last : (t : HandleTable) (blocks : ZoneMap) → none_fixed t blocks ≡ true → all_down t (blocks ++ []) ≡ down blocks
+pub all_down-last : (t : HandleTable) (blocks : ZoneMap) → none_fixed t blocks ≡ true → all_down t (blocks ++ []) ≡ down blocks
 all_down-last t blocks moves = all_down-run t [] blocks [] moves
 
 -- The gaps below an address are pressed down.

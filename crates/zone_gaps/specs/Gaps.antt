@@ -1,5 +1,5 @@
 -- Gaps by their addresses.
-use Rattle.std.specs.Prelude.{◌≡◌, ℕ, ◌+◌, Contains, Option, Some}
+use Rattle.std.specs.Prelude.{◌≡◌, ℕ, ◌+◌, ◌++◌, Contains, IsTrue, Option, Some}
 use Rattle.std.specs.Option.{option_map_or}
 use Rattle.mac_base.specs.Arrangement.{open_at}
 use Rattle.mac_base.specs.Gap.{Gap, gaps, filled, own_gap}
@@ -10,6 +10,7 @@ use Rattle.mac_base.specs.ZoneMap.{ZoneMap, address_behind, total_size}
 use Rattle.mac_base.specs.ZoneState.{ZoneState}
 use Rattle.linked_zone.specs.Changes.{with_map}
 use Rattle.linked_zone.specs.Fit.{HasSizes}
+use Rattle.fixed_index.specs.Runs.{begins_fixed, ends_fixed, none_fixed}
 use Rattle.gap_index.specs.Gaps.{FirstFreeOf}
 use Rattle.zone_gaps.specs.declared.gap.FoundGap.{FoundGap}
 
@@ -35,6 +36,18 @@ pub record GapFrom (z : ZoneState) (at : ℕ) : Type 0 where
   pub gap : Gap
   pub among : Contains (gaps z.heap.table z.heap.map) gap
   pub first : FirstFreeOf z gap at
+
+-- the blocks around an address, from behind the last fixed one below it up to the next fixed one: those of a gap
+pub record AroundAt (z : ZoneState) (at : ℕ) : Type 0 where
+  pub before : ZoneMap
+  pub lower : ZoneMap
+  pub upper : ZoneMap
+  pub behind : ZoneMap
+  pub map : z.heap.map ≡ before ++ ((lower ++ upper) ++ behind)
+  pub place : at ≡ address_behind z.shape (before ++ lower)
+  pub moves : IsTrue (none_fixed z.heap.table (lower ++ upper))
+  pub below : IsTrue (ends_fixed z.heap.table before)
+  pub above : IsTrue (begins_fixed z.heap.table behind)
 
 -- the gap that a search gives is found
 pub record IsGapOf (z : ZoneState) (searched : Option Gap) (found : FoundGap) : Type 0 where

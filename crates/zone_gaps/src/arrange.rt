@@ -8,7 +8,7 @@ ghost use Rattle.mac_base.specs.ZoneMap.{address_behind};
 ghost use Rattle.linked_zone.specs.Changes.{with_map};
 ghost use Rattle.linked_zone.specs.Fit.{HasSizes};
 ghost use Rattle.linked_zone.specs.Loans.{KeepsLoans};
-ghost use Rattle.zone_gaps.specs.Gaps.{Settled, GapBetween, GapFrom, with_gap, opened_after};
+ghost use Rattle.zone_gaps.specs.Gaps.{Settled, AroundAt, GapBetween, GapFrom, with_gap, opened_after};
 ghost use Rattle.zone_gaps.specs.Runs.{PackedAt, topped};
 
 use crate::gap::zone_end;
@@ -16,6 +16,9 @@ use crate::run::{carry_up, press_down, press_up};
 use mac_base::handle::Handle;
 use mac_base::size::ZONE_HEADER;
 use page_sums::SummedZone;
+
+/// How many gaps whose blocks can be moved down are looked for one by one, before all gaps are gone through.
+const FEW_GAPS: u32 = 32;
 
 /// Arranges a gap down, given the address of its first free block: its blocks are moved down, and its free bytes are above
 /// them in one block. The bytes of each block are moved once. Gives the address at which the free bytes begin.
@@ -94,16 +97,33 @@ fn put_on_top(zone: &mut SummedZone, at: u32, free: u32, end: u32)
     }
 }
 
-/// Arranges all gaps down. They aren't gone through where no block can be moved down.
+/// Arranges all gaps down. Where few of them have blocks that can be moved down, only those are gone through.
 pub fn squeeze_all_down(zone: &mut SummedZone)
     requires { Settled zone.old }
     ensures zone { zone.new ≡ with_map (all_down zone.old.heap.table zone.old.heap.map) zone.old }
     ensures loans { KeepsLoans zone.old zone.new }
     ensures settled { Settled zone.new }
 {
-    if !zone.sums().arranged {
-        press_all_down(zone);
+    'gaps: for _ in 0..FEW_GAPS {
+        let Some(at) = zone.first_out_of_order() else {
+            return;
+        };
+        squeeze_around(zone, at);
     }
+    press_all_down(zone);
+}
+
+/// Arranges the gap around an address down.
+fn squeeze_around(zone: &mut SummedZone, at: u32)
+    requires around { AroundAt zone.old at }
+    requires settled { Settled zone.old }
+    ensures zone { (around : AroundAt zone.old at) → zone.new ≡ with_map (around.before ++ (down (around.lower ++ around.upper) ++ around.behind)) zone.old }
+    ensures loans { KeepsLoans zone.old zone.new }
+    ensures settled { Settled zone.new }
+{
+    let start = zone.gaps().gap_start(at);
+    let end = zone.gaps().gap_end(at);
+    press_down(zone, start, end);
 }
 
 /// Arranges all gaps down, one after another.

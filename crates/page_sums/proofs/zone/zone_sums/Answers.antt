@@ -1,6 +1,4 @@
 use Rattle.std.proofs.Common.{◌∙◌}
-use Rattle.page_sums.proofs.Spans.{order-all}
-use Rattle.page_sums.specs.Weights.{weights}
 use Rattle.page_sums.proofs.Reports.{reports-space, reports-room, reports-contiguous}
 use Rattle.page_sums.proofs.zone.zone_sums.Goals as goal
 
@@ -18,8 +16,3 @@ pub returns-clause-contiguous : goal.returns-clause-contiguous
 returns-clause-contiguous c =
     let z = c.args.zone.now in
     c.most-2.ensures ∙ reports-contiguous z.heap.table z.heap.map c.all_pages-all.result c.all_pages-all.ensures.sums z.shape c.spec-spec.ensures.fits.coherent
-
-pub returns-clause-arranged : goal.returns-clause-arranged
-returns-clause-arranged c =
-    let z = c.args.zone.now in
-    order-all (weights z.heap.table z.heap.map) c.all_pages-all.result.order c.all_pages-all.ensures.sums.order

@@ -1,0 +1,92 @@
+use Rattle.std.proofs.Common.{◌≡◌, ◌+◌, ◌∙◌, ap, sym, subst, Bool, true, false, not, refl, arith}
+use Rattle.std.specs.Prelude.{◌||◌, nat_lt}
+use Rattle.mac_base.specs.declared.block.Entry.{Entry}
+use Rattle.mac_base.specs.ZoneSizes.{ZoneSizes}
+use Rattle.linked_zone.specs.Places.{HasOwner}
+use Rattle.page_sums.specs.declared.weight.Weight.{Weight}
+use Rattle.page_sums.specs.Disorder.{OrderedTo}
+use Rattle.page_sums.specs.Weights.{weigh}
+use Rattle.page_sums.proofs.Entries.{entry_size, entry_within}
+use Rattle.page_sums.proofs.Owners.{entry-owner}
+use Rattle.page_sums.proofs.OutOfOrder.{Coming, coming, entry_coming, ordered_on, out_of_order, ordered_all}
+use Rattle.page_sums.proofs.disorder.first_from.Goals as goal
+use Rattle.page_sums.proofs.disorder.first_from.Goals.{In-loop-at, else-behind_free-via-then-behind_free+else-not-weight, else-behind_free-via-else-behind_free}
+
+-- a block comes next
+next : (c : In-loop-at) → Coming c.args.zone.now c.loop-at.at c.loop-at.behind_free c.loop-at.invariant
+next c =
+    let z = c.args.zone.now in
+    let base = c.base.ensures.value ∙ ap (λ (s : ZoneSizes). s.base) c.spec-spec.ensures.sizes in
+    let size = c.size.ensures.value ∙ ap (λ (s : ZoneSizes). s.size) c.spec-spec.ensures.sizes in
+    let test = c.loop-at-test.true in
+    coming z c.loop-at.at c.loop-at.behind_free c.loop-at.invariant (omega arith)
+
+pub entry_at-here-requires : goal.entry_at-here-requires
+entry_at-here-requires c = entry_coming c.args.zone.now c.loop-at.at c.loop-at.behind_free c.loop-at.invariant (next (goal.at.entry_at-here-requires c).In-loop-at)
+
+pub weigh-weight-requires : goal.weigh-weight-requires
+weigh-weight-requires c =
+    let z = c.args.zone.now in
+    let here = entry_coming z c.loop-at.at c.loop-at.behind_free c.loop-at.invariant (next (goal.at.weigh-weight-requires c).In-loop-at) in
+    subst (λ (e : Entry). HasOwner z e.kind) (sym (c.entry_at-here.ensures here)) (entry-owner z c.loop-at.at here c.spec-spec.ensures.fits)
+
+moves : (b : Bool) → not b ≡ true → b ≡ false
+moves true h = absurd (cc h)
+moves false h = refl
+
+pub returns-then-not-weight : goal.returns-then-not-weight
+returns-then-not-weight c =
+    let z = c.args.zone.now in
+    let n = next (goal.at.returns-then-not-weight c).In-loop-at in
+    let e = c.entry_at-here.result in
+    let fixed : (weigh z.heap.table e).fixed ≡ false = ap (λ (w : Weight). w.fixed) (sym c.weigh-weight.ensures) ∙ moves c.weigh-weight.result.fixed c.if-not-weight.true in
+    out_of_order z c.loop-at.at c.loop-at.behind_free c.loop-at.invariant n e (c.entry_at-here.ensures (entry_coming z c.loop-at.at c.loop-at.behind_free c.loop-at.invariant n)) c.if-behind_free.true fixed
+
+pub overflow_add-at : goal.overflow_add-at
+overflow_add-at c =
+    let z = c.args.zone.now in
+    let here = entry_coming z c.loop-at.at c.loop-at.behind_free c.loop-at.invariant (next (goal.at.overflow_add-at c).In-loop-at) in
+    let read = ap (λ (e : Entry). e.size) (c.entry_at-here.ensures here) in
+    let within = entry_within z c.loop-at.at here in
+    let size = ap (λ (s : ZoneSizes). s.size) c.spec-spec.ensures.sizes in
+    let base = ap (λ (s : ZoneSizes). s.base) c.spec-spec.ensures.sizes in
+    let low = c.base.ensures.possible.within in
+    let end = c.base.ensures.possible.end_low_enough in
+    omega arith
+
+pub loop-at-smaller : goal.loop-at-smaller
+loop-at-smaller c =
+    let z = c.args.zone.now in
+    let here = entry_coming z c.loop-at.at c.loop-at.behind_free c.loop-at.invariant (next (goal.at.loop-at-smaller c).In-loop-at) in
+    let read = ap (λ (e : Entry). e.size) (c.entry_at-here.ensures here) in
+    let some = entry_size z c.loop-at.at here c.spec-spec.ensures.possible in
+    let test = c.loop-at-test.true in
+    omega arith
+
+fixes : (b : Bool) → not b ≡ false → b ≡ true
+fixes true h = refl
+fixes false h = absurd (cc h)
+
+or_true : (b : Bool) → (b || true) ≡ true
+or_true true = refl
+or_true false = refl
+
+pub loop-at-preserved : goal.loop-at-preserved
+loop-at-preserved c =
+    let z = c.args.zone.now in
+    let n = next (goal.at.loop-at-preserved c).In-loop-at in
+    let e = c.entry_at-here.result in
+    let weight = ap (λ (w : Weight). w.fixed) c.weigh-weight.ensures in
+    let order : (not c.loop-at.behind_free || (weigh z.heap.table e).fixed) ≡ true = elim c.else-behind_free.branch [
+      | else-behind_free-via-then-behind_free+else-not-weight w ↦ ap (λ f. not c.loop-at.behind_free || f) (sym weight ∙ fixes c.weigh-weight.result.fixed w.if-not-weight.false) ∙ or_true (not c.loop-at.behind_free)
+      | else-behind_free-via-else-behind_free w ↦ ap (λ f. not f || (weigh z.heap.table e).fixed) w.if-behind_free.false
+    ] in
+    subst (λ (w : Weight). OrderedTo z (c.loop-at.at + e.size) (nat_lt 0 w.free)) (sym c.weigh-weight.ensures)
+    (ordered_on z c.loop-at.at c.loop-at.behind_free c.loop-at.invariant n e (c.entry_at-here.ensures (entry_coming z c.loop-at.at c.loop-at.behind_free c.loop-at.invariant n)) order)
+
+pub returns : goal.returns
+returns c =
+    let base = c.base.ensures.value ∙ ap (λ (s : ZoneSizes). s.base) c.spec-spec.ensures.sizes in
+    let size = c.size.ensures.value ∙ ap (λ (s : ZoneSizes). s.size) c.spec-spec.ensures.sizes in
+    let test = c.loop-at-test.false in
+    ordered_all c.args.zone.now c.loop-at.at c.loop-at.behind_free c.loop-at.invariant c.spec-spec.ensures.possible (omega arith)
