@@ -41,7 +41,6 @@ impl MemoryManager {
     ghost use Rattle.std.specs.Prelude.{◌≡◌, ◌+◌, ◌<◌, ◌≤◌, IfOk, IfErr, IsTrue, [], length};
     ghost use Rattle.mac_base.specs.declared.error.OsErr.TheVariants.{MemLockedErr};
     ghost use Rattle.linked_zone.specs.Image.{IsImage};
-    ghost use Rattle.std.specs.List.{sum_by};
     ghost use Rattle.std.specs.Borrow.{sem};
     ghost use Rattle.mac_base.specs.BlockStatus.{status_of};
     ghost use Rattle.mac_base.specs.HandleTable.{bytes_of, has_block};
@@ -71,13 +70,11 @@ impl MemoryManager {
         self.zone.length(block)
     }
 
-    /// How many bytes these handles have together, at most 65,536 of them. One that isn't live, or empty, has none; one that is lent
-    /// has those that it had.
-    pub fn total_length(&self, handles: &[Handle]) -> usize
-        requires { length handles.now ≤ 65536 }
-        ensures { result ≡ sum_by (λ h. length (bytes_of self.now.heap.table h)) handles.now }
+    /// How many bytes a handle has: none where it isn't live, or empty. One that is lent has those that it had.
+    pub fn length_if_any(&self, handle: Handle) -> u32
+        ensures { result ≡ length (bytes_of self.now.heap.table handle) }
     {
-        self.zone.total_length(handles)
+        self.zone.length_if_any(handle)
     }
 
     /// Whether a number is live, empty or lent.

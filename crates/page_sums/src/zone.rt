@@ -55,7 +55,6 @@ impl Drop for SummedZone {
 impl SummedZone {
     ghost use Rattle.std.specs.Prelude.{◌≡◌, ◌/◌, ◌^◌, ◌<◌, ◌≤◌, length, IfOk};
     ghost use Rattle.mac_base.specs.HandleTable.{bytes_of};
-    ghost use Rattle.std.specs.List.{sum_by};
     ghost use Rattle.mac_base.specs.Reports.{largest_purge_space, largest_room, purge_space};
     ghost use Rattle.mac_base.specs.ZoneMap.{address_behind};
     ghost use Rattle.linked_zone.specs.Changes.{bare_zone};
@@ -99,25 +98,13 @@ impl SummedZone {
     }
 
     /// How many bytes a handle has: none where it isn't live, or empty. The zone is asked where that isn't remembered.
-    fn length_of(&self, handle: Handle) -> u32
+    pub fn length_if_any(&self, handle: Handle) -> u32
         ensures { result ≡ length (bytes_of self.now.heap.table handle) }
     {
         match self.lengths.told(handle.number()) {
             Some(length) => length,
             None => self.zone.linked().length_if_any(handle.number()),
         }
-    }
-
-    /// How many bytes these handles have together, at most 65,536 of them. One that isn't live, or empty, has none.
-    pub fn total_length(&self, handles: &[Handle]) -> usize
-        requires { length handles.now ≤ 65536 }
-        ensures { result ≡ sum_by (λ h. length (bytes_of self.now.heap.table h)) handles.now }
-    {
-        let mut total = 0;
-        for handle in handles {
-            total += self.length_of(*handle) as usize;
-        }
-        total
     }
 
     /// The page of an address.

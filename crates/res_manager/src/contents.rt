@@ -42,7 +42,7 @@ impl<'a> Contents for MemoryContents<'a> {
         }
     }
 
-    fn total_length(&self, handles: &[Handle]) -> usize {
-        self.memory.total_length(handles)
+    fn length(&self, handle: Handle) -> u32 {
+        self.memory.length_if_any(handle)
     }
 }

@@ -3,6 +3,6 @@ pub mod Saving
 pub mod Shaping
 pub mod Placing
 pub mod Measuring
-pub mod Gathering
+pub mod Counting
 pub mod Listing
 pub mod ReadAgain

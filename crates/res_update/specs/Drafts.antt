@@ -1,11 +1,10 @@
 -- The draft of an update: the table that it writes, with zeros for the bytes that the new fork keeps of the old one.
-use Rattle.std.specs.Prelude.{◌≡◌, ℕ, ◌+◌, ◌-◌, ◌*◌, ◌==◌, Bool, ◌&&◌, nat_le, List, [], ◌∷◌, length, drop, replicate, if◌then◌else◌}
-use Rattle.std.specs.List.{sum_by}
-use Rattle.mac_base.specs.HandleTable.{HandleTable, bytes_of}
+use Rattle.std.specs.Prelude.{◌≡◌, ℕ, ◌+◌, ◌==◌, Bool, ◌&&◌, nat_le, List, [], ◌∷◌, length, replicate, if◌then◌else◌}
+use Rattle.mac_base.specs.HandleTable.{HandleTable}
 use Rattle.fork_bytes.specs.declared.table.Table.{Table}
 use Rattle.fork_bytes.specs.Fork.{max_fork}
 use Rattle.fork_bytes.specs.Rows as fork
-use Rattle.fork_bytes.specs.Written.{written, data_text}
+use Rattle.fork_bytes.specs.Written.{written}
 use Rattle.fork_disk.specs.declared.update.Kept.{Kept}
 use Rattle.fork_reader.specs.declared.place.Place.{Place}
 use Rattle.res_table.specs.declared.row.Row.{Row}
@@ -48,15 +47,6 @@ draft_table t selection table = record { rows = rows_with (draft_bytes t selecti
 -- whether a fork can hold a table
 abbrev pub fits_as_fork : Table → Bool
 fits_as_fork table = rows_fit table.rows && nat_le (length (written table)) max_fork
-
--- how many bytes some handles have together
-abbrev pub handles_length : HandleTable → List ℕ → ℕ
-handles_length t handles = sum_by (λ h. length (bytes_of t h)) handles
-
--- the data of the rows between two indexes are so many bytes, and four more for each row, which say its length
-abbrev pub DataBetween : HandleTable → Selection → List (Row Place) → ℕ → ℕ → ℕ → Type 0
-DataBetween t selection rows from to n = length (data_text (rows_with (draft_bytes t selection) from (drop from rows)))
-    ≡ 4 * (to - from) + n + length (data_text (rows_with (draft_bytes t selection) to (drop to rows)))
 
 -- a row's type has four bytes
 abbrev pub HasKind : Row Place → Type 0

@@ -1,7 +1,6 @@
 //! The bytes behind handles.
 
-ghost use Rattle.std.specs.Prelude.{◌≡◌, ◌≤◌, length, IsFalse};
-ghost use Rattle.std.specs.List.{sum_by};
+ghost use Rattle.std.specs.Prelude.{◌≡◌, length, IsFalse};
 ghost use Rattle.mac_base.specs.HandleTable.{HandleTable, bytes_of, is_lent};
 
 use mac_base::handle::Handle;
@@ -16,8 +15,7 @@ pub trait Contents {
         requires { IsFalse (is_lent (table self.now) handle) }
         ensures { result.now ≡ bytes_of (table self.now) handle };
 
-    /// How many bytes these handles have together, at most 65,536 of them. One that is lent has those that it had.
-    fn total_length(&self, handles: &[Handle]) -> usize
-        requires { length handles.now ≤ 65536 }
-        ensures { result ≡ sum_by (λ h. length (bytes_of (table self.now) h)) handles.now };
+    /// How many bytes a handle has: none where it isn't live, or empty. One that is lent has those that it had.
+    fn length(&self, handle: Handle) -> u32
+        ensures { result ≡ length (bytes_of (table self.now) handle) };
 }

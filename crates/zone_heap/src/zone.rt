@@ -59,7 +59,6 @@ impl Zone {
     ghost use Rattle.zone_heap.specs.Placed.{placed_lowest, placed_empty, placed_pointer, resized_there};
     ghost use Rattle.mac_base.specs.BlockReport.{report_at};
     ghost use Rattle.linked_zone.specs.Image.{IsImage};
-    ghost use Rattle.std.specs.List.{sum_by};
     ghost use Rattle.block_bytes.specs.Walk.{Walks};
     ghost use Rattle.zone_heap.specs.WritingBack.{WritesBackBytes};
 
@@ -221,12 +220,11 @@ impl Zone {
         self.pointers.linked().length(block)
     }
 
-    /// How many bytes these handles have together, at most 65,536 of them. One that isn't live, or empty, has none.
-    pub fn total_length(&self, handles: &[Handle]) -> usize
-        requires { length handles.now ≤ 65536 }
-        ensures { result ≡ sum_by (λ h. length (bytes_of self.now.heap.table h)) handles.now }
+    /// How many bytes a handle has: none where it isn't live, or empty.
+    pub fn length_if_any(&self, handle: Handle) -> u32
+        ensures { result ≡ length (bytes_of self.now.heap.table handle) }
     {
-        self.pointers.total_length(handles)
+        self.pointers.length_if_any(handle)
     }
 
     /// The bytes of a handle or a pointer that has a block.

@@ -1,4 +1,4 @@
-use Rattle.std.proofs.Common.{◌≡◌, ◌+◌, ◌-◌, ◌≤◌, length, drop}
+use Rattle.std.proofs.Common.{◌≡◌, ◌+◌, ◌≤◌, length, drop}
 use Rattle.std.specs.List.{AllByRecursion}
 use Rattle.fork_bytes.specs.Fork.{max_fork}
 use Rattle.fork_bytes.specs.Written.{data_text}
@@ -7,13 +7,9 @@ use Rattle.res_update.specs.Drafts.{rows_with, draft_bytes, HasKind}
 use Rattle.res_update.proofs.sizes.text_length.Given as goal
 
 -- the bytes so far and those of the other rows are all, and all types have four bytes where those of the others do
-abbrev pub invariant-loop-from : goal.invariant-loop-from
-invariant-loop-from g l =
-    (l.from ≤ length l.rows)
-    × (l.total + length (data_text (rows_with (draft_bytes (g.C.Contents.table l.contents) l.selection) l.from (drop l.from l.rows)))
+abbrev pub invariant-loop-index : goal.invariant-loop-index
+invariant-loop-index g l =
+    (l.total + length (data_text (rows_with (draft_bytes (g.C.Contents.table l.contents) l.selection) l.index (drop l.index l.rows)))
     ≡ names_size l.rows + length (data_text (rows_with (draft_bytes (g.C.Contents.table l.contents) l.selection) 0 l.rows)))
     × (l.total ≤ max_fork)
-    × (AllByRecursion HasKind (drop l.from l.rows) → AllByRecursion HasKind l.rows)
-
-abbrev pub decreases-loop-from : goal.decreases-loop-from
-decreases-loop-from g l = length l.rows - l.from
+    × (AllByRecursion HasKind (drop l.index l.rows) → AllByRecursion HasKind l.rows)
