@@ -18,7 +18,7 @@ use mac_base::size::ZONE_HEADER;
 use page_sums::SummedZone;
 
 /// How many gaps whose blocks can be moved down are looked for one by one, before all gaps are gone through.
-const FEW_GAPS: u32 = 32;
+const FEW_GAPS: u32 = 256;
 
 /// Arranges a gap down, given the address of its first free block: its blocks are moved down, and its free bytes are above
 /// them in one block. The bytes of each block are moved once. Gives the address at which the free bytes begin.
