@@ -120,6 +120,12 @@ def fixed_between():
     return small_gaps(7000) + ["NewHandle 900000"] * LINES
 
 
+def gaps_with_a_handle(count):
+    """So many gaps with a handle and a free block above it, each below a locked handle. MoveHHi of the handle puts its gap out of order."""
+    lines = [line for it in range(count) for line in (f"h{it:X}=NewHandle 40", f"q{it:X}=NewHandle 40", "k=NewHandle 40", "HLock k")]
+    return lines + [f"DisposeHandle q{it:X}" for it in range(count)]
+
+
 def above_gaps(count):
     """A block that can't move comes and goes above gaps that are too small for it."""
     return small_gaps(count) + ["a=NewPtr 100", "DisposePtr a"] * LINES
@@ -239,8 +245,14 @@ RUNS = [
     ("MaxBlock among 10,000 free blocks, and a block that comes and goes", [], locked_by_turns(["x=NewHandle 8", "MaxBlock", "DisposeHandle x", "MaxBlock"])),
     ("PurgeSpace among 10,000 free blocks, and a block that moves", [], below_free_blocks(["HPurge h"], ["ReallocateHandle h 40", "PurgeSpace", "ReallocateHandle h 8", "PurgeSpace"])),
     ("CompactMem among 20,000 blocks", [], handles(20000, 8) + ["CompactMem 1000000"] * LINES),
-    # (all gaps are gone through where there is something to move)
     ("MaxMem among 10,000 small gaps, and a handle that MoveHHi moves", [], small_gaps(10000) + ["h=NewHandle 40"] + ["MoveHHi h", "MaxMem"] * LINES),
+    ("MaxMem among 10,000 small gaps, and 256 handles that MoveHHi moves", [], small_gaps(10000) + gaps_with_a_handle(256) + ([f"MoveHHi h{it:X}" for it in range(256)] + ["MaxMem"]) * LINES),
+    ("MaxMem among 10,000 small gaps, and 257 handles that MoveHHi moves", [], small_gaps(10000) + gaps_with_a_handle(257) + ([f"MoveHHi h{it:X}" for it in range(257)] + ["MaxMem"]) * LINES),
+    ("MaxMem among 27,000 pointers, and a handle that MoveHHi moves", [], ["NewPtr 0"] * 27000 + ["h=NewHandle 40"] + ["MoveHHi h", "MaxMem"] * LINES),
+    ("MaxMem among 27,000 pointers, and 257 handles that MoveHHi moves", [], ["NewPtr 0"] * 27000 + gaps_with_a_handle(257) + ([f"MoveHHi h{it:X}" for it in range(257)] + ["MaxMem"]) * LINES),
+    ("MaxMem among 10,000 small gaps, and a handle that is emptied and filled again", [], small_gaps(10000) + gaps_with_a_handle(1) + ["q0=NewHandle 40"] + ["EmptyHandle h0", "MaxMem", "ReallocateHandle h0 40", "MaxMem"] * LINES),
+    ("MaxMem among 5,000 gaps that get out of order in turn", [], gaps_with_a_handle(5000) + [line for it in range(5000) for line in (f"MoveHHi h{it:X}", "MaxMem")] * 8),
+    ("CompactMem among 5,000 gaps, each of which is out of order", [], gaps_with_a_handle(5000) + ([f"MoveHHi h{it:X}" for it in range(5000)] + ["CompactMem 1000000"]) * 8),
     ("MaxMem among 10,000 small gaps", [], small_gaps(10000) + ["MaxMem"] * LINES),
     ("CompactMem among 16,000 blocks, each third locked", [], named(16000, 8) + [f"HLock h{it:X}" for it in range(0, 16000, 3)] + ["CompactMem 900000"] * LINES),
     ("RecoverHandle among 20,000 blocks", [], named(20000, 8) + ["a=Deref h4E1F"] + ["RecoverHandle a"] * LINES),

@@ -1,10 +1,11 @@
 #!/usr/bin/env python3
 """Looks for slow scripts at random: search.py PROGRAM SECONDS [SEED].
 
-PROGRAM is a macheap. One of the hostile zones and files below is made, and then one to four random calls on it are repeated, some hundred
-times. What the later ones of these lines take is reckoned up to a script of 65,536 lines; where that is more than two seconds, the whole
-script is run, and where it does take so long, it is told with its seconds of processor time and the bytes that it printed. A line may take
-long for what it prints, writes to a file or moves: so each that is told is to be looked at. It ends after so many seconds.
+PROGRAM is a macheap. One of the hostile zones and files below is made, and then one to eight random calls on it are repeated, some hundred
+times, at times with answers of the grow-zone procedure. What the later ones of these lines take is reckoned up to a script of 65,536
+lines; where that is more than two seconds, the whole script is run, and where it does take so long, it is told with its seconds of
+processor time and the bytes that it printed. A line may take long for what it prints, writes to a file or moves: so each that is told is
+to be looked at. It ends after so many seconds.
 """
 import os
 import random
@@ -101,6 +102,23 @@ def call(state, rng):
     return rng.choice([f"AddResource {block} '{kind}' {number}", f"AddResource {block} '{kind}' {number} \"name\"", f"SetResAttrs {block} {rng.choice((0, 8, 32))}", f"SetResLoad {rng.randrange(2)}", f"UseResFile {rng.randrange(1, 9)}", f"OpenResFile {rng.randrange(1, 9)}", f"CloseResFile {rng.randrange(1, 9)}", f"UpdateResFile {rng.randrange(1, 9)}", f"x=GetResource '{kind}' {number}"])
 
 
+ANSWERS = "DisposeHandle EmptyHandle EmptyHandle".split()
+
+
+def answered(state, rng):
+    """A request that fails, before it answers of up to eight calls each."""
+    lines = []
+    for _ in range(rng.choice((1, 1, 2, 4))):
+        lines.append("gz 1 " + ";".join(f"{rng.choice(ANSWERS)} {rng.choice(state.blocks)}" for _ in range(rng.choice((1, 4, 8, 8)))))
+    return lines + ["NewHandle 900000"]
+
+
+def calls_on(state, rng):
+    """What is repeated: random calls, at times with answers among them."""
+    calls = [call(state, rng) for _ in range(rng.choice((1, 1, 2, 2, 3, 4, 8)))]
+    return answered(state, rng) + calls if rng.random() < 0.2 else calls
+
+
 def seconds_of(program, folder, state, lines):
     script = cut("\n".join(lines).split("\n"))
     status, used, _most, size, begin = run(program, folder, state.forks, script)
@@ -131,7 +149,7 @@ def main(program, seconds, seed):
     with tempfile.TemporaryDirectory() as folder:
         while time.monotonic() < end:
             state = rng.choice(STATES)
-            calls = [call(state, rng) for _ in range(rng.choice((1, 1, 2, 2, 3, 4)))]
+            calls = calls_on(state, rng)
             told = tried(program, folder, state, calls)
             count += 1
             if told:
