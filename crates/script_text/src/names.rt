@@ -2,6 +2,7 @@
 
 ghost use Rattle.script_text.specs.Names.{OnePlace, KeepsPlace, TakesPlace};
 
+use crate::hashing::NameHasher;
 use crate::line::Name;
 use indexmap::IndexSet;
 use mac_base::error::HostFull;
@@ -11,7 +12,7 @@ use std::marker::Model;
 /// Names of variables, in order of first assignment; each lies where it was assigned. A contract sees the list.
 #[derive(Drop)]
 pub struct Names<'a> {
-    names: IndexSet<&'a [u8]>,
+    names: IndexSet<&'a [u8], NameHasher>,
     /// The name that was assigned last, and which it is: lines often speak of it.
     last: Option<(&'a [u8], Name)>,
 }
@@ -31,12 +32,12 @@ impl<'a> Names<'a> {
     ghost use Rattle.std.specs.Prelude.{◌≡◌, [], Some, IfOk, IfSome, OnOk};
     ghost use Rattle.script_text.specs.Names.{place_of, place_for, with_name};
 
-    /// No names.
-    pub fn new(alloc: Global) -> Names<'a>
+    /// No names of a script with this text.
+    pub fn new(alloc: Global, text: &[u8]) -> Names<'a>
         ensures { result ≡ [] }
     {
         Names {
-            names: IndexSet::new(alloc),
+            names: IndexSet::with_hasher(alloc, NameHasher::new(text)),
             last: None,
         }
     }

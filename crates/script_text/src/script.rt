@@ -120,7 +120,7 @@ fn add_lines<'a>(
     ensures script { OnOk result (script.IsScript text.now lines.new.items) }
     ensures fault { IfErr result (script.IsFault text.now) }
 {
-    let mut names = Names::new(alloc);
+    let mut names = Names::new(alloc, text);
     let mut tokens = Vec::new(alloc);
     let mut rest = text;
     let mut number = 0;
