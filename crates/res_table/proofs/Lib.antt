@@ -2,12 +2,10 @@ pub mod Adding
 pub mod Forgetting
 pub mod FreeIds
 pub mod Bare
-pub mod AnyPair
 pub mod Changed
 pub mod Files
-pub mod Pairs
+pub mod RowPairs
 pub mod Resources
-pub mod Sorting
-pub mod Expanded
+pub mod RowKinds
 pub mod Types
 pub mod TypeRuns

@@ -11,8 +11,9 @@ use Rattle.std.proofs.lemmas.Iterator.Adapters.{position_from-zero}
 use Rattle.std.proofs.lemmas.Slice.Eq.{bytes_eq-Decides}
 use Rattle.res_table.specs.declared.row.Row.{Row}
 use Rattle.res_table.specs.Rows.{is_resource}
-use Rattle.res_table.specs.Keyed.{key_of_resource, resource_key, first_place, pairs_of, IsTold}
-use Rattle.res_table.proofs.Pairs.{has_key, first_is}
+use Rattle.row_index.specs.Keyed.{key_of_resource, first_place}
+use Rattle.res_table.specs.Indexed.{resource_key, pairs_of, IsTold}
+use Rattle.res_table.proofs.RowPairs.{has_key, first_is}
 
 -- a test that is passed only where another is
 none_where_none : {X : Type 0} (p q : X → Bool) (at : ℕ) (xs : List X) → ((x : X) → q x ≡ true → p x ≡ true) → position_from p at xs ≡ None → position_from q at xs ≡ None

@@ -1,14 +1,14 @@
 -- Runs of which none has the type of the one before it are the types of rows.
-use Rattle.std.proofs.Common.{◌≡◌, sym, ap, ◌∙◌, arith, refl, ℕ, zero, suc, ◌+◌, ◌-◌, ◌<◌, ◌≤◌, List, [], ◌∷◌, ◌++◌, drop, get_or, length, map, replicate, slice_get, Bool, true, false, not, ◌&&◌, Option, None, Some, bytes_eq, if◌then◌else◌}
+use Rattle.std.proofs.Common.{◌≡◌, sym, ap, ◌∙◌, arith, refl, ℕ, zero, suc, ◌+◌, ◌≤◌, List, [], ◌∷◌, ◌++◌, drop, replicate, Bool, true, false, not, ◌&&◌, Option, None, Some, bytes_eq, if◌then◌else◌}
 use Rattle.std.specs.Prelude.{nat_lt}
 use Rattle.std.proofs.lemmas.Bool.{ltb-true}
 use Rattle.fork_bytes.specs.declared.layout.TypeCount.{TypeCount}
 use Rattle.fork_bytes.specs.Written.{counted_before}
 use Rattle.res_table.specs.declared.row.Row.{Row}
-use Rattle.res_table.specs.Kinds.{kinds_of, expanded, is_other, are_types}
-use Rattle.res_table.specs.Rows.{ith}
-use Rattle.res_table.specs.Saved.{kind_of, row_types}
-use Rattle.res_table.proofs.Types.{same_kind}
+use Rattle.res_table.specs.Indexed.{kinds_of}
+use Rattle.row_index.specs.Kinds.{expanded, is_other, are_types}
+use Rattle.res_table.specs.Saved.{row_types}
+use Rattle.row_index.proofs.RunTypes.{same_kind}
 
 -- each run has rows, and of another type than the run before it
 abbrev AreTypes : Option (List ℕ) → List TypeCount → Type 0
@@ -74,13 +74,3 @@ are_same {D} (r ∷ rows) last (run ∷ runs) types is = by run.count types.0 is
 
 pub runs_are : {D : Type 0} (rows : List (Row D)) (runs : List TypeCount) → are_types None runs ≡ true → expanded runs ≡ kinds_of rows → row_types rows ≡ runs
 runs_are rows runs told is = are_same rows None runs (from_told None runs told) is
-
--- the i-th of some types
-pub ith_kind : (types : List TypeCount) (i : ℕ) (d : TypeCount) → 1 ≤ i → i ≤ length types → Some (get_or types (i - 1) d).kind ≡ ith i (map kind_of types)
-ith_kind types zero d from within = absurd (omega (arith, from))
-ith_kind types (suc i) d from within = let index : suc i - 1 ≡ i = omega arith in ap (λ (n : ℕ). Some (get_or types n d).kind) index ∙ by types i (omega (arith, within))
-  where
-    by : (types : List TypeCount) (i : ℕ) → i < length types → Some (get_or types i d).kind ≡ slice_get (map kind_of types) i
-    by [] i within = absurd (omega (arith, within))
-    by (run ∷ types) zero within = refl
-    by (run ∷ types) (suc i) within = by types i (omega (arith, within))

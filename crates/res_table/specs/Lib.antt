@@ -3,5 +3,4 @@ pub mod Rows
 pub mod Saved
 pub mod Behind
 pub mod OpenFiles
-pub mod Keyed
-pub mod Kinds
+pub mod Indexed

@@ -9,6 +9,7 @@ use Rattle.res_base.specs.declared.resource.ResAttrs.{ResAttrs}
 use Rattle.res_base.specs.declared.resource.Resource.{Resource}
 use Rattle.res_table.specs.declared.row.Row.{Row}
 use Rattle.res_table.specs.Attributes.{is_marked, unmarked}
+pub use Rattle.row_index.specs.Kinds.{ith}
 
 -- whether a row has the handle
 abbrev pub has_handle : {D : Type 0} → ℕ → Row D → Bool
@@ -83,11 +84,6 @@ forgotten h rows = map (forgetting h) rows
 abbrev pub indexes_from : {D : Type 0} → ℕ → (Row D → Bool) → List (Row D) → List ℕ
 indexes_from at test [] = []
 indexes_from at test (r ∷ rows) = if test r then at ∷ indexes_from (at + 1) test rows else indexes_from (at + 1) test rows
-
--- the i-th of some things, counted from 1
-abbrev pub ith : {X : Type 0} → ℕ → List X → Option X
-ith zero xs = None
-ith (suc i) xs = slice_get xs i
 
 -- the index of the i-th row of a type, counted from 1
 abbrev pub index_of_ith : {D : Type 0} → List ℕ → ℕ → List (Row D) → Option ℕ

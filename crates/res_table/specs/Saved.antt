@@ -6,6 +6,7 @@ use Rattle.fork_bytes.specs.declared.layout.TypeCount.{TypeCount}
 use Rattle.fork_bytes.specs.Written.{types_of, Fits}
 use Rattle.res_table.specs.declared.row.Row.{Row}
 use Rattle.res_table.specs.Attributes.{unmarked}
+pub use Rattle.row_index.specs.Kinds.{kind_of}
 
 -- the resource of a row as it is saved, where this gives the bytes of its datum: without the handle, and not changed
 abbrev pub saved_row : {D : Type 0} → (D → List ℕ) → Row D → Resource (List ℕ)
@@ -28,10 +29,6 @@ saved text extra map_attributes rows = record { rows = saved_rows text rows; ext
 -- the resources of rows, as if they had no bytes
 abbrev pub bare : {D : Type 0} → List (Row D) → List (Resource (List ℕ))
 bare rows = saved_rows (λ _. []) rows
-
--- the type of a run
-abbrev pub kind_of : TypeCount → List ℕ
-kind_of counted = counted.kind
 
 -- the types of rows in the order of their first rows, each with how many rows of it stand together
 abbrev pub row_types : {D : Type 0} → List (Row D) → List TypeCount

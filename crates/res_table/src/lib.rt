@@ -2,9 +2,6 @@
 #![tactic(auto)]
 
 pub mod chain;
-mod keyed;
-mod keys;
-mod kinds;
 pub mod row;
 pub mod rows;
 mod runs;

@@ -3,16 +3,17 @@ use Rattle.std.specs.Prelude.{insert, vec_len, All}
 use Rattle.std.proofs.lemmas.List.Edits.{length-insert}
 use Rattle.std.proofs.lemmas.List.Sums.{sum_by-insert}
 use Rattle.res_table.specs.declared.row.Row.{Row}
-use Rattle.res_table.specs.declared.keyed.Pair.{Pair}
-use Rattle.res_table.specs.Keyed.{handle_key, resource_key, pairs_of, pushed_back, with_key, IsTold, AreInOrder}
-use Rattle.res_table.proofs.Pairs.{places_below, order_pushed, pushed_is, few_pairs}
+use Rattle.row_index.specs.declared.keyed.Pair.{Pair}
+use Rattle.res_table.specs.Indexed.{handle_key, resource_key, pairs_of, IsTold, kinds_of}
+use Rattle.row_index.specs.Keyed.{pushed_back, with_key, AreInOrder}
+use Rattle.res_table.proofs.RowPairs.{places_below, order_pushed, pushed_is, few_pairs}
 use Rattle.res_table.proofs.Resources.{told_inserted}
 use Rattle.res_table.specs.Behind.{end_of_type}
 use Rattle.res_table.specs.Rows.{name_size, names_size}
 use Rattle.res_table.proofs.Adding.{insert-at-end, end-within}
 use Rattle.fork_bytes.specs.declared.layout.TypeCount.{TypeCount}
-use Rattle.res_table.specs.Kinds.{expanded, kinds_of, with_kind}
-use Rattle.res_table.proofs.Expanded.{added_are, as_many}
+use Rattle.row_index.specs.Kinds.{expanded, with_kind}
+use Rattle.res_table.proofs.RowKinds.{added_are, as_many}
 use Rattle.res_table.proofs.rows.Rows.add.Goals as goal
 
 -- src/rows.rt:73:9
@@ -65,7 +66,7 @@ pub add-requires-clause-room : goal.add-requires-clause-room
 add-requires-clause-room g c =
     let rows = c.self.inside.rows.items in let at = c.end_of_type-at.result in let r = c.args.row in
     let inside = within c.kind-kind.result at rows c.args.self.now c.self.view_is c.end_of_type-at.ensures in
-    let is = with_new handle_key c.handle_key-handle.result at r rows _ c.push_back.new.self.pairs.items c.handle_key-handle.ensures inside c.push_back.ensures.pairs (c.reserve.ensures.same ∙ c.self.invariant.0) in
+    let is = with_new handle_key c.handle_key-handle.result at r rows _ c.push_back.new.self.pairs c.handle_key-handle.ensures inside c.push_back.ensures.pairs (c.reserve.ensures.same ∙ c.self.invariant.0) in
     let len = c.len-count.ensures in let ok = c.self.inside.rows.ok.0 in let room = c.in_ok-reserve.ensures.room in let then = c.push_back.ensures.room in
     room_for_new handle_key at _ r rows _ inside is (omega (arith, len, ok, room, then))
 
@@ -73,7 +74,7 @@ pub add-requires-3-clause-room : goal.add-requires-3-clause-room
 add-requires-3-clause-room g c =
     let rows = c.self.inside.rows.items in let at = c.end_of_type-at.result in let r = c.args.row in
     let inside = within c.kind-kind.result at rows c.args.self.now c.self.view_is c.end_of_type-at.ensures in
-    let is = with_new resource_key (Some c.resource_key-key.result) at r rows _ c.push_back-2.new.self.pairs.items (ap Some c.resource_key-key.ensures.key) inside c.push_back-2.ensures.pairs (c.reserve-3.ensures.same ∙ c.self.invariant.3) in
+    let is = with_new resource_key (Some c.resource_key-key.result) at r rows _ c.push_back-2.new.self.pairs (ap Some c.resource_key-key.ensures.key) inside c.push_back-2.ensures.pairs (c.reserve-3.ensures.same ∙ c.self.invariant.3) in
     let len = c.len-count.ensures in let ok = c.self.inside.rows.ok.0 in let room = c.in_ok-reserve-3.ensures.room in let then = c.push_back-2.ensures.room in
     room_for_new resource_key at _ r rows _ inside is (omega (arith, len, ok, room, then))
 
@@ -81,8 +82,8 @@ pub invariant_of-self-2 : goal.invariant_of-self-2
 invariant_of-self-2 g c =
     let rows = c.self.inside.rows.items in let at = c.end_of_type-at.result in let r = c.args.row in
     let inside = within c.kind-kind.result at rows c.args.self.now c.self.view_is c.end_of_type-at.ensures in
-    let is = with_new handle_key c.handle_key-handle.result at r rows _ c.push_back.new.self.pairs.items c.handle_key-handle.ensures inside c.push_back.ensures.pairs (c.reserve.ensures.same ∙ c.self.invariant.0) in
-    let keyed = with_new resource_key (Some c.resource_key-key.result) at r rows _ c.push_back-2.new.self.pairs.items (ap Some c.resource_key-key.ensures.key) inside c.push_back-2.ensures.pairs (c.reserve-3.ensures.same ∙ c.self.invariant.3) in
+    let is = with_new handle_key c.handle_key-handle.result at r rows _ c.push_back.new.self.pairs c.handle_key-handle.ensures inside c.push_back.ensures.pairs (c.reserve.ensures.same ∙ c.self.invariant.0) in
+    let keyed = with_new resource_key (Some c.resource_key-key.result) at r rows _ c.push_back-2.new.self.pairs (ap Some c.resource_key-key.ensures.key) inside c.push_back-2.ensures.pairs (c.reserve-3.ensures.same ∙ c.self.invariant.3) in
     let new = c.in_ok-insert.ensures.items in
     let count = ap (λ (rs : List (Row _)). length rs) new in let n = length-insert rows at r inside in
     let len = c.len-count.ensures in let ok = c.self.inside.rows.ok.0 in let room = c.in_ok-reserve.ensures.room in

@@ -1,13 +1,14 @@
 use Rattle.std.proofs.Common.{w16, ◌≡◌, ◌==◌, ℕ, ℤ, position, true, false, sym, ap, ◌∙◌, arith}
 use Rattle.std.proofs.lemmas.Int.{to_z-of_z}
 use Rattle.res_table.specs.Rows.{is_resource}
-use Rattle.res_table.specs.Keyed.{key_of_resource, resource_key, first_place, pairs_of}
-use Rattle.res_table.proofs.Pairs.{order_kept}
+use Rattle.row_index.specs.Keyed.{key_of_resource, first_place}
+use Rattle.res_table.specs.Indexed.{resource_key, pairs_of}
+use Rattle.res_table.proofs.RowPairs.{order_kept}
 use Rattle.res_table.proofs.Resources.{none_found, one_found, found_within, key_found}
 use Rattle.res_table.proofs.rows.Rows.find.Goals as goal
 
 pub find-requires : goal.find-requires
-find-requires g c = order_kept resource_key c.self.inside.resources.pairs.items c.self.inside.rows.items c.self.invariant.3
+find-requires g c = order_kept resource_key c.self.inside.resources.pairs c.self.inside.rows.items c.self.invariant.3
 
 pub returns-in_err-index : goal.returns-in_err-index
 returns-in_err-index g c =

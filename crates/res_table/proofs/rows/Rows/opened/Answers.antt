@@ -4,14 +4,14 @@ use Rattle.std.specs.Prelude.{All}
 use Rattle.std.proofs.lemmas.List.Elements.{All-push}
 use Rattle.std.proofs.lemmas.List.Sums.{sum_by_push}
 use Rattle.res_table.specs.declared.row.Row.{Row}
-use Rattle.res_table.specs.declared.keyed.Pair.{Pair}
+use Rattle.row_index.specs.declared.keyed.Pair.{Pair}
 use Rattle.res_table.specs.Rows.{opened_row, name_size, names_size}
-use Rattle.res_table.specs.Keyed.{handle_key, key_of_resource, in_order, pairs_of, IsTold}
+use Rattle.res_table.specs.Indexed.{handle_key, pairs_of, IsTold, kinds_of}
+use Rattle.row_index.specs.Keyed.{key_of_resource, in_order}
 use Rattle.fork_bytes.specs.declared.layout.TypeCount.{TypeCount}
-use Rattle.res_table.specs.Kinds.{expanded, kinds_of}
-use Rattle.res_table.proofs.Pairs.{opened_pairs}
-use Rattle.res_table.proofs.Sorting.{listed, listed_more, listed_are}
-use Rattle.res_table.proofs.Expanded.{as_many, kinds_more}
+use Rattle.row_index.specs.Kinds.{expanded}
+use Rattle.res_table.proofs.RowPairs.{opened_pairs, listed, listed_more, listed_are}
+use Rattle.res_table.proofs.RowKinds.{as_many, kinds_more}
 use Rattle.res_table.proofs.rows.Rows.opened.Goals as goal
 
 -- the pairs as they come, with that of one more row

@@ -1,9 +1,8 @@
 use Rattle.std.proofs.Common.{◌<◌, ℕ, List, subst, length, refl, sym, ap, ◌∙◌}
-use Rattle.std.specs.Prelude.{vec_capacity}
 use Rattle.res_table.specs.declared.row.Row.{Row}
 use Rattle.res_table.specs.Rows.{changed_at, with_attributes}
-use Rattle.res_table.proofs.Pairs.{kept, resources_kept, changed_is}
-use Rattle.res_table.proofs.Expanded.{kinds_kept}
+use Rattle.res_table.proofs.RowPairs.{kept, resources_kept, changed_is}
+use Rattle.res_table.proofs.RowKinds.{kinds_kept}
 use Rattle.res_table.proofs.Resources.{told_kept}
 use Rattle.res_table.proofs.Types.{names_kept}
 use Rattle.res_table.proofs.rows.Rows.set_attributes.Goals as goal
@@ -14,11 +13,11 @@ invariant_of-self g c =
     let new = with_attributes c.args.attributes r in
     let long = ap (λ (rs : List (Row _)). length rs) c.self.view_is in
     let within : c.args.index < length rows = subst (λ (n : ℕ). c.args.index < n) (sym long) c.requires in
-    let all = kept c.args.index r new rows pairs.items (vec_capacity pairs) c.index_mut.ensures.value refl (c.self.invariant.0, c.self.invariant.1) in (
+    let all = kept c.args.index r new rows pairs c.self.inside.handles.room c.index_mut.ensures.value refl (c.self.invariant.0, c.self.invariant.1) in (
       all.0,
       all.1,
       c.self.invariant.2 ∙ sym (kinds_kept c.args.index r new rows c.index_mut.ensures.value refl),
-      resources_kept c.args.index r new rows c.self.inside.resources.pairs.items c.index_mut.ensures.value refl refl c.self.invariant.3,
+      resources_kept c.args.index r new rows c.self.inside.resources.pairs c.index_mut.ensures.value refl refl c.self.invariant.3,
       c.self.invariant.4 ∙ sym (names_kept c.args.index r new rows within c.index_mut.ensures.value refl),
       told_kept c.args.index r new rows within c.index_mut.ensures.value (λ told. told) c.self.invariant.5,
     )

@@ -1,22 +1,23 @@
 use Rattle.std.proofs.Common.{◌≡◌, ◌<◌, ℕ, Option, List, get_or, set, length, refl, subst, sym, ap, ◌∙◌, arith}
-use Rattle.std.specs.Prelude.{vec_capacity}
 use Rattle.std.proofs.lemmas.List.{length-set, get_or-set_same}
 use Rattle.res_table.specs.declared.row.Row.{Row}
-use Rattle.res_table.specs.declared.keyed.Pair.{Pair}
+use Rattle.row_index.specs.declared.keyed.Pair.{Pair}
 use Rattle.res_table.specs.Rows.{changed_at, with_handle}
-use Rattle.res_table.specs.Keyed.{AreInOrder, handle_key, with_key, without_key, pairs_of}
-use Rattle.res_table.proofs.Pairs.{order_kept, order_without, replaced_is, replaced_few, resources_kept, changed_is}
-use Rattle.res_table.proofs.Expanded.{kinds_kept}
+use Rattle.row_index.specs.Keyed.{AreInOrder, with_key, without_key}
+use Rattle.res_table.specs.Indexed.{handle_key, pairs_of}
+use Rattle.res_table.proofs.RowPairs.{order_kept, replaced_is, replaced_few, resources_kept, changed_is}
+use Rattle.row_index.proofs.Pairs.{order_without}
+use Rattle.res_table.proofs.RowKinds.{kinds_kept}
 use Rattle.res_table.proofs.Resources.{told_kept}
 use Rattle.res_table.proofs.Types.{names_kept}
 use Rattle.res_table.proofs.rows.Rows.set_handle.Goals as goal
 
 pub remove-requires : goal.remove-requires
-remove-requires g c = record { order = order_kept handle_key c.self.inside.handles.pairs.items c.self.inside.rows.items c.self.invariant.0 }
+remove-requires g c = record { order = order_kept handle_key c.self.inside.handles.pairs c.self.inside.rows.items c.self.invariant.0 }
 
 pub add-requires-clause-order : goal.add-requires-clause-order
 add-requires-clause-order g c =
-    let pairs = c.self.inside.handles.pairs.items in
+    let pairs = c.self.inside.handles.pairs in
     subst AreInOrder (sym c.remove.ensures.pairs) (order_without c.handle_key-old.result c.args.index pairs (order_kept handle_key pairs c.self.inside.rows.items c.self.invariant.0))
 
 -- the pairs are those of the rows, of which one has another handle
@@ -32,10 +33,10 @@ add-requires-clause-room g c =
     let long = ap (λ (rs : List (Row _)). length rs) c.self.view_is in
     let within : i < length rows = subst (λ (n : ℕ). i < n) (sym long) c.requires in
     let new = with_handle c.args.handle c.index_mut.result.now in
-    let is = pairs_are i c.index.result.now new c.index-2.result.now rows pairs.items c.remove.new.self.pairs.items c.handle_key-old.result c.handle_key-new.result within c.index.ensures c.index-2.ensures
+    let is = pairs_are i c.index.result.now new c.index-2.result.now rows pairs c.remove.new.self.pairs c.handle_key-old.result c.handle_key-new.result within c.index.ensures c.index-2.ensures
     c.self.invariant.0 c.remove.ensures.pairs c.handle_key-old.ensures c.handle_key-new.ensures in
     let room = c.remove.ensures.room in let few = c.self.invariant.1 in
-    replaced_few handle_key i new rows _ (vec_capacity c.remove.new.self.pairs) is (omega arith)
+    replaced_few handle_key i new rows _ c.remove.new.self.room is (omega arith)
 
 pub invariant_of-self : goal.invariant_of-self
 invariant_of-self g c =
@@ -43,13 +44,13 @@ invariant_of-self g c =
     let long = ap (λ (rs : List (Row _)). length rs) c.self.view_is in
     let within : i < length rows = subst (λ (n : ℕ). i < n) (sym long) c.requires in
     let new = with_handle c.args.handle c.index_mut.result.now in
-    let is = pairs_are i c.index.result.now new c.index-2.result.now rows pairs.items c.remove.new.self.pairs.items c.handle_key-old.result c.handle_key-new.result within c.index.ensures c.index-2.ensures
+    let is = pairs_are i c.index.result.now new c.index-2.result.now rows pairs c.remove.new.self.pairs c.handle_key-old.result c.handle_key-new.result within c.index.ensures c.index-2.ensures
     c.self.invariant.0 c.remove.ensures.pairs c.handle_key-old.ensures c.handle_key-new.ensures in
     let room = c.remove.ensures.room in let last = c.add.ensures.room in let few = c.self.invariant.1 in let n = length-set rows i new in (
       c.add.ensures.pairs ∙ is,
       omega arith,
       c.self.invariant.2 ∙ sym (kinds_kept i c.index_mut.result.now new rows c.index_mut.ensures.value refl),
-      resources_kept i c.index_mut.result.now new rows c.self.inside.resources.pairs.items c.index_mut.ensures.value refl refl c.self.invariant.3,
+      resources_kept i c.index_mut.result.now new rows c.self.inside.resources.pairs c.index_mut.ensures.value refl refl c.self.invariant.3,
       c.self.invariant.4 ∙ sym (names_kept i c.index_mut.result.now new rows within c.index_mut.ensures.value refl),
       told_kept i c.index_mut.result.now new rows within c.index_mut.ensures.value (λ told. told) c.self.invariant.5,
     )
