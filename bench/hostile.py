@@ -77,6 +77,8 @@ ALMOST = fork_of([(b"TEXT", it, None, 0) for it in range(5457)], bytes(4))
 APART = fork_of([(b"TEXT", it, None, 4 * it) for it in range(5458)], bytes(4 * 5458))
 # the first 4,000 have no bytes, and the others refer to the same
 UNEVEN = fork_of([(b"TEXT", it, None, 0 if it < 4000 else 4) for it in range(5450)], bytes(4) + struct.pack(">I", 2800) + bytes(2800))
+# all of its 8,192 resources have the same name of 255 bytes, each at its own place but for the first 256
+LONG_NAMES = fork_of([(b"TEXT", it, b"n" * 255 if it == 0 else None, 0) for it in range(-4096, 4096)], bytes(4))
 ONE_BYTE_EACH = fork_of([(b"TEXT", it, None, 5 * it) for it in range(5458)], struct.pack(">IB", 1, 0) * 5458)
 # as many types as there may be, which share one reference
 ALL_TYPES = shared_types(8191)

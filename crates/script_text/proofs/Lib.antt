@@ -22,3 +22,4 @@ pub mod AnswerLaws
 pub mod CallLines
 pub mod OneScript
 pub mod OneFault
+pub mod FewTokens

@@ -1,5 +1,5 @@
 -- How a line of a script is parted into words, marks and texts in quotes.
-use Rattle.std.specs.Prelude.{◌≡◌, ◌≢◌, ℕ, Bool, true, ◌==◌, ◌||◌, not, ◌↔◌, IsTrue, List, [], ◌∷◌, ◌++◌}
+use Rattle.std.specs.Prelude.{◌≡◌, ◌≢◌, ℕ, ◌<◌, Bool, true, ◌==◌, ◌||◌, not, ◌↔◌, IsTrue, List, [], ◌∷◌, ◌++◌, length}
 use Rattle.std.specs.List.{list_all}
 
 -- a part of a line
@@ -71,6 +71,14 @@ AreTokens line (token ∷ tokens) = (gap rest : List ℕ) × IsTrue (list_all is
 -- the line has bytes that are no token
 abbrev pub HasNoTokens : List ℕ → Type 0
 HasNoTokens line = (read : List Token) → ¬ AreTokens line read
+
+-- no line that says something has more tokens: `gz`, a value, and eight calls of a name, an operand and a mark
+abbrev pub most_tokens : ℕ
+most_tokens = 26
+
+-- the line has bytes that are no token, or too many tokens
+abbrev pub HasNoFewTokens : List ℕ → Type 0
+HasNoFewTokens line = (read : List Token) → AreTokens line read → most_tokens < length read
 
 -- the tokens of the line are this one and then those of the rest
 abbrev pub TakesToken : List ℕ → Token → List ℕ → Type 0

@@ -3,8 +3,19 @@ use Rattle.std.proofs.lemmas.Bool.{eqb-false}
 use Rattle.std.proofs.lemmas.List.{length-map}
 use Rattle.script_text.specs.Front.{view}
 use Rattle.script_text.specs.Tokens.{AreTokens}
+use Rattle.script_text.specs.Tokens.{HasNoFewTokens}
+use Rattle.script_text.proofs.FewTokens.{many_none, beyond_none}
 use Rattle.script_text.proofs.StatementLaws.{no_line, reads_statement}
 use Rattle.script_text.proofs.script.add_line.Goals as goal
+use Rattle.script_text.proofs.script.add_line.Goals.{then-number-gt-MAX_LINES-via-then-number-gt-MAX_LINES, then-number-gt-MAX_LINES-via-else-number-gt-MAX_LINES+in_ok-read_tokens+then-not-branch}
+
+pub returns-then-number-gt-MAX_LINES-clause-fault : goal.returns-then-number-gt-MAX_LINES-clause-fault
+returns-then-number-gt-MAX_LINES-clause-fault c = elim c.then-number-gt-MAX_LINES.branch [
+  | then-number-gt-MAX_LINES-via-then-number-gt-MAX_LINES w ↦ (refl, beyond_none c.args.number c.args.names.now c.args.text.now w.if-number-gt-MAX_LINES.true)
+  | then-number-gt-MAX_LINES-via-else-number-gt-MAX_LINES+in_ok-read_tokens+then-not-branch w ↦
+      let many : HasNoFewTokens c.args.text.now = rw w.if-not-branch.true at w.in_ok-read_tokens.ensures in
+      (refl, many_none c.args.number c.args.names.now c.args.text.now many)
+]
 
 pub returns-in_default-clause-fault : goal.returns-in_default-clause-fault
 returns-in_default-clause-fault c =
