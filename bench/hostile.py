@@ -67,6 +67,15 @@ def shared_types(count):
     return struct.pack(">4I", 256, 260, 4, len(the_map)) + bytes(244) + the_map
 
 
+def one_name(count):
+    """A fork of so many resources, all of which have the name that stands first."""
+    the_fork = bytearray(fork_of([(b"TEXT", it, b"n" * 255 if it == 0 else None, 0) for it in range(count)], bytes(4)))
+    for it in range(count):
+        at = 256 + 4 + 28 + 10 + 12 * it + 2
+        the_fork[at : at + 2] = bytes(2)
+    return bytes(the_fork)
+
+
 SHARED = fork_of([(b"TEXT", it, None, 0) for it in range(-4096, 4096)], struct.pack(">I", 496) + bytes(496))
 WIDE = fork_of([(b"TEXT", it, None, 1004 * it) for it in range(4000)], b"".join(struct.pack(">I", 1000) + bytes(1000) for _ in range(4000)))
 TYPES = empty_types(65000)
@@ -77,8 +86,8 @@ ALMOST = fork_of([(b"TEXT", it, None, 0) for it in range(5457)], bytes(4))
 APART = fork_of([(b"TEXT", it, None, 4 * it) for it in range(5458)], bytes(4 * 5458))
 # the first 4,000 have no bytes, and the others refer to the same
 UNEVEN = fork_of([(b"TEXT", it, None, 0 if it < 4000 else 4) for it in range(5450)], bytes(4) + struct.pack(">I", 2800) + bytes(2800))
-# all of its 8,192 resources have the same name of 255 bytes, each at its own place but for the first 256
-LONG_NAMES = fork_of([(b"TEXT", it, b"n" * 255 if it == 0 else None, 0) for it in range(-4096, 4096)], bytes(4))
+# its 5,400 resources have one name of 255 bytes
+LONG_NAMES = one_name(5400)
 ONE_BYTE_EACH = fork_of([(b"TEXT", it, None, 5 * it) for it in range(5458)], struct.pack(">IB", 1, 0) * 5458)
 # as many types as there may be, which share one reference
 ALL_TYPES = shared_types(8191)
@@ -305,6 +314,9 @@ RUNS = [
     ("65,000 answers, eight files, and an update of 4 MB", [WIDE] + [SHARED] * 7, everything_kept()),
     ("65,536 answers", [], ["gz 1"] * LINES),
     ("8,000 answers of eight calls", [], ["gz 1 " + ";".join(["DisposePtr 1"] * 8)] * LINES),
+    ("eight files of 5,400 resources of one name", [LONG_NAMES] * 8, [f"OpenResFile {it}" for it in range(2, 9)] + ["GetResource 'TEXT' 5000"] * LINES),
+    # (no line of a script says anything behind its 26th token)
+    ("1 MB of marks in one line", [], ["=" * (BYTES - 1)]),
     ("65,536 names", [], [f"v{it:X}=NewHandle 4" for it in range(LINES)]),
     ("bytes printed", [], ["h=NewHandle 100000"] + ["Peek h 0 4000"] * LINES),
 ]

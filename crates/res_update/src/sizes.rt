@@ -2,7 +2,7 @@
 
 ghost use Rattle.std.specs.Prelude.{◌≡◌, ◌+◌, ◌<◌, ◌≤◌, length, IfSome, IfNone};
 ghost use Rattle.std.specs.List.{AllByRecursion};
-ghost use Rattle.fork_bytes.specs.Fork.{max_fork};
+ghost use Rattle.fork_bytes.specs.Fork.{max_fork, max_rows};
 ghost use Rattle.fork_bytes.specs.Written.{data_text, names_text};
 ghost use Rattle.res_update.specs.Drafts.{row_bytes, rows_with, draft_bytes, draft_table, fits_as_fork, HasKind};
 
@@ -29,8 +29,9 @@ fn row_length<C: Contents>(row: &Row<Place>, selected: bool, contents: &C) -> u3
 }
 
 /// How many bytes the data and the name list have together, or None where that is more than a fork has. That each type has four
-/// bytes comes with it.
+/// bytes comes with it. (A script may ask this of thousands of rows at each line, so none of them is compared with the limit.)
 fn text_length<C: Contents>(rows: &Rows<Place>, selection: Selection, contents: &C) -> Option<usize>
+    requires { length rows.now ≤ max_rows }
     ensures some { IfSome result (λ n. n ≡ length (data_text (rows_with (draft_bytes (C.table contents.now) selection) 0 rows.now))
         + length (names_text (rows_with (draft_bytes (C.table contents.now) selection) 0 rows.now))) }
     ensures small { IfSome result (λ n. n ≤ max_fork) }
@@ -47,11 +48,8 @@ fn text_length<C: Contents>(rows: &Rows<Place>, selection: Selection, contents: 
         let _four = row.kind().bytes();
         let bytes = row_length(row, selection.takes(index, row), contents);
         total += 4 + bytes as usize;
-        if total > MAX_FORK {
-            return None;
-        }
     }
-    Some(total)
+    if total > MAX_FORK { None } else { Some(total) }
 }
 
 /// Whether a fork holds what the update writes.

@@ -14,6 +14,9 @@ returns-then-not-fits g c =
     sym (no_rows (draft_bytes (g.C.Contents.table c.args.contents.now) c.args.selection) table.rows table.extra table.map_attributes
     (λ (fit : RowsFit table.rows). contradicted (c.fits.ensures.1 fit) c.if-not-fits.true))
 
+pub text_length-requires : goal.text_length-requires
+text_length-requires g c = let few = few_fit c.args.table.now.rows (c.fits.ensures.0 c.if-not-fits.false) in omega (arith, few)
+
 pub overflow_mul-lists : goal.overflow_mul-lists
 overflow_mul-lists g c =
     let few = few_fit c.args.table.now.rows (c.fits.ensures.0 c.if-not-fits.false) in let types = c.count_types.ensures.few in omega (arith, few, types)

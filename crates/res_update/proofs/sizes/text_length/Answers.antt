@@ -15,13 +15,10 @@ returns-then-total-gt-MAX_FORK-clause-none g c =
 
 pub returns-then-total-gt-MAX_FORK-2-clause-none : goal.returns-then-total-gt-MAX_FORK-2-clause-none
 returns-then-total-gt-MAX_FORK-2-clause-none g c =
-    let t = g.C.Contents.table c.args.contents.now in
-    let f = draft_bytes t c.args.selection in
-    let rows = c.args.rows.now in let i = c.loop-index.index in let r = c.row-row.result.now in
+    let f = draft_bytes (g.C.Contents.table c.args.contents.now) c.args.selection in
+    let rows = c.args.rows.now in
     let names = names_counted f 0 rows in
-    let here = data_here f rows i r c.row-row.ensures in
-    let bytes = c.row_length-bytes.ensures ∙ ap (λ (b : Bool). length (row_bytes t b r)) c.takes.ensures in
-    let all = c.loop-index.invariant.0 in omega arith
+    let rest = at_drop_all (λ (left : List (Row Place)). length (data_text (rows_with f c.loop-index.index left))) rows c.loop-index.index (omega arith) in omega arith
 
 pub loop-index-preserved : goal.loop-index-preserved
 loop-index-preserved g c =
@@ -34,8 +31,8 @@ loop-index-preserved g c =
     let kind : HasKind r = sym (ap (λ (xs : List ℕ). length xs) (c.bytes-four.ensures.same ∙ c.kind.ensures)) ∙ c.bytes-four.ensures.four in
     (omega arith, omega arith, λ others. c.loop-index.invariant.2 (each_here HasKind rows i r c.row-row.ensures kind others))
 
-pub returns-clause-some : goal.returns-clause-some
-returns-clause-some g c =
+pub returns-else-total-gt-MAX_FORK-2-clause-some : goal.returns-else-total-gt-MAX_FORK-2-clause-some
+returns-else-total-gt-MAX_FORK-2-clause-some g c =
     let f = draft_bytes (g.C.Contents.table c.args.contents.now) c.args.selection in
     let rows = c.args.rows.now in
     let names = names_counted f 0 rows in

@@ -1,4 +1,4 @@
-use Rattle.std.proofs.Common.{◌≡◌, ◌+◌, ◌≤◌, length, drop}
+use Rattle.std.proofs.Common.{◌≡◌, ◌+◌, ◌*◌, ◌≤◌, length, drop}
 use Rattle.std.specs.List.{AllByRecursion}
 use Rattle.fork_bytes.specs.Fork.{max_fork}
 use Rattle.fork_bytes.specs.Written.{data_text}
@@ -11,5 +11,5 @@ abbrev pub invariant-loop-index : goal.invariant-loop-index
 invariant-loop-index g l =
     (l.total + length (data_text (rows_with (draft_bytes (g.C.Contents.table l.contents) l.selection) l.index (drop l.index l.rows)))
     ≡ names_size l.rows + length (data_text (rows_with (draft_bytes (g.C.Contents.table l.contents) l.selection) 0 l.rows)))
-    × (l.total ≤ max_fork)
+    × (l.total ≤ max_fork + 4294967300 * l.index)
     × (AllByRecursion HasKind (drop l.index l.rows) → AllByRecursion HasKind l.rows)
