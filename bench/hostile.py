@@ -137,6 +137,13 @@ def gaps_with_a_handle(count):
     return lines + [f"DisposeHandle q{it:X}" for it in range(count)]
 
 
+def all_kept(lines):
+    """All that is kept beside a zone is written once: a handle at its high end has a length, and large free blocks stand in all of it."""
+    low = ["p=NewPtr 1000000", "MoreMasters", "a=NewHandle 8", "DisposePtr p"]
+    low += [line for it in range(245) for line in ("NewPtr 2000", f"q{it:X}=NewPtr 2000")]
+    return low + [f"DisposePtr q{it:X}" for it in range(245)] + lines * LINES
+
+
 def above_gaps(count):
     """A block that can't move comes and goes above gaps that are too small for it."""
     return small_gaps(count) + ["a=NewPtr 100", "DisposePtr a"] * LINES
@@ -317,6 +324,9 @@ RUNS = [
     ("eight files of 5,400 resources of one name", [LONG_NAMES] * 8, [f"OpenResFile {it}" for it in range(2, 9)] + ["GetResource 'TEXT' 5000"] * LINES),
     # (no line of a script says anything behind its 26th token)
     ("1 MB of marks in one line", [], ["=" * (BYTES - 1)]),
+    ("answers of one call, and all written that is kept beside a zone", [], all_kept(["gz 1 DisposePtr a"])),
+    ("calls of five operands, and all written that is kept beside a zone", [], all_kept(["BlockMove a 0 a 0 0"])),
+    ("names, and all written that is kept beside a zone", [], all_kept([]) + [f"n{it:X}=NewPtr 0" for it in range(LINES)]),
     ("65,536 names", [], [f"v{it:X}=NewHandle 4" for it in range(LINES)]),
     ("bytes printed", [], ["h=NewHandle 100000"] + ["Peek h 0 4000"] * LINES),
 ]
