@@ -3,7 +3,7 @@
 use std::hash::{BuildHasher, DefaultHasher, Hasher};
 
 /// Hashes the names of one script: by SipHash, behind a hash of the script's whole text. So which names collide follows from all that
-/// stands in the script, the names themselves among it, and nobody can choose names that do.
+/// stands in the script, the names themselves among it. Nothing is promised of how many do.
 #[derive(Clone, Copy)]
 pub struct NameHasher {
     start: DefaultHasher,
