@@ -137,11 +137,23 @@ def gaps_with_a_handle(count):
     return lines + [f"DisposeHandle q{it:X}" for it in range(count)]
 
 
-def all_kept(lines):
-    """All that is kept beside a zone is written once: a handle at its high end has a length, and large free blocks stand in all of it."""
+def written():
+    """All that is kept beside a zone is written once: a handle at its high end has a length, and large free blocks stood in all of it."""
     low = ["p=NewPtr 1000000", "MoreMasters", "a=NewHandle 8", "DisposePtr p"]
-    low += [line for it in range(245) for line in ("NewPtr 2000", f"q{it:X}=NewPtr 2000")]
-    return low + [f"DisposePtr q{it:X}" for it in range(245)] + lines * LINES
+    low += [line for it in range(245) for line in (f"q{it:X}=NewPtr 2000", f"r{it:X}=NewPtr 2000")]
+    return low + [f"DisposePtr {it}{at:X}" for it in "rq" for at in range(245)]
+
+
+def all_kept(lines, last=()):
+    """As many lines as a script may have, where all is written that is kept beside a zone, and others behind them."""
+    front, room = written(), BYTES - 1
+    room -= sum(len(line) + 1 for line in (*front, *last))
+    count = min(LINES - len(front) - len(last), len(lines) * room // (sum(map(len, lines)) + len(lines)))
+    return front + (lines * count)[:count] + list(last)
+
+
+# a block of 1 MB, all of which is shown at once
+SHOWN = ["b=NewHandle 1000000", "Peek b 0 1000000"]
 
 
 def above_gaps(count):
@@ -325,8 +337,15 @@ RUNS = [
     # (no line of a script says anything behind its 26th token)
     ("1 MB of marks in one line", [], ["=" * (BYTES - 1)]),
     ("answers of one call, and all written that is kept beside a zone", [], all_kept(["gz 1 DisposePtr a"])),
+    ("answers of one call, all written, and 1 MB shown", [], all_kept(["gz 1 DisposePtr a"], SHOWN)),
+    ("answers of no call, all written, and 1 MB shown", [], all_kept(["gz 1"], SHOWN)),
     ("calls of five operands, and all written that is kept beside a zone", [], all_kept(["BlockMove a 0 a 0 0"])),
-    ("names, and all written that is kept beside a zone", [], all_kept([]) + [f"n{it:X}=NewPtr 0" for it in range(LINES)]),
+    ("calls of five operands, all written, and 1 MB shown", [], all_kept(["BlockMove 0 0 0 0 0"], SHOWN)),
+    ("calls with bytes, and all written that is kept beside a zone", [], all_kept(['Poke 0 0 $"00"'])),
+    ("calls with bytes, all written, and 1 MB shown", [], all_kept(['Poke 0 0 "123"'], SHOWN)),
+    ("calls with more bytes, all written, and 1 MB shown", [], all_kept(['Poke 0 0 $"' + "0" * 80 + '"'], SHOWN)),
+    ("names, and all written that is kept beside a zone", [], written() + [f"n{it:X}=NewPtr 0" for it in range(LINES)]),
+    ("names, all written, and 1 MB shown", [], written() + [f"n{it:X}=MaxMem" for it in range(LINES - len(written()) - 2)] + SHOWN),
     ("65,536 names", [], [f"v{it:X}=NewHandle 4" for it in range(LINES)]),
     ("bytes printed", [], ["h=NewHandle 100000"] + ["Peek h 0 4000"] * LINES),
 ]

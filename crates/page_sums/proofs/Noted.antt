@@ -1,6 +1,7 @@
 -- What is remembered once something is noted.
 use Rattle.std.proofs.Common.{◌≡◌, ℕ, zero, suc, ◌+◌, ◌*◌, List, [], ◌∷◌, ◌++◌, set, slice_get, Option, Some, None, inl, inr, eqb, true, false, refl, ap, sym, ◌∙◌, subst, arith}
-use Rattle.std.specs.Prelude.{◌⊎◌}
+use Rattle.std.specs.Prelude.{◌⊎◌, SomeIff}
+use Rattle.std.specs.Option.{ForSome}
 use Rattle.std.proofs.lemmas.Bool.{false≢true}
 use Rattle.zone_laws.proofs.Tables.{eqb_same, eqb-true-is}
 use Rattle.page_sums.specs.declared.lengths.Lengths.{Lengths}
@@ -21,7 +22,7 @@ get-added (x ∷ xs) zero n there = there
 get-added (x ∷ xs) (suc p) n there = get-added xs p n there
 
 -- what is read once a place is written
-pub get-written : (xs : List (Option ℕ)) (i v p n : ℕ) → slice_get (set xs i (Some v)) p ≡ Some (Some n) → ((p ≡ i) × (n ≡ v)) ⊎ ((p ≡ i → ⊥) × (slice_get xs p ≡ Some (Some n)))
+pub get-written : (xs : List (Option ℕ)) (i : ℕ) (v : Option ℕ) (p n : ℕ) → slice_get (set xs i v) p ≡ Some (Some n) → ((p ≡ i) × (v ≡ Some n)) ⊎ ((p ≡ i → ⊥) × (slice_get xs p ≡ Some (Some n)))
 get-written [] i v p n there = absurd (cc there)
 get-written (x ∷ xs) zero v zero n there = inl (refl, cc there)
 get-written (x ∷ xs) zero v (suc p) n there = inr (omega arith, there)
@@ -38,11 +39,15 @@ noted-out l x v none y n t = elim (one-or-two x y) [
   | inr other ↦ inr (other, t)
 ]
 
--- its place is written
-pub noted-in : (old new : Lengths) (x v place : ℕ) → x ≡ old.base + 4 * place → new.base ≡ old.base → new.places.items ≡ set old.places.items place (Some v) → IsNoted x v old new
-noted-in old new x v place here base written y n t =
-    let there = t.here in
-    elim (get-written old.places.items place v t.place n (ap (λ xs. slice_get xs t.place) (sym written) ∙ t.told)) [
-      | inl at ↦ let same = at.0 in inl (omega arith, at.1)
+-- its place is written, with so many bytes or with nothing
+pub noted-in : (old new : Lengths) (x v place : ℕ) (here : Option ℕ) → x ≡ old.base + 4 * place → new.base ≡ old.base → new.places.items ≡ set old.places.items place here → ForSome here (λ n. n ≡ v) → IsNoted x v old new
+noted-in old new x v place here there base written value y n t =
+    let at = t.here in
+    elim (get-written old.places.items place here t.place n (ap (λ xs. slice_get xs t.place) (sym written) ∙ t.told)) [
+      | inl same ↦ let same-place = same.0 in inl (omega arith, value n same.1)
       | inr other ↦ inr ((λ same. other.0 (omega arith)), record { place = t.place; here = (omega arith); told = other.1 })
     ]
+
+-- what is written where a length may be too large is the length, or nothing
+pub some_only : (P : Type 0) (o : Option ℕ) (v : ℕ) → SomeIff o P v → ForSome o (λ n. n ≡ v)
+some_only P o v iff n some = (subst (λ o. SomeIff o P v) some iff).1

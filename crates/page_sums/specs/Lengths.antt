@@ -1,8 +1,22 @@
 -- What is remembered of how many bytes handles have.
-use Rattle.std.specs.Prelude.{◌≡◌, ℕ, ◌+◌, ◌*◌, ◌⊎◌, length, Some}
+use Rattle.std.specs.Prelude.{◌≡◌, ℕ, zero, suc, ◌+◌, ◌*◌, ◌⊎◌, length, Option, Some, None, refl}
 use Rattle.std.specs.List.{slice_get}
 use Rattle.mac_base.specs.HandleTable.{HandleTable, bytes_of}
 use Rattle.page_sums.specs.declared.lengths.Lengths.{Lengths}
+
+-- what two bytes say: nothing, or one less than their number
+abbrev pub remembered : ℕ → Option ℕ
+remembered zero = None
+remembered (suc n) = Some n
+
+-- the number of the two bytes that say it
+abbrev pub one_more : Option ℕ → ℕ
+one_more None = 0
+one_more (Some n) = suc n
+
+pub one_more-remembered : (n : ℕ) → one_more (remembered n) ≡ n
+one_more-remembered zero = refl
+one_more-remembered (suc n) = refl
 
 -- x is said to have n bytes, at its place
 pub record Tells (l : Lengths) (x n : ℕ) : Type 0 where

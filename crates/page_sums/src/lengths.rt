@@ -1,9 +1,55 @@
 //! How many bytes handles have, as far as that is remembered.
 
-ghost use Rattle.std.specs.Prelude.{◌≡◌, ◌+◌, ◌*◌, ◌<◌, ◌≤◌, ℕ, IfSome, IfNone, IfOk, length, slice_get, Some, None, vec_capacity};
+ghost use Rattle.std.specs.Prelude.{◌≡◌, ◌+◌, ◌*◌, ◌<◌, ◌≤◌, ℕ, IfSome, IfNone, IfOk, SomeIff, length, slice_get, Some, None, vec_capacity};
 ghost use Rattle.page_sums.specs.Lengths.{IsNoted, Tells, TellsNothing, TellsSame};
 
 use std::alloc::{AllocError, Global};
+use std::marker::Model;
+
+/// How many bytes a handle has, if that is remembered, in two bytes. A contract sees the number, or none.
+#[derive(Clone, Copy)]
+struct Remembered(
+    /// One more than the number, or 0 for none.
+    u16,
+);
+
+impl Model for Remembered {
+    ghost use Rattle.std.specs.Prelude.{ℕ, Option};
+
+    ghost Value = { Option ℕ };
+
+    ghost use Rattle.page_sums.specs.Lengths.{remembered, one_more, one_more-remembered};
+
+    ghost view = { λ r. remembered r.0 };
+
+    ghost inverse = { λ o. record { 0 = one_more o } };
+
+    ghost inverse_ok = { λ r h i. record { 0 = one_more-remembered r.0 i } };
+}
+
+impl Remembered {
+    /// None.
+    const NOTHING: Remembered = Remembered(0);
+
+    /// So many bytes, or none where they are too many for two bytes.
+    fn new(length: u32) -> Remembered
+        ensures { SomeIff result (length < u16.MAX) length }
+    {
+        if length < u32::from(u16::MAX) {
+            Remembered(length as u16 + 1)
+        } else {
+            Remembered::NOTHING
+        }
+    }
+
+    /// The number, if there is one.
+    fn length(self) -> Option<u32>
+        ensures { result ≡ self }
+    {
+        let length = self.0.checked_sub(1)?;
+        Some(u32::from(length))
+    }
+}
 
 /// How many bytes handles have, as far as that is remembered. After `create` no call takes memory of the host.
 #[derive(Drop)]
@@ -11,7 +57,7 @@ pub(crate) struct Lengths {
     /// Where the zone begins.
     base: u32,
     /// There is a place for each four bytes of the zone, up to the last handle of which anything was remembered.
-    places: Vec<Option<u32>>,
+    places: Vec<Remembered>,
 }
 
 impl Lengths {
@@ -57,7 +103,7 @@ impl Lengths {
             return;
         };
         if place < self.places.len() {
-            self.places[place] = Some(length);
+            self.places[place] = Remembered::new(length);
         }
     }
 
@@ -66,17 +112,17 @@ impl Lengths {
         ensures { IfSome result (λ length. Tells self.now block length) }
     {
         let place = self.place(block)?;
-        *self.places.get(place)?
+        self.places.get(place)?.length()
     }
 }
 
 /// Puts places of which nothing is remembered behind the others, up to so many in all. There is room for them.
-fn extend(places: &mut Vec<Option<u32>>, end: usize)
+fn extend(places: &mut Vec<Remembered>, end: usize)
     requires { end ≤ vec_capacity places.old }
     ensures { (p n : ℕ) → slice_get places.new.items p ≡ Some (Some n) → slice_get places.old.items p ≡ Some (Some n) }
 {
     while places.len() < end {
-        let Ok(()) = places.push(None) else {
+        let Ok(()) = places.push(Remembered::NOTHING) else {
             return;
         };
     }

@@ -3,8 +3,8 @@ use Rattle.std.proofs.Common.{◌≡◌, ℕ, ◌+◌, ◌<◌, ◌≤◌, List,
 use Rattle.std.specs.Prelude.{IfSome, slice_get}
 use Rattle.std.specs.List.{concat}
 use Rattle.std.proofs.lemmas.List.{append-nil, take_more, take_all}
-use Rattle.std.proofs.lemmas.Option.{slice_get-get_or}
-use Rattle.script_text.specs.declared.line.Line.{Line}
+use Rattle.std.proofs.lemmas.Option.{get_or_from_slice_get, slice_get_within}
+use Rattle.script_lines.specs.declared.line.Line.{Line}
 use Rattle.script_text.specs.Script.{IsScript, IsFaultAt, max_script}
 use Rattle.reply_text.specs.Text.{fault_text, no_memory_text}
 use Rattle.script_run.specs.declared.end.RunEnd.{RunEnd}
@@ -57,9 +57,11 @@ module _ {S : Type 0} (store : Ghosts S) where
   IsRun-push start lines (t ∷ texts) mid line text new run one = (run.0, run.1, AreRun-push run.0 lines texts mid line text new run.2 one)
 
   -- one more line of the list
-  pub IsRun-step : (start : Machine S) (lines : List Line) (count : ℕ) (texts : List (List ℕ)) (mid : Machine S) (line : Line) (text : List ℕ) (new : Machine S) → count < length lines → line ≡ get_or lines count line → IsRun store start (take count lines) texts mid → LineDoes store mid line text new
+  pub IsRun-step : (start : Machine S) (lines : List Line) (count : ℕ) (texts : List (List ℕ)) (mid : Machine S) (line : Line) (text : List ℕ) (new : Machine S) → slice_get lines count ≡ Some line → IsRun store start (take count lines) texts mid → LineDoes store mid line text new
       → IsRun store start (take (count + 1) lines) (texts ++ text ∷ []) new
-  IsRun-step start lines count texts mid line text new lt is run one =
+  IsRun-step start lines count texts mid line text new at run one =
+      let lt = slice_get_within lines count line at in
+      let is = sym (get_or_from_slice_get lines count line line at) in
       subst (λ (ls : List Line). IsRun store start ls (texts ++ text ∷ []) new)
       (ap (λ (l : Line). take count lines ++ l ∷ []) is ∙ sym (take_more lines count line lt))
       (IsRun-push start (take count lines) texts mid line text new run one)
@@ -114,6 +116,3 @@ concat-push (t ∷ texts) text = ap (λ (rest : List ℕ). t ++ rest) (concat-pu
 -- one more text, of which a front was written
 pub front_behind : (texts : List (List ℕ)) (text written : List ℕ) → IsFront written text → IsFront (concat texts ++ written) (concat (texts ++ text ∷ []))
 front_behind texts text written front = (front.0, concat-push texts text ∙ ap (λ (t : List ℕ). concat texts ++ t) front.1 ∙ sym (append_assoc (concat texts) written front.0))
-
-pub line_at : (lines : List Line) (count : ℕ) (line : Line) → count < length lines → line ≡ get_or lines count line → slice_get lines count ≡ Some line
-line_at lines count line lt is = slice_get-get_or lines count line lt ∙ ap Some (sym is)

@@ -13,11 +13,11 @@ use Rattle.res_manager.specs.Crash.{CrashLeaves}
 use Rattle.res_table.specs.OpenFiles.{no_files}
 use Rattle.toolbox.specs.Queue.{no_answers}
 use Rattle.toolbox.specs.Steps.{Gives, LeavesAnswers, Steps}
-use Rattle.script_text.specs.declared.line.CallLine.{CallLine}
-use Rattle.script_text.specs.declared.line.Line.{Line}
-use Rattle.script_text.specs.declared.line.Statement.{Statement}
-use Rattle.script_text.specs.declared.line.Statement.TheVariants.{Call, Answer}
-use Rattle.script_text.specs.declared.line.WrittenAnswer.{WrittenAnswer}
+use Rattle.script_lines.specs.declared.line.CallLine.{CallLine}
+use Rattle.script_lines.specs.declared.line.Line.{Line}
+use Rattle.script_lines.specs.declared.line.Statement.{Statement}
+use Rattle.script_lines.specs.declared.line.Statement.TheVariants.{Call, Answer}
+use Rattle.script_lines.specs.declared.line.WrittenAnswer.{WrittenAnswer}
 use Rattle.reply_text.specs.Text.{reply_text}
 use Rattle.script_vars.specs.Answers.{answer_with}
 use Rattle.script_vars.specs.Taken.{first_number}

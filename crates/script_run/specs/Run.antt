@@ -1,7 +1,7 @@
 -- What a run of a script writes, and how it ends.
 use Rattle.std.specs.Prelude.{◌≡◌, ℕ, ◌⊎◌, List, [], ◌∷◌, ◌++◌, take, slice_get, Some}
 use Rattle.std.specs.List.{concat}
-use Rattle.script_text.specs.declared.line.Line.{Line}
+use Rattle.script_lines.specs.declared.line.Line.{Line}
 use Rattle.script_text.specs.Script.{IsScript, IsFaultAt}
 use Rattle.reply_text.specs.Text.{fault_text}
 pub use Rattle.reply_text.specs.Text.{no_memory_text}

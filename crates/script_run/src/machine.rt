@@ -4,7 +4,7 @@ ghost use Rattle.std.specs.Prelude.{◌≡◌, ◌≤◌, ◌⊎◌, [], length,
 ghost use Rattle.mac_base.specs.Heap.{new_heap};
 ghost use Rattle.mac_base.specs.ZoneSizes.{ZoneSizes, shape_of};
 ghost use Rattle.script_run.specs.Line.{start_of, assigned, CallDoes, IsMade, LineDoes, OpensFirst, SameForks, StopsAt};
-ghost use Rattle.script_text.specs.declared.line.Statement.TheVariants as statement;
+ghost use Rattle.script_lines.specs.declared.line.Statement.TheVariants as statement;
 
 use fork_disk::store::ForkStore;
 use mac_base::error::HostFull;
@@ -13,7 +13,7 @@ use mac_calls::{CallName, Outcome, Reply};
 use mem_calls::MemoryManager;
 use reply_text::render;
 use res_files::ResourceFiles;
-use script_text::{CallLine, Line, Name, Statement};
+use script_lines::{CallLine, Line, Name, Statement};
 use script_vars::{Vars, answer_of, first_number, resolve};
 use std::alloc::Global;
 use toolbox::{AnswerQueue, Toolbox};

@@ -11,12 +11,12 @@ use crate::end::RunEnd;
 use crate::machine::Machine;
 use crate::reading::{ReadEnd, read_script};
 use crate::writing::write_whole;
-use bumpalo::Bump;
 use fork_disk::store::ForkStore;
 use mac_base::zone_spec::ZoneSpec;
 use mem_calls::MemoryManager;
 use reply_text::{NO_MEMORY, fault_line};
-use script_text::{Fault, Line, parse_script};
+use script_lines::Script;
+use script_text::{Fault, parse_script};
 use std::alloc::Global;
 use std::io::{Read, Write};
 
@@ -46,17 +46,17 @@ pub fn run<S: ForkStore, R: Read, W: Write>(
         Err(ReadEnd::Memory) => return (tell_no_memory(writer), stores),
         Err(ReadEnd::Fault) => return (RunEnd::ReadFault, stores),
     };
-    let arena = Bump::new(alloc);
-    let lines = match parse_script(alloc, &arena, &text) {
-        Ok(lines) => lines,
+    let script = match parse_script(alloc, &text) {
+        Ok(script) => script,
         Err(Fault::Line(line)) => return (tell_fault(alloc, writer, line), stores),
         Err(Fault::HostFull) => return (tell_no_memory(writer), stores),
     };
+    drop(text);
     let Ok(memory) = MemoryManager::create(alloc, spec) else {
         return (tell_no_memory(writer), stores);
     };
     let mut machine = Machine::new(alloc, memory, stores);
-    let end = run_lines(alloc, &mut machine, &lines, writer);
+    let end = run_lines(alloc, &mut machine, &script, writer);
     (end, machine.into_stores())
 }
 
@@ -64,11 +64,11 @@ pub fn run<S: ForkStore, R: Read, W: Write>(
 fn run_lines<S: ForkStore, W: Write>(
     alloc: Global,
     machine: &mut Machine<S>,
-    lines: &[Line<'_>],
+    script: &Script,
     writer: &mut Counted<W>,
 ) -> RunEnd
     ensures ends { (written : List ℕ) × Appends (W.contents writer.old.inner) (W.contents writer.new.inner) written
-        × LinesEnd S.ForkStore machine.old lines.now result written machine.new }
+        × LinesEnd S.ForkStore machine.old script.now result written machine.new }
     ensures no_read_fault { result ≢ RunEnd.ReadFault }
     ensures write_fault { result ≡ RunEnd.WriteFault → Rose writer.old.failures writer.new.failures }
     ensures no_write_failed { result ≢ RunEnd.WriteFault → writer.new.failures ≡ writer.old.failures }
@@ -80,8 +80,8 @@ fn run_lines<S: ForkStore, W: Write>(
     if !write_whole(writer, &reply) {
         return RunEnd::WriteFault;
     }
-    for line in lines {
-        let Ok(()) = machine.run_line(line, &mut reply) else {
+    for place in 0..script.len() {
+        let Ok(()) = machine.run_line(&script.line(place), &mut reply) else {
             return tell_no_memory(writer);
         };
         if !write_whole(writer, &reply) {

@@ -1,4 +1,3 @@
-pub mod KeptLaws
 pub mod Lists
 pub mod Fronts
 pub mod ByteTests

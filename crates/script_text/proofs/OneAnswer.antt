@@ -3,12 +3,15 @@ use Rattle.std.proofs.Common.{◌≡◌, ◌≢◌, ℕ, List, [], ◌∷◌, �
 use Rattle.mac_calls.specs.Calls.{signature}
 use Rattle.mac_calls.specs.declared.table.CallName.{CallName}
 use Rattle.mac_calls.specs.declared.table.CallName.TheVariants.{NewHandle}
-use Rattle.script_text.specs.declared.line.CallLine.{CallLine}
-use Rattle.script_text.specs.declared.line.Operand.{Operand}
-use Rattle.script_text.specs.declared.line.ReleasingName.{ReleasingName}
-use Rattle.script_text.specs.declared.line.ReleasingName.TheVariants.{DisposeHandle, DisposePtr, EmptyHandle}
-use Rattle.script_text.specs.declared.line.WrittenAnswer.{WrittenAnswer}
-use Rattle.script_text.specs.declared.line.WrittenCall.{WrittenCall}
+use Rattle.script_lines.specs.declared.line.CallLine.{CallLine}
+use Rattle.script_lines.specs.declared.line.NumberOperand.{NumberOperand}
+use Rattle.script_lines.specs.declared.line.NumberOperand.TheVariants.{Number, Variable}
+use Rattle.script_lines.specs.declared.line.Operand.{Operand}
+use Rattle.script_lines.specs.Numbers.{as_operand}
+use Rattle.script_lines.specs.declared.line.ReleasingName.{ReleasingName}
+use Rattle.script_lines.specs.declared.line.ReleasingName.TheVariants.{DisposeHandle, DisposePtr, EmptyHandle}
+use Rattle.script_lines.specs.declared.line.WrittenAnswer.{WrittenAnswer}
+use Rattle.script_lines.specs.declared.line.WrittenCall.{WrittenCall}
 use Rattle.script_text.specs.Tokens.{Token, Equals, Word}
 use Rattle.script_text.specs.Answers.{releasing_text, IsWrittenCall, AreCalls, IsAnswer}
 use Rattle.script_text.specs.Operands.{IsNumberOperand}
@@ -27,8 +30,15 @@ one_releasing EmptyHandle DisposeHandle e = let long : 11 ≡ 13 = ap length e i
 one_releasing EmptyHandle DisposePtr e = let long : 11 ≡ 10 = ap length e in absurd (omega (arith, long))
 one_releasing EmptyHandle EmptyHandle e = refl
 
+-- no two numbers or variables are one operand
+one_number : (a b : NumberOperand) → as_operand a ≡ as_operand b → a ≡ b
+one_number (Number m) (Number n) e = let same : m ≡ n = cc in cc
+one_number (Number m) (Variable n) e = absurd cc
+one_number (Variable m) (Number n) e = absurd cc
+one_number (Variable m) (Variable n) e = let same : m ≡ n = cc in cc
+
 -- a call of these parts
-abbrev made : ReleasingName → Operand → WrittenCall
+abbrev made : ReleasingName → NumberOperand → WrittenCall
 made call operand = record { call = call; operand = operand }
 
 -- two tokens are one call at most
@@ -36,7 +46,7 @@ pub one_written : (names : List (List ℕ)) (name operand : Token) (a b : Writte
 one_written names name operand a b p q =
     let words : Word (releasing_text a.call) ≡ Word (releasing_text b.call) = sym p.0 ∙ q.0 in
     let texts : releasing_text a.call ≡ releasing_text b.call = cc in
-    ap (λ (c : ReleasingName). made c a.operand) (one_releasing a.call b.call texts) ∙ ap (λ (o : Operand). made b.call o) (one_number_operand names operand a.operand b.operand p.1 q.1)
+    ap (λ (c : ReleasingName). made c a.operand) (one_releasing a.call b.call texts) ∙ ap (λ (o : NumberOperand). made b.call o) (one_number a.operand b.operand (one_number_operand names operand (as_operand a.operand) (as_operand b.operand) p.1 q.1))
 
 -- tokens are one list of calls at most
 pub one_calls : (names : List (List ℕ)) (tokens : List Token) (a b : List WrittenCall) → AreCalls names tokens a → AreCalls names tokens b → a ≡ b
@@ -58,7 +68,7 @@ one_calls names (name ∷ operand ∷ mark ∷ token ∷ tokens) (x ∷ a) (y �
     cc
 
 -- an answer of these parts
-abbrev answer_of : Operand → List WrittenCall → WrittenAnswer
+abbrev answer_of : NumberOperand → List WrittenCall → WrittenAnswer
 answer_of value calls = record { value = value; calls = calls }
 
 -- tokens queue one answer at most
@@ -67,7 +77,7 @@ one_answer names tokens a b p q =
     let same : Word (codes "gz") ∷ p.0 ∷ p.1 ≡ Word (codes "gz") ∷ q.0 ∷ q.1 = sym p.2 ∙ q.2 in
     let value : q.0 ≡ p.0 = cc in
     let calls : q.1 ≡ p.1 = cc in
-    ap (λ (v : Operand). answer_of v a.calls) (one_number_operand names p.0 a.value b.value p.3 (subst (λ (t : Token). IsNumberOperand names t b.value) value q.3))
+    ap (λ (v : NumberOperand). answer_of v a.calls) (one_number a.value b.value (one_number_operand names p.0 (as_operand a.value) (as_operand b.value) p.3 (subst (λ (t : Token). IsNumberOperand names t (as_operand b.value)) value q.3)))
     ∙ ap (λ (c : List WrittenCall). answer_of b.value c) (one_calls names p.1 a.calls b.calls p.4 (subst (λ (t : List Token). AreCalls names t b.calls) calls q.4))
 
 not_two : (call : CallName) → length (signature call).name ≡ 2 → ⊥
@@ -88,7 +98,7 @@ not_both names tokens line answer p q = by_name p.0 (sym p.2 ∙ q.2)
   where
     by_name : (name : Option (List ℕ)) → assignment name ++ Word (signature line.call).name ∷ p.1 ≡ Word (codes "gz") ∷ q.0 ∷ q.1 → ⊥
     by_name None e = let same : (signature line.call).name ≡ codes "gz" = cc in no_gz line.call same
-    by_name (Some name) e = let value : q.0 ≡ Equals = cc in no_equals names answer.value (subst (λ (t : Token). IsNumberOperand names t answer.value) value q.3)
+    by_name (Some name) e = let value : q.0 ≡ Equals = cc in no_equals names (as_operand answer.value) (subst (λ (t : Token). IsNumberOperand names t (as_operand answer.value)) value q.3)
 
 assigned_value : (names : List (List ℕ)) (value : Token) (rest : List Token) (x : Operand) → IsNumberOperand names value x → assigned_by (Word (codes "gz") ∷ value ∷ rest) ≡ None
 assigned_value names (Word word) rest x is = refl
@@ -96,4 +106,4 @@ assigned_value names token rest x is = absurd is
 
 -- an answer assigns no name
 pub answer_assigns : (names : List (List ℕ)) (tokens : List Token) (answer : WrittenAnswer) → IsAnswer names tokens answer → assigned_by tokens ≡ None
-answer_assigns names tokens answer is = ap assigned_by is.2 ∙ assigned_value names is.0 is.1 answer.value is.3
+answer_assigns names tokens answer is = ap assigned_by is.2 ∙ assigned_value names is.0 is.1 (as_operand answer.value) is.3

@@ -2,8 +2,11 @@
 use Rattle.std.proofs.Common.{◌≡◌, inl, inr, ℕ, ◌+◌, ◌<◌, ◌≤◌, List, [], ◌∷◌, ◌++◌, length, get_or, zero, suc, Option, Some, None, take, refl, subst, arith}
 use Rattle.std.specs.Prelude.{slice_get, ℤ}
 use Rattle.mac_calls.specs.declared.table.OperandKind.{OperandKind}
-use Rattle.script_text.specs.declared.line.Operand.{Operand}
-use Rattle.script_text.specs.declared.line.Operand.TheVariants as operand
+use Rattle.script_lines.specs.declared.line.NumberOperand.{NumberOperand}
+use Rattle.script_lines.specs.declared.line.NumberOperand.TheVariants as number
+use Rattle.script_lines.specs.Numbers.{as_operand}
+use Rattle.script_lines.specs.declared.line.Operand.{Operand}
+use Rattle.script_lines.specs.declared.line.Operand.TheVariants as operand
 use Rattle.script_text.specs.Tokens.{Token, Word, Hexadecimal}
 use Rattle.script_text.specs.Found.{Finds}
 use Rattle.script_text.specs.Operands.{IsNumber, AreDigitsOf, IsPositiveId, IsNegativeId, IsId, IsVariable, IsNumberOperand, IsIdOperand, IsTypeOfBytes, IsTypeOperand, IsOperandAt, AreOperands}
@@ -69,3 +72,9 @@ AreOperands-at names (k ∷ ks) [] (o ∷ os) zero d lt none h = none o h.0
 AreOperands-at names (k ∷ ks) (t ∷ ts) (o ∷ os) zero d lt none h = none o h.0
 AreOperands-at names (k ∷ ks) [] (o ∷ os) (suc i) d lt none h = AreOperands-at names ks [] os i d (omega arith) none h.1
 AreOperands-at names (k ∷ ks) (t ∷ ts) (o ∷ os) (suc i) d lt none h = AreOperands-at names ks ts os i d (omega arith) none h.1
+
+-- a token that is no number and no variable is no such operand
+pub no_number_operand : (names : List (List ℕ)) (word : List ℕ) → ((x : NumberOperand) → ¬ IsNumberOperand names (Word word) (as_operand x)) → (x : Operand) → ¬ IsNumberOperand names (Word word) x
+no_number_operand names word none (operand.Number n) is = none (number.Number n) is
+no_number_operand names word none (operand.Variable name) is = none (number.Variable name) is
+no_number_operand names word none _ is = is

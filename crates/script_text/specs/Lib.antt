@@ -3,8 +3,6 @@ pub mod Tokens
 pub mod Front
 pub mod Names
 pub mod Operands
-pub mod Kept
-pub mod Calls
 pub mod Answers
 pub mod Script
 pub mod Reading

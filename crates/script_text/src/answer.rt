@@ -2,12 +2,11 @@
 
 ghost use Rattle.std.specs.Prelude.{◌≡◌, ◌≢◌, List, [], ◌∷◌, map, codes, IfOk, IfSome, IfNone, MatchBool};
 ghost use Rattle.script_text.specs.Answers.{IsAnswer, AreCalls, AreFewCalls, IsNamed, IsWrittenCall, MayFollow, releasing_text};
-ghost use Rattle.script_text.specs.declared.line.WrittenCall.{WrittenCall};
+ghost use Rattle.script_lines.specs.declared.line.WrittenCall.{WrittenCall};
 ghost use Rattle.script_text.specs.Found.{Finds};
 ghost use Rattle.script_text.specs.Front.{view};
 ghost use Rattle.script_text.specs.Tokens as tokens;
 
-use crate::line::{AnswerLine, ReleasingName, WrittenAnswer, WrittenCall, WrittenCalls};
 use crate::names::Names;
 use crate::operand::number_or_variable;
 use crate::statement::first_word;
@@ -15,9 +14,9 @@ use crate::token::Token;
 use bumpalo::Bump;
 use bumpalo::collections::into_bump_slice;
 use mac_base::error::HostFull;
-
-/// An answer has at most this many calls.
-const MAX_CALLS: usize = 8;
+use script_lines::{
+    AnswerLine, MAX_CALLS, ReleasingName, WrittenAnswer, WrittenCall, WrittenCalls,
+};
 
 /// The call of an answer that has this name.
 fn releasing_name(word: &[u8]) -> Option<ReleasingName>
@@ -45,11 +44,11 @@ fn name_of_token(token: Token<'_>) -> Option<ReleasingName>
 }
 
 /// The call that two tokens are: a name and an operand.
-fn written_call<'a>(
+fn written_call(
     name: Token<'_>,
     operand: Token<'_>,
     names: &Names<'_>,
-) -> Result<Option<WrittenCall<'a>>, HostFull>
+) -> Result<Option<WrittenCall>, HostFull>
     ensures { IfOk result (λ found.
         Finds found (IsWrittenCall names.now (view name.entry) (view operand.entry))) }
 {
@@ -75,9 +74,9 @@ fn may_follow(behind: &[Token<'_>]) -> bool
 
 /// Puts the calls that tokens are, parted by semicolons, into an empty list, and says whether the tokens are such.
 fn read_calls<'a>(
-    tokens: &[Token<'a>],
+    tokens: &[Token<'_>],
     names: &Names<'_>,
-    calls: &mut Vec<WrittenCall<'a>, &'a Bump>,
+    calls: &mut Vec<WrittenCall, &'a Bump>,
 ) -> Result<bool, HostFull>
     requires { calls.old.items ≡ [] }
     ensures { IfOk result (λ are. MatchBool are
@@ -89,10 +88,11 @@ fn read_calls<'a>(
         if !may_follow(behind) {
             return Ok(false);
         }
-        let Some(call) = written_call(*name, *operand, names)? else {
+        // The call is taken apart so that its operand's type, of another crate, is named here.
+        let Some(WrittenCall { call, operand }) = written_call(*name, *operand, names)? else {
             return Ok(false);
         };
-        calls.push(call)?;
+        calls.push(WrittenCall { call, operand })?;
         rest = &behind[behind.len().min(1)..];
     }
     Ok(rest.is_empty())
@@ -101,7 +101,7 @@ fn read_calls<'a>(
 /// The calls that tokens are, parted by semicolons, if they aren't more than an answer may have.
 fn written_calls<'a>(
     arena: &'a Bump,
-    tokens: &[Token<'a>],
+    tokens: &[Token<'_>],
     names: &Names<'_>,
 ) -> Result<Option<WrittenCalls<'a>>, HostFull>
     ensures { IfOk result (λ found. Finds found (AreFewCalls names.now (map view tokens.now))) }
@@ -133,7 +133,7 @@ fn value_and_calls<'a, 'b>(line: &'b [Token<'a>]) -> Option<(Token<'a>, &'b [Tok
 /// The answer that the tokens of a line queue, where these names have been assigned.
 pub fn answer_line<'a>(
     arena: &'a Bump,
-    line: &[Token<'a>],
+    line: &[Token<'_>],
     names: &Names<'_>,
 ) -> Result<Option<AnswerLine<'a>>, HostFull>
     ensures { IfOk result (λ found. Finds found (IsAnswer names.now (map view line.now))) }
@@ -147,5 +147,5 @@ pub fn answer_line<'a>(
     let Some(calls) = written_calls(arena, calls, names)? else {
         return Ok(None);
     };
-    Ok(Some(AnswerLine::new(arena, WrittenAnswer { value, calls })?))
+    Ok(Some(AnswerLine::new(WrittenAnswer { value, calls })))
 }

@@ -3,19 +3,12 @@
 
 mod answer;
 mod hashing;
-mod kept;
-mod line;
 mod names;
 mod operand;
 mod script;
 mod statement;
 mod token;
 
-pub use kept::Operands;
-pub use line::{
-    AnswerLine, CallLine, Line, Name, Operand, OperandBytes, ReleasingName, Statement,
-    WrittenAnswer, WrittenCall, WrittenCalls,
-};
 pub use names::{Names, names_have_places};
 pub use operand::operands;
 pub use script::{Fault, MAX_LINES, MAX_SCRIPT, one_reading, parse_script};

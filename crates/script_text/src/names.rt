@@ -3,9 +3,9 @@
 ghost use Rattle.script_text.specs.Names.{OnePlace, KeepsPlace, TakesPlace};
 
 use crate::hashing::NameHasher;
-use crate::line::Name;
 use indexmap::IndexSet;
 use mac_base::error::HostFull;
+use script_lines::Name;
 use std::alloc::Global;
 use std::marker::Model;
 

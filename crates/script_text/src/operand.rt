@@ -5,19 +5,19 @@ ghost use Rattle.std.specs.Char.{digit_value};
 ghost use Rattle.std.specs.List.{list_all};
 ghost use Rattle.std.specs.Option.{option_copied};
 ghost use Rattle.mac_calls.specs.declared.table.OperandKind.TheVariants as kind;
+ghost use Rattle.script_lines.specs.Numbers.{as_operand};
 ghost use Rattle.script_text.specs.Found.{Finds};
 ghost use Rattle.script_text.specs.Tokens.{Word, Single, Double, Hexadecimal};
 ghost use Rattle.script_text.specs.Front.{view};
 ghost use Rattle.script_text.specs.Operands.{IsNumeral, IsNumber, IsByte, AreDigitsOf, is_name, is_name_byte, is_printable, IsPositiveId, IsNegativeId, IsId, IsVariable, IsNumberOperand, IsBytesOperand, IsIdOperand, IsTypeOfBytes, IsTypeOperand, IsOperand, IsOperandAt, AreOperands};
 
-use crate::kept::{Operands, ReadOperands};
-use crate::line::{Name, Operand, OperandBytes};
 use crate::names::Names;
 use crate::token::Token;
 use bumpalo::Bump;
 use bumpalo::collections::into_bump_slice;
 use mac_base::error::HostFull;
 use mac_calls::OperandKind;
+use script_lines::{Name, NumberOperand, Operand, OperandBytes, Operands, ReadOperands};
 
 /// The number of digits in a base, if it has at most 32 bits.
 fn numeral(word: &[u8], base: u32) -> Option<u32>
@@ -142,29 +142,41 @@ fn variable(word: &[u8], names: &Names<'_>) -> Result<Option<Name>, HostFull>
 }
 
 /// A number, or the name of a variable that has been assigned.
-fn number_operand<'a>(word: &[u8], names: &Names<'_>) -> Result<Option<Operand<'a>>, HostFull>
+fn number_word(word: &[u8], names: &Names<'_>) -> Result<Option<NumberOperand>, HostFull>
     ensures { IfOk result (λ found.
-        Finds found (IsNumberOperand names.now (Word word.now))) }
+        Finds found (λ x. IsNumberOperand names.now (Word word.now) (as_operand x))) }
 {
     if let Some(number) = number(word) {
-        return Ok(Some(Operand::Number(number)));
+        return Ok(Some(NumberOperand::Number(number)));
     }
     match variable(word, names)? {
-        Some(name) => Ok(Some(Operand::Variable(name))),
+        Some(name) => Ok(Some(NumberOperand::Variable(name))),
         None => Ok(None),
     }
 }
 
 /// The number or the variable that a token is.
-pub(crate) fn number_or_variable<'a>(
+pub(crate) fn number_or_variable(
     token: Token<'_>,
     names: &Names<'_>,
-) -> Result<Option<Operand<'a>>, HostFull>
-    ensures { IfOk result (λ found. Finds found (IsNumberOperand names.now (view token.entry))) }
+) -> Result<Option<NumberOperand>, HostFull>
+    ensures { IfOk result (λ found.
+        Finds found (λ x. IsNumberOperand names.now (view token.entry) (as_operand x))) }
 {
     match token {
-        Token::Word(word) => number_operand(word, names),
+        Token::Word(word) => number_word(word, names),
         _ => Ok(None),
+    }
+}
+
+/// The operand that is a number or a variable.
+fn number_operand<'a>(word: &[u8], names: &Names<'_>) -> Result<Option<Operand<'a>>, HostFull>
+    ensures { IfOk result (λ found.
+        Finds found (IsNumberOperand names.now (Word word.now))) }
+{
+    match number_word(word, names)? {
+        Some(number) => Ok(Some(number.as_operand())),
+        None => Ok(None),
     }
 }
 
@@ -183,14 +195,13 @@ fn id_operand<'a>(word: &[u8], names: &Names<'_>) -> Result<Option<Operand<'a>>,
 }
 
 /// The bytes of a text in double quotes.
-fn quoted_bytes<'a>(arena: &'a Bump, inner: &'a [u8]) -> Result<Option<Operand<'a>>, HostFull>
-    ensures { IfOk result (λ found.
-        Finds found (IsBytesOperand (Double inner.now))) }
+fn quoted_bytes<'a>(inner: &'a [u8]) -> Option<Operand<'a>>
+    ensures { Finds result (IsBytesOperand (Double inner.now)) }
 {
     if !are_printable(inner) {
-        return Ok(None);
+        return None;
     }
-    Ok(Some(Operand::Bytes(OperandBytes::new(arena, inner)?)))
+    Some(Operand::Bytes(OperandBytes::new(inner)))
 }
 
 /// The value of each byte as a hexadecimal digit of either case, and 255 where it is none.
@@ -253,7 +264,7 @@ fn hexadecimal_bytes<'a>(arena: &'a Bump, digits: &[u8]) -> Result<Option<Operan
     let Some(bytes) = bytes_of_digits(arena, digits)? else {
         return Ok(None);
     };
-    Ok(Some(Operand::Bytes(OperandBytes::new(arena, bytes)?)))
+    Ok(Some(Operand::Bytes(OperandBytes::new(bytes))))
 }
 
 /// The type that four bytes are.
@@ -300,7 +311,7 @@ fn operand<'a>(
     use OperandKind::{Bytes, Id, Number, OptionalBytes, OptionalNumber, Type};
     match (kind, token) {
         (Number | OptionalNumber, Token::Word(word)) => number_operand(word, names),
-        (Bytes | OptionalBytes, Token::Double(inner)) => quoted_bytes(arena, inner),
+        (Bytes | OptionalBytes, Token::Double(inner)) => Ok(quoted_bytes(inner)),
         (Bytes | OptionalBytes, Token::Hexadecimal(digits)) => hexadecimal_bytes(arena, digits),
         (Id, Token::Word(word)) => id_operand(word, names),
         (Type, Token::Single(inner)) => Ok(quoted_type(inner)),

@@ -2,17 +2,17 @@
 
 ghost use Rattle.std.specs.Prelude.{◌≡◌, [], ◌∷◌, ◌++◌, ◌<◌, ◌≤◌, ◌==◌, length, position, IfOk, IfErr, IfSome, OnOk, MatchOption};
 ghost use Rattle.std.specs.Str.Lines.{lines, strip_carriage_return};
-ghost use Rattle.script_text.specs.Script as script;
+ghost use Rattle.script_text.specs.Script as spec;
 ghost use Rattle.script_text.specs.declared.script.Fault.TheVariants.{HostFull};
 ghost use Rattle.script_text.specs.Reading.{Reads, Fails, Adds};
 
-use crate::line::Line;
 use crate::names::Names;
 use crate::statement::statement;
 use crate::token::{Token, read_tokens};
 use bumpalo::Bump;
 use mac_base::error::HostFull;
 use memchr::memchr;
+use script_lines::{Line, Script};
 use std::alloc::{AllocFailed, Global};
 use thiserror::Error;
 
@@ -83,16 +83,16 @@ fn first_line(text: &[u8]) -> Option<(&[u8], &[u8])>
 }
 
 /// Adds the line of this number to those before it, where these names have been assigned: none, if its text says nothing.
-/// The tokens are memory to be used again.
+/// The tokens and the arena are memory to be used again.
 fn add_line<'a>(
-    arena: &'a Bump,
+    arena: &mut Bump,
     number: u32,
     text: &'a [u8],
     tokens: &mut Vec<Token<'a>>,
     names: &mut Names<'a>,
-    lines: &mut Vec<Line<'a>>,
+    script: &mut Script,
 ) -> Result<(), Fault>
-    ensures line { OnOk result (Adds number names.old text.now lines.old.items names.new lines.new.items) }
+    ensures line { OnOk result (Adds number names.old text.now script.old names.new script.new) }
     ensures fault { IfErr result (Fails number names.old text.now) }
 {
     if number > MAX_LINES || !read_tokens(text, tokens)? {
@@ -101,59 +101,53 @@ fn add_line<'a>(
     if tokens.is_empty() {
         return Ok(());
     }
+    let Ok(()) = arena.reset() else {
+        return Err(Fault::HostFull);
+    };
     let Some(statement) = statement(arena, tokens, names)? else {
         return Err(Fault::Line(number));
     };
-    lines.push(Line { number, statement })?;
+    script.push(&Line { number, statement })?;
     Ok(())
 }
 
-/// Puts the lines of a text into an empty list.
-fn add_lines<'a>(
-    alloc: Global,
-    arena: &'a Bump,
-    text: &'a [u8],
-    lines: &mut Vec<Line<'a>>,
-) -> Result<(), Fault>
-    requires small { length text.now ≤ script.max_script }
-    requires none { lines.old.items ≡ [] }
-    ensures script { OnOk result (script.IsScript text.now lines.new.items) }
-    ensures fault { IfErr result (script.IsFault text.now) }
+/// Puts the lines of a text into an empty script.
+fn add_lines(alloc: Global, text: &[u8], script: &mut Script) -> Result<(), Fault>
+    requires small { length text.now ≤ spec.max_script }
+    requires none { script.old ≡ [] }
+    ensures script { OnOk result (spec.IsScript text.now script.new) }
+    ensures fault { IfErr result (spec.IsFault text.now) }
 {
+    let mut arena = Bump::new(alloc);
     let mut names = Names::new(alloc, text);
     let mut tokens = Vec::new(alloc);
     let mut rest = text;
     let mut number = 0;
     while let Some((line, behind)) = first_line(rest) {
         number += 1;
-        add_line(arena, number, line, &mut tokens, &mut names, lines)?;
+        add_line(&mut arena, number, line, &mut tokens, &mut names, script)?;
         rest = behind;
     }
     Ok(())
 }
 
 /// The lines of a script that say something. The text is a script exactly where each of its lines makes a call, queues
-/// an answer or says nothing; a fault names the first that does none of them. What the lines keep lies in the text and
-/// in the arena.
-pub fn parse_script<'a>(
-    alloc: Global,
-    arena: &'a Bump,
-    text: &'a [u8],
-) -> Result<Vec<Line<'a>>, Fault>
-    ensures script { IfOk result (λ lines. script.IsScript text.now lines.items) }
-    ensures fault { IfErr result (script.IsFault text.now) }
+/// an answer or says nothing; a fault names the first that does none of them.
+pub fn parse_script(alloc: Global, text: &[u8]) -> Result<Script, Fault>
+    ensures script { IfOk result (λ lines. spec.IsScript text.now lines) }
+    ensures fault { IfErr result (spec.IsFault text.now) }
 {
     if text.len() > MAX_SCRIPT {
         return Err(Fault::Line(0));
     }
-    let mut lines = Vec::new(alloc);
-    add_lines(alloc, arena, text, &mut lines)?;
-    Ok(lines)
+    let mut script = Script::new(alloc);
+    add_lines(alloc, text, &mut script)?;
+    Ok(script)
 }
 
 /// Any bytes are the script of one list of lines at most, and else they have one first line that is none.
 pub fn one_reading()
-    ensures script { script.OneReading }
-    ensures fault { script.OneFault }
-    ensures not_both { script.NoFault }
+    ensures script { spec.OneReading }
+    ensures fault { spec.OneFault }
+    ensures not_both { spec.NoFault }
 {}

@@ -10,13 +10,13 @@ ghost use Rattle.script_text.specs.Script.{assignment, assigned_by, HasNoFirstWo
 ghost use Rattle.mac_calls.specs.Calls.{signature};
 
 use crate::answer::answer_line;
-use crate::line::{CallLine, Name, Statement};
 use crate::names::Names;
 use crate::operand::{is_name, operands};
 use crate::token::Token;
 use bumpalo::Bump;
 use mac_base::error::HostFull;
 use mac_calls::CallName;
+use script_lines::{CallLine, Name, Statement};
 
 /// The name that a line assigns, if it begins so, and the tokens behind `name =`.
 fn assigned_name<'a, 'b>(line: &'b [Token<'a>]) -> (Option<&'a [u8]>, &'b [Token<'a>])
@@ -74,10 +74,10 @@ fn may_assign(name: Option<&[u8]>, is_assignable: bool) -> bool
 }
 
 /// The call that the tokens of a line make, where these names have been assigned.
-fn call_line<'a>(
+fn call_line<'a, 't: 'a>(
     arena: &'a Bump,
-    line: &[Token<'a>],
-    names: &mut Names<'a>,
+    line: &[Token<'t>],
+    names: &mut Names<'t>,
 ) -> Result<Option<CallLine<'a>>, HostFull>
     ensures line { IfOk result (λ found. Finds found (IsCall names.old (map view line.now))) }
     ensures names { IfOk result (λ found. IfSome found (λ _.
@@ -104,10 +104,10 @@ fn call_line<'a>(
 }
 
 /// What the tokens of a line say, where these names have been assigned: a call or an answer.
-pub fn statement<'a>(
+pub fn statement<'a, 't: 'a>(
     arena: &'a Bump,
-    line: &[Token<'a>],
-    names: &mut Names<'a>,
+    line: &[Token<'t>],
+    names: &mut Names<'t>,
 ) -> Result<Option<Statement<'a>>, HostFull>
     ensures line { IfOk result (λ found. Finds found (IsStatement names.old (map view line.now))) }
     ensures names { IfOk result (λ found. IfSome found (λ _.

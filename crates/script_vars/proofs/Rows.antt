@@ -6,10 +6,11 @@ use Rattle.mac_calls.specs.declared.call.Call.{Call}
 use Rattle.mac_calls.specs.declared.call.Call.TheVariants.{Memory, Resource}
 use Rattle.mac_calls.specs.declared.table.CallName.{CallName}
 use Rattle.mac_calls.specs.declared.table.CallName.TheVariants.{Poke, GetResource, AddResource, CloseResFile}
-use Rattle.script_text.specs.declared.line.Operand.{Operand}
+use Rattle.script_lines.specs.declared.line.Operand.{Operand}
 use Rattle.mac_base.specs.declared.releasing.ReleasingCall.TheVariants.{DisposesHandle, DisposesPtr, Empties}
-use Rattle.script_text.specs.declared.line.Operand.TheVariants as operand
-use Rattle.script_text.specs.declared.line.ReleasingName.TheVariants.{DisposeHandle, DisposePtr, EmptyHandle}
+use Rattle.script_lines.specs.declared.line.NumberOperand.TheVariants as number
+use Rattle.script_lines.specs.declared.line.Operand.TheVariants as operand
+use Rattle.script_lines.specs.declared.line.ReleasingName.TheVariants.{DisposeHandle, DisposePtr, EmptyHandle}
 use Rattle.script_vars.specs.Answers.{answer_with}
 use Rattle.script_vars.specs.Variables.{call_of, with_value}
 
@@ -17,10 +18,10 @@ poked : call_of (with_value [] 0 0x0010_003C) (record { assigned = None; call = 
 poked = refl
 
 answered : answer_with (with_value [] 0 0x0010_003C) (record {
-  value = operand.Number 40;
-  calls = record { call = EmptyHandle; operand = operand.Variable 0 }
-      ∷ record { call = DisposePtr; operand = operand.Number 0x0010_0144 }
-      ∷ record { call = DisposeHandle; operand = operand.Variable 0 } ∷ [];
+  value = number.Number 40;
+  calls = record { call = EmptyHandle; operand = number.Variable 0 }
+      ∷ record { call = DisposePtr; operand = number.Number 0x0010_0144 }
+      ∷ record { call = DisposeHandle; operand = number.Variable 0 } ∷ [];
 })
     ≡ record { calls = Empties 0x0010_003C ∷ DisposesPtr 0x0010_0144 ∷ DisposesHandle 0x0010_003C ∷ []; value = 40 }
 answered = refl

@@ -2,9 +2,9 @@
 use Rattle.std.specs.Prelude.{◌≡◌, ◌≢◌, ℕ, zero, suc, ℤ, pos, List, [], ◌∷◌, Option, Some, None, unwrap_or, slice_get}
 use Rattle.mac_calls.specs.declared.table.CallName.{CallName}
 use Rattle.mac_calls.specs.declared.table.CallName.TheVariants as call_name
-use Rattle.script_text.specs.declared.line.Operand.{Operand}
-use Rattle.script_text.specs.declared.line.Operand.TheVariants.{Number, Variable, Bytes, Id, «Type» as TypeOperand, Missing}
-use Rattle.script_text.specs.declared.line.CallLine.{CallLine}
+use Rattle.script_lines.specs.declared.line.Operand.{Operand}
+use Rattle.script_lines.specs.declared.line.Operand.TheVariants.{Number, Variable, Bytes, Id, «Type» as TypeOperand, Missing}
+use Rattle.script_lines.specs.declared.line.CallLine.{CallLine}
 use Rattle.mac_calls.specs.declared.loan_call.LoanCall.TheVariants as loan_call
 use Rattle.mac_calls.specs.declared.memory_call.MemoryCall.TheVariants as memory_call
 use Rattle.mac_calls.specs.declared.resource_call.ResourceCall.TheVariants as resource_call

@@ -3,18 +3,18 @@
 ghost use Rattle.std.specs.Prelude.{◌≡◌};
 ghost use Rattle.script_vars.specs.Answers.{releasing_with, answer_with};
 
-use crate::operand::number_in;
+use crate::operand::number_of;
 use crate::vars::Vars;
 use mac_base::handle::{Handle, Ptr};
 use mac_base::releasing::ReleasingCall;
 use mac_calls::Answer;
-use script_text::{AnswerLine, ReleasingName, WrittenCall};
+use script_lines::{AnswerLine, ReleasingName, WrittenCall};
 
 /// A call of an answer, with the value that its operand has now.
-fn releasing_call(written: &WrittenCall<'_>, vars: &Vars) -> ReleasingCall
+fn releasing_call(written: &WrittenCall, vars: &Vars) -> ReleasingCall
     ensures { result ≡ releasing_with vars.now written.now }
 {
-    let number = number_in(&written.operand, vars);
+    let number = number_of(written.operand, vars);
     match written.call {
         ReleasingName::DisposeHandle => ReleasingCall::DisposesHandle(Handle::new(number)),
         ReleasingName::DisposePtr => ReleasingCall::DisposesPtr(Ptr::new(number)),
@@ -30,5 +30,5 @@ pub fn answer_of(line: &AnswerLine<'_>, vars: &Vars) -> Answer
     for (place, written) in line.calls().iter().enumerate() {
         calls[place] = Some(releasing_call(written, vars));
     }
-    Answer::new(calls, number_in(line.value(), vars))
+    Answer::new(calls, number_of(line.value(), vars))
 }

@@ -8,7 +8,7 @@ use crate::operand::{bytes_at, given_bytes_at, given_number_at, id_at, number_at
 use crate::vars::Vars;
 use mac_base::handle::{Handle, Ptr};
 use mac_calls::{Call, CallName, LoanCall, MemoryCall, ResourceCall, Span};
-use script_text::{CallLine, Operands};
+use script_lines::{CallLine, Operands};
 
 /// The call of the Memory Manager that has this name, with these operands.
 fn memory_call<'a>(call: CallName, operands: &Operands<'a>, vars: &Vars) -> Option<MemoryCall<'a>>

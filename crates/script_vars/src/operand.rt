@@ -1,12 +1,13 @@
 //! What the operands of a line stand for, with the values that variables have.
 
 ghost use Rattle.std.specs.Prelude.{◌≡◌};
+ghost use Rattle.script_lines.specs.Numbers.{as_operand};
 ghost use Rattle.script_vars.specs.Variables.{number_in, number_at, bytes_at, id_at, type_at, given_bytes_at, given_number_at};
 
 use crate::vars::Vars;
 use mac_calls::Span;
 use res_base::resource::ResType;
-use script_text::{Operand, Operands};
+use script_lines::{NumberOperand, Operand, Operands};
 
 /// The number of an operand. Bytes, an id, a type and an operand that is missing count as 0.
 pub(crate) fn number_in(operand: &Operand<'_>, vars: &Vars) -> u32
@@ -16,6 +17,16 @@ pub(crate) fn number_in(operand: &Operand<'_>, vars: &Vars) -> u32
         Operand::Number(number) => *number,
         Operand::Variable(name) => vars.value(*name),
         Operand::Bytes(_) | Operand::Id(_) | Operand::Type(_) | Operand::Missing => 0,
+    }
+}
+
+/// The number that is written, or the value of the variable.
+pub(crate) fn number_of(operand: NumberOperand, vars: &Vars) -> u32
+    ensures { result ≡ number_in vars.now (as_operand operand) }
+{
+    match operand {
+        NumberOperand::Number(number) => number,
+        NumberOperand::Variable(name) => vars.value(name),
     }
 }
 

@@ -3,7 +3,7 @@
 ghost use Rattle.script_vars.specs.Variables.{ValuesAreKept};
 
 use mac_base::error::HostFull;
-use script_text::Name;
+use script_lines::Name;
 use std::alloc::Global;
 use std::marker::Model;
 

@@ -100,7 +100,7 @@ impl MadeAsk {
 #[derive(Clone, Copy)]
 struct Kept {
     /// Where its calls begin.
-    first: usize,
+    first: u32,
     value: u32,
     /// How many they are.
     count: u8,
@@ -218,12 +218,15 @@ fn keep(calls: &mut Vec<ReleasingCall>, answer: &Answer) -> Result<Kept, HostFul
     ensures own { IfOk result (λ kept. HasItsCalls calls.new.items kept) }
     ensures others { take (length calls.old.items) calls.new.items ≡ calls.old.items }
 {
-    let first = calls.len();
+    let begin = calls.len();
+    let Ok(first) = u32::try_from(begin) else {
+        return Err(HostFull);
+    };
     add_calls(calls, answer.calls())?;
     Ok(Kept {
         first,
         value: answer.value(),
-        count: (calls.len() - first) as u8,
+        count: (calls.len() - begin) as u8,
     })
 }
 
@@ -253,10 +256,8 @@ fn take_front(calls: &[ReleasingCall], kept: &[Kept], taken: &mut usize) -> Opti
     ensures stays { IfNone result (taken.new ≡ taken.old) }
 {
     let front = *kept.get(*taken)?;
-    let answer = made_of(
-        &calls[front.first..front.first + front.count as usize],
-        front.value,
-    );
+    let first = front.first as usize;
+    let answer = made_of(&calls[first..first + front.count as usize], front.value);
     *taken += 1;
     Some(answer)
 }

@@ -35,11 +35,11 @@ pub returns-clause-ends : goal.returns-clause-ends
 returns-clause-ends g c =
     let lines = c.run_lines-end.ensures.ends in
     let start : c.new-machine.result ≡ start_of c.args.spec c.args.stores.items = c.new-machine.ensures.zone c.args.spec (ap (λ m. m.shape) c.in-Ok-create.ensures) (ap (λ m. m.heap) c.in-Ok-create.ensures) in
-    let is : IsScript c.in-Ok.text.items c.deref-2.result.now = rw (c.deref-2.ensures.value, ← c.deref.ensures.value) c.in-Ok-parse_script.ensures.script in (
+    let is : IsScript c.in-Ok.text.items c.in-Ok-parse_script.script = rw (← c.deref.ensures.value) c.in-Ok-parse_script.ensures.script in (
       lines.0,
       lines.1,
       with_input (g.R.Read.remaining c.args.reader.now.inner) c.in-Ok.text.items _ c.in-Ok.ensures.text
-          (script_ends g.S.ForkStore (start_of c.args.spec c.args.stores.items) c.in-Ok.text.items c.deref-2.result.now c.run_lines-end.new.machine c.into_stores.result.items is c.into_stores.ensures _ lines.0 (rw start at lines.2)),
+          (script_ends g.S.ForkStore (start_of c.args.spec c.args.stores.items) c.in-Ok.text.items c.in-Ok-parse_script.script c.run_lines-end.new.machine c.into_stores.result.items is c.into_stores.ensures _ lines.0 (rw start at lines.2)),
     )
 
 pub returns-clause-read_fault : goal.returns-clause-read_fault

@@ -5,9 +5,9 @@ use Rattle.script_run.specs.Run.{IsRun}
 use Rattle.script_run.proofs.running.run_lines.Given as goal
 
 -- the lines so far, and what they printed behind the opening of file 1
-abbrev pub invariant-loop-line : goal.invariant-loop-line
-invariant-loop-line g l =
+abbrev pub invariant-loop-place : goal.invariant-loop-place
+invariant-loop-place g l =
     (texts : List (List ℕ))
     × Appends (g.W.Write.contents l.fn.writer.inner) (g.W.Write.contents l.writer.inner) (concat texts)
-    × IsRun g.S.ForkStore l.fn.machine (take l.line-index l.lines) texts l.machine
+    × IsRun g.S.ForkStore l.fn.machine (take l.place l.script) texts l.machine
     × (l.writer.failures ≡ l.fn.writer.failures)

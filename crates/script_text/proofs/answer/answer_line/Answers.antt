@@ -14,7 +14,7 @@ pub returns : goal.returns
 returns c =
     let value = rw c.in-Some-2.is at c.in_ok-value.ensures in
     let are = rw c.in-Some-3.is at c.in_ok-calls.ensures in
-    rw c.in_ok-new.ensures (is_answer _ _ _ _ (record { value = c.in-Some-2.value; calls = c.in-Some-3.calls }) c.in-Some.ensures.found value are.0 are.1)
+    rw c.new.ensures (is_answer _ _ _ _ (record { value = c.in-Some-2.value; calls = c.in-Some-3.calls }) c.in-Some.ensures.found value are.0 are.1)
 
 pub new-requires : goal.new-requires
 new-requires c = let are = rw c.in-Some-3.is at c.in_ok-calls.ensures in are.1

@@ -26,7 +26,7 @@ loop-rest-preserved c =
     let before = subst (λ (t : List Read). Calling c.args.names.now (map view c.args.tokens.now) (map view t) c.loop-rest.calls.items) whole c.loop-rest.invariant in
     let more = calling_more _ _ _ _ _ _ _ before (rw c.in-Some.is at c.in_ok-call.ensures) c.if-not-may_follow.ensures in
     rw c.in_ok-push.ensures.items
-    (subst (λ (t : List Token). Calling c.args.names.now (map view c.args.tokens.now) t (c.loop-rest.calls.items ++ c.in-Some.call ∷ [])) (next_tokens view _ c.min.result c.min.ensures) more)
+    (subst (λ (t : List Token). Calling c.args.names.now (map view c.args.tokens.now) t (c.loop-rest.calls.items ++ c.in-Some.field-0 ∷ [])) (next_tokens view _ c.min.result c.min.ensures) more)
 
 pub returns : goal.returns
 returns c = calling_ends _ _ _ _ _ c.loop-rest.invariant (rw length-map c.in_default.len_below) (rw length-map c.is_empty.ensures)

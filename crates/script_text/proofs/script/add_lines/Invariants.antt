@@ -4,7 +4,7 @@ use Rattle.script_text.proofs.script.add_lines.Given as goal
 
 -- the lines so far are those of the front of the text
 abbrev pub invariant-loop-line : goal.invariant-loop-line
-invariant-loop-line l = Parsing l.text l.rest l.number l.names l.lines.items
+invariant-loop-line l = Parsing l.text l.rest l.number l.names l.script
 
 -- the bytes that are left
 abbrev pub decreases-loop-line : goal.decreases-loop-line

@@ -1,10 +1,11 @@
 use Rattle.std.proofs.Common.{ℕ, List, map, ap, ◌∙◌}
 use Rattle.mac_base.specs.declared.releasing.ReleasingCall.{ReleasingCall}
 use Rattle.mac_calls.specs.GrowZone.{Answer}
-use Rattle.script_text.specs.declared.line.WrittenCall.{WrittenCall}
+use Rattle.script_lines.specs.declared.line.WrittenCall.{WrittenCall}
 use Rattle.script_vars.specs.Answers.{releasing_with}
 use Rattle.script_vars.specs.Variables.{number_in}
-use Rattle.script_text.specs.declared.line.Operand.{Operand}
+use Rattle.script_lines.specs.declared.line.NumberOperand.{NumberOperand}
+use Rattle.script_lines.specs.Numbers.{as_operand}
 use Rattle.script_vars.proofs.Places.{placed-all}
 use Rattle.script_vars.proofs.answer.answer_of.Goals as goal
 
@@ -18,5 +19,5 @@ returns c =
     let variables = c.args.vars.now in
     let calls = placed-all (releasing_with variables) written c.loop-place.place c.loop-place.calls c.loop-place-test.false c.loop-place.invariant in
     c.new.ensures
-    ∙ ap (λ (t : List ReleasingCall). made t c.number_in.result) (calls ∙ ap (λ (t : List WrittenCall). map (releasing_with variables) t) c.calls-written-items.ensures.calls)
-    ∙ ap (λ (n : ℕ). made (map (releasing_with variables) c.args.line.now.calls) n) (c.number_in.ensures ∙ ap (λ (o : Operand). number_in variables o) c.value.ensures)
+    ∙ ap (λ (t : List ReleasingCall). made t c.number_of.result) (calls ∙ ap (λ (t : List WrittenCall). map (releasing_with variables) t) c.calls-written-items.ensures.calls)
+    ∙ ap (λ (n : ℕ). made (map (releasing_with variables) c.args.line.now.calls) n) (c.number_of.ensures ∙ ap (λ (o : NumberOperand). number_in variables (as_operand o)) c.value.ensures)

@@ -1,7 +1,6 @@
 //! What the lines of a script say.
 
-use crate::kept::Operands;
-use bumpalo::Bump;
+use crate::operands::Operands;
 use mac_base::error::HostFull;
 use mac_calls::CallName;
 use std::marker::Model;
@@ -25,7 +24,7 @@ impl Name {
     ghost use Rattle.std.specs.Prelude.{◌≡◌, IfOk};
 
     /// The name at this place.
-    pub(crate) fn at(place: usize) -> Result<Name, HostFull>
+    pub fn at(place: usize) -> Result<Name, HostFull>
         ensures { IfOk result (λ name. name ≡ place) }
     {
         match u16::try_from(place) {
@@ -42,10 +41,10 @@ impl Name {
     }
 }
 
-/// The bytes of an operand: one word, so that no operand is larger than two. A contract sees the list.
+/// The bytes of an operand. A contract sees the list.
 #[derive(Drop)]
 pub struct OperandBytes<'a> {
-    bytes: &'a &'a [u8],
+    bytes: &'a [u8],
 }
 
 impl<'a> Model for OperandBytes<'a> {
@@ -53,41 +52,24 @@ impl<'a> Model for OperandBytes<'a> {
 
     ghost Value = { List ℕ };
 
-    ghost view = { λ b. b.bytes.now.now };
+    ghost view = { λ b. b.bytes.now };
 }
 
 impl<'a> OperandBytes<'a> {
-    ghost use Rattle.std.specs.Prelude.{◌≡◌, IfOk};
+    ghost use Rattle.std.specs.Prelude.{◌≡◌};
 
-    /// These bytes, with their place and length in the arena.
-    pub(crate) fn new(arena: &'a Bump, bytes: &'a [u8]) -> Result<OperandBytes<'a>, HostFull>
-        ensures { IfOk result (λ kept. kept ≡ bytes.now) }
-    {
-        match arena.try_alloc(bytes) {
-            Ok(bytes) => Ok(OperandBytes { bytes }),
-            Err(_) => Err(HostFull),
-        }
-    }
-
-    /// Bytes whose place and length are kept here.
-    pub(crate) fn kept_at(bytes: &'a &'a [u8]) -> OperandBytes<'a>
-        ensures { result ≡ bytes.now.now }
+    /// These bytes.
+    pub fn new(bytes: &'a [u8]) -> OperandBytes<'a>
+        ensures { result ≡ bytes.now }
     {
         OperandBytes { bytes }
-    }
-
-    /// Where their place and length are kept.
-    pub(crate) fn kept(&self) -> &'a &'a [u8]
-        ensures { result.now.now ≡ self.now }
-    {
-        self.bytes
     }
 
     /// The bytes, first to last.
     pub fn as_slice(&self) -> &'a [u8]
         ensures { result.now ≡ self.now }
     {
-        *self.bytes
+        self.bytes
     }
 }
 
@@ -106,8 +88,30 @@ pub enum Operand<'a> {
     Missing,
 }
 
-/// A line that makes a call, and may assign its first result. What it keeps of its operands lies in the text and in an
-/// arena, which all lines share.
+/// A number, or the value of a variable.
+#[derive(Clone, Copy)]
+pub enum NumberOperand {
+    Number(u32),
+    /// The value of a variable.
+    Variable(Name),
+}
+
+impl NumberOperand {
+    ghost use Rattle.std.specs.Prelude.{◌≡◌};
+    ghost use Rattle.script_lines.specs.Numbers.{as_operand};
+
+    /// The operand that it is.
+    pub fn as_operand<'a>(self) -> Operand<'a>
+        ensures { result ≡ as_operand self }
+    {
+        match self {
+            NumberOperand::Number(number) => Operand::Number(number),
+            NumberOperand::Variable(name) => Operand::Variable(name),
+        }
+    }
+}
+
+/// A line that makes a call, and may assign its first result.
 #[derive(Drop)]
 pub struct CallLine<'a> {
     pub assigned: Option<Name>,
@@ -123,22 +127,25 @@ pub enum ReleasingName {
     EmptyHandle,
 }
 
-/// A call of an answer as it is written: its operand is a number or a variable.
-#[derive(Drop)]
-pub struct WrittenCall<'a> {
+/// An answer has at most this many calls.
+pub const MAX_CALLS: usize = 8;
+
+/// A call of an answer as it is written.
+#[derive(Clone, Copy)]
+pub struct WrittenCall {
     pub call: ReleasingName,
-    pub operand: Operand<'a>,
+    pub operand: NumberOperand,
 }
 
 /// The calls of an answer, first to last. A contract sees the list.
 #[derive(Drop)]
 pub struct WrittenCalls<'a> {
-    calls: &'a [WrittenCall<'a>],
+    calls: &'a [WrittenCall],
 }
 
 impl<'a> Model for WrittenCalls<'a> {
     ghost use Rattle.std.specs.Prelude.{List};
-    ghost use Rattle.script_text.specs.declared.line.WrittenCall.{WrittenCall};
+    ghost use Rattle.script_lines.specs.declared.line.WrittenCall.{WrittenCall};
 
     ghost Value = { List WrittenCall };
 
@@ -149,73 +156,66 @@ impl<'a> WrittenCalls<'a> {
     ghost use Rattle.std.specs.Prelude.{◌≡◌};
 
     /// These calls.
-    pub(crate) fn new(calls: &'a [WrittenCall<'a>]) -> WrittenCalls<'a>
+    pub fn new(calls: &'a [WrittenCall]) -> WrittenCalls<'a>
         ensures { result ≡ calls.now }
     {
         WrittenCalls { calls }
     }
 
     /// The calls, first to last.
-    pub fn as_slice(&self) -> &'a [WrittenCall<'a>]
+    pub fn as_slice(&self) -> &'a [WrittenCall]
         ensures { result.now ≡ self.now }
     {
         self.calls
     }
 }
 
-/// An answer of the grow-zone procedure as it is written: a value, which is a number or a variable, and calls.
+/// An answer of the grow-zone procedure as it is written: a value and calls.
 #[derive(Drop)]
 pub struct WrittenAnswer<'a> {
-    pub value: Operand<'a>,
+    pub value: NumberOperand,
     pub calls: WrittenCalls<'a>,
 }
 
-/// A line that queues an answer, which has at most eight calls: one word, so that it is no larger than a line that makes
-/// a call. A contract sees the answer as it is written.
+/// A line that queues an answer, which has at most eight calls. A contract sees the answer as it is written.
 #[derive(Drop)]
 pub struct AnswerLine<'a> {
-    written: &'a WrittenAnswer<'a>,
+    written: WrittenAnswer<'a>,
 }
 
 impl<'a> Model for AnswerLine<'a> {
     ghost use Rattle.std.specs.Prelude.{◌≤◌, length};
-    ghost use Rattle.script_text.specs.declared.line.WrittenAnswer.{WrittenAnswer};
-    ghost use Rattle.script_text.specs.Calls.{most_calls};
+    ghost use Rattle.script_lines.specs.declared.line.WrittenAnswer.{WrittenAnswer};
+    ghost use Rattle.script_lines.specs.Calls.{most_calls};
 
     ghost Value = { WrittenAnswer };
 
-    ghost view = { λ a. a.written.now };
+    ghost view = { λ a. a.written };
 
-    ghost invariant = { λ a. length a.written.now.calls ≤ most_calls };
+    ghost invariant = { λ a. length a.written.calls ≤ most_calls };
 }
 
 impl<'a> AnswerLine<'a> {
-    ghost use Rattle.std.specs.Prelude.{◌≡◌, ◌≤◌, length, IfOk};
-    ghost use Rattle.script_text.specs.Calls.{most_calls};
+    ghost use Rattle.std.specs.Prelude.{◌≡◌, ◌≤◌, length};
+    ghost use Rattle.script_lines.specs.Calls.{most_calls};
 
-    /// This answer, which is kept in the arena.
-    pub(crate) fn new(
-        arena: &'a Bump,
-        written: WrittenAnswer<'a>,
-    ) -> Result<AnswerLine<'a>, HostFull>
+    /// The line that queues this answer.
+    pub fn new(written: WrittenAnswer<'a>) -> AnswerLine<'a>
         requires { length written.calls ≤ most_calls }
-        ensures { IfOk result (λ kept. kept ≡ written.entry) }
+        ensures { result ≡ written.entry }
     {
-        match arena.try_alloc(written) {
-            Ok(written) => Ok(AnswerLine { written }),
-            Err(_) => Err(HostFull),
-        }
+        AnswerLine { written }
     }
 
     /// Its value.
-    pub fn value(&self) -> &'a Operand<'a>
-        ensures { result.now ≡ self.now.value }
+    pub fn value(&self) -> NumberOperand
+        ensures { result ≡ self.now.value }
     {
-        &self.written.value
+        self.written.value
     }
 
     /// Its calls, first to last.
-    pub fn calls(&self) -> &'a [WrittenCall<'a>]
+    pub fn calls(&self) -> &'a [WrittenCall]
         ensures calls { result.now ≡ self.now.calls }
         ensures few { length result.now ≤ most_calls }
     {

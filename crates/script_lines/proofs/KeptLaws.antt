@@ -1,11 +1,11 @@
 -- Operands that are kept one after the other.
 use Rattle.std.proofs.Common.{◌≡◌, ℕ, Bool, false, List, [], ◌∷◌, ◌++◌, map, sym, ap, ◌∙◌}
 use Rattle.std.proofs.lemmas.List.{map_push}
-use Rattle.script_text.specs.declared.kept.KeptOperand.{KeptOperand}
-use Rattle.script_text.specs.declared.kept.KeptOperand.TheVariants as kept
-use Rattle.script_text.specs.declared.line.Operand.{Operand}
-use Rattle.script_text.specs.declared.line.Operand.TheVariants as operand
-use Rattle.script_text.specs.Kept.{shown, NeedNoBytes}
+use Rattle.script_lines.specs.declared.operands.KeptOperand.{KeptOperand}
+use Rattle.script_lines.specs.declared.operands.KeptOperand.TheVariants as kept
+use Rattle.script_lines.specs.declared.line.Operand.{Operand}
+use Rattle.script_lines.specs.declared.line.Operand.TheVariants as operand
+use Rattle.script_lines.specs.Kept.{shown, NeedNoBytes}
 
 -- an operand is the same with any bytes
 abbrev pub IsPlain : KeptOperand → Type 0

@@ -1,4 +1,4 @@
-//! The operands of a line as it keeps them.
+//! The operands of a line.
 
 use crate::line::{Name, Operand, OperandBytes};
 use bumpalo::Bump;
@@ -6,9 +6,6 @@ use bumpalo::collections::into_bump_slice;
 use mac_base::error::HostFull;
 use std::marker::Model;
 use std::slice::from_ref;
-
-/// No bytes.
-static NO_BYTES: &[u8] = &[];
 
 /// An operand as a line keeps it: of bytes only that it is some, which stand apart.
 #[derive(Clone, Copy)]
@@ -23,16 +20,16 @@ pub enum KeptOperand {
 
 impl KeptOperand {
     ghost use Rattle.std.specs.Prelude.{◌≡◌};
-    ghost use Rattle.script_text.specs.Kept.{shown};
+    ghost use Rattle.script_lines.specs.Kept.{shown};
 
     /// The operand, where these are the bytes of its line.
-    fn shown<'a>(self, bytes: &'a &'a [u8]) -> Operand<'a>
-        ensures { result ≡ shown bytes.now.now self }
+    fn shown<'a>(self, bytes: &'a [u8]) -> Operand<'a>
+        ensures { result ≡ shown bytes.now self }
     {
         match self {
             KeptOperand::Number(number) => Operand::Number(number),
             KeptOperand::Variable(name) => Operand::Variable(name),
-            KeptOperand::Bytes => Operand::Bytes(OperandBytes::kept_at(bytes)),
+            KeptOperand::Bytes => Operand::Bytes(OperandBytes::new(bytes)),
             KeptOperand::Id(id) => Operand::Id(id),
             KeptOperand::Type(bytes) => Operand::Type(bytes),
             KeptOperand::Missing => Operand::Missing,
@@ -44,34 +41,34 @@ impl KeptOperand {
 /// keeps the bytes of one.
 #[derive(Drop)]
 pub struct Operands<'a> {
-    kept: &'a [KeptOperand],
-    bytes: &'a &'a [u8],
+    pub(crate) kept: &'a [KeptOperand],
+    pub(crate) bytes: &'a [u8],
 }
 
 impl<'a> Model for Operands<'a> {
     ghost use Rattle.std.specs.Prelude.{List, map};
-    ghost use Rattle.script_text.specs.Kept.{shown};
-    ghost use Rattle.script_text.specs.declared.line.Operand.{Operand};
+    ghost use Rattle.script_lines.specs.Kept.{shown};
+    ghost use Rattle.script_lines.specs.declared.line.Operand.{Operand};
 
     ghost Value = { List Operand };
 
-    ghost view = { λ o. map (shown o.bytes.now.now) o.kept.now };
+    ghost view = { λ o. map (shown o.bytes.now) o.kept.now };
 }
 
 impl<'a> Operands<'a> {
     ghost use Rattle.std.specs.Prelude.{◌≡◌, [], ◌∷◌, IfOk, slice_get};
 
     /// This operand and no other.
-    pub(crate) fn one(arena: &'a Bump, operand: Operand<'a>) -> Result<Operands<'a>, HostFull>
+    pub fn one(arena: &'a Bump, operand: Operand<'a>) -> Result<Operands<'a>, HostFull>
         ensures { IfOk result (λ found. found ≡ operand.entry ∷ []) }
     {
-        let (kept, bytes) = match operand {
-            Operand::Number(number) => (KeptOperand::Number(number), &NO_BYTES),
-            Operand::Variable(name) => (KeptOperand::Variable(name), &NO_BYTES),
-            Operand::Bytes(bytes) => (KeptOperand::Bytes, bytes.kept()),
-            Operand::Id(id) => (KeptOperand::Id(id), &NO_BYTES),
-            Operand::Type(bytes) => (KeptOperand::Type(bytes), &NO_BYTES),
-            Operand::Missing => (KeptOperand::Missing, &NO_BYTES),
+        let (kept, bytes): (KeptOperand, &[u8]) = match operand {
+            Operand::Number(number) => (KeptOperand::Number(number), &[]),
+            Operand::Variable(name) => (KeptOperand::Variable(name), &[]),
+            Operand::Bytes(bytes) => (KeptOperand::Bytes, bytes.as_slice()),
+            Operand::Id(id) => (KeptOperand::Id(id), &[]),
+            Operand::Type(bytes) => (KeptOperand::Type(bytes), &[]),
+            Operand::Missing => (KeptOperand::Missing, &[]),
         };
         match arena.try_alloc(kept) {
             Ok(kept) => Ok(Operands {
@@ -97,47 +94,47 @@ impl<'a> Operands<'a> {
 #[derive(Drop)]
 pub struct ReadOperands<'a> {
     kept: Vec<KeptOperand, &'a Bump>,
-    bytes: &'a &'a [u8],
+    bytes: &'a [u8],
     has_bytes: bool,
 }
 
 impl<'a> Model for ReadOperands<'a> {
     ghost use Rattle.std.specs.Prelude.{List, map};
-    ghost use Rattle.script_text.specs.Kept.{shown, NeedNoBytes};
-    ghost use Rattle.script_text.specs.declared.line.Operand.{Operand};
+    ghost use Rattle.script_lines.specs.Kept.{shown, NeedNoBytes};
+    ghost use Rattle.script_lines.specs.declared.line.Operand.{Operand};
 
     ghost Value = { List Operand };
 
-    ghost view = { λ o. map (shown o.bytes.now.now) o.kept.items };
+    ghost view = { λ o. map (shown o.bytes.now) o.kept.items };
 
-    ghost invariant = { λ o. NeedNoBytes o.has_bytes o.bytes.now.now o.kept.items };
+    ghost invariant = { λ o. NeedNoBytes o.has_bytes o.bytes.now o.kept.items };
 }
 
 impl<'a> ReadOperands<'a> {
     ghost use Rattle.std.specs.Prelude.{◌≡◌, [], ◌∷◌, ◌++◌, List, ℕ, IfOk, OnOk};
-    ghost use Rattle.script_text.specs.Kept.{shown};
-    ghost use Rattle.script_text.specs.declared.line.Operand.TheVariants as operand;
+    ghost use Rattle.script_lines.specs.Kept.{shown};
+    ghost use Rattle.script_lines.specs.declared.line.Operand.TheVariants as operand;
 
     /// No operands, with room for so many.
-    pub(crate) fn with_capacity(arena: &'a Bump, count: usize) -> Result<ReadOperands<'a>, HostFull>
+    pub fn with_capacity(arena: &'a Bump, count: usize) -> Result<ReadOperands<'a>, HostFull>
         ensures { IfOk result (λ read. read ≡ []) }
     {
         let kept = Vec::with_capacity(arena, count)?;
         Ok(ReadOperands {
             kept,
-            bytes: &NO_BYTES,
+            bytes: &[],
             has_bytes: false,
         })
     }
 
     /// One operand more.
-    pub(crate) fn push(&mut self, operand: &Operand<'a>) -> Result<(), HostFull>
+    pub fn push(&mut self, operand: &Operand<'a>) -> Result<(), HostFull>
         ensures { OnOk result (self.new ≡ self.old ++ operand.now ∷ []) }
     {
         match operand {
             Operand::Number(number) => self.push_kept(KeptOperand::Number(*number)),
             Operand::Variable(name) => self.push_kept(KeptOperand::Variable(*name)),
-            Operand::Bytes(bytes) => self.push_bytes(bytes.kept()),
+            Operand::Bytes(bytes) => self.push_bytes(bytes.as_slice()),
             Operand::Id(id) => self.push_kept(KeptOperand::Id(*id)),
             Operand::Type(bytes) => self.push_kept(KeptOperand::Type(*bytes)),
             Operand::Missing => self.push_kept(KeptOperand::Missing),
@@ -154,8 +151,8 @@ impl<'a> ReadOperands<'a> {
     }
 
     /// One operand more, which is these bytes. There is no room for the bytes of two.
-    fn push_bytes(&mut self, bytes: &'a &'a [u8]) -> Result<(), HostFull>
-        ensures { OnOk result (self.new ≡ self.old ++ operand.Bytes bytes.now.now ∷ []) }
+    fn push_bytes(&mut self, bytes: &'a [u8]) -> Result<(), HostFull>
+        ensures { OnOk result (self.new ≡ self.old ++ operand.Bytes bytes.now ∷ []) }
     {
         if self.has_bytes {
             return Err(HostFull);
@@ -167,7 +164,7 @@ impl<'a> ReadOperands<'a> {
     }
 
     /// The operands, which the line keeps.
-    pub(crate) fn into_operands(self) -> Operands<'a>
+    pub fn into_operands(self) -> Operands<'a>
         ensures { result ≡ self.entry }
     {
         Operands {

@@ -1,5 +1,5 @@
-use Rattle.script_text.proofs.KeptLaws.{plain_needs, plain_shown}
-use Rattle.script_text.proofs.kept.ReadOperands.push_kept.Goals as goal
+use Rattle.script_lines.proofs.KeptLaws.{plain_needs, plain_shown}
+use Rattle.script_lines.proofs.operands.ReadOperands.push_kept.Goals as goal
 
 pub invariant_of-self : goal.invariant_of-self
 invariant_of-self c = rw c.in_err-push.ensures.items c.self.invariant

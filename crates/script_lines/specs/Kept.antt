@@ -1,9 +1,9 @@
 -- The operands of a line as it keeps them.
 use Rattle.std.specs.Prelude.{◌≡◌, ℕ, Bool, false, List, map}
-use Rattle.script_text.specs.declared.kept.KeptOperand.{KeptOperand}
-use Rattle.script_text.specs.declared.kept.KeptOperand.TheVariants as kept
-use Rattle.script_text.specs.declared.line.Operand.{Operand}
-use Rattle.script_text.specs.declared.line.Operand.TheVariants as operand
+use Rattle.script_lines.specs.declared.operands.KeptOperand.{KeptOperand}
+use Rattle.script_lines.specs.declared.operands.KeptOperand.TheVariants as kept
+use Rattle.script_lines.specs.declared.line.Operand.{Operand}
+use Rattle.script_lines.specs.declared.line.Operand.TheVariants as operand
 
 -- the operand that is kept so, where these are the bytes of its line
 abbrev pub shown : List ℕ → KeptOperand → Operand
