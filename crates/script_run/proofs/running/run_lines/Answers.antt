@@ -1,4 +1,4 @@
-use Rattle.std.proofs.Common.{◌≡◌, ◌+◌, [], ◌∷◌, ◌++◌, refl, inl, inr, ◌∙◌}
+use Rattle.std.proofs.Common.{◌≡◌, ◌+◌, [], ◌∷◌, ◌++◌, refl, inl, inr, ◌∙◌, arith}
 use Rattle.std.specs.List.{concat}
 use Rattle.std.proofs.lemmas.List.{append-nil}
 use Rattle.script_run.specs.Run.{IsFront}
@@ -72,7 +72,7 @@ loop-place-preserved g c =
 pub returns-clause-ends : goal.returns-clause-ends
 returns-clause-ends g c =
     let i = c.loop-place.invariant in
-    (concat i.0, i.1, (i.0, all_run g.S.ForkStore c.args.machine.now c.args.script.now i.0 c.loop-place.machine c.loop-place.place c.loop-place-test.false i.2, refl))
+    (concat i.0, i.1, (i.0, all_run g.S.ForkStore c.args.machine.now c.args.script.now i.0 c.loop-place.machine c.loop-place.place (omega (arith, c.loop-place-test.false, c.len-place-end.ensures)) i.2, refl))
 
 pub returns-clause-no_write_failed : goal.returns-clause-no_write_failed
 returns-clause-no_write_failed g c = λ other. c.loop-place.invariant.3
