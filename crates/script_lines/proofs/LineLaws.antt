@@ -1,5 +1,5 @@
 -- Lines stay as they are where others come behind them.
-use Rattle.std.proofs.Common.{◌≡◌, ℕ, zero, suc, ◌+◌, length, map, take, drop, get_or, List, [], ◌∷◌, ◌++◌, refl, sym, ap, ◌∙◌, length-append, length-drop, append-nil, ◌-◌, arith}
+use Rattle.std.proofs.Common.{◌≤◌, ◌≡◌, ℕ, zero, suc, ◌+◌, length, map, take, drop, get_or, List, [], ◌∷◌, ◌++◌, refl, sym, ap, ◌∙◌, length-append, length-drop, append-nil, ◌-◌, arith}
 use Rattle.std.specs.Prelude.{All}
 use Rattle.std.proofs.lemmas.List.{drop-append-le, map_push, take-append-le}
 use Rattle.std.proofs.lemmas.List.Elements.{All-append}
@@ -9,24 +9,23 @@ use Rattle.script_lines.specs.declared.line.Statement.{Statement}
 use Rattle.script_lines.specs.declared.line.Statement.TheVariants.{Call, Answer}
 use Rattle.script_lines.specs.declared.line.WrittenCall.{WrittenCall}
 use Rattle.script_lines.specs.declared.operands.KeptOperand.{KeptOperand}
-use Rattle.script_lines.specs.declared.script.Part.{Part}
 use Rattle.script_lines.specs.declared.script.KeptLine.{KeptLine}
 use Rattle.script_lines.specs.declared.script.KeptStatement.{KeptStatement}
 use Rattle.script_lines.specs.declared.script.KeptStatement.TheVariants as kept
 use Rattle.script_lines.specs.Kept.{shown}
-use Rattle.script_lines.specs.Lines.{part, Extends, IsInside, IsThere, IsKept, said, line_of}
+use Rattle.script_lines.specs.Lines.{part, Extends, IsThere, IsKept, said, line_of}
 
 -- a part of a list stays what it is
-part-stays : {X : Type 0} (old new : List X) (place : Part) → Extends old new → IsInside old place → part new place ≡ part old place
-part-stays {X} old new place longer within =
-    let behind : drop place.first (old ++ longer.0) ≡ drop place.first old ++ longer.0 = drop-append-le place.first old longer.0 (omega arith) in
-    let rest : length (drop place.first old) ≡ length old - place.first = length-drop place.first old in
-    let front : take place.count (drop place.first old ++ longer.0) ≡ take place.count (drop place.first old) = take-append-le place.count (drop place.first old) longer.0 (omega arith) in
-    ap (λ (t : List X). part t place) longer.1 ∙ ap (λ (t : List X). take place.count t) behind ∙ front
+part-stays : {X : Type 0} (old new : List X) (first count : ℕ) → Extends old new → first + count ≤ length old → part new first count ≡ part old first count
+part-stays {X} old new first count longer within =
+    let behind : drop first (old ++ longer.0) ≡ drop first old ++ longer.0 = drop-append-le first old longer.0 (omega arith) in
+    let rest : length (drop first old) ≡ length old - first = length-drop first old in
+    let front : take count (drop first old ++ longer.0) ≡ take count (drop first old) = take-append-le count (drop first old) longer.0 (omega arith) in
+    ap (λ (t : List X). part t first count) longer.1 ∙ ap (λ (t : List X). take count t) behind ∙ front
 
 -- and inside
-inside-stays : {X : Type 0} (old new : List X) (place : Part) → Extends old new → IsInside old place → IsInside new place
-inside-stays old new place longer within =
+inside-stays : {X : Type 0} (old new : List X) (end : ℕ) → Extends old new → end ≤ length old → end ≤ length new
+inside-stays old new end longer within =
     let long : length new ≡ length old + length longer.0 = ap length longer.1 ∙ length-append old longer.0 in
     omega arith
 
@@ -37,16 +36,16 @@ pub record Grows (operands operands2 : List KeptOperand) (bytes bytes2 : List �
   pub calls_grow : Extends calls calls2
 
 there-stays : (operands operands2 : List KeptOperand) (bytes bytes2 : List ℕ) (calls calls2 : List WrittenCall) (s : KeptStatement) → Grows operands operands2 bytes bytes2 calls calls2 → IsThere operands bytes calls s → IsThere operands2 bytes2 calls2 s
-there-stays operands operands2 bytes bytes2 calls calls2 (kept.Call assigned call own text) g is = (inside-stays operands operands2 own g.operands_grow is.0, inside-stays bytes bytes2 text g.bytes_grow is.1)
-there-stays operands operands2 bytes bytes2 calls calls2 (kept.Answer value own) g is = (inside-stays calls calls2 own g.calls_grow is.0, is.1)
+there-stays operands operands2 bytes bytes2 calls calls2 (kept.Call call assigned n at text m) g is = (inside-stays operands operands2 (at + n) g.operands_grow is.0, inside-stays bytes bytes2 (text + m) g.bytes_grow is.1)
+there-stays operands operands2 bytes bytes2 calls calls2 (kept.Answer n at value) g is = (inside-stays calls calls2 (at + n) g.calls_grow is.0, is.1)
 
 said-stays : (operands operands2 : List KeptOperand) (bytes bytes2 : List ℕ) (calls calls2 : List WrittenCall) (s : KeptStatement) → Grows operands operands2 bytes bytes2 calls calls2 → IsThere operands bytes calls s → said operands2 bytes2 calls2 s ≡ said operands bytes calls s
-said-stays operands operands2 bytes bytes2 calls calls2 (kept.Call assigned call own text) g is =
+said-stays operands operands2 bytes bytes2 calls calls2 (kept.Call call assigned n at text m) g is =
     ap (λ (o : List Operand). Call (record { assigned = assigned; call = call; operands = o }))
-    (ap (λ (t : List ℕ). map (shown t) (part operands2 own)) (part-stays bytes bytes2 text g.bytes_grow is.1)
-    ∙ ap (λ (k : List KeptOperand). map (shown (part bytes text)) k) (part-stays operands operands2 own g.operands_grow is.0))
-said-stays operands operands2 bytes bytes2 calls calls2 (kept.Answer value own) g is =
-    ap (λ (c : List WrittenCall). Answer (record { value = value; calls = c })) (part-stays calls calls2 own g.calls_grow is.0)
+    (ap (λ (t : List ℕ). map (shown t) (part operands2 at n)) (part-stays bytes bytes2 text m g.bytes_grow is.1)
+    ∙ ap (λ (k : List KeptOperand). map (shown (part bytes text m)) k) (part-stays operands operands2 at n g.operands_grow is.0))
+said-stays operands operands2 bytes bytes2 calls calls2 (kept.Answer n at value) g is =
+    ap (λ (c : List WrittenCall). Answer (record { value = value; calls = c })) (part-stays calls calls2 at n g.calls_grow is.0)
 
 -- the lines before a change stay what they are
 pub lines-stay : (operands operands2 : List KeptOperand) (bytes bytes2 : List ℕ) (calls calls2 : List WrittenCall) (lines : List KeptLine) → Grows operands operands2 bytes bytes2 calls calls2 → All (IsKept operands bytes calls) lines → map (line_of operands2 bytes2 calls2) lines ≡ map (line_of operands bytes calls) lines

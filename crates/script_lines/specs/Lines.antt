@@ -5,20 +5,15 @@ use Rattle.script_lines.specs.declared.line.Statement.{Statement}
 use Rattle.script_lines.specs.declared.line.Statement.TheVariants.{Call, Answer}
 use Rattle.script_lines.specs.declared.line.WrittenCall.{WrittenCall}
 use Rattle.script_lines.specs.declared.operands.KeptOperand.{KeptOperand}
-use Rattle.script_lines.specs.declared.script.Part.{Part}
 use Rattle.script_lines.specs.declared.script.KeptLine.{KeptLine}
 use Rattle.script_lines.specs.declared.script.KeptStatement.{KeptStatement}
 use Rattle.script_lines.specs.declared.script.KeptStatement.TheVariants as kept
 use Rattle.script_lines.specs.Calls.{most_calls}
 use Rattle.script_lines.specs.Kept.{shown}
 
--- the elements that stand there
-abbrev pub part : {X : Type 0} → List X → Part → List X
-part xs place = take place.count (drop place.first xs)
-
--- all of them stand in the list
-abbrev pub IsInside : {X : Type 0} → List X → Part → Type 0
-IsInside xs place = place.first + place.count ≤ length xs
+-- so many elements of a list, from one on
+abbrev pub part : {X : Type 0} → List X → ℕ → ℕ → List X
+part xs first count = take count (drop first xs)
 
 -- others may have come behind the elements of a list
 abbrev pub Extends : {X : Type 0} → List X → List X → Type 0
@@ -26,13 +21,18 @@ Extends {X} old new = (more : List X) × (new ≡ old ++ more)
 
 -- what a line says, where these are the operands, the bytes and the calls of all lines
 abbrev pub said : List KeptOperand → List ℕ → List WrittenCall → KeptStatement → Statement
-said operands bytes calls (kept.Call assigned call own text) = Call (record { assigned = assigned; call = call; operands = map (shown (part bytes text)) (part operands own) })
-said operands bytes calls (kept.Answer value own) = Answer (record { value = value; calls = part calls own })
+said operands bytes calls (kept.Call call assigned operand_count first_operand first_byte byte_count) = Call (record {
+  assigned = assigned;
+  call = call;
+  operands = map (shown (part bytes first_byte byte_count)) (part operands first_operand operand_count);
+})
+said operands bytes calls (kept.Answer call_count first_call value) = Answer (record { value = value; calls = part calls first_call call_count })
 
 -- what a line says stands among them, and an answer has few calls
 abbrev pub IsThere : List KeptOperand → List ℕ → List WrittenCall → KeptStatement → Type 0
-IsThere operands bytes calls (kept.Call assigned call own text) = IsInside operands own × IsInside bytes text
-IsThere operands bytes calls (kept.Answer value own) = IsInside calls own × (own.count ≤ most_calls)
+IsThere operands bytes calls (kept.Call call assigned operand_count first_operand first_byte byte_count) =
+    (first_operand + operand_count ≤ length operands) × (first_byte + byte_count ≤ length bytes)
+IsThere operands bytes calls (kept.Answer call_count first_call value) = (first_call + call_count ≤ length calls) × (call_count ≤ most_calls)
 
 -- the line that is kept so
 abbrev pub line_of : List KeptOperand → List ℕ → List WrittenCall → KeptLine → Line

@@ -1,7 +1,7 @@
 //! The lines of a script, in little memory.
 
 ghost use Rattle.std.specs.Prelude.{◌≡◌, ℕ, List, ◌+◌, ◌++◌, ◌≤◌, length, IfOk, OnOk, OnErr};
-ghost use Rattle.script_lines.specs.Lines.{part, Extends, IsInside, IsThere, said};
+ghost use Rattle.script_lines.specs.Lines.{part, Extends, IsThere, said};
 ghost use Rattle.script_lines.specs.declared.line.WrittenCall.{WrittenCall};
 ghost use Rattle.script_lines.specs.declared.line.Statement.TheVariants as statement;
 ghost use Rattle.script_lines.specs.declared.operands.KeptOperand.{KeptOperand};
@@ -16,25 +16,22 @@ use mac_calls::CallName;
 use std::alloc::Global;
 use std::marker::Model;
 
-/// Where some elements of a list stand side by side.
-#[derive(Clone, Copy)]
-pub(crate) struct Part {
-    first: u32,
-    count: u32,
-}
-
-/// What a line says, where its operands, their bytes and its calls stand among those of all lines.
+/// What a line says, where its operands, their bytes and its calls stand among those of all lines: from the first on, and how many
+/// they are. The fields stand in an order in which they take 20 bytes.
 #[derive(Clone, Copy)]
 pub(crate) enum KeptStatement {
     Call {
-        assigned: Option<Name>,
         call: CallName,
-        operands: Part,
-        bytes: Part,
+        assigned: Option<Name>,
+        operand_count: u8,
+        first_operand: u32,
+        first_byte: u32,
+        byte_count: u32,
     },
     Answer {
+        call_count: u8,
+        first_call: u32,
         value: NumberOperand,
-        calls: Part,
     },
 }
 
@@ -84,7 +81,7 @@ impl Script {
         }
     }
 
-    /// One line more. The only error is that the host has no memory, or that all operands are more than a number counts.
+    /// One line more. The only error is that the host has no memory, or that there are more operands than a number of 32 bits counts.
     pub fn push(&mut self, line: &Line<'_>) -> Result<(), HostFull>
         ensures { OnOk result (self.new ≡ self.old ++ line.now ∷ []) }
     {
@@ -133,47 +130,50 @@ fn statement_of<'a>(
 {
     match kept {
         KeptStatement::Call {
-            assigned,
             call,
-            operands,
-            bytes,
+            assigned,
+            operand_count,
+            first_operand,
+            first_byte,
+            byte_count,
         } => Statement::Call(CallLine {
             assigned,
             call,
             operands: Operands {
-                kept: elements(all_operands, operands),
-                bytes: elements(all_bytes, bytes),
+                kept: part(all_operands, first_operand, u32::from(operand_count)),
+                bytes: part(all_bytes, first_byte, byte_count),
             },
         }),
-        KeptStatement::Answer { value, calls } => {
-            Statement::Answer(AnswerLine::new(WrittenAnswer {
-                value,
-                calls: WrittenCalls::new(elements(all_calls, calls)),
-            }))
-        }
+        KeptStatement::Answer {
+            call_count,
+            first_call,
+            value,
+        } => Statement::Answer(AnswerLine::new(WrittenAnswer {
+            value,
+            calls: WrittenCalls::new(part(all_calls, first_call, u32::from(call_count))),
+        })),
     }
 }
 
-/// The elements that stand in this part of a list.
-fn elements<T: Copy>(list: &[T], place: Part) -> &[T]
-    requires { IsInside list.now place }
-    ensures { result.now ≡ part list.now place }
+/// So many elements of a list, from one on.
+fn part<T: Copy>(list: &[T], first: u32, count: u32) -> &[T]
+    requires { first + count ≤ length list.now }
+    ensures { result.now ≡ part list.now first count }
 {
-    &list[place.first as usize..place.first as usize + place.count as usize]
+    &list[first as usize..first as usize + count as usize]
 }
 
-/// Puts these elements behind the others of a list, and says where they stand.
-fn append<T: Copy>(list: &mut Vec<T>, added: &[T]) -> Result<Part, HostFull>
-    ensures first { IfOk result (λ place. place.first ≡ length list.old.items) }
-    ensures count { IfOk result (λ place. place.count ≡ length added.now) }
+/// Puts these elements behind the others of a list, and says where they begin.
+fn append<T: Copy>(list: &mut Vec<T>, added: &[T]) -> Result<u32, HostFull>
+    ensures first { IfOk result (λ first. first ≡ length list.old.items) }
     ensures list { OnOk result (list.new.items ≡ list.old.items ++ added.now) }
     ensures unchanged { OnErr result (list.new.items ≡ list.old.items) }
 {
-    let (Ok(first), Ok(count)) = (u32::try_from(list.len()), u32::try_from(added.len())) else {
+    let Ok(first) = u32::try_from(list.len()) else {
         return Err(HostFull);
     };
     list.extend_from_slice(added)?;
-    Ok(Part { first, count })
+    Ok(first)
 }
 
 /// Puts the operands of a call behind those of the others, and says what the line says.
@@ -187,11 +187,19 @@ fn keep_call(
     ensures operands { Extends operands.old.items operands.new.items }
     ensures bytes { Extends bytes.old.items bytes.new.items }
 {
+    let Ok(operand_count) = u8::try_from(line.operands.kept.len()) else {
+        return Err(HostFull);
+    };
+    let Ok(byte_count) = u32::try_from(line.operands.bytes.len()) else {
+        return Err(HostFull);
+    };
     Ok(KeptStatement::Call {
-        assigned: line.assigned,
         call: line.call,
-        operands: append(operands, line.operands.kept)?,
-        bytes: append(bytes, line.operands.bytes)?,
+        assigned: line.assigned,
+        operand_count,
+        first_operand: append(operands, line.operands.kept)?,
+        first_byte: append(bytes, line.operands.bytes)?,
+        byte_count,
     })
 }
 
@@ -204,9 +212,11 @@ fn keep_answer(
     ensures there { IfOk result (λ kept. (operands : List KeptOperand) (bytes : List ℕ) → IsThere operands bytes calls.new.items kept) }
     ensures calls { Extends calls.old.items calls.new.items }
 {
+    let added = line.calls();
     Ok(KeptStatement::Answer {
+        call_count: added.len() as u8,
+        first_call: append(calls, added)?,
         value: line.value(),
-        calls: append(calls, line.calls())?,
     })
 }
 
@@ -229,4 +239,4 @@ fn keep_statement(
     }
 }
 
-const _: () = prove!(size_of::<KeptLine>() == 28);
+const _: () = prove!(size_of::<KeptLine>() == 24);
