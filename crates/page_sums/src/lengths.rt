@@ -6,7 +6,7 @@ ghost use Rattle.page_sums.specs.Lengths.{IsNoted, Tells, TellsNothing, TellsSam
 use std::alloc::{AllocError, Global};
 use std::marker::Model;
 
-/// How many bytes a handle has, if that is remembered, in two bytes. A contract sees the number, or none.
+/// How many bytes a handle has, if that is remembered, in two bytes: 65,535 or more never are. A contract sees the number, or none.
 #[derive(Clone, Copy)]
 struct Remembered(
     /// One more than the number, or 0 for none.
@@ -28,10 +28,10 @@ impl Model for Remembered {
 }
 
 impl Remembered {
-    /// None.
+    /// Nothing is remembered.
     const NOTHING: Remembered = Remembered(0);
 
-    /// So many bytes, or none where they are too many for two bytes.
+    /// So many bytes, or nothing where the number is too large.
     fn new(length: u32) -> Remembered
         ensures { SomeIff result (length < u16.MAX) length }
     {
@@ -95,7 +95,8 @@ impl Lengths {
         }
     }
 
-    /// Remembers how many bytes a number has, if its place is one of those that there are.
+    /// Remembers how many bytes a number has, if its place is one of those that there are and the length isn't too large for it.
+    /// Else nothing is remembered of the number.
     pub(crate) fn note(&mut self, block: u32, length: u32)
         ensures { IsNoted block length self.old self.new }
     {

@@ -103,8 +103,18 @@ impl SummedZone {
     {
         match self.lengths.told(handle.number()) {
             Some(length) => length,
-            None => self.zone.linked().length_if_any(handle.number()),
+            None => self.asked_length(handle),
         }
+    }
+
+    /// How many bytes a handle has, asked of the zone. This stands apart, so that the way of those that are remembered is short: a
+    /// script may ask for thousands of them at each line.
+    #[cold]
+    #[inline(never)]
+    fn asked_length(&self, handle: Handle) -> u32
+        ensures { result ≡ length (bytes_of self.now.heap.table handle) }
+    {
+        self.zone.linked().length_if_any(handle.number())
     }
 
     /// The page of an address.
