@@ -346,6 +346,8 @@ RUNS = [
     ("calls with more bytes, all written, and 1 MB shown", [], all_kept(['Poke 0 0 $"' + "0" * 80 + '"'], SHOWN)),
     ("names, and all written that is kept beside a zone", [], written() + [f"n{it:X}=NewPtr 0" for it in range(LINES)]),
     ("names, all written, and 1 MB shown", [], written() + [f"n{it:X}=MaxMem" for it in range(LINES - len(written()) - 2)] + SHOWN),
+    ("named pointers, all written, and a map of 62,000 blocks", [], written() + [f"n{it:X}=NewPtr 0" for it in range(LINES - len(written()) - 1)] + ["ZoneMap"]),
+    ("1 MB that is lent and shown, and all written", [], all_kept(['Poke 0 0 "123"'], ["b=NewPtr 1000000", "Lend b", "LentPeek b 0 1000000"])),
     ("65,536 names", [], [f"v{it:X}=NewHandle 4" for it in range(LINES)]),
     ("bytes printed", [], ["h=NewHandle 100000"] + ["Peek h 0 4000"] * LINES),
 ]

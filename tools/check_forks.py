@@ -1,14 +1,14 @@
 #!/usr/bin/env python3
 """Checks forklist and macheap programs against a small model of resource forks, on random forks.
 
-    tools/check_forks.py FORKLIST MACHEAP [FORKS [FIRST]]
+    tools/check_forks.py FORKLIST MACHEAP [FORKS [FIRST [damaged]]]
 
 The model is written from the rules of docs/FORKS.md alone, and shares nothing with the program. The forks are such as the Resource
 Manager and other tools write: with the data or the map first, with data and names that are shared, with gaps, with
 reserved fields of any value; many of them are then cut or damaged. Of each fork the list is compared, and a few extracted
 resources, with their exit statuses and with what is told of a fork that is none; and macheap opens it, and tells of each resource its
 type, id, name, attributes and bytes. By default it tries 200 forks. Each is made from its number, so a difference can be made
-again: FIRST is the number of the first fork. Before them come command lines, and forks at the limits.
+again: FIRST is the number of the first fork. With `damaged` each of them is cut or changed. Before them come command lines, and forks at the limits.
 """
 import os
 import random
@@ -123,8 +123,10 @@ def listing(rows):
 class Choices:
     """Makes a fork from a number."""
 
-    def __init__(self, number):
+    def __init__(self, number, whole=True):
+        """With `whole` half of the forks stay as they are."""
         self.random = random.Random(number)
+        self.whole = whole
 
     def odds(self, share):
         return self.random.random() < share
@@ -234,6 +236,8 @@ class Choices:
 
     def damaged(self, fork, map_at):
         dice = self.random.random()
+        if not self.whole:
+            dice = 0.5 + dice / 2
         if dice < 0.5:
             return bytes(fork)
         if dice < 0.6:  # cut
@@ -396,16 +400,16 @@ def try_lines(program, path):
         compare(" ".join(words), run(program, words), status, None, told)
 
 
-def forks(first, count):
+def forks(first, count, whole):
     """The forks at the limits and random ones, each with a word for it and choices."""
     for what, fork in limits():
         yield what, fork, random.Random(0)
     for number in range(first, first + count):
-        yield f"fork {number}", Choices(number).fork(), random.Random(number)
+        yield f"fork {number}", Choices(number, whole).fork(), random.Random(number)
 
 
 def main():
-    if not 3 <= len(sys.argv) <= 5:
+    if not 3 <= len(sys.argv) <= 6 or sys.argv[5:] not in ([], ["damaged"]):
         sys.exit(__doc__)
     forklist, macheap = map(os.path.abspath, sys.argv[1:3])
     count = int(sys.argv[3]) if len(sys.argv) > 3 else 200
@@ -416,7 +420,7 @@ def main():
         what = "the command lines"
         try:
             try_lines(forklist, path)
-            for what, fork, choices in forks(first, count):
+            for what, fork, choices in forks(first, count, not sys.argv[5:]):
                 result = try_fork(forklist, path, fork, choices)
                 try_open(macheap, path, fork)
                 seen[result] = seen.get(result, 0) + 1
