@@ -172,7 +172,12 @@ fn append<T: Copy>(list: &mut Vec<T>, added: &[T]) -> Result<u32, HostFull>
     let Ok(first) = u32::try_from(list.len()) else {
         return Err(HostFull);
     };
-    list.extend_from_slice(added)?;
+    // Most lines have one operand, and no bytes.
+    match added {
+        [] => {}
+        [one] => list.push(*one)?,
+        _ => list.extend_from_slice(added)?,
+    }
     Ok(first)
 }
 

@@ -9,7 +9,7 @@ ghost use Rattle.script_text.specs.Reading.{Reads, Fails, Adds};
 use crate::names::Names;
 use crate::statement::statement;
 use crate::token::{Token, read_tokens};
-use bumpalo::Bump;
+use bumpalo::{Bump, ResetError};
 use mac_base::error::HostFull;
 use memchr::memchr;
 use script_lines::{Line, Script};
@@ -38,6 +38,14 @@ impl From<HostFull> for Fault {
     ghost from_gives = { λ _ fault. fault ≡ HostFull };
 
     fn from(_: HostFull) -> Fault {
+        Fault::HostFull
+    }
+}
+
+impl From<ResetError> for Fault {
+    ghost from_gives = { λ _ fault. fault ≡ HostFull };
+
+    fn from(_: ResetError) -> Fault {
         Fault::HostFull
     }
 }
@@ -82,10 +90,13 @@ fn first_line(text: &[u8]) -> Option<(&[u8], &[u8])>
     }
 }
 
+/// After so many lines their parts are given up, which a script has kept by then.
+const LINES_IN_ARENA: u32 = 64;
+
 /// Adds the line of this number to those before it, where these names have been assigned: none, if its text says nothing.
-/// The tokens and the arena are memory to be used again.
+/// The tokens are memory to be used again.
 fn add_line<'a>(
-    arena: &mut Bump,
+    arena: &Bump,
     number: u32,
     text: &'a [u8],
     tokens: &mut Vec<Token<'a>>,
@@ -101,9 +112,6 @@ fn add_line<'a>(
     if tokens.is_empty() {
         return Ok(());
     }
-    let Ok(()) = arena.reset() else {
-        return Err(Fault::HostFull);
-    };
     let Some(statement) = statement(arena, tokens, names)? else {
         return Err(Fault::Line(number));
     };
@@ -125,8 +133,11 @@ fn add_lines(alloc: Global, text: &[u8], script: &mut Script) -> Result<(), Faul
     let mut number = 0;
     while let Some((line, behind)) = first_line(rest) {
         number += 1;
-        add_line(&mut arena, number, line, &mut tokens, &mut names, script)?;
+        add_line(&arena, number, line, &mut tokens, &mut names, script)?;
         rest = behind;
+        if number % LINES_IN_ARENA == 0 {
+            arena.reset()?;
+        }
     }
     Ok(())
 }

@@ -14,3 +14,8 @@ pub loop-line-preserved : goal.loop-line-preserved
 loop-line-preserved c =
     let adds = c.in_ok-add_line.ensures.line in
     rw adds.2 (parsing_more _ _ _ _ _ _ _ _ adds.0 c.loop-line.invariant c.in-Some.ensures.lines adds.1)
+
+pub loop-line-preserved-in-Continue-branch-2 : goal.loop-line-preserved-in-Continue-branch-2
+loop-line-preserved-in-Continue-branch-2 c =
+    let adds = c.in_ok-add_line.ensures.line in
+    rw adds.2 (parsing_more _ _ _ _ _ _ _ _ adds.0 c.loop-line.invariant c.in-Some.ensures.lines adds.1)
