@@ -21,11 +21,12 @@ impl Model for Name {
 }
 
 impl Name {
-    ghost use Rattle.std.specs.Prelude.{◌≡◌, IfOk};
+    ghost use Rattle.std.specs.Prelude.{◌≡◌, ◌≤◌, ◌^◌, IfOk, OnErr};
 
-    /// The name at this place.
+    /// The name at this place. The only error is that no script has so many names.
     pub fn at(place: usize) -> Result<Name, HostFull>
-        ensures { IfOk result (λ name. name ≡ place) }
+        ensures name { IfOk result (λ name. name ≡ place) }
+        ensures beyond { OnErr result (2 ^ 16 ≤ place) }
     {
         match u16::try_from(place) {
             Ok(place) => Ok(Name(place)),

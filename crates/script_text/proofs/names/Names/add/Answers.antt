@@ -8,7 +8,7 @@ use Rattle.script_text.proofs.names.Names.add.Goals as goal
 pub returns-clause-place : goal.returns-clause-place
 returns-clause-place c =
     let spelled : Bor (List ℕ) → List ℕ = λ k. k.now in
-    c.in_ok-name.ensures
+    c.in_ok-name.ensures.name
     ∙ c.in_ok-place.ensures.index
     ∙ sym (place_for-map spelled c.args.word.now c.self.inside.names.keys)
     ∙ ap (λ (n : List (List ℕ)). place_for n c.args.word.now) c.self.view_is
@@ -30,6 +30,6 @@ invariant_of-self-2 c =
     ap (λ (keys : List (Bor (List ℕ))). map spelled keys) c.in_ok-place.ensures.keys ∙ with_name-map spelled c.self.inside.names.keys c.args.word
     in
     let place : c.in_ok-name.name ≡ place_for (map spelled c.self.inside.names.keys) c.args.word.now =
-    c.in_ok-name.ensures ∙ c.in_ok-place.ensures.index ∙ sym (place_for-map spelled c.args.word.now c.self.inside.names.keys)
+    c.in_ok-name.ensures.name ∙ c.in_ok-place.ensures.index ∙ sym (place_for-map spelled c.args.word.now c.self.inside.names.keys)
     in
     rw names (last_taken (map spelled c.self.inside.names.keys) c.args.word c.in_ok-name.name place)

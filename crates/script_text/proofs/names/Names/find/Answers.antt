@@ -10,7 +10,7 @@ returns-in_ok-at-in-Some-get_index_of c =
     let same : place_of c.args.self.now c.args.word.now ≡ c.get_index_of.result =
     sym (c.get_index_of.ensures.index ∙ sym (place_of-map spelled c.args.word.now c.self.inside.names.keys) ∙ ap (λ (n : List (List ℕ)). place_of n c.args.word.now) c.self.view_is)
     in
-    rw (same, c.in-Some-get_index_of.is, c.in_ok-at-in-Some-get_index_of.ensures) refl
+    rw (same, c.in-Some-get_index_of.is, c.in_ok-at-in-Some-get_index_of.ensures.name) refl
 
 pub returns-in-None : goal.returns-in-None
 returns-in-None c =
