@@ -40,7 +40,7 @@ pub fn run<S: ForkStore, R: Read, W: Write>(
     ensures write_fault { result.0 ≡ RunEnd.WriteFault → Rose writer.old.failures writer.new.failures }
     ensures no_write_failed { result.0 ≢ RunEnd.WriteFault → writer.new.failures ≡ writer.old.failures }
 {
-    let text = match read_script(alloc, reader) {
+    let mut text = match read_script(alloc, reader) {
         Ok(text) => text,
         Err(ReadEnd::TooLong) => return (tell_fault(alloc, writer, 0), stores),
         Err(ReadEnd::Memory) => return (tell_no_memory(writer), stores),
@@ -51,7 +51,10 @@ pub fn run<S: ForkStore, R: Read, W: Write>(
         Err(Fault::Line(line)) => return (tell_fault(alloc, writer, line), stores),
         Err(Fault::HostFull) => return (tell_no_memory(writer), stores),
     };
-    drop(text);
+    // The text is given up but for a byte: a long list that is freed as a whole makes the C library keep others in its heap, where
+    // those that grow leave holes.
+    text.clear();
+    text.shrink_to(1);
     let Ok(memory) = MemoryManager::create(alloc, spec) else {
         return (tell_no_memory(writer), stores);
     };
