@@ -100,7 +100,7 @@ fn row_given(alloc: Global, row: &MfRow, name: &[u8], datum: &[u8]) -> Result<Ro
     requires { length name.now ≤ 255 }
     ensures { IfOk result (λ given. given ≡ row_given row.now name.now datum.now) }
 {
-    let name = Name::new(copied(alloc, name)?);
+    let name = Name::new(alloc, name)?;
     let datum = Bytes::new(copied(alloc, datum)?);
     Ok(Resource {
         kind: type_given(row.kind),

@@ -12,6 +12,10 @@ use Rattle.fork_reader.specs.declared.place.Place.{Place}
 use Rattle.fork_reader.specs.declared.types.TypeList.{TypeList}
 use Rattle.fork_reader.specs.declared.types.TypeEntry as found
 
+-- all bytes of a map's names stand before this place
+abbrev pub names_end : ℕ
+names_end = 131326
+
 -- a resource with the place of its bytes
 abbrev pub PlacedRow : Type 0
 PlacedRow = Resource Place

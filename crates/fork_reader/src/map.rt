@@ -1,12 +1,13 @@
 //! The map of a fork.
 
-ghost use Rattle.std.specs.Prelude.{◌≡◌, ◌<◌, ◌≤◌, ◌+◌, ◌*◌, ◌++◌, length, IfOk, IfErr, OnOk};
+ghost use Rattle.std.specs.Prelude.{◌≡◌, ◌<◌, ◌≤◌, ◌+◌, ◌*◌, ◌++◌, length, take, IfOk, IfErr, OnOk};
+ghost use Rattle.std.specs.Arc.{arc_slice_items};
 ghost use Rattle.std.specs.List.{AllByRecursion};
 ghost use Rattle.fork_bytes.specs.Fork.{attributes_of, map_row, map_rows, references_in, Reference, HasReferences, HasNames};
-ghost use Rattle.fork_reader.specs.Reading.{FaultsAt, HasName, IsMap, IsTypeList, RefusesMap, entry_of, rows_in};
+ghost use Rattle.fork_reader.specs.Reading.{FaultsAt, HasName, IsMap, IsTypeList, RefusesMap, entry_of, names_end, rows_in};
 
 use crate::grow::push;
-use crate::name::read_name;
+use crate::name::{read_name, share_names};
 use crate::number::{read_signed, read_three, read_two};
 use crate::types::{REFERENCE_LENGTH, TypeEntry, TypeList, check_references, entry, read_types};
 use bitflags::Flags;
@@ -14,6 +15,7 @@ use fork_bytes::fault::{Condition, ForkFault};
 use fork_bytes::layout::MapRow;
 use res_base::resource::{ResAttrs, ResType};
 use std::alloc::Global;
+use std::sync::ArcSlice;
 
 /// The attributes of a map.
 pub fn read_attributes(map: &[u8]) -> u16
@@ -24,14 +26,15 @@ pub fn read_attributes(map: &[u8]) -> u16
 }
 
 /// The row of the reference at a place of the map. The fault is BadMap(Names) where its name ends outside the map.
-fn read_row(alloc: Global, map: &[u8], kind: ResType, at: usize) -> Result<MapRow, ForkFault>
+fn read_row(map: &[u8], names: &ArcSlice<u8>, kind: ResType, at: usize) -> Result<MapRow, ForkFault>
     requires map { 28 ≤ length map.now }
+    requires names { arc_slice_items names.now ≡ take names_end map.now }
     requires within { at + 12 ≤ length map.now }
     ensures row { IfOk result (λ row. row ≡ map_row map.now (record { kind = kind; place = at })) }
     ensures has { IfOk result (λ _. HasName map.now (record { kind = kind; place = at })) }
     ensures refuses { IfErr result (FaultsAt Condition.Names (¬ HasName map.now (record { kind = kind; place = at }))) }
 {
-    let name = read_name(alloc, map, at)?;
+    let name = read_name(map, names, at)?;
     Ok(MapRow {
         kind,
         id: read_signed(map, at),
@@ -43,12 +46,13 @@ fn read_row(alloc: Global, map: &[u8], kind: ResType, at: usize) -> Result<MapRo
 
 /// Adds the rows of a type. The fault is BadMap(Names) where one of their names ends outside the map.
 fn push_rows(
-    alloc: Global,
     map: &[u8],
+    names: &ArcSlice<u8>,
     entry: TypeEntry,
     rows: &mut Vec<MapRow>,
 ) -> Result<(), ForkFault>
     requires map { 28 ≤ length map.now }
+    requires shared { arc_slice_items names.now ≡ take names_end map.now }
     requires few { entry.count < 65536 }
     requires inside { 0 < entry.count → entry.start + 12 * entry.count ≤ length map.now }
     ensures rows { OnOk result (rows.new.items ≡ rows.old.items ++ rows_in map.now (entry_of entry)) }
@@ -56,7 +60,7 @@ fn push_rows(
     ensures refuses { IfErr result (FaultsAt Condition.Names (¬ AllByRecursion (HasName map.now) (references_in (entry_of entry)))) }
 {
     for i in 0..entry.count {
-        let row = read_row(alloc, map, entry.kind, entry.start + REFERENCE_LENGTH * i)?;
+        let row = read_row(map, names, entry.kind, entry.start + REFERENCE_LENGTH * i)?;
         push(rows, row)?;
     }
     Ok(())
@@ -71,9 +75,12 @@ fn read_rows(alloc: Global, map: &[u8], list: TypeList) -> Result<Vec<MapRow>, F
     ensures names { IfOk result (λ _. HasNames map.now) }
     ensures refuses { IfErr result (FaultsAt Condition.Names (¬ HasNames map.now)) }
 {
+    let Ok(names) = share_names(alloc, map) else {
+        return Err(ForkFault::HostFull);
+    };
     let mut rows = Vec::new(alloc);
     for i in 0..list.count {
-        push_rows(alloc, map, entry(map, list, i), &mut rows)?;
+        push_rows(map, &names, entry(map, list, i), &mut rows)?;
     }
     Ok(rows)
 }

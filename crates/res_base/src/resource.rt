@@ -80,7 +80,7 @@ impl Flags for ResAttrs {
 
 /// A resource as a file has it. The datum is its bytes, or says where they are (Inside Macintosh: More Macintosh Toolbox,
 /// chapter 1).
-#[derive(Debug, Drop)]
+#[derive(Drop)]
 pub struct Resource<D> {
     pub kind: ResType,
     pub id: i16,

@@ -144,7 +144,7 @@ fn make_quiet<S: ForkStore>(
             add(files, memory, alloc, handle, kind, id, name)?;
             Ok(Ok(Results::Nothing))
         }
-        ResourceCall::GetResInfo(handle) => Ok(Ok(info(files, alloc, handle)?)),
+        ResourceCall::GetResInfo(handle) => Ok(Ok(info(files, handle)?)),
         _ if tells(call) => Ok(Ok(tell(files, call))),
         _ => {
             change(files, memory, call);

@@ -75,10 +75,9 @@ pub(crate) fn tells(call: &ResourceCall<'_>) -> bool
     )
 }
 
-/// GetResInfo: the id, the type and the name of a handle's resource. The name is copied into host memory.
+/// GetResInfo: the id, the type and the name of a handle's resource. The name shares its bytes with the file's.
 pub(crate) fn info<S: ForkStore>(
     files: &ResourceFiles<S>,
-    alloc: Global,
     handle: Handle,
 ) -> Result<Results, HostFull>
     ensures { IfOk result (λ results. (state : ResState) → state.files ≡ files.now.files → results ≡ quiet_results state (call.GetResInfo handle)) }
@@ -87,7 +86,7 @@ pub(crate) fn info<S: ForkStore>(
         return Ok(Results::Nothing);
     };
     let name = match &row.resource.name {
-        Some(name) => Some(copy_name(alloc, name.as_slice())?),
+        Some(name) => Some(name.clone()?),
         None => None,
     };
     Ok(Results::Info(ResourceInfo {
@@ -102,7 +101,7 @@ fn copy_name(alloc: Global, name: &[u8]) -> Result<Name, HostFull>
     requires { length name.now ≤ 255 }
     ensures { IfOk result (λ copy. copy ≡ name.now) }
 {
-    match Name::new(Vec::from_slice(alloc, name)?) {
+    match Name::new(alloc, name)? {
         Some(name) => Ok(name),
         None => unreachable!(),
     }

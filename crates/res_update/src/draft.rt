@@ -94,31 +94,22 @@ fn row_bytes<'a, C: Contents>(row: &Row<Place>, selected: bool, handles: &'a C) 
     DraftBytes { part }
 }
 
-/// Copies a name, if there is one.
-fn copied(alloc: Global, name: &Option<Name>) -> Result<Option<Name>, HostFull>
+/// The same name once more, if there is one. It shares the bytes.
+fn shared(name: &Option<Name>) -> Result<Option<Name>, HostFull>
     ensures { IfOk result (λ copy. copy ≡ name.now) }
 {
-    let Some(name) = name else {
-        return Ok(None);
-    };
-    let mut bytes = Vec::new(alloc);
-    bytes.extend_from_slice(name.as_slice())?;
-    match Name::new(bytes) {
-        Some(copy) => Ok(Some(copy)),
-        None => unreachable!(),
+    match name {
+        Some(name) => Ok(Some(name.clone()?)),
+        None => Ok(None),
     }
 }
 
 /// A row as it is saved, with these bytes.
-fn saved_row<'a>(
-    alloc: Global,
-    row: &Row<Place>,
-    bytes: DraftBytes<'a>,
-) -> Result<DraftRow<'a>, HostFull>
+fn saved_row<'a>(row: &Row<Place>, bytes: DraftBytes<'a>) -> Result<DraftRow<'a>, HostFull>
     ensures { IfOk result (λ saved. saved ≡ saved_row (λ _. bytes.entry) row.now) }
 {
     let resource = &row.resource;
-    let name = copied(alloc, &resource.name)?;
+    let name = shared(&resource.name)?;
     Ok(Resource {
         kind: resource.kind,
         id: resource.id,
@@ -142,7 +133,7 @@ pub(crate) fn draft_rows<'a, C: Contents>(
     for index in 0..rows.len() {
         let row = rows.row(index);
         let bytes = row_bytes(row, selection.takes(index, row), handles);
-        let saved = saved_row(alloc, row, bytes)?;
+        let saved = saved_row(row, bytes)?;
         draft.push(saved)?;
     }
     Ok(draft)

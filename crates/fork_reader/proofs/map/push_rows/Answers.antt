@@ -1,5 +1,5 @@
-use Rattle.std.proofs.Common.{◌+◌, ◌*◌, ◌-◌, ◌++◌, ◌∷◌, [], List, map, ap, ◌∙◌, rules, arith}
-use Rattle.std.proofs.lemmas.Result.{IfErr-weaker}
+use Rattle.std.proofs.Common.{◌+◌, ◌*◌, ◌-◌, ◌++◌, ◌∷◌, [], List, map, ap, ◌∙◌, arith}
+use Rattle.std.proofs.lemmas.Result.{IfErr-weaker, err_from_is_err_and}
 use Rattle.fork_bytes.specs.declared.fault.Condition.TheVariants.{Names}
 use Rattle.fork_bytes.specs.Rows.{MapRow}
 use Rattle.fork_bytes.specs.Fork.{map_row, Reference}
@@ -21,7 +21,8 @@ returns-in_err-row-clause-refuses c =
     let rest = references_at e.kind (e.count - (i + 1)) (e.start + 12 * (i + 1)) in
     let split = reference_step e.kind e.count i e.start c.loop-i-test.true in
     let less = λ (fails : HasName m here → ⊥). all_fails (HasName m) _ _ (here ∷ []) rest c.loop-i.invariant.1 split (λ all. fails all.0) in
-    IfErr-weaker c.from_residual.result (FaultsAt Names (HasName m here → ⊥)) _ (λ fault at. faults_less Names _ _ less fault at) (search rules)
+    let p = err_from_is_err_and c.from_residual.result c.from_residual.ensures.1 in
+    IfErr-weaker c.from_residual.result (FaultsAt Names (HasName m here → ⊥)) _ (λ fault at. faults_less Names _ _ less fault at) (rw (p.1, p.2) c.in_err-row.ensures.refuses)
 
 pub loop-i-preserved : goal.loop-i-preserved
 loop-i-preserved c =

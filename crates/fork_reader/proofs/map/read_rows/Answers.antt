@@ -1,6 +1,6 @@
-use Rattle.std.proofs.Common.{◌+◌, ◌*◌, ◌-◌, ◌++◌, List, length, map, ap, subst, sym, ◌∙◌, rules, arith}
+use Rattle.std.proofs.Common.{◌+◌, ◌*◌, ◌-◌, ◌++◌, List, length, map, ap, subst, sym, ◌∙◌, arith}
 use Rattle.std.specs.List.{AllByRecursion}
-use Rattle.std.proofs.lemmas.Result.{IfErr-weaker}
+use Rattle.std.proofs.lemmas.Result.{IfErr-weaker, err_from_is_err_and}
 use Rattle.fork_bytes.specs.declared.fault.Condition.TheVariants.{Names}
 use Rattle.fork_bytes.specs.Rows.{MapRow}
 use Rattle.fork_bytes.specs.Fork.{map_row, references_in, Reference, TypeEntry}
@@ -33,7 +33,8 @@ returns-in_err-push_rows-clause-refuses c =
     let rest = references_rest m (n - (i + 1)) (at + 8 * (i + 1)) in
     let split = references_step m n i at c.loop-i-test.true ∙ ap (λ (e : TypeEntry). references_in e ++ rest) (sym c.entry.ensures.entry) in
     let less = λ (fails : AllByRecursion (HasName m) (references_in entry) → ⊥). all_fails (HasName m) _ _ (references_in entry) rest c.loop-i.invariant.1 split fails in
-    IfErr-weaker c.from_residual.result (FaultsAt Names (AllByRecursion (HasName m) (references_in entry) → ⊥)) _ (λ fault told. faults_less Names _ _ less fault told) (search rules)
+    let p = err_from_is_err_and c.from_residual.result c.from_residual.ensures.1 in
+    IfErr-weaker c.from_residual.result (FaultsAt Names (AllByRecursion (HasName m) (references_in entry) → ⊥)) _ (λ fault told. faults_less Names _ _ less fault told) (rw (p.1, p.2) c.in_err-push_rows.ensures.refuses)
 
 pub loop-i-preserved : goal.loop-i-preserved
 loop-i-preserved c =
