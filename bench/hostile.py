@@ -76,6 +76,16 @@ def one_name(count):
     return bytes(the_fork)
 
 
+def names_within_names(count):
+    """A fork of so many resources with names of 255 bytes, each of which begins a byte behind the one before."""
+    the_fork = bytearray(fork_of([(b"TEXT", it, None, 0) for it in range(count)], bytes(4)) + b"\xff" * (count + 255))
+    for it in range(count):
+        at = 256 + 4 + 28 + 10 + 12 * it + 2
+        the_fork[at : at + 2] = struct.pack(">H", it)
+    the_fork[12:16] = struct.pack(">I", len(the_fork) - 260)
+    return bytes(the_fork)
+
+
 SHARED = fork_of([(b"TEXT", it, None, 0) for it in range(-4096, 4096)], struct.pack(">I", 496) + bytes(496))
 WIDE = fork_of([(b"TEXT", it, None, 1004 * it) for it in range(4000)], b"".join(struct.pack(">I", 1000) + bytes(1000) for _ in range(4000)))
 TYPES = empty_types(65000)
@@ -88,6 +98,7 @@ APART = fork_of([(b"TEXT", it, None, 4 * it) for it in range(5458)], bytes(4 * 5
 UNEVEN = fork_of([(b"TEXT", it, None, 0 if it < 4000 else 4) for it in range(5450)], bytes(4) + struct.pack(">I", 2800) + bytes(2800))
 # its 5,400 resources have one name of 255 bytes
 LONG_NAMES = one_name(5400)
+OVERLAPPING = names_within_names(5400)
 ONE_BYTE_EACH = fork_of([(b"TEXT", it, None, 5 * it) for it in range(5458)], struct.pack(">IB", 1, 0) * 5458)
 # as many types as there may be, which share one reference
 ALL_TYPES = shared_types(8191)
@@ -209,6 +220,14 @@ def everything_kept():
     """Eight files are open, answers are kept for later, and the last line writes 4 MB."""
     lines = ["h=GetResource 'TEXT' 3999", "ChangedResource h"] + [f"OpenResFile {it}" for it in range(2, 9)]
     return lines + ["gz 1"] * (LINES - len(lines) - 1) + ["UpdateResFile 1"]
+
+
+def added_with_names(files):
+    """As many resources with names as a script has room for, which are added to so many files."""
+    lines = [f"OpenResFile {it}" for it in range(2, files + 1)]
+    for number in range(1, files + 1):
+        lines += [f"UseResFile {number}"] + [line for it in range(5457) for line in ("h=NewHandle 0", f"AddResource h 'TEXT' {it} \"n\"")]
+    return lines
 
 
 def all_loaded(change, lines):
@@ -334,6 +353,9 @@ RUNS = [
     ("65,536 answers", [], ["gz 1"] * LINES),
     ("8,000 answers of eight calls", [], ["gz 1 " + ";".join(["DisposePtr 1"] * 8)] * LINES),
     ("eight files of 5,400 resources of one name", [LONG_NAMES] * 8, [f"OpenResFile {it}" for it in range(2, 9)] + ["GetResource 'TEXT' 5000"] * LINES),
+    ("eight files of 5,400 resources of one name, which is told", [LONG_NAMES] * 8, [f"OpenResFile {it}" for it in range(2, 9)] + ["h=GetResource 'TEXT' 5000"] + ["GetResInfo h"] * LINES),
+    ("eight files of 5,400 resources, whose names begin in one another", [OVERLAPPING] * 8, [f"OpenResFile {it}" for it in range(2, 9)] + ["GetResource 'TEXT' 5000"] * LINES),
+    ("resources with names that are added to five files", [b""] * 5, added_with_names(5)),
     # (no line of a script says anything behind its 26th token)
     ("1 MB of marks in one line", [], ["=" * (BYTES - 1)]),
     ("answers of one call, and all written that is kept beside a zone", [], all_kept(["gz 1 DisposePtr a"])),
