@@ -3,6 +3,7 @@ pub mod Forgetting
 pub mod FreeIds
 pub mod Bare
 pub mod Changed
+pub mod ChangedHandles
 pub mod Files
 pub mod RowPairs
 pub mod Resources

@@ -17,7 +17,7 @@ impl<D> Row<D> {
     ghost use Rattle.std.specs.Prelude.{◌≡◌, ◌==◌, ◌+◌, IfOk};
     ghost use Rattle.row_index.specs.Keyed.{key_of_resource};
     ghost use Rattle.res_table.specs.Indexed.{handle_key, IsTold};
-    ghost use Rattle.res_table.specs.Rows.{is_of_type, is_resource, is_changed, name_size, opened_row};
+    ghost use Rattle.res_table.specs.Rows.{is_of_type, is_resource, is_changed, changed_handle, name_size, opened_row};
 
     /// The row of a resource that was read: it has no handle and is not changed.
     pub fn opened(resource: Resource<D>) -> Row<D>
@@ -109,5 +109,12 @@ impl<D> Row<D> {
         ensures { result ≡ is_changed self.now }
     {
         self.resource.attributes.contains(ResAttrs::CHANGED)
+    }
+
+    /// The row's handle, if it is changed and has one.
+    pub(crate) fn changed_handle(&self) -> Option<Handle>
+        ensures { result ≡ changed_handle self.now }
+    {
+        if self.is_changed() { self.handle } else { None }
     }
 }

@@ -16,7 +16,8 @@ use std::marker::Model;
 const FIRST_ID: i16 = 128;
 
 /// The rows of an open file, in order. A contract sees the list. A row is found by its handle, or by its type and id, without going
-/// through the rows, what is asked of a type goes through the runs of rows of one type alone, and the size of the names is kept.
+/// through the rows, what is asked of a type goes through the runs of rows of one type alone, and the size of the names is kept. So are
+/// the handles of changed rows, since an update that is too big goes over them at each try.
 #[derive(Drop)]
 pub struct Rows<D> {
     rows: Vec<Row<D>>,
@@ -24,14 +25,15 @@ pub struct Rows<D> {
     kinds: Kinds,
     resources: Keyed,
     names: usize,
+    changed: Vec<Option<Handle>>,
 }
 
 impl<D> Model for Rows<D> {
-    ghost use Rattle.std.specs.Prelude.{◌≡◌, ◌≤◌, List, length, All};
+    ghost use Rattle.std.specs.Prelude.{◌≡◌, ◌≤◌, List, length, map, All};
     ghost use Rattle.res_table.specs.declared.row.Row.{Row};
     ghost use Rattle.row_index.specs.Kinds.{expanded};
     ghost use Rattle.res_table.specs.Indexed.{pairs_of, handle_key, resource_key, kinds_of, IsTold};
-    ghost use Rattle.res_table.specs.Rows.{names_size};
+    ghost use Rattle.res_table.specs.Rows.{names_size, changed_handle};
 
     ghost Value = { List (Row D) };
 
@@ -39,14 +41,15 @@ impl<D> Model for Rows<D> {
 
     ghost invariant = { λ r. (r.handles.pairs ≡ pairs_of handle_key r.rows.items) × (length r.rows.items ≤ r.handles.room)
         × (expanded r.kinds.runs ≡ kinds_of r.rows.items) × (r.resources.pairs ≡ pairs_of resource_key r.rows.items)
-        × (r.names ≡ names_size r.rows.items) × All IsTold r.rows.items };
+        × (r.names ≡ names_size r.rows.items) × (All IsTold r.rows.items) × (r.changed.items ≡ map changed_handle r.rows.items) };
 }
 
 impl<D> Rows<D> {
     ghost use Rattle.std.specs.Prelude.{◌≡◌, ◌<◌, [], length, position, remove, slice_get, get_or, count_by, ◌≤◌, OnOk, OnErr, IfOk, Some, map, ◌↔◌, pos, IsTrue};
+    ghost use Rattle.std.specs.List.{AllByRecursion};
     ghost use Rattle.fork_bytes.specs.Fork.{max_rows};
     ghost use Rattle.res_table.specs.Saved.{row_types, kind_of, RowsFit};
-    ghost use Rattle.res_table.specs.Rows.{has_handle, has_changed, is_resource, is_of_type, added, forgotten, changed_at, with_handle, with_attributes, with_datum, opened_row, count_of_type, index_of_ith, ith, names_size, unique_id};
+    ghost use Rattle.res_table.specs.Rows.{has_handle, has_changed, is_resource, is_of_type, added, forgotten, changed_at, with_handle, with_attributes, with_datum, opened_row, count_of_type, index_of_ith, ith, names_size, unique_id, changed_handle};
     ghost use Rattle.res_table.specs.Behind.{end_of_type};
 
     /// No rows. This takes no memory of the host.
@@ -59,6 +62,7 @@ impl<D> Rows<D> {
             kinds: Kinds::new(alloc),
             resources: Keyed::new(alloc),
             names: 0,
+            changed: Vec::new(alloc),
         }
     }
 
@@ -73,6 +77,7 @@ impl<D> Rows<D> {
         let mut kinds = Kinds::new(alloc);
         let mut keys = Vec::with_capacity(alloc, resources.len())?;
         let mut names = 0;
+        let mut changed = Vec::with_capacity(alloc, resources.len())?;
         for resource in resources {
             let row = Row::opened(resource);
             names = row.names_with(names)?;
@@ -81,6 +86,7 @@ impl<D> Rows<D> {
                 key: row.resource_key(),
                 place: rows.len(),
             })?;
+            changed.push(row.changed_handle())?;
             rows.push(row)?;
         }
         kinds.settle();
@@ -92,6 +98,7 @@ impl<D> Rows<D> {
             kinds,
             resources: Keyed::sorted(keys),
             names,
+            changed,
         })
     }
 
@@ -152,6 +159,7 @@ impl<D> Rows<D> {
         let new = self.rows[index].handle_key();
         self.handles.remove(old, index);
         self.handles.add(new, index);
+        self.changed[index] = self.rows[index].changed_handle();
     }
 
     /// Gives the row at an index these attributes.
@@ -160,6 +168,7 @@ impl<D> Rows<D> {
         ensures { self.new ≡ changed_at index (with_attributes attributes) self.old }
     {
         self.rows[index].resource.attributes = attributes;
+        self.changed[index] = self.rows[index].changed_handle();
     }
 
     /// Gives the row at an index this datum.
@@ -197,11 +206,13 @@ impl<D> Rows<D> {
         let at = self.end_of_type(kind);
         let handle = row.handle_key();
         let key = row.resource_key();
+        let changed = row.changed_handle();
         let count = self.rows.len();
         let names = row.names_with(self.names)?;
         self.handles.reserve(count + 1)?;
         self.kinds.reserve()?;
         self.resources.reserve(count + 1)?;
+        self.changed.reserve(1)?;
         self.rows.insert(at, row)?;
         self.handles.push_back(at, count);
         self.handles.add(handle, at);
@@ -209,6 +220,7 @@ impl<D> Rows<D> {
         self.resources.push_back(at, count);
         self.resources.add(Some(key), at);
         self.names = names;
+        let _ = self.changed.insert(at, changed);
         Ok(())
     }
 
@@ -225,6 +237,7 @@ impl<D> Rows<D> {
         self.resources.remove(Some(row.resource_key()), index);
         self.resources.pull_up(index);
         self.names -= row.name_size();
+        let _changed = self.changed.remove(index);
         row
     }
 
@@ -249,6 +262,15 @@ impl<D> Rows<D> {
         ensures { result ≡ names_size self.now }
     {
         self.names
+    }
+
+    /// For each row its handle, where it is changed. So an update goes over the rows that it writes without reading them. Each row's
+    /// type has four bytes.
+    pub fn changed_handles(&self) -> &[Option<Handle>]
+        ensures handles { result.now ≡ map changed_handle self.now }
+        ensures four { AllByRecursion (λ r. length r.resource.kind ≡ 4) self.now }
+    {
+        &self.changed
     }
 
     /// How many types there are (CountTypes). Rows of one type stand together.

@@ -1,5 +1,5 @@
-use Rattle.std.proofs.Common.{Option, Some, ◌≡◌, sym, ap, ◌∙◌, ◌≤◌, ◌<◌, ◌+◌, ℕ, List, length, map, subst, arith}
-use Rattle.std.specs.Prelude.{insert, vec_len, All}
+use Rattle.std.proofs.Common.{rules, true, Option, Some, ◌≡◌, sym, ap, ◌∙◌, ◌≤◌, ◌<◌, ◌+◌, ℕ, List, length, map, subst, arith}
+use Rattle.std.specs.Prelude.{insert, vec_len, vec_capacity, is_ok, All}
 use Rattle.std.proofs.lemmas.List.Edits.{length-insert}
 use Rattle.std.proofs.lemmas.List.Sums.{sum_by-insert}
 use Rattle.res_table.specs.declared.row.Row.{Row}
@@ -9,11 +9,12 @@ use Rattle.row_index.specs.Keyed.{pushed_back, with_key, AreInOrder}
 use Rattle.res_table.proofs.RowPairs.{places_below, order_pushed, pushed_is, few_pairs}
 use Rattle.res_table.proofs.Resources.{told_inserted}
 use Rattle.res_table.specs.Behind.{end_of_type}
-use Rattle.res_table.specs.Rows.{name_size, names_size}
+use Rattle.res_table.specs.Rows.{name_size, names_size, changed_handle}
 use Rattle.res_table.proofs.Adding.{insert-at-end, end-within}
 use Rattle.fork_bytes.specs.declared.layout.TypeCount.{TypeCount}
 use Rattle.row_index.specs.Kinds.{expanded, with_kind}
 use Rattle.res_table.proofs.RowKinds.{added_are, as_many}
+use Rattle.res_table.proofs.ChangedHandles.{handles_inserted, as_many_handles}
 use Rattle.res_table.proofs.rows.Rows.add.Goals as goal
 
 -- src/rows.rt:73:9
@@ -87,7 +88,10 @@ invariant_of-self-2 g c =
     let new = c.in_ok-insert.ensures.items in
     let count = ap (λ (rs : List (Row _)). length rs) new in let n = length-insert rows at r inside in
     let len = c.len-count.ensures in let ok = c.self.inside.rows.ok.0 in let room = c.in_ok-reserve.ensures.room in
-    let then = c.push_back.ensures.room in let last = c.add.ensures.room in (
+    let then = c.push_back.ensures.room in let last = c.add.ensures.room in
+    let spare = c.in_ok-reserve-4.ensures.ok in
+    let one_more : vec_len c.reserve-4.new.self < vec_capacity c.reserve-4.new.self = omega (arith, spare) in
+    let done : is_ok c.insert-2.result ≡ true = search (rules, c.insert-2.ensures.succeeds one_more) in (
       c.add.ensures.pairs ∙ is ∙ ap (pairs_of handle_key) (sym new),
       omega (arith, count, n, len, ok, room, then, last),
       c.add-2.ensures ∙ ap (with_kind c.kind-kind.result) (ap (λ (runs : List TypeCount). expanded runs) c.reserve-2.ensures.same ∙ c.self.invariant.2)
@@ -96,6 +100,8 @@ invariant_of-self-2 g c =
       c.add-3.ensures.pairs ∙ keyed ∙ ap (pairs_of resource_key) (sym new),
       c.in_ok-names.ensures ∙ ap (λ (n : ℕ). n + name_size r) c.self.invariant.4 ∙ sym (sum_by-insert name_size rows at r) ∙ ap names_size (sym new),
       subst (λ (rs : List (Row _)). All IsTold rs) (sym new) (told_inserted at r rows c.resource_key-key.ensures.told c.self.invariant.5),
+      handles_inserted at r rows c.self.inside.changed.items c.reserve-4.new.self.items _ c.changed_handle-changed.result c.reserve-4.ensures.items c.self.invariant.6 c.changed_handle-changed.ensures
+          (rw done at c.insert-2.ensures.items) ∙ ap (map changed_handle) (sym new),
     )
 
 pub add-requires-2-clause-small : goal.add-requires-2-clause-small
@@ -116,4 +122,13 @@ invariant_of-self-in_err-insert g c =
       c.reserve-3.ensures.same ∙ c.self.invariant.3 ∙ ap (pairs_of resource_key) same,
       c.self.invariant.4 ∙ ap names_size same,
       subst (λ (rs : List (Row _)). All IsTold rs) same c.self.invariant.5,
+      c.reserve-4.ensures.items ∙ c.self.invariant.6 ∙ ap (map changed_handle) same,
     )
+
+-- a handle is put in for the row
+pub insert-requires-2 : goal.insert-requires-2
+insert-requires-2 g c =
+    let rows = c.self.inside.rows.items in let at = c.end_of_type-at.result in
+    let inside = within c.kind-kind.result at rows c.args.self.now c.self.view_is c.end_of_type-at.ensures in
+    let many = as_many_handles rows c.self.inside.changed.items c.self.invariant.6 in
+    let same = ap (λ (hs : List (Option ℕ)). length hs) c.reserve-4.ensures.items in let ok = c.reserve-4.new.self.ok.0 in omega (arith, inside, many, same, ok)

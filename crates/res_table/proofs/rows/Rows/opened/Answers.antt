@@ -1,11 +1,11 @@
-use Rattle.std.proofs.Common.{◌++◌, ◌∷◌, [], ◌+◌, ℕ, List, length, map, subst, sym, ap, ◌∙◌, ◌≡◌, arith}
+use Rattle.std.proofs.Common.{◌++◌, ◌∷◌, [], ◌+◌, ℕ, Option, List, length, map, subst, sym, ap, ◌∙◌, ◌≡◌, arith}
 use Rattle.std.proofs.lemmas.List.{map-append}
 use Rattle.std.specs.Prelude.{All}
 use Rattle.std.proofs.lemmas.List.Elements.{All-push}
 use Rattle.std.proofs.lemmas.List.Sums.{sum_by_push}
 use Rattle.res_table.specs.declared.row.Row.{Row}
 use Rattle.row_index.specs.declared.keyed.Pair.{Pair}
-use Rattle.res_table.specs.Rows.{opened_row, name_size, names_size}
+use Rattle.res_table.specs.Rows.{opened_row, name_size, names_size, changed_handle}
 use Rattle.res_table.specs.Indexed.{handle_key, pairs_of, IsTold, kinds_of}
 use Rattle.row_index.specs.Keyed.{key_of_resource, in_order}
 use Rattle.fork_bytes.specs.declared.layout.TypeCount.{TypeCount}
@@ -23,7 +23,7 @@ with_last k n r rows key long =
 
 pub loop-resource-preserved : goal.loop-resource-preserved
 loop-resource-preserved g c =
-    let rows = c.loop-resource.rows.items in let row = c.opened-row.result in let items = c.in_ok-push-3.ensures.items in (
+    let rows = c.loop-resource.rows.items in let row = c.opened-row.result in let items = c.in_ok-push-4.ensures.items in (
       items ∙ ap (λ (rs : List (Row _)). rs ++ row ∷ []) c.loop-resource.invariant.0
           ∙ ap (λ (r : Row _). map opened_row c.loop-resource.yielded ++ r ∷ []) c.opened-row.ensures ∙ sym (map-append opened_row c.loop-resource.yielded (c.in-Some.resource ∷ [])),
       c.in_ok-push.ensures ∙ ap (λ (ks : List (List ℕ)). ks ++ c.kind.result ∷ []) c.loop-resource.invariant.1
@@ -32,6 +32,8 @@ loop-resource-preserved g c =
           ∙ with_last c.resource_key.result c.len-in-loop-resource.result row rows c.resource_key.ensures.key (c.len-in-loop-resource.ensures ∙ c.loop-resource.rows.ok.0) ∙ ap (listed 0) (sym items),
       c.in_ok-names.ensures ∙ ap (λ (n : ℕ). n + name_size row) c.loop-resource.invariant.3 ∙ sym (sum_by_push name_size rows row) ∙ ap names_size (sym items),
       subst (λ (rs : List (Row _)). All IsTold rs) (sym items) (All-push IsTold rows row c.loop-resource.invariant.4 c.resource_key.ensures.told),
+      c.in_ok-push-3.ensures.items ∙ ap (λ (hs : List (Option ℕ)). hs ++ c.changed_handle.result ∷ []) c.loop-resource.invariant.5
+          ∙ ap (λ (h : Option ℕ). map changed_handle rows ++ h ∷ []) c.changed_handle.ensures ∙ sym (map-append changed_handle rows (row ∷ [])) ∙ ap (map changed_handle) (sym items),
     )
 
 pub invariant_of-result : goal.invariant_of-result
@@ -43,6 +45,7 @@ invariant_of-result g c =
       c.sorted.ensures ∙ ap in_order c.loop-resource.invariant.2 ∙ listed_are 0 c.loop-resource.rows.items,
       c.loop-resource.invariant.3,
       c.loop-resource.invariant.4,
+      c.loop-resource.invariant.5,
     )
 
 pub push-requires : goal.push-requires

@@ -4,10 +4,11 @@ use Rattle.res_table.specs.declared.row.Row.{Row}
 use Rattle.res_table.specs.Indexed.{handle_key, resource_key, pairs_of, IsTold, kinds_of}
 use Rattle.row_index.specs.Keyed.{pulled_up, without_key}
 use Rattle.res_table.proofs.RowPairs.{order_kept, pairs_removed, row_is}
-use Rattle.res_table.specs.Rows.{name_size, names_size}
+use Rattle.res_table.specs.Rows.{name_size, names_size, changed_handle}
 use Rattle.res_table.proofs.RowKinds.{removed_are, as_many}
 use Rattle.res_table.proofs.Resources.{told_removed}
 use Rattle.res_table.proofs.Types.{names_less}
+use Rattle.res_table.proofs.ChangedHandles.{handles_removed, index_within}
 use Rattle.res_table.proofs.rows.Rows.remove.Goals as goal
 
 left_over : (all rest one : ℕ) → all ≡ rest + one → all - one ≡ rest
@@ -31,6 +32,7 @@ invariant_of-self g c =
           ∙ pairs_removed resource_key i r rows within c.remove-row.ensures.value ∙ ap (pairs_of resource_key) (sym c.remove-row.ensures.items),
       ap (λ (n : ℕ). c.self.inside.names - n) c.name_size.ensures ∙ left_over c.self.inside.names (names_size (remove rows i)) (name_size r) (c.self.invariant.4 ∙ sym (names_less i r rows within c.remove-row.ensures.value)) ∙ ap names_size (sym c.remove-row.ensures.items),
       subst (λ (rs : List (Row _)). All IsTold rs) (sym c.remove-row.ensures.items) (told_removed i rows c.self.invariant.5),
+      c.remove-changed.ensures.items ∙ ap (λ (hs : List (Option ℕ)). remove hs i) c.self.invariant.6 ∙ handles_removed i rows ∙ ap (map changed_handle) (sym c.remove-row.ensures.items),
     )
 
 -- the name of the row is among those that are counted
@@ -60,3 +62,6 @@ remove-requires-3 g c = record { order = order_kept resource_key c.self.inside.r
 
 pub remove-row-requires : goal.remove-row-requires
 remove-row-requires g c = subst (λ (n : ℕ). c.args.index < n) (ap (λ (rows : List (Row _)). length rows) (sym c.self.view_is) ∙ sym c.self.inside.rows.ok.0) c.requires
+
+pub remove-changed-requires : goal.remove-changed-requires
+remove-changed-requires g c = index_within c.args.index _ c.self.inside.rows.items c.args.self.now c.self.inside.changed.items c.self.inside.changed.ok.0 c.self.invariant.6 c.self.view_is c.requires

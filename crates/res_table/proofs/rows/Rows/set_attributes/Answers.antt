@@ -5,6 +5,7 @@ use Rattle.res_table.proofs.RowPairs.{kept, resources_kept, changed_is}
 use Rattle.res_table.proofs.RowKinds.{kinds_kept}
 use Rattle.res_table.proofs.Resources.{told_kept}
 use Rattle.res_table.proofs.Types.{names_kept}
+use Rattle.res_table.proofs.ChangedHandles.{handles_set, index_within}
 use Rattle.res_table.proofs.rows.Rows.set_attributes.Goals as goal
 
 pub invariant_of-self : goal.invariant_of-self
@@ -20,6 +21,7 @@ invariant_of-self g c =
       resources_kept c.args.index r new rows c.self.inside.resources.pairs c.index_mut.ensures.value refl refl c.self.invariant.3,
       c.self.invariant.4 ∙ sym (names_kept c.args.index r new rows within c.index_mut.ensures.value refl),
       told_kept c.args.index r new rows within c.index_mut.ensures.value (λ told. told) c.self.invariant.5,
+      handles_set c.args.index new c.index.result.now rows c.self.inside.changed.items c.changed_handle.result within c.index.ensures c.self.invariant.6 c.changed_handle.ensures,
     )
 
 pub returns : goal.returns
@@ -32,3 +34,9 @@ returns g c =
 
 pub index_mut-requires : goal.index_mut-requires
 index_mut-requires g c = subst (λ (n : ℕ). c.args.index < n) (ap (λ (rows : List (Row _)). length rows) (sym c.self.view_is) ∙ sym c.self.inside.rows.ok.0) c.requires
+
+pub index-requires : goal.index-requires
+index-requires g c = subst (λ (n : ℕ). c.args.index < n) (ap (λ (rows : List (Row _)). length rows) (sym c.self.view_is) ∙ sym c.self.inside.rows.ok.0) c.requires
+
+pub index_mut-requires-2 : goal.index_mut-requires-2
+index_mut-requires-2 g c = index_within c.args.index _ c.self.inside.rows.items c.args.self.now c.self.inside.changed.items c.self.inside.changed.ok.0 c.self.invariant.6 c.self.view_is c.requires

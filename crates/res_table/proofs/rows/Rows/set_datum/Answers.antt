@@ -5,6 +5,7 @@ use Rattle.res_table.proofs.RowPairs.{kept, resources_kept, changed_is}
 use Rattle.res_table.proofs.RowKinds.{kinds_kept}
 use Rattle.res_table.proofs.Resources.{told_kept}
 use Rattle.res_table.proofs.Types.{names_kept}
+use Rattle.res_table.proofs.ChangedHandles.{handles_kept}
 use Rattle.res_table.proofs.rows.Rows.set_datum.Goals as goal
 
 pub invariant_of-self : goal.invariant_of-self
@@ -20,6 +21,7 @@ invariant_of-self g c =
       resources_kept c.args.index r new rows c.self.inside.resources.pairs c.index_mut.ensures.value refl refl c.self.invariant.3,
       c.self.invariant.4 ∙ sym (names_kept c.args.index r new rows within c.index_mut.ensures.value refl),
       told_kept c.args.index r new rows within c.index_mut.ensures.value (λ told. told) c.self.invariant.5,
+      c.self.invariant.6 ∙ sym (handles_kept c.args.index r new rows c.index_mut.ensures.value refl),
     )
 
 pub returns : goal.returns

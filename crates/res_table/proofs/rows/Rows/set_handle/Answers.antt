@@ -10,6 +10,7 @@ use Rattle.row_index.proofs.Pairs.{order_without}
 use Rattle.res_table.proofs.RowKinds.{kinds_kept}
 use Rattle.res_table.proofs.Resources.{told_kept}
 use Rattle.res_table.proofs.Types.{names_kept}
+use Rattle.res_table.proofs.ChangedHandles.{handles_set, index_within}
 use Rattle.res_table.proofs.rows.Rows.set_handle.Goals as goal
 
 pub remove-requires : goal.remove-requires
@@ -53,6 +54,7 @@ invariant_of-self g c =
       resources_kept i c.index_mut.result.now new rows c.self.inside.resources.pairs c.index_mut.ensures.value refl refl c.self.invariant.3,
       c.self.invariant.4 ∙ sym (names_kept i c.index_mut.result.now new rows within c.index_mut.ensures.value refl),
       told_kept i c.index_mut.result.now new rows within c.index_mut.ensures.value (λ told. told) c.self.invariant.5,
+      handles_set i new c.index-3.result.now rows c.self.inside.changed.items c.changed_handle.result within c.index-3.ensures c.self.invariant.6 c.changed_handle.ensures,
     )
 
 pub returns : goal.returns
@@ -71,3 +73,9 @@ index-requires-2 g c = subst (λ (n : ℕ). c.args.index < n) (ap (λ (rows : Li
 
 pub index-requires : goal.index-requires
 index-requires g c = subst (λ (n : ℕ). c.args.index < n) (ap (λ (rows : List (Row _)). length rows) (sym c.self.view_is) ∙ sym c.self.inside.rows.ok.0) c.requires
+
+pub index-requires-3 : goal.index-requires-3
+index-requires-3 g c = subst (λ (n : ℕ). c.args.index < n) (ap (λ (rows : List (Row _)). length rows) (sym c.self.view_is) ∙ sym c.self.inside.rows.ok.0) c.requires
+
+pub index_mut-requires-2 : goal.index_mut-requires-2
+index_mut-requires-2 g c = index_within c.args.index _ c.self.inside.rows.items c.args.self.now c.self.inside.changed.items c.self.inside.changed.ok.0 c.self.invariant.6 c.self.view_is c.requires
