@@ -1,5 +1,5 @@
 -- Whether a fork holds rows, told by how many bytes they have.
-use Rattle.std.proofs.Common.{◌≡◌, refl, sym, ap, ◌∙◌, arith, ℕ, ◌+◌, ◌*◌, ◌<◌, ◌≤◌, List, [], ◌∷◌, ◌++◌, length, drop, slice_get, Option, None, Some, IfSome, Bool, true, false, ◌&&◌, if◌then◌else◌, bytes_eq}
+use Rattle.std.proofs.Common.{◌≡◌, refl, sym, ap, ◌∙◌, arith, ℕ, zero, suc, ◌+◌, ◌*◌, ◌<◌, ◌≤◌, List, [], ◌∷◌, ◌++◌, length, drop, slice_get, Option, None, Some, IfSome, Bool, true, false, ◌&&◌, if◌then◌else◌, bytes_eq}
 use Rattle.std.specs.Prelude.{nat_le}
 use Rattle.std.specs.List.{AllByRecursion}
 use Rattle.std.specs.Option.{option_map_or}
@@ -27,6 +27,22 @@ pub data_here : (f : ℕ → Row Place → List ℕ) (rows : List (Row Place)) (
 data_here f rows i r is =
     ap (λ (rest : List (Row Place)). length (data_text (rows_with f i rest))) (drop_here rows i r is)
     ∙ length-data (saved_row (λ (_ : Place). f i r) r) (rows_with f (i + 1) (drop (i + 1) rows))
+
+-- where nothing is read, the rows have ended
+past_none : {X : Type 0} (xs : List X) (i : ℕ) → slice_get xs i ≡ None → length xs ≤ i
+past_none [] i is = omega arith
+past_none (x ∷ xs) zero is = absurd (cc is)
+past_none (x ∷ xs) (suc i) is = let past = past_none xs i is in omega (arith, past)
+
+-- the same where so many bytes are told of the row at the index, whichever it is
+pub data_told : (f : ℕ → Row Place → List ℕ) (rows : List (Row Place)) (i n : ℕ) → i < length rows → IfSome (slice_get rows i) (λ r. n ≡ length (f i r))
+    → length (data_text (rows_with f i (drop i rows))) ≡ 4 + n + length (data_text (rows_with f (i + 1) (drop (i + 1) rows)))
+data_told f rows i n within told = by (slice_get rows i) refl told
+  where
+    by : (found : Option (Row Place)) → slice_get rows i ≡ found → IfSome found (λ r. n ≡ length (f i r))
+        → length (data_text (rows_with f i (drop i rows))) ≡ 4 + n + length (data_text (rows_with f (i + 1) (drop (i + 1) rows)))
+    by None is told = absurd (let past = past_none rows i is in omega (arith, past, within))
+    by (Some r) is told = data_here f rows i r is ∙ ap (λ (m : ℕ). 4 + m + length (data_text (rows_with f (i + 1) (drop (i + 1) rows)))) (sym told)
 
 -- rows without bytes
 abbrev none : ℕ → Row Place → List ℕ

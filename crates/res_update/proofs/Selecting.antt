@@ -1,7 +1,7 @@
 -- Rows at an index: whether one is lent, and what is made of those from it on.
-use Rattle.std.proofs.Common.{◌≡◌, refl, sym, ap, subst, ◌∙◌, ℕ, ◌+◌, List, [], ◌∷◌, ◌++◌, get_or, drop, slice_get, Some, Bool, true, false, ◌&&◌}
+use Rattle.std.proofs.Common.{◌≡◌, refl, sym, ap, ◌∙◌, ℕ, ◌+◌, List, [], ◌∷◌, ◌++◌, get_or, drop, slice_get, Some, Bool, true, false, ◌&&◌}
 use Rattle.std.specs.Prelude.{IsFalse}
-use Rattle.std.specs.List.{list_any, AllByRecursion}
+use Rattle.std.specs.List.{list_any}
 use Rattle.std.specs.Option.{option_map_or}
 use Rattle.std.proofs.lemmas.Bool.{eqb-true}
 use Rattle.std.proofs.lemmas.List.{drop_more, append_assoc}
@@ -48,7 +48,3 @@ pub made_step : (text : ℕ → Row Place → List ℕ) (rows : List (Row Place)
 made_step text rows i r front whole is before =
     append_assoc front (saved_row (λ (_ : Place). text i r) r ∷ []) (rows_with text (i + 1) (drop (i + 1) rows))
     ∙ sym (ap (λ (rest : List (Row Place)). front ++ rows_with text i rest) (drop_here rows i r is)) ∙ before
-
--- what is said of a row, and of those behind it
-pub each_here : {X : Type 0} (P : X → Type 0) (xs : List X) (i : ℕ) (x : X) → slice_get xs i ≡ Some x → P x → AllByRecursion P (drop (i + 1) xs) → AllByRecursion P (drop i xs)
-each_here P xs i x is one others = subst (AllByRecursion P) (sym (drop_here xs i x is)) (one, others)

@@ -1,9 +1,10 @@
 //! Whether a fork holds what an update writes. No memory of the host is needed to know it.
 
-ghost use Rattle.std.specs.Prelude.{◌≡◌, ◌+◌, ◌<◌, ◌≤◌, length, IfSome, IfNone};
+ghost use Rattle.std.specs.Prelude.{◌≡◌, ◌+◌, ◌<◌, ◌≤◌, length, map, slice_get, Some, IfSome, IfNone};
 ghost use Rattle.std.specs.List.{AllByRecursion};
 ghost use Rattle.fork_bytes.specs.Fork.{max_fork, max_rows};
 ghost use Rattle.fork_bytes.specs.Written.{data_text, names_text};
+ghost use Rattle.res_table.specs.Rows.{changed_handle};
 ghost use Rattle.res_update.specs.Drafts.{row_bytes, rows_with, draft_bytes, draft_table, fits_as_fork, HasKind};
 
 use crate::contents::Contents;
@@ -11,6 +12,7 @@ use crate::draft::known;
 use crate::selection::Selection;
 use fork_bytes::layout::MAX_FORK;
 use fork_reader::place::Place;
+use mac_base::handle::Handle;
 use res_table::chain::ResourceTable;
 use res_table::row::Row;
 use res_table::rows::Rows;
@@ -25,6 +27,27 @@ fn row_length<C: Contents>(row: &Row<Place>, selected: bool, contents: &C) -> u3
     match row.handle {
         Some(handle) => contents.length(handle),
         None => 0,
+    }
+}
+
+/// How many bytes the row at an index has in the new fork, where this is its handle if it is changed. Such a row isn't looked at by an
+/// update of all that are changed.
+fn length_at<C: Contents>(
+    rows: &Rows<Place>,
+    index: usize,
+    changed: Option<Handle>,
+    selection: Selection,
+    contents: &C,
+) -> u32
+    requires { slice_get (map changed_handle rows.now) index ≡ Some changed }
+    ensures { IfSome (slice_get rows.now index) (λ row. result ≡ length (draft_bytes (C.table contents.now) selection index row)) }
+{
+    match (selection, changed) {
+        (Selection::AllChanged, Some(handle)) => contents.length(handle),
+        _ => {
+            let row = rows.row(index);
+            row_length(row, selection.takes(index, row), contents)
+        }
     }
 }
 
@@ -43,10 +66,8 @@ fn text_length<C: Contents>(rows: &Rows<Place>, selection: Selection, contents: 
     if total > MAX_FORK {
         return None;
     }
-    for index in 0..rows.len() {
-        let row = rows.row(index);
-        let _four = row.kind().bytes();
-        let bytes = row_length(row, selection.takes(index, row), contents);
+    for (index, changed) in rows.changed_handles().iter().enumerate() {
+        let bytes = length_at(rows, index, *changed, selection, contents);
         total += 4 + bytes as usize;
     }
     if total > MAX_FORK { None } else { Some(total) }
