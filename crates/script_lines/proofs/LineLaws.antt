@@ -1,6 +1,6 @@
 -- Lines stay as they are where others come behind them.
 use Rattle.std.proofs.Common.{◌≤◌, ◌≡◌, ℕ, zero, suc, ◌+◌, length, map, take, drop, get_or, List, [], ◌∷◌, ◌++◌, refl, sym, ap, ◌∙◌, length-append, length-drop, append-nil, ◌-◌, arith}
-use Rattle.std.specs.Prelude.{All}
+use Rattle.std.specs.Prelude.{All, Result, Ok, Err, OnErr}
 use Rattle.std.proofs.lemmas.List.{drop-append-le, map_push, take-append-le}
 use Rattle.std.proofs.lemmas.List.Elements.{All-append}
 use Rattle.script_lines.specs.declared.line.Line.{Line}
@@ -79,3 +79,8 @@ lines-more operands operands2 bytes bytes2 calls calls2 lines number s statement
 -- nothing grew
 pub same : {X : Type 0} (xs : List X) → Extends xs xs
 same xs = ([], sym (append-nil xs))
+
+-- what holds holds where a result is an error
+pub on_err : {T E : Type 0} (result : Result T E) (P : Type 0) → P → OnErr result P
+on_err (Ok x) P holds = tt
+on_err (Err e) P holds = holds

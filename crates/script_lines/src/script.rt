@@ -81,9 +81,11 @@ impl Script {
         }
     }
 
-    /// One line more. The only error is that the host has no memory, or that there are more operands than a number of 32 bits counts.
+    /// One line more. It is refused where the host has no memory, where the line has more than 255 operands or 2^32 bytes and more, and
+    /// where the lines before it have more operands, bytes or calls than a number of 32 bits counts.
     pub fn push(&mut self, line: &Line<'_>) -> Result<(), HostFull>
-        ensures { OnOk result (self.new ≡ self.old ++ line.now ∷ []) }
+        ensures added { OnOk result (self.new ≡ self.old ++ line.now ∷ []) }
+        ensures same { OnErr result (self.new ≡ self.old) }
     {
         let statement = keep_statement(
             &mut self.operands,

@@ -36,5 +36,5 @@ returns-clause-line c =
     let named = rw c.in-Some.is at c.in_ok-statement.ensures.names in (
       Some (record { number = c.args.number; statement = c.in-Some.statement }),
       reads_statement _ _ _ _ (map view tokens) c.in-Some.statement c.if-number-gt-MAX_LINES.false read some is named,
-      c.in_ok-push.ensures,
+      c.in_ok-push.ensures.added,
     )
