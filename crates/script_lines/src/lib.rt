@@ -10,4 +10,4 @@ pub use line::{
     ReleasingName, Statement, WrittenAnswer, WrittenCall, WrittenCalls,
 };
 pub use operands::{Operands, ReadOperands};
-pub use script::Script;
+pub use script::{Lines, Script};
