@@ -106,7 +106,7 @@ impl Script {
         }
     }
 
-    /// One line more. It is refused where the host has no memory, and where the line has more than 255 operands or 2^32 bytes and
+    /// One line more. It is refused where the host has no memory, and where the line has more than 255 operands, or 2^32 bytes or
     /// more.
     pub fn push(&mut self, line: &Line<'_>) -> Result<(), HostFull>
         ensures added { OnOk result (self.new ≡ self.old ++ line.now ∷ []) }

@@ -1,4 +1,5 @@
 pub mod Ending
 pub mod Known
+pub mod Left
 pub mod Opening
 pub mod Starting

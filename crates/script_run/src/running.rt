@@ -83,8 +83,9 @@ fn run_lines<S: ForkStore, W: Write>(
     if !write_whole(writer, &reply) {
         return RunEnd::WriteFault;
     }
-    for place in 0..script.len() {
-        let Ok(()) = machine.run_line(&script.line(place), &mut reply) else {
+    let mut lines = script.lines();
+    while let Some(line) = lines.next() {
+        let Ok(()) = machine.run_line(&line, &mut reply) else {
             return tell_no_memory(writer);
         };
         if !write_whole(writer, &reply) {
