@@ -53,8 +53,7 @@ fn length_at<C: Contents>(
 
 /// How many bytes the data and the name list have together, or None where that is more than a fork has. That each type has four
 /// bytes comes with it. (A script may ask this of thousands of rows at each line, so none of them is compared with the limit.)
-#[inline(always)]
-fn sum_of_text<C: Contents>(rows: &Rows<Place>, selection: Selection, contents: &C) -> Option<usize>
+fn text_length<C: Contents>(rows: &Rows<Place>, selection: Selection, contents: &C) -> Option<usize>
     requires { length rows.now ≤ max_rows }
     ensures some { IfSome result (λ n. n ≡ length (data_text (rows_with (draft_bytes (C.table contents.now) selection) 0 rows.now))
         + length (names_text (rows_with (draft_bytes (C.table contents.now) selection) 0 rows.now))) }
@@ -72,23 +71,6 @@ fn sum_of_text<C: Contents>(rows: &Rows<Place>, selection: Selection, contents: 
         total += 4 + bytes as usize;
     }
     if total > MAX_FORK { None } else { Some(total) }
-}
-
-/// How many bytes the data and the name list have together, as `sum_of_text` says. Each way to select has a loop of its own, so
-/// that no row is asked which way it is.
-fn text_length<C: Contents>(rows: &Rows<Place>, selection: Selection, contents: &C) -> Option<usize>
-    requires { length rows.now ≤ max_rows }
-    ensures some { IfSome result (λ n. n ≡ length (data_text (rows_with (draft_bytes (C.table contents.now) selection) 0 rows.now))
-        + length (names_text (rows_with (draft_bytes (C.table contents.now) selection) 0 rows.now))) }
-    ensures small { IfSome result (λ n. n ≤ max_fork) }
-    ensures four { IfSome result (λ _. AllByRecursion HasKind rows.now) }
-    ensures none { IfNone result (max_fork < length (data_text (rows_with (draft_bytes (C.table contents.now) selection) 0 rows.now))
-        + length (names_text (rows_with (draft_bytes (C.table contents.now) selection) 0 rows.now))) }
-{
-    match selection {
-        Selection::AllChanged => sum_of_text(rows, Selection::AllChanged, contents),
-        Selection::RowAt(index) => sum_of_text(rows, Selection::RowAt(index), contents),
-    }
 }
 
 /// Whether a fork holds what the update writes.

@@ -3,7 +3,7 @@ use Rattle.fork_bytes.specs.Fork.{max_fork}
 use Rattle.fork_bytes.specs.Written.{data_text}
 use Rattle.res_table.specs.Rows.{names_size}
 use Rattle.res_update.specs.Drafts.{rows_with, draft_bytes}
-use Rattle.res_update.proofs.sizes.sum_of_text.Given as goal
+use Rattle.res_update.proofs.sizes.text_length.Given as goal
 
 -- the bytes so far and those of the other rows are all
 abbrev pub invariant-loop-index : goal.invariant-loop-index

@@ -8,7 +8,7 @@ use Rattle.res_table.specs.Rows.{changed_handle}
 use Rattle.res_update.specs.Drafts.{rows_with, draft_bytes}
 use Rattle.res_update.proofs.Measuring.{data_told}
 use Rattle.res_update.proofs.Counting.{names_counted}
-use Rattle.res_update.proofs.sizes.sum_of_text.Goals as goal
+use Rattle.res_update.proofs.sizes.text_length.Goals as goal
 
 -- there is a handle, or none, for each row
 as_many : (rows : List (Row Place)) (handles : List (Option ℕ)) → handles ≡ map changed_handle rows → length handles ≡ length rows
