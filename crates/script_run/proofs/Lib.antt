@@ -3,3 +3,4 @@ pub mod Known
 pub mod Left
 pub mod Opening
 pub mod Starting
+pub mod Shown

@@ -2,3 +2,4 @@ pub mod Counting
 pub mod End
 pub mod Line
 pub mod Run
+pub mod Headline

@@ -2,6 +2,7 @@ use Rattle.std.proofs.Common.{◌≡◌, refl, ap}
 use Rattle.script_text.specs.Script.{IsFaultAt, IsScript}
 use Rattle.script_run.specs.Line.{start_of}
 use Rattle.script_run.proofs.Ending.{with_input, too_long, for_all, fault_ends, no_memory_ends, script_ends}
+use Rattle.script_run.proofs.Shown.{run-shows}
 use Rattle.script_run.proofs.running.run.Goals as goal
 
 pub returns-in-Err-TooLong-clause-ends : goal.returns-in-Err-TooLong-clause-ends
@@ -53,3 +54,24 @@ returns-clause-write_fault g c = λ fault. c.run_lines-end.ensures.write_fault f
 
 pub returns-clause-no_write_failed : goal.returns-clause-no_write_failed
 returns-clause-no_write_failed g c = λ other. c.run_lines-end.ensures.no_write_failed other
+
+pub returns-in-Err-TooLong-clause-headline : goal.returns-in-Err-TooLong-clause-headline
+returns-in-Err-TooLong-clause-headline g c = run-shows g.S.ForkStore
+
+pub returns-in-Err-Memory-clause-headline : goal.returns-in-Err-Memory-clause-headline
+returns-in-Err-Memory-clause-headline g c = run-shows g.S.ForkStore
+
+pub returns-in-Err-Fault-clause-headline : goal.returns-in-Err-Fault-clause-headline
+returns-in-Err-Fault-clause-headline g c = run-shows g.S.ForkStore
+
+pub returns-in-Err-Line-clause-headline : goal.returns-in-Err-Line-clause-headline
+returns-in-Err-Line-clause-headline g c = run-shows g.S.ForkStore
+
+pub returns-in-Err-HostFull-clause-headline : goal.returns-in-Err-HostFull-clause-headline
+returns-in-Err-HostFull-clause-headline g c = run-shows g.S.ForkStore
+
+pub returns-in_default-clause-headline : goal.returns-in_default-clause-headline
+returns-in_default-clause-headline g c = run-shows g.S.ForkStore
+
+pub returns-clause-headline : goal.returns-clause-headline
+returns-clause-headline g c = run-shows g.S.ForkStore

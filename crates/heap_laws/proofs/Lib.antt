@@ -1,0 +1,11 @@
+pub mod Fewer
+pub mod Passed
+pub mod Shown
+pub mod Locked
+pub mod Full
+pub mod Losing
+pub mod Runs
+pub mod Spared
+pub mod LoanLists
+pub mod Loaned
+pub mod Flagged

@@ -1,0 +1,6 @@
+pub mod LastPut
+pub mod Course
+pub mod Act
+pub mod Headline
+pub mod Loaned
+pub mod LastSet
