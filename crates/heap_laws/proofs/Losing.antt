@@ -33,7 +33,8 @@ use Rattle.zone_laws.proofs.Maps.{both_true, true_not}
 use Rattle.zone_laws.proofs.SlotPlaces.{Contains-here, Contains-none}
 use Rattle.zone_laws.proofs.Tables.{eqb-true-is, live_at-with_live_same, with_live_agrees, without_agrees}
 use Rattle.call_laws.proofs.Prepared.{among-contains}
-use Rattle.heap_laws.specs.Course.{Begins, CameShort, MayLose, PurgesFor, Tried, released_by, released_in, released_itself}
+use Rattle.mac_calls.specs.Released.{released_by, released_in, released_itself}
+use Rattle.heap_laws.specs.Course.{Begins, CameShort, MayLose, PurgesFor, Tried}
 use Rattle.heap_laws.proofs.Fewer.{Fewer, block_live, fewer-carried, fewer-failed, fewer-refl, fewer-same, fewer-then, run-leaves, table-grown}
 
 -- it still has a block, or this is why it has none

@@ -1,5 +1,5 @@
 -- The trials of a call's requests, and why a block is lost or a request refused.
-use Rattle.std.specs.Prelude.{◌≡◌, ◌⊎◌, ℕ, IsTrue, IsFalse, List, [], ◌∷◌, flat_map, filter_map, nat_le, Option, Some, None, Ok, Contains, ⊤, MatchOption}
+use Rattle.std.specs.Prelude.{◌≡◌, ◌⊎◌, ℕ, IsTrue, IsFalse, List, [], ◌∷◌, nat_le, Option, Some, None, Ok, Contains, ⊤, MatchOption}
 use Rattle.mac_base.specs.declared.error.OsErr.{OsErr}
 use Rattle.mac_base.specs.HeadKind.{Shape}
 use Rattle.mac_base.specs.ZoneMap.{at_limit, largest_free}
@@ -17,6 +17,7 @@ use Rattle.mac_calls.specs.Effect.{request_of}
 use Rattle.mac_calls.specs.GrowZone.{Ask, carried_out, most_answers}
 use Rattle.mac_calls.specs.RequestRun.{RequestRun}
 use Rattle.mac_calls.specs.Outcomes.{Outcome}
+use Rattle.mac_calls.specs.Released.{released_in, released_itself}
 use Rattle.mac_calls.specs.Tests.{protected_by}
 
 -- From the old heap, trials of the request failed, and behind each the calls of an answer were carried out. These were the asks, and the
@@ -29,22 +30,6 @@ Tried s protected r old (ask ∷ asks) at = (mid : Heap) × Fails s protected r 
 abbrev pub Begins : Shape → Heap → MemoryCall → Request → Heap → Type 0
 Begins s old call r from = (((request_of old.table call ≡ Some r) ⊎ (r ≡ NewMaster)) × (from ≡ old))
     ⊎ ((request_of old.table call ≡ Some r) × ((asks : List Ask) × (x : ℕ) × RequestRun s (protected_by call) NewMaster most_answers old asks (Some x) from))
-
--- the block that a call releases itself, unless it is refused
-abbrev pub released_itself : MemoryCall → Outcome → Option ℕ
-released_itself (memory_call.DisposeHandle h) (Ok results) = Some h
-released_itself (memory_call.DisposePtr p) (Ok results) = Some p
-released_itself (memory_call.EmptyHandle h) (Ok results) = Some h
-released_itself _ _ = None
-
--- the operand of a call of an answer, unless it was refused
-abbrev pub released_by : ReleasingCall × Option OsErr → Option ℕ
-released_by (call, None) = Some (operand_of call)
-released_by (call, Some code) = None
-
--- the blocks that answers' calls released
-abbrev pub released_in : List Ask → List ℕ
-released_in asks = flat_map (λ (a : Ask). filter_map released_by a.carried) asks
 
 -- A trial of the request began where it didn't fit in the zone grown to its limit.
 abbrev pub CameShort : Shape → Heap → MemoryCall → Request → Type 0

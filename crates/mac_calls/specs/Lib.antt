@@ -1,6 +1,7 @@
 pub mod Calls
 pub mod Tests
 pub mod GrowZone
+pub mod Released
 pub mod ExactRequest
 pub mod Outcomes
 pub mod Effect

@@ -1,14 +1,13 @@
 -- What a call of the Resource Manager does.
-use Rattle.std.specs.Prelude.{◌≡◌, ℕ, Bool, List, [], filter_map, flat_map, Option, Some, None, is_some, if◌then◌else◌, Result, Ok, Err, ⊤}
+use Rattle.std.specs.Prelude.{◌≡◌, ℕ, Bool, List, [], Option, Some, None, is_some, if◌then◌else◌, Result, Ok, Err, ⊤}
 use Rattle.std.specs.Option.{option_map_or}
 use Rattle.mac_base.specs.declared.error.OsErr.{OsErr}
-use Rattle.mac_base.specs.declared.releasing.ReleasingCall.{ReleasingCall}
-use Rattle.mac_base.specs.declared.releasing.ReleasingCall.TheVariants.{DisposesHandle}
 use Rattle.mac_base.specs.HeadKind.{Shape}
 use Rattle.mac_base.specs.Heap.{Heap}
 use Rattle.mac_calls.specs.declared.memory_call.MemoryCall.{MemoryCall}
 use Rattle.mac_calls.specs.GrowZone.{Ask}
 use Rattle.mac_calls.specs.Outcomes.{Outcome}
+use Rattle.mac_calls.specs.Released.{disposed_in}
 use Rattle.fork_bytes.specs.Written.{written}
 use Rattle.res_table.specs.declared.chain.RowPlace.{RowPlace}
 use Rattle.res_table.specs.OpenFiles.{is_open, file_opened, row_at}
@@ -41,15 +40,6 @@ work_of state (call.UpdateResFile named) = updating (file_update state named)
 work_of state (call.CloseResFile named) = updating (file_update state named)
 work_of state (call.OpenResFile k) = if is_open k state.files then Quiet else Opens k
 work_of state call = option_map_or Gets (row_wanted state call) Quiet
-
--- the handle that an answer's call disposed of, where it was carried out so
-abbrev pub disposed_by : ReleasingCall × Option OsErr → Option ℕ
-disposed_by (DisposesHandle h, None) = Some h
-disposed_by _ = None
-
--- the handles that answers disposed of
-abbrev pub disposed_in : List Ask → List ℕ
-disposed_in asks = flat_map (λ (ask : Ask). filter_map disposed_by ask.carried) asks
 
 -- the state behind a call of the Memory Manager that asked so and left this heap: rows have forgotten what answers disposed of
 abbrev pub behind_memory : List Ask → Heap → ResState → ResState

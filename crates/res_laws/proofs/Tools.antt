@@ -18,6 +18,7 @@ use Rattle.heap_laws.specs.Act.{Act, Calls}
 use Rattle.heap_laws.specs.Headline.{Done, IsRun, heap_behind}
 use Rattle.heap_laws.specs.Loaned.{Holding, IsLoanRun, LoanDone, LoansShow, OnHeap, OnLoan, held_after, put_in_loans}
 use Rattle.heap_laws.proofs.Loaned.{Known, LoansHeld, loans-keep, loans-run, locked-run, may-run, new-held, new-shows}
+use Rattle.res_calls.specs.Files.{ResState}
 use Rattle.res_laws.specs.Acts.{AllActs, Anything, IsActOf}
 use Rattle.res_laws.specs.Tools.{AllShow, AreActsOf, Called, IsToolRun, ToolDoes, Tools, ToolsShow, held_by}
 use Rattle.res_laws.proofs.Acts.{made-of-acts}
@@ -52,6 +53,10 @@ unfolding on_heap
 on_heap-own old rc asks outcome heap [] acts = tt
 on_heap-own old rc asks outcome heap (d ∷ later) acts = (acts.0, on_heap-own old rc asks outcome d.heap later acts.2)
 
+none-changed : (old new : Tools) → new.resources ≡ old.resources → new.loans ≡ old.loans → held_by old ≡ held_by new
+unfolding holding
+none-changed old new resources loans = ap (λ (st : ResState). holding st.heap old.loans) (sym resources) ∙ ap (holding new.resources.heap) (sym loans)
+
 call-acts : (old : Tools) (call : Call) (asks : List Ask) (outcome : Outcome) (new : Tools) → LoansHeld (held_by old) → ToolDoes old call asks outcome new → CallActs old call asks outcome new
 unfolding holding
 call-acts old (MemoryCalls call) asks outcome new held does = record {
@@ -74,15 +79,15 @@ call-acts old (Resource rc) asks outcome new held does =
       ends = on_heap-ends old.resources.heap old.loans made.run ∙ ap (λ h. holding h old.loans) made.ends ∙ ap (holding new.resources.heap) (sym does.2);
       own = on_heap-own old rc asks outcome old.resources.heap made.run made.acts;
     }
-call-acts old MemError asks outcome new held does = record { acts = []; run = tt; ends = ap (λ h. holding h old.loans) (sym does.0) ∙ ap (holding new.resources.heap) (sym does.1); own = tt }
-call-acts old ResError asks outcome new held does = record { acts = []; run = tt; ends = ap (λ h. holding h old.loans) (sym does.0) ∙ ap (holding new.resources.heap) (sym does.1); own = tt }
+call-acts old MemError asks outcome new held does = record { acts = []; run = tt; ends = none-changed old new does.0 does.1; own = tt }
+call-acts old ResError asks outcome new held does = record { acts = []; run = tt; ends = none-changed old new does.0 does.1; own = tt }
 
 shape-kept : (old : Tools) (call : Call) (asks : List Ask) (outcome : Outcome) (new : Tools) → ToolDoes old call asks outcome new → new.resources.shape ≡ old.resources.shape
-shape-kept old (MemoryCalls call) asks outcome new does = does.2
-shape-kept old (Loan call) asks outcome new does = does.1
+shape-kept old (MemoryCalls call) asks outcome new does = ap (λ (st : ResState). st.shape) does.2
+shape-kept old (Loan call) asks outcome new does = ap (λ (st : ResState). st.shape) does.1
 shape-kept old (Resource rc) asks outcome new does = does.3
-shape-kept old MemError asks outcome new does = does.2
-shape-kept old ResError asks outcome new does = does.2
+shape-kept old MemError asks outcome new does = ap (λ (st : ResState). st.shape) does.0
+shape-kept old ResError asks outcome new does = ap (λ (st : ResState). st.shape) does.0
 
 -- over a run
 tools-run : (old : Tools) (run : List Called) (last : LastPut) → Sound old.resources.shape old.resources.heap → LoansHeld (held_by old) → LoansShow (held_by old) last → IsToolRun old run → AllShow old run last

@@ -1,6 +1,6 @@
 -- Runs of calls of the Memory Manager, of the Resource Manager and on loans.
 use Rattle.std.specs.Prelude.{◌≡◌, ℕ, IsTrue, List, [], ◌∷◌, ⊤}
-use Rattle.mac_base.specs.Heap.{new_heap}
+use Rattle.mac_base.specs.Heap.{Heap, new_heap}
 use Rattle.mac_base.specs.HandleTable.{is_pointer}
 use Rattle.mac_base.specs.ZoneMap.{contents_of}
 use Rattle.mac_base.specs.ZoneSizes.{ArePossible, ZoneSizes, shape_of}
@@ -10,8 +10,10 @@ use Rattle.mac_calls.specs.ExactStep.{IsExactStep}
 use Rattle.mac_calls.specs.GrowZone.{Ask}
 use Rattle.mac_calls.specs.Loans.{Loans, LoanStep}
 use Rattle.mac_calls.specs.Outcomes.{Outcome}
+use Rattle.mac_calls.specs.Released.{disposed_of}
 use Rattle.res_calls.specs.Device.{Device}
-use Rattle.res_calls.specs.Files.{ResState}
+use Rattle.res_calls.specs.Changes.{handles_forgotten}
+use Rattle.res_calls.specs.Files.{ResState, with_files, with_heap}
 use Rattle.res_calls.specs.Steps.{ResourceStepBy}
 use Rattle.heap_laws.specs.LastPut.{LastPut}
 use Rattle.heap_laws.specs.Act.{Calls}
@@ -27,13 +29,19 @@ pub record Tools : Type 0 where
 abbrev pub held_by : Tools → Holding
 held_by tools = record { heap = tools.resources.heap; loans = tools.loans }
 
+-- the zone and the files with this heap, where no row has any of these handles
+abbrev pub with_rows_forgotten : List ℕ → Heap → ResState → ResState
+with_rows_forgotten handles heap state = with_heap heap (with_files (handles_forgotten handles state.files) state)
+
 -- From the old state, a call with these asks may have this outcome and leave the new state; the device of a resource call may go in any way.
 abbrev pub ToolDoes : Tools → Call → List Ask → Outcome → Tools → Type 0
-ToolDoes old (MemoryCalls call) asks outcome new = IsExactStep old.resources.shape old.resources.heap call asks outcome new.resources.heap × (new.loans ≡ old.loans) × (new.resources.shape ≡ old.resources.shape)
-ToolDoes old (Loan call) asks outcome new = LoanStep old.resources.shape old.loans old.resources.heap call outcome new.loans new.resources.heap × (new.resources.shape ≡ old.resources.shape)
+ToolDoes old (MemoryCalls call) asks outcome new = IsExactStep old.resources.shape old.resources.heap call asks outcome new.resources.heap × (new.loans ≡ old.loans)
+    × (new.resources ≡ with_rows_forgotten (disposed_of call asks outcome) new.resources.heap old.resources)
+ToolDoes old (Loan call) asks outcome new = LoanStep old.resources.shape old.loans old.resources.heap call outcome new.loans new.resources.heap
+    × (new.resources ≡ with_heap new.resources.heap old.resources)
 ToolDoes old (Resource call) asks outcome new = (device : Device) × ResourceStepBy Memory Anything device old.resources call asks (record { outcome = outcome; state = new.resources })
     × (new.loans ≡ old.loans) × (new.resources.shape ≡ old.resources.shape)
-ToolDoes old _ asks outcome new = (new.resources.heap ≡ old.resources.heap) × (new.loans ≡ old.loans) × (new.resources.shape ≡ old.resources.shape)
+ToolDoes old _ asks outcome new = (new.resources ≡ old.resources) × (new.loans ≡ old.loans)
 
 -- a call that was made, and what it left
 pub record Called : Type 0 where

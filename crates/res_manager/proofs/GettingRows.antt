@@ -22,7 +22,8 @@ use Rattle.res_calls.specs.Changes.{FileRow, handles_forgotten, row_changed}
 use Rattle.res_calls.specs.Device.{Device, Works as Working, FailsBefore}
 use Rattle.res_calls.specs.Files.{ResState, ResourceEnd, refused_with, with_heap, with_files}
 use Rattle.res_calls.specs.Loads.{loads_bytes, placing, loaded, unloaded, loaded_results, read_fails, load_end, placed_end}
-use Rattle.res_calls.specs.Steps.{LeaveRelation, GetsPlace, behind_memory, disposed_in}
+use Rattle.mac_calls.specs.Released.{disposed_in}
+use Rattle.res_calls.specs.Steps.{LeaveRelation, GetsPlace, behind_memory}
 use Rattle.res_files.specs.FilesOn.{FilesOn, SomeFailed}
 use Rattle.res_manager.specs.Loading.{LoadSteps, HasBytes, place_call, handle_placed}
 use Rattle.res_manager.proofs.Forgetting.{row_forgotten}

@@ -3,7 +3,7 @@ use Rattle.std.specs.Prelude.{◌≡◌, ℕ, ◌≤◌, nat_le, Bool, true, ◌
 use Rattle.std.specs.List.{list_all}
 use Rattle.std.specs.Option.{option_map_or}
 use Rattle.mac_calls.specs.GrowZone.{Ask, Answer, most_answers}
-use Rattle.res_calls.specs.Steps.{disposed_in}
+use Rattle.mac_calls.specs.Released.{disposed_in}
 
 -- whether an ask's answer has 8 calls at most, and no more were carried out
 abbrev pub has_few_calls : Ask → Bool

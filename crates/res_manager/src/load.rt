@@ -10,7 +10,7 @@ ghost use Rattle.mac_base.specs.Releasing.{heap_released};
 ghost use Rattle.mac_calls.specs.Outcomes.{Outcome};
 ghost use Rattle.res_calls.specs.Changes.{handles_forgotten, row_changed};
 ghost use Rattle.res_calls.specs.Loads.{loaded};
-ghost use Rattle.res_calls.specs.Steps.{disposed_in};
+ghost use Rattle.mac_calls.specs.Released.{disposed_in};
 ghost use Rattle.res_files.specs.FilesOn.{SomeFailed};
 ghost use Rattle.res_table.specs.OpenFiles.{row_at};
 ghost use Rattle.res_table.specs.Rows.{with_handle};

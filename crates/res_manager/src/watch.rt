@@ -3,7 +3,7 @@
 ghost use Rattle.std.specs.Prelude.{◌≡◌, ◌≤◌, [], ◌∷◌, ◌++◌, length, IsTrue, IfSome};
 ghost use Rattle.std.specs.List.{list_all};
 ghost use Rattle.mac_calls.specs.GrowZone.{may_ask, may_note, new_ask, noted};
-ghost use Rattle.res_calls.specs.Steps.{disposed_by, disposed_in};
+ghost use Rattle.mac_calls.specs.Released.{disposed_by, disposed_in};
 ghost use Rattle.res_manager.specs.Watching.{Notes, has_few_calls, named_source};
 
 use arrayvec::ArrayVec;

@@ -27,8 +27,8 @@ use Rattle.script_run.specs.Headline.{PrintReplies, PrintsReply, RunShows, tools
 module _ {S : Type 0} (store : Ghosts S) where
   -- a step of the toolbox is one of its zone, resource files and loans
   tool-does : (old : ToolState S) (call : Call) (asks : List Ask) (outcome : Outcome) (new : ToolState S) → Gives store old call asks outcome new → new.shape ≡ old.shape → IsHonest store old → ToolDoes (tools_of store old) call asks outcome (tools_of store new)
-  tool-does old (MemoryCalls call) asks outcome new g shape honest = (g.1, g.2, shape)
-  tool-does old (Loan call) asks outcome new g shape honest = (g.1, shape)
+  tool-does old (MemoryCalls call) asks outcome new g shape honest = (g.1, g.2, made_of new.shape old.shape new.heap new.resources (without_handles (disposed_of call asks outcome) old.resources) shape g.3)
+  tool-does old (Loan call) asks outcome new g shape honest = (g.1, made_of new.shape old.shape new.heap new.resources old.resources shape g.2)
   tool-does old (Resource call) asks outcome new g shape honest =
       let r = g.0 honest in
       (r.0, anything-left store.may_leave r.0 (resource_state store old) call asks (record { outcome = outcome; state = resource_state store new }) r.1, g.1, shape)

@@ -1,6 +1,5 @@
 -- What a call of the toolbox does.
 use Rattle.std.specs.Prelude.{◌≡◌, ◌↔◌, Bool, true, false, not, IsFalse, ℕ, List, [], ◌++◌, length, Option, Some, None, Ok, OnOk}
-use Rattle.std.specs.Option.{option_to_list}
 use Rattle.std.specs.Result.{result_err}
 use Rattle.mac_base.specs.declared.error.OsErr.{OsErr}
 use Rattle.mac_base.specs.ZoneState.{ZoneState}
@@ -17,10 +16,11 @@ use Rattle.mac_calls.specs.ExactStep.{IsExactStep, exact_step}
 use Rattle.mac_calls.specs.GrowZone.{Answer, Ask, answers_in}
 use Rattle.mac_calls.specs.MemoryStep.{MemoryStep}
 use Rattle.mac_calls.specs.Outcomes.{Outcome}
+use Rattle.mac_calls.specs.Released.{disposed_of}
 use Rattle.mac_calls.specs.Tests.{refusal}
 use Rattle.fork_disk.specs.declared.store.ForkStore.{Ghosts}
 use Rattle.res_calls.specs.Device.{Device, device_works}
-use Rattle.res_calls.specs.Steps.{MemoryRelation, ResourceStepBy, disposed_in, work_of}
+use Rattle.res_calls.specs.Steps.{MemoryRelation, ResourceStepBy, work_of}
 use Rattle.res_calls.specs.Tests.{resource_refusal}
 use Rattle.res_files.specs.FilesOn.{SomeFailed}
 use Rattle.res_manager.specs.Crash.{CrashLeaves, IsSettled, file_settled}
@@ -31,15 +31,6 @@ use Rattle.toolbox.specs.ToolState.{ToolState, IsHonest, resource_state, without
 -- which is made where the procedure gives the answers that it gave.
 abbrev pub MemorySteps : ZoneState → MemoryCall → List Ask → Outcome → ZoneState → Type 0
 MemorySteps old call asks outcome new = MemoryStep old.shape old.heap call asks outcome new.heap × IsExactStep old.shape old.heap call asks outcome new.heap × (new.shape ≡ old.shape)
-
--- the handle that a call of the Memory Manager disposes of itself, where it isn't refused
-abbrev pub disposed_itself : MemoryCall → Outcome → Option ℕ
-disposed_itself (memory_call.DisposeHandle h) (Ok results) = Some h
-disposed_itself call outcome = None
-
--- all handles that a call of the Memory Manager disposes of: those of the answers to its asks, and then its own
-abbrev pub disposed_of : MemoryCall → List Ask → Outcome → List ℕ
-disposed_of call asks outcome = disposed_in asks ++ option_to_list (disposed_itself call outcome)
 
 -- What a call of the Resource Manager gives and does, where those of the Memory Manager step so. A device failed in it only where a
 -- count of failures rose.

@@ -3,7 +3,8 @@
 ghost use Rattle.std.specs.Prelude.{◌≡◌, [], None, IfOk, OnErr, IsTrue};
 ghost use Rattle.linked_zone.specs.Loans.{KeepsLoans};
 ghost use Rattle.mac_calls.specs.Tests.{refusal};
-ghost use Rattle.toolbox.specs.Steps.{MemorySteps, copies, disposed_itself, refused_after, resource_refused_after};
+ghost use Rattle.mac_calls.specs.Released.{disposed_itself};
+ghost use Rattle.toolbox.specs.Steps.{MemorySteps, copies, refused_after, resource_refused_after};
 
 use crate::queue::AnswerQueue;
 use crate::{lending, memory};
