@@ -11,34 +11,24 @@ use Rattle.mac_base.specs.declared.request.Request.TheVariants.{NewBlock, NewEmp
 use Rattle.mac_base.specs.FlagState.{flags_from, state_of}
 use Rattle.mac_base.specs.HandleTable.{HandleTable, Live, EmptyHandle, FullHandle, Pointer, bytes_of, flags_of, is_full, live_at, live_flags, live_full, live_pointer, no_flags, refilled, resized, with_bytes, with_flags, with_live, zeros}
 use Rattle.mac_base.specs.HeadKind.{Shape}
-use Rattle.mac_base.specs.Heap.{Heap, all_purged, every_slot_live, new_heap, table_granted}
-use Rattle.mac_base.specs.Releasing.{heap_released}
+use Rattle.mac_base.specs.Heap.{Heap, all_purged, every_slot_live, table_granted}
 use Rattle.mac_base.specs.Request.{candidates_in, makes_handle}
-use Rattle.mac_base.specs.ZoneSizes.{shape_of}
-use Rattle.mac_calls.specs.declared.loan_call.LoanCall.{LoanCall}
-use Rattle.mac_calls.specs.declared.loan_call.LoanCall.TheVariants as loan_call
 use Rattle.mac_calls.specs.declared.memory_call.MemoryCall.{MemoryCall}
 use Rattle.mac_calls.specs.declared.memory_call.MemoryCall.TheVariants as memory_call
 use Rattle.mac_calls.specs.declared.reply.Results.TheVariants as results
 use Rattle.mac_calls.specs.Effect.{request_of, table_copied}
 use Rattle.mac_calls.specs.GrowZone.{Ask, most_answers}
-use Rattle.mac_calls.specs.Loans.{LoanStepUnless, held_bytes, loan_refusal}
-use Rattle.mac_calls.specs.MemoryStep.{BehindMaster, EndsRequest, OwnRequest, QuietStep, RequestStep, StepAsking, StepUnless}
+use Rattle.mac_calls.specs.MemoryStep.{BehindMaster, EndsRequest, MemoryStep, OwnRequest, QuietStep, RequestStep, StepAsking, StepUnless}
 use Rattle.mac_calls.specs.Outcomes.{Outcome, given_results}
 use Rattle.mac_calls.specs.RequestRun.{RequestRun}
 use Rattle.mac_calls.specs.Tests.{Test, IsHandle, NotEmpty, NotLent, NotLocked, IsState, KeepsLent, first_refusal, protected_by, refusal}
-use Rattle.zone_laws.proofs.SoundNew.{sound-new}
 use Rattle.zone_laws.proofs.Tables.{by_number, eqb_same, live_at-with_live_same, with_live_agrees}
 use Rattle.call_laws.proofs.SoundCalls.{passed-full}
-use Rattle.heap_laws.specs.Act.{Calls, Loads, Unloads}
-use Rattle.heap_laws.specs.LastSet.{ActTellsFlags, AllTellFlags, HasFlags, HasFlagsLastSet, LastSet, TellsFlags, set, set_by, set_by_act, set_in, set_with}
-use Rattle.heap_laws.specs.Loaned.{Holding, IsLoanRun, LoanAct, LoanDoes, LoanDone, OnHeap, OnLoan, held_after}
+use Rattle.heap_laws.specs.LastSet.{HasFlags, LastSet, TellsFlags, set, set_by, set_with}
 use Rattle.heap_laws.proofs.Fewer.{Fewer, RunLeaves, fewer-purged, fewer-refl, fewer-released, fewer-same, leaves-behind, run-leaves}
-use Rattle.heap_laws.proofs.Loaned.{Known, known-step, any-put, new-held, new-shows}
-use Rattle.heap_laws.proofs.Runs.{step-may}
 
 -- one number is given something with these flags
-flags-set : (x : ℕ) (l : Live) (flags : Flags) (t new : HandleTable) (last : LastSet) → (live_full (Some l) ≡ true → live_flags (Some l) ≡ flags) → new ≡ with_live x l t → HasFlags t last → HasFlags new (set x flags last)
+pub flags-set : (x : ℕ) (l : Live) (flags : Flags) (t new : HandleTable) (last : LastSet) → (live_full (Some l) ≡ true → live_flags (Some l) ≡ flags) → new ≡ with_live x l t → HasFlags t last → HasFlags new (set x flags last)
 flags-set x l flags t new last holds is has =
     let at = live_at-with_live_same x l t in
     let agree = with_live_agrees x l t in
@@ -63,15 +53,15 @@ refilled-flags bytes (Some EmptyHandle) flags has h = absurd (cc h)
 refilled-flags bytes (Some (FullHandle f old)) flags has h = has refl
 refilled-flags bytes (Some (Pointer old)) flags has h = absurd (cc h)
 
-flags-written : (x : ℕ) (bytes : List ℕ) (t : HandleTable) (last : LastSet) → HasFlags t last → HasFlags (with_bytes x bytes t) last
+pub flags-written : (x : ℕ) (bytes : List ℕ) (t : HandleTable) (last : LastSet) → HasFlags t last → HasFlags (with_bytes x bytes t) last
 flags-written x bytes t last has = flags-kept x (refilled bytes (live_at t x)) t (with_bytes x bytes t) last (refilled-flags bytes (live_at t x) (last x) (has x)) refl has
 
-flags-fewer : (protected : List ℕ) (old new : HandleTable) (last : LastSet) → Fewer protected old new → HasFlags old last → HasFlags new last
+pub flags-fewer : (protected : List ℕ) (old new : HandleTable) (last : LastSet) → Fewer protected old new → HasFlags old last → HasFlags new last
 flags-fewer protected old new last fewer has h full =
     let same = fewer.same h (or_left (is_full new h) (live_pointer (live_at new h)) full) in
     ap live_flags same ∙ has h (sym (ap live_full same) ∙ full)
 
-flags-same : (old new : HandleTable) (last : LastSet) → new ≡ old → HasFlags old last → HasFlags new last
+pub flags-same : (old new : HandleTable) (last : LastSet) → new ≡ old → HasFlags old last → HasFlags new last
 flags-same old new last is has = subst (λ t. HasFlags t last) (sym is) has
 
 -- ---- requests
@@ -203,33 +193,7 @@ module _ (s : Shape) (old : Heap) (last : LastSet) (has : HasFlags old.table las
   unless-flags (Some code) call asks outcome new is step = (ends call outcome _ new step.1 (flags-same old.table new.table last step.2.table has), tells call outcome _ step.1 (refused-tells call code))
   unless-flags None call asks outcome new is step = asking-flags (request_of old.table call) call asks outcome new refl is step
 
--- ---- acts and runs
-
-loan-flags : (old new : Holding) (call : LoanCall) (outcome : Outcome) (o : Option OsErr) (last : LastSet) → LoanStepUnless o old.loans old.heap call outcome new.loans new.heap → HasFlags old.heap.table last → HasFlags new.heap.table last
-loan-flags old new call outcome (Some code) last step has = flags-same old.heap.table new.heap.table last (ap (λ (h : Heap). h.table) step.2) has
-loan-flags old new (loan_call.Lend x) outcome None last step has = subst (λ (h : Heap). HasFlags h.table last) (sym step.2) has
-loan-flags old new (loan_call.Return x) outcome None last step has = subst (λ (h : Heap). HasFlags h.table last) (sym step.2) (flags-written x (held_bytes x old.loans) old.heap.table last has)
-loan-flags old new call outcome None last step has = flags-same old.heap.table new.heap.table last (ap (λ (h : Heap). h.table) step.2) has
-
-act-flags : (s : Shape) (act : LoanAct) (old new : Holding) (last : LastSet) → Known s old → LoanDoes s act old new → HasFlags old.heap.table last → HasFlags new.heap.table (set_by_act act last) × ActTellsFlags act last
-act-flags s (OnHeap (Calls call asks outcome)) old new last known does has =
-    unless-flags s old.heap last has (refusal s old.heap call) call asks outcome new.heap refl (step-may s old.heap call asks outcome new.heap known.sound does.0)
-act-flags s (OnHeap (Loads h flags bytes)) old new last known does has =
-    let filled = does.0 in
-    (flags-set h (FullHandle flags bytes) flags old.heap.table new.heap.table last (λ _. refl) (ap (λ (heap : Heap). heap.table) filled.2) has, tt)
-act-flags s (OnHeap (Unloads call)) old new last known does has =
-    let released = does.0 in
-    (flags-same (heap_released call old.heap).table new.heap.table last (ap (λ (heap : Heap). heap.table) released.1) (flags-fewer [] old.heap.table (heap_released call old.heap).table last (fewer-released [] call old.heap refl) has), tt)
-act-flags s (OnLoan call outcome) old new last known does has = (loan-flags old new call outcome (loan_refusal s old.heap call) last does has, tt)
-
-flags-run : (s : Shape) (old : Holding) (run : List LoanDone) (last : LastSet) → Known s old → HasFlags old.heap.table last → IsLoanRun s old run → AllTellFlags run last × HasFlags (held_after old run).heap.table (set_in run last)
-flags-run s old [] last known has is = (tt, has)
-flags-run s old (d ∷ later) last known has is =
-    let step = act-flags s d.act old d.held last known is.0 has in
-    let rest = flags-run s d.held later (set_by_act d.act last) (known-step s d.act old d.held known is.0) step.0 is.1 in
-    ((step.1, rest.0), rest.1)
-
--- from a new zone on
-pub flags-last_set : HasFlagsLastSet
-flags-last_set z run last possible is =
-    flags-run (shape_of z) (record { heap = new_heap (shape_of z) z.size; loans = [] }) run last (record { sound = sound-new z possible; loans = new-held (shape_of z) z.size; last = any-put; shows = new-shows (shape_of z) z.size any-put }) (λ h full. absurd (cc full)) is
+-- a call sets the flags last set, and tells them
+pub step-flags : (s : Shape) (old : Heap) (call : MemoryCall) (asks : List Ask) (outcome : Outcome) (new : Heap) (last : LastSet) → MemoryStep s old call asks outcome new → HasFlags old.table last
+    → HasFlags new.table (set_by call outcome last) × TellsFlags call outcome last
+step-flags s old call asks outcome new last step has = unless-flags s old last has (refusal s old call) call asks outcome new refl step

@@ -1,11 +1,14 @@
 pub mod Fewer
 pub mod Passed
 pub mod Shown
+pub mod Flagged
 pub mod Locked
 pub mod Full
 pub mod Losing
-pub mod Runs
+pub mod Steps
 pub mod Spared
 pub mod LoanLists
 pub mod Loaned
-pub mod Flagged
+pub mod Standing
+pub mod Lent
+pub mod Headline

@@ -7,11 +7,12 @@ use Rattle.mac_base.specs.declared.error.OsErr.{OsErr}
 use Rattle.mac_base.specs.declared.error.OsErr.TheVariants.{MemPurErr, ParamErr}
 use Rattle.mac_base.specs.HandleTable.{HandleTable, FullHandle, bytes_of, has_block, is_lent, is_locked, is_pointer, live_at, live_bytes, refilled, resized, with_live, zeros}
 use Rattle.mac_base.specs.HeadKind.{Shape}
-use Rattle.mac_base.specs.Heap.{Heap, new_heap, with_table}
+use Rattle.mac_base.specs.Heap.{Heap, with_table}
 use Rattle.mac_base.specs.Loans.{LoansAreFixed, lent_out, may_be_lent, most_loans, owners, returned}
 use Rattle.mac_base.specs.Releasing.{heap_released}
+use Rattle.mac_base.specs.declared.block.Flags.{Flags}
+use Rattle.mac_base.specs.declared.releasing.ReleasingCall.{ReleasingCall}
 use Rattle.mac_base.specs.Sound.{Sound}
-use Rattle.mac_base.specs.ZoneSizes.{shape_of}
 use Rattle.mac_base.specs.ZoneState.{written}
 use Rattle.mac_calls.specs.declared.loan_call.LoanCall.{LoanCall}
 use Rattle.mac_calls.specs.declared.loan_call.LoanCall.TheVariants as loan_call
@@ -19,7 +20,7 @@ use Rattle.mac_calls.specs.declared.memory_call.MemoryCall.{MemoryCall}
 use Rattle.mac_calls.specs.declared.memory_call.MemoryCall.TheVariants as memory_call
 use Rattle.mac_calls.specs.declared.reply.Results.{Results}
 use Rattle.mac_calls.specs.declared.reply.Results.TheVariants as results
-use Rattle.mac_calls.specs.ExactStep.{StepEnd}
+use Rattle.mac_calls.specs.ExactStep.{IsExactStep, StepEnd}
 use Rattle.mac_calls.specs.GrowZone.{Ask, answers_in}
 use Rattle.mac_calls.specs.Loans.{Loans, LoanStepUnless, heap_after_loan, held_bytes, loan_refusal, loan_results, loans_after, with_held, without_loan}
 use Rattle.mac_calls.specs.MemoryStep.{MemoryStep, StepUnless}
@@ -29,33 +30,31 @@ use Rattle.mac_calls.specs.Tests.{IsHandle, IsPointer, IsBlock, NotEmpty, NotLen
 use Rattle.zone_laws.proofs.Lent.{KeepsLent, block-owner, fixed-kept, lent-apart, lent-block, lent-filtered}
 use Rattle.zone_laws.proofs.LentChanges.{lent_out-fixed, returned-bytes, returned-fixed, sound-lent, sound-returned}
 use Rattle.zone_laws.proofs.Maps.{both_true}
-use Rattle.zone_laws.proofs.SoundNew.{sound-new}
 use Rattle.zone_laws.proofs.Tables.{by_number, eqb_same, eqb_swap, live_at-with_live_same, with_live_agrees}
 use Rattle.call_laws.proofs.Refusals.{passed-IsWithin, passed-NotEmpty, passed-NotLent}
 use Rattle.call_laws.proofs.SoundCalls.{length-written}
 use Rattle.call_laws.proofs.StepLent.{lent-exact_step}
-use Rattle.heap_laws.specs.LastPut.{LastPut, Shows, Tells, number_in, put, put_by, put_with}
-use Rattle.heap_laws.specs.Act.{Act, ActTells, Calls, Does, Loads, Unloads, put_by_act}
-use Rattle.heap_laws.specs.Loaned.{AllLoansMay, AllLoansTell, held_after, Holding, IsLoanRun, IsLockedInLoans, LeavesLoans, LoanAct, LoanActMay, LoanDoes, LoanDone, LoansKeepAddresses, LoansShow, LoansShowLastPut, LoansStay, LoanTells, OnHeap, OnLoan, put_by_loan, put_in_loans}
-use Rattle.heap_laws.proofs.Fewer.{block_live}
+use Rattle.heap_laws.specs.LastPut.{LastPut, Tells, number_in, put, put_by, put_by_act, put_with}
+use Rattle.heap_laws.specs.LastSet.{HasFlags, LastSet, set_by_act}
+use Rattle.heap_laws.specs.Act.{Act, Calls, Does, Loads, Moment, OnLoan, Unloads}
+use Rattle.heap_laws.specs.Headline.{ActTells, Shows}
+use Rattle.heap_laws.proofs.Fewer.{block_live, fewer-released}
+use Rattle.heap_laws.proofs.Flagged.{flags-fewer, flags-same, flags-set, flags-written, step-flags}
 use Rattle.heap_laws.proofs.LoanLists.{held-before, held-last, held-with_other, held-with_same, held-without, is_loaned, loaned-last, loaned-with, loaned-without_other, loaned-without_same}
 use Rattle.heap_laws.proofs.Passed.{test_2, test_3, test_4, test_5, test_6}
-use Rattle.heap_laws.proofs.Runs.{act-full, act-locked, act-loses, act-shows, act-sound, step-may}
-use Rattle.heap_laws.proofs.Losing.{written-keeps}
-use Rattle.gap_laws.proofs.KeepsLoans.{contents-pointer}
-use Rattle.mac_base.specs.ZoneMap.{contents_of}
-use Rattle.heap_laws.proofs.Shown.{refilled-holds}
+use Rattle.heap_laws.proofs.Steps.{released-sound, sound-filled, step-address, step-may, step-sound}
+use Rattle.heap_laws.proofs.Shown.{TableShows, refilled-holds, shows-fewer, shows-put, step-shows}
 use Rattle.heap_laws.proofs.Spared.{Spared, block-here, pointer-here, spared-fixed, spared-released}
 
 -- what is known of loans: what is lent is fixed, just what is lent has a loan, and each is as long as its block
-pub record LoansHeld (held : Holding) : Type 0 where
+pub record LoansHeld (held : Moment) : Type 0 where
   pub fixed : LoansAreFixed held.heap
   pub loaned : (x : ℕ) → is_lent held.heap.table x ≡ is_loaned x held.loans
   pub long : (x : ℕ) → is_lent held.heap.table x ≡ true → length (held_bytes x held.loans) ≡ length (bytes_of held.heap.table x)
 
 -- ---- acts on the heap
 
-module _ (s : Shape) (held : Holding) (last : LastPut) (inv : LoansHeld held) (shows : LoansShow held last) where
+module _ (s : Shape) (held : Moment) (last : LastPut) (inv : LoansHeld held) (shows : Shows held last) where
   t : HandleTable
   t = held.heap.table
 
@@ -63,7 +62,7 @@ module _ (s : Shape) (held : Holding) (last : LastPut) (inv : LoansHeld held) (s
   seen : LastPut
   seen x = cond (is_lent held.heap.table x) (bytes_of held.heap.table x) (last x)
 
-  seen-shows : Shows held.heap.table seen
+  seen-shows : TableShows held.heap.table seen
   unfolding seen
   seen-shows x block = by_lent (is_lent held.heap.table x) (shows x block)
     where
@@ -143,11 +142,6 @@ module _ (s : Shape) (held : Holding) (last : LastPut) (inv : LoansHeld held) (s
   agree-outcome call asks (Ok r) new step = agree-call call asks r new (passed-of call asks r new (refusal s held.heap call) refl step) step
   agree-outcome call asks (Err code) new step = agree-none
 
-  agree-act : (act : Act) (new : Heap) → Sound s held.heap → Does s act held.heap new → LeavesLoans held.heap act → Agree (put_by_act act seen) (put_by_act act last)
-  agree-act (Calls call asks outcome) new sound does leaves = agree-outcome call asks outcome new (step-may s held.heap call asks outcome new sound does)
-  agree-act (Loads h flags bytes) new sound does leaves = agree-put h bytes bytes leaves refl
-  agree-act (Unloads call) new sound does leaves = agree-none
-
   -- what an act keeps of what is lent
   record Keeps (new : Heap) : Type 0 where
     pub lent : new.table.lent ≡ held.heap.table.lent
@@ -157,14 +151,10 @@ module _ (s : Shape) (held : Holding) (last : LastPut) (inv : LoansHeld held) (s
   spared-keeps : (new : Heap) → Spared held.heap.table new.table → Keeps new
   spared-keeps new spared = record { lent = spared.lent; fixed = spared-fixed held.heap new spared inv.fixed; long = λ x l. ap (λ o. length (live_bytes o)) (spared.same x l) }
 
-  act-keeps : (act : Act) (new : Heap) → Sound s held.heap → Does s act held.heap new → LeavesLoans held.heap act → Keeps new
-  act-keeps (Calls call asks outcome) new sound does leaves =
+  call-keeps : (call : MemoryCall) (asks : List Ask) (outcome : Outcome) (new : Heap) → Sound s held.heap → IsExactStep s held.heap call asks outcome new → Keeps new
+  call-keeps call asks outcome new sound does =
       let keeps = subst (λ (e : StepEnd). KeepsLent s held.heap e.heap) does (lent-exact_step s (answers_in asks) held.heap call sound inv.fixed) in
       record { lent = keeps.lent; fixed = fixed-kept s held.heap new keeps inv.fixed; long = keeps.long }
-  act-keeps (Loads h flags bytes) new sound does leaves =
-      let filled : Heap = with_table (with_live h (FullHandle flags bytes) held.heap.table) held.heap in
-      subst Keeps (sym does.2) (spared-keeps filled (record { lent = refl; same = λ x l. (with_live_agrees h (FullHandle flags bytes) held.heap.table).others x (lent-apart held.heap.table h x leaves l) }))
-  act-keeps (Unloads call) new sound does leaves = subst Keeps (sym does.1) (spared-keeps (heap_released call held.heap) (spared-released call held.heap leaves))
 
   -- what an act tells
   long-seen : (x : ℕ) → length (seen x) ≡ length (last x)
@@ -190,38 +180,59 @@ module _ (s : Shape) (held : Holding) (last : LastPut) (inv : LoansHeld held) (s
   tells-outcome call asks (Ok r) new step told = tells-call call r (passed-of call asks r new (refusal s held.heap call) refl step) told
   tells-outcome call asks (Err code) new step told = refused-tells call code
 
-  tells-act : (act : Act) (new : Heap) → Sound s held.heap → Does s act held.heap new → ActTells act seen → ActTells act last
-  tells-act (Calls call asks outcome) new sound does told = tells-outcome call asks outcome new (step-may s held.heap call asks outcome new sound does) told
-  tells-act (Loads h flags bytes) new sound does told = tt
-  tells-act (Unloads call) new sound does told = tt
-
-  heap-tells : (act : Act) (new : Heap) → Sound s held.heap → Does s act held.heap new → ActTells act last
-  heap-tells act new sound does = let step = act-shows s act held.heap new seen sound does seen-shows in tells-act act new sound does step.1
-
-  heap-shows : (act : Act) (new : Holding) → Sound s held.heap → Does s act held.heap new.heap → LeavesLoans held.heap act → new.loans ≡ held.loans → LoansShow new (put_by_act act last)
-  heap-shows act new sound does leaves same x block =
-      let keeps = act-keeps act new.heap sound does leaves in
-      let agree = agree-act act new.heap sound does leaves in
-      let step = act-shows s act held.heap new.heap seen sound does seen-shows in
+  -- the zone after an act on the heap, by what was put over the one and over the other
+  heap-shows : (new : Moment) (f g : LastPut) → Keeps new.heap → Agree f g → TableShows new.heap.table f → new.loans ≡ held.loans → Shows new g
+  heap-shows new f g keeps agree shown same x block =
       let is_same : is_lent new.heap.table x ≡ is_lent held.heap.table x = ap (list_any (λ y. y == x)) keeps.lent in
-      by_lent (is_lent held.heap.table x) refl is_same agree (step.0 x block)
+      by_lent (is_lent held.heap.table x) refl is_same (shown x block)
     where
-      by_lent : (b : Bool) → is_lent held.heap.table x ≡ b → is_lent new.heap.table x ≡ is_lent held.heap.table x → Agree (put_by_act act seen) (put_by_act act last) → bytes_of new.heap.table x ≡ put_by_act act seen x
-          → cond (is_lent new.heap.table x) (held_bytes x new.loans) (bytes_of new.heap.table x) ≡ put_by_act act last x
-      by_lent true is is_same agree h =
+      by_lent : (b : Bool) → is_lent held.heap.table x ≡ b → is_lent new.heap.table x ≡ is_lent held.heap.table x → bytes_of new.heap.table x ≡ f x
+          → cond (is_lent new.heap.table x) (held_bytes x new.loans) (bytes_of new.heap.table x) ≡ g x
+      by_lent true is is_same h =
           ap (λ b. cond b (held_bytes x new.loans) (bytes_of new.heap.table x)) (is_same ∙ is) ∙ ap (held_bytes x) same
           ∙ sym (ap (λ b. cond b (held_bytes x held.loans) (bytes_of held.heap.table x)) is) ∙ shows x (lent-block held.heap x inv.fixed is) ∙ sym (agree.lent x is)
-      by_lent false is is_same agree h = ap (λ b. cond b (held_bytes x new.loans) (bytes_of new.heap.table x)) (is_same ∙ is) ∙ h ∙ agree.here x is
+      by_lent false is is_same h = ap (λ b. cond b (held_bytes x new.loans) (bytes_of new.heap.table x)) (is_same ∙ is) ∙ h ∙ agree.here x is
 
-  heap-held : (act : Act) (new : Holding) → Sound s held.heap → Does s act held.heap new.heap → LeavesLoans held.heap act → new.loans ≡ held.loans → LoansHeld new
-  heap-held act new sound does leaves same =
-      let keeps = act-keeps act new.heap sound does leaves in
+  heap-held : (new : Moment) → Keeps new.heap → new.loans ≡ held.loans → LoansHeld new
+  heap-held new keeps same =
       let is_same : (x : ℕ) → is_lent new.heap.table x ≡ is_lent held.heap.table x = λ x. ap (list_any (λ y. y == x)) keeps.lent in
       record {
         fixed = keeps.fixed;
         loaned = λ x. is_same x ∙ inv.loaned x ∙ ap (is_loaned x) (sym same);
         long = λ x l. (let was = sym (is_same x) ∙ l in ap (λ loans. length (held_bytes x loans)) same ∙ inv.long x was ∙ sym (keeps.long x was));
       }
+
+  -- what an act leaves
+  pub record Leaves (new : Moment) (g : LastPut) : Type 0 where
+    pub sound : Sound s new.heap
+    pub held_too : LoansHeld new
+    pub shown : Shows new g
+
+  heap-leaves : (new : Moment) (f g : LastPut) → Sound s new.heap → Keeps new.heap → Agree f g → TableShows new.heap.table f → new.loans ≡ held.loans → Leaves new g
+  heap-leaves new f g sound keeps agree shown same = record { sound = sound; held_too = heap-held new keeps same; shown = heap-shows new f g keeps agree shown same }
+
+  call-leaves : (call : MemoryCall) (asks : List Ask) (outcome : Outcome) (new : Moment) → Sound s held.heap → IsExactStep s held.heap call asks outcome new.heap → new.loans ≡ held.loans → Leaves new (put_by call outcome last) × Tells call outcome last
+  call-leaves call asks outcome new sound does same =
+      let may = step-may s held.heap call asks outcome new.heap sound does in
+      let step = step-shows s held.heap call asks outcome new.heap seen may seen-shows in (
+        heap-leaves new (put_by call outcome seen) (put_by call outcome last) (step-sound s held.heap call asks outcome new.heap sound does) (call-keeps call asks outcome new.heap sound does)
+        (agree-outcome call asks outcome new.heap may) step.0 same,
+        tells-outcome call asks outcome new.heap may step.1,
+      )
+
+  load-leaves : (h : ℕ) (flags : Flags) (bytes : List ℕ) (new : Moment) → Sound s held.heap → Does s (Loads h flags bytes) held new → Leaves new (put h bytes last)
+  load-leaves h flags bytes new sound does =
+      let may = does.0 in
+      let filled : Heap = with_table (with_live h (FullHandle flags bytes) held.heap.table) held.heap in
+      let spared : Spared held.heap.table filled.table = record { lent = refl; same = λ x l. (with_live_agrees h (FullHandle flags bytes) held.heap.table).others x (lent-apart held.heap.table h x may.2 l) } in
+      heap-leaves new (put h bytes seen) (put h bytes last) (subst (Sound s) (sym does.1) (sound-filled s held.heap h flags bytes sound may.0 may.1)) (subst Keeps (sym does.1) (spared-keeps filled spared))
+      (agree-put h bytes bytes may.2 refl)
+      (shows-put h (FullHandle flags bytes) bytes held.heap.table held.heap.table new.heap.table seen (λ y _ _. refl) (λ _. refl) (ap (λ (heap : Heap). heap.table) does.1) seen-shows) does.2
+
+  unload-leaves : (call : ReleasingCall) (new : Moment) → Sound s held.heap → Does s (Unloads call) held new → Leaves new last
+  unload-leaves call new sound does =
+      heap-leaves new seen last (subst (Sound s) (sym does.2) (released-sound s held.heap call sound does.0)) (subst Keeps (sym does.2) (spared-keeps (heap_released call held.heap) (spared-released call held.heap does.1))) agree-none
+      (subst (λ (heap : Heap). TableShows heap.table seen) (sym does.2) (shows-fewer [] held.heap.table (heap_released call held.heap).table seen (fewer-released [] call held.heap refl) seen-shows)) does.3
 
   -- ---- calls on loans
 
@@ -236,15 +247,9 @@ module _ (s : Shape) (held : Holding) (last : LastPut) (inv : LoansHeld held) (s
   held-last_put : (x : ℕ) → is_lent held.heap.table x ≡ true → held_bytes x held.loans ≡ last x
   held-last_put x l = sym (ap (λ b. cond b (held_bytes x held.loans) (bytes_of held.heap.table x)) l) ∙ shows x (lent-block held.heap x inv.fixed l)
 
-  -- what a call on a loan leaves
-  record Left (call : LoanCall) (r : Results) (new : Holding) : Type 0 where
-    pub sound : Sound s new.heap
-    pub held_too : LoansHeld new
-    pub shown : LoansShow new (put_by_loan (OnLoan call (Ok r)) last)
-
   -- Lend
   module _ (sound : Sound s held.heap) (x : ℕ) (block : has_block held.heap.table x ≡ true) (here : is_lent held.heap.table x ≡ false) (may : (is_pointer held.heap.table x || is_locked held.heap.table x) ≡ true) where
-    lent : Holding
+    lent : Moment
     lent = record { heap = lent_out x held.heap; loans = held.loans ++ (x, bytes_of held.heap.table x) ∷ [] }
 
     now-lent : (y : ℕ) → is_lent (lent_out x held.heap).table y ≡ ((y == x || is_lent held.heap.table y) && list_any (λ z. z == y) (owners held.heap.map))
@@ -288,7 +293,7 @@ module _ (s : Shape) (held : Holding) (last : LastPut) (inv : LoansHeld held) (s
           (λ y apart l. (let was = sym (lent-other y apart) ∙ l in ap length (held-other y was) ∙ inv.long y was));
     }
 
-    lend-shows : LoansShow (record { heap = lent_out x held.heap; loans = held.loans ++ (x, bytes_of held.heap.table x) ∷ [] }) last
+    lend-shows : Shows (record { heap = lent_out x held.heap; loans = held.loans ++ (x, bytes_of held.heap.table x) ∷ [] }) last
     lend-shows = by_number (λ y. has_block held.heap.table y ≡ true → cond (is_lent (lent_out x held.heap).table y) (held_bytes y (held.loans ++ (x, bytes_of held.heap.table x) ∷ [])) (bytes_of held.heap.table y) ≡ last y) x
         (λ b. ap (λ c. cond c (held_bytes x (held.loans ++ (x, bytes_of held.heap.table x) ∷ [])) (bytes_of held.heap.table x)) lent-same ∙ held-last x (bytes_of held.heap.table x) held.loans not-loaned
         ∙ sym (ap (λ c. cond c (held_bytes x held.loans) (bytes_of held.heap.table x)) here) ∙ shows x b)
@@ -312,7 +317,7 @@ module _ (s : Shape) (held : Holding) (last : LastPut) (inv : LoansHeld held) (s
           (λ y apart ly. ap length (held-with_other x y over held.loans apart) ∙ inv.long y ly);
     }
 
-    poked-shows : LoansShow (record { heap = held.heap; loans = with_held x (written at bytes (held_bytes x held.loans)) held.loans }) (put x (written at bytes (last x)) last)
+    poked-shows : Shows (record { heap = held.heap; loans = with_held x (written at bytes (held_bytes x held.loans)) held.loans }) (put x (written at bytes (last x)) last)
     poked-shows = by_number (λ y. has_block held.heap.table y ≡ true → cond (is_lent held.heap.table y) (held_bytes y (with_held x over held.loans)) (bytes_of held.heap.table y) ≡ cond (eqb y x) (written at bytes (last x)) (last y)) x
         (λ _. ap (λ c. cond c (held_bytes x (with_held x over held.loans)) (bytes_of held.heap.table x)) l ∙ held-with_same x over held.loans (sym (inv.loaned x) ∙ l) ∙ ap (written at bytes) (held-last_put x l)
         ∙ sym (ap (λ c. cond c (written at bytes (last x)) (last x)) (eqb_same x)))
@@ -342,7 +347,7 @@ module _ (s : Shape) (held : Holding) (last : LastPut) (inv : LoansHeld held) (s
           (λ y apart is. ap length (held-without x y held.loans apart) ∙ inv.long y (sym (back-other y apart) ∙ is) ∙ ap length (sym (returned-bytes x (held_bytes x held.loans) held.heap y apart)));
     }
 
-    return-shows : LoansShow (record { heap = returned x (held_bytes x held.loans) held.heap; loans = without_loan x held.loans }) last
+    return-shows : Shows (record { heap = returned x (held_bytes x held.loans) held.heap; loans = without_loan x held.loans }) last
     return-shows = by_number (λ y. has_block back.table y ≡ true → cond (is_lent back.table y) (held_bytes y (without_loan x held.loans)) (bytes_of back.table y) ≡ last y) x
         (λ b. ap (λ c. cond c (held_bytes x (without_loan x held.loans)) (bytes_of back.table x)) back-same ∙ ap live_bytes has ∙ refilled-holds (held_bytes x held.loans) (live_at held.heap.table x) (sym (ap block_live has) ∙ b) ∙ held-last_put x l)
         (λ y apart b. ap (λ c. cond c (held_bytes y (without_loan x held.loans)) (bytes_of back.table y)) (back-other y apart)
@@ -352,172 +357,87 @@ module _ (s : Shape) (held : Holding) (last : LastPut) (inv : LoansHeld held) (s
         has : live_at (returned x (held_bytes x held.loans) held.heap).table x ≡ Some (refilled (held_bytes x held.loans) (live_at held.heap.table x))
         has = live_at-with_live_same x (refilled (held_bytes x held.loans) (live_at held.heap.table x)) held.heap.table
 
-  loan-left : (call : LoanCall) (r : Results) (new : Holding) → Sound s held.heap → loan_refusal s held.heap call ≡ None → (let want : Holding = record { heap = heap_after_loan call held.loans held.heap; loans = loans_after call held.heap.table held.loans } in new ≡ want) → Left call r new
+  loan-left : (call : LoanCall) (r : Results) (new : Moment) → Sound s held.heap → loan_refusal s held.heap call ≡ None → (let want : Moment = record { heap = heap_after_loan call held.loans held.heap; loans = loans_after call held.heap.table held.loans } in new ≡ want) → Leaves new (put_by_act (OnLoan call (Ok r)) last)
   loan-left (loan_call.Lend x) r new sound is same =
       let block = passed-NotEmpty s held.heap x (test_2 s held.heap (IsBlock x) (NotEmpty x) (NotLent x ∷ MayBeLent x ∷ []) is) in
       let here = passed-NotLent s held.heap x (test_3 s held.heap (IsBlock x) (NotEmpty x) (NotLent x) (MayBeLent x ∷ []) is) in
       let may = passed-true (may_be_lent held.heap.table x) (test_4 s held.heap (IsBlock x) (NotEmpty x) (NotLent x) (MayBeLent x) [] is) in
       let fixes = (both_true (is_pointer held.heap.table x || is_locked held.heap.table x) (nat_lt (length held.heap.table.lent) most_loans) may).0 in
-      subst (Left (loan_call.Lend x) r) (sym same) (record { sound = sound-lent s held.heap (lent_out x held.heap).table.lent sound; held_too = lend-held sound x block here fixes; shown = lend-shows sound x block here fixes })
-  loan-left (loan_call.LentPeek x at n) r new sound is same = subst (Left (loan_call.LentPeek x at n) r) (sym same) (record { sound = sound; held_too = inv; shown = shows })
+      subst (λ n. Leaves n last) (sym same) (record { sound = sound-lent s held.heap (lent_out x held.heap).table.lent sound; held_too = lend-held sound x block here fixes; shown = lend-shows sound x block here fixes })
+  loan-left (loan_call.LentPeek x at n) r new sound is same = subst (λ n. Leaves n last) (sym same) (record { sound = sound; held_too = inv; shown = shows })
   loan-left (loan_call.LentPoke x at bytes) r new sound is same =
       let l = passed-IsLent x (test_2 s held.heap (IsBlock x) (IsLent x) (IsWithin x at (length bytes) ∷ []) is) in
       let within = passed-IsWithin s held.heap x at (length bytes) (test_3 s held.heap (IsBlock x) (IsLent x) (IsWithin x at (length bytes)) [] is) in
-      subst (Left (loan_call.LentPoke x at bytes) r) (sym same) (record { sound = sound; held_too = poked-held x at bytes l within; shown = poked-shows x at bytes l within })
+      subst (λ n. Leaves n (put x (written at bytes (last x)) last)) (sym same) (record { sound = sound; held_too = poked-held x at bytes l within; shown = poked-shows x at bytes l within })
   loan-left (loan_call.Return x) r new sound is same =
       let l = passed-IsLent x (test_2 s held.heap (IsBlock x) (IsLent x) [] is) in
-      subst (Left (loan_call.Return x) r) (sym same) (record { sound = sound-returned s held.heap x (held_bytes x held.loans) sound inv.fixed l (inv.long x l); held_too = return-held sound x l; shown = return-shows sound x l })
+      subst (λ n. Leaves n last) (sym same) (record { sound = sound-returned s held.heap x (held_bytes x held.loans) sound inv.fixed l (inv.long x l); held_too = return-held sound x l; shown = return-shows sound x l })
 
--- ---- runs
+-- ---- acts
 
-refused-puts : (call : LoanCall) (code : OsErr) (last : LastPut) → put_by_loan (OnLoan call (Err code)) last ≡ last
+refused-puts : (call : LoanCall) (code : OsErr) (last : LastPut) → put_by_act (OnLoan call (Err code)) last ≡ last
 refused-puts (loan_call.LentPoke x at bytes) code last = refl
 refused-puts call code last = refl
 
-refused-loan_tells : (call : LoanCall) (code : OsErr) (last : LastPut) → LoanTells (OnLoan call (Err code)) last
-refused-loan_tells (loan_call.LentPeek x at n) code last = tt
-refused-loan_tells call code last = tt
+moment : Heap → Loans → Moment
+moment heap loans = record { heap = heap; loans = loans }
 
--- what an act leaves
-pub record Step (s : Shape) (act : LoanAct) (new : Holding) (last : LastPut) : Type 0 where
-  pub sound : Sound s new.heap
-  pub held : LoansHeld new
-  pub shows : LoansShow new (put_by_loan act last)
-  pub tells : LoanTells act last
+same-moment : (new : Moment) (heap : Heap) (loans : Loans) → new.heap ≡ heap → new.loans ≡ loans → (let want : Moment = record { heap = heap; loans = loans } in new ≡ want)
+unfolding moment
+same-moment new heap loans h l = ap (λ h. moment h new.loans) h ∙ ap (moment heap) l
 
-holding : Heap → Loans → Holding
-holding heap loans = record { heap = heap; loans = loans }
+-- a call on a lent block
+module _ (s : Shape) (old new : Moment) (last : LastPut) (sound : Sound s old.heap) (held : LoansHeld old) (shows : Shows old last) where
+  loan-unless : (call : LoanCall) (outcome : Outcome) (o : Option OsErr) → loan_refusal s old.heap call ≡ o → LoanStepUnless o old.loans old.heap call outcome new.loans new.heap
+      → Leaves s old last held shows new (put_by_act (OnLoan call outcome) last)
+  loan-unless call outcome (Some code) is step =
+      let same = same-moment new old.heap old.loans step.2 step.1 in
+      let start : Leaves s old last held shows old last = record { sound = sound; held_too = held; shown = shows } in
+      subst (λ put. Leaves s old last held shows new put) (sym (ap (λ o. put_by_act (OnLoan call o) last) step.0 ∙ refused-puts call code last)) (subst (λ n. Leaves s old last held shows n last) (sym same) start)
+  loan-unless call outcome None is step =
+      let same = same-moment new (heap_after_loan call old.loans old.heap) (loans_after call old.heap.table old.loans) step.2 step.1 in
+      subst (λ o. Leaves s old last held shows new (put_by_act (OnLoan call o) last)) (sym step.0) (loan-left s old last held shows call (loan_results call old.loans) new sound is same)
 
-same-holding : (new : Holding) (heap : Heap) (loans : Loans) → new.heap ≡ heap → new.loans ≡ loans → (let want : Holding = record { heap = heap; loans = loans } in new ≡ want)
-unfolding holding
-same-holding new heap loans h l = ap (λ h. holding h new.loans) h ∙ ap (holding heap) l
+  -- every act leaves a sound heap, whose blocks show what was last put
+  pub act-leaves : (act : Act) → Does s act old new → Leaves s old last held shows new (put_by_act act last)
+  act-leaves (Calls call asks outcome) does = (call-leaves s old last held shows call asks outcome new sound does.0 does.1).0
+  act-leaves (OnLoan call outcome) does = loan-unless call outcome (loan_refusal s old.heap call) refl does
+  act-leaves (Loads h flags bytes) does = load-leaves s old last held shows h flags bytes new sound does
+  act-leaves (Unloads call) does = unload-leaves s old last held shows call new sound does
 
-loan-told : (s : Shape) (old : Holding) (last : LastPut) → LoansHeld old → LoansShow old last → (call : LoanCall) (outcome : Outcome) → loan_refusal s old.heap call ≡ None → outcome ≡ Ok (loan_results call old.loans) → LoanTells (OnLoan call outcome) last
-loan-told s old last held shows (loan_call.LentPeek x at n) outcome is told =
-    subst (λ o. LoanTells (OnLoan (loan_call.LentPeek x at n) o) last) (sym told)
-    (ap (λ b. results.Bytes (take n (drop at b))) (held-last_put s old last held shows x (passed-IsLent s old last held shows x (test_2 s old.heap (IsBlock x) (IsLent x) (IsWithin x at n ∷ []) is))))
-loan-told s old last held shows call outcome is told = tt
+  peeked : (x from n : ℕ) (r : Results) (o : Option OsErr) → loan_refusal s old.heap (loan_call.LentPeek x from n) ≡ o → LoanStepUnless o old.loans old.heap (loan_call.LentPeek x from n) (Ok r) new.loans new.heap
+      → r ≡ results.Bytes (take n (drop from (last x)))
+  peeked x from n r (Some code) is step = absurd (cc step.0)
+  peeked x from n r None is step =
+      let told : r ≡ results.Bytes (take n (drop from (held_bytes x old.loans))) = cc step.0 in
+      told ∙ ap (λ b. results.Bytes (take n (drop from b))) (held-last_put s old last held shows x (passed-IsLent s old last held shows x (test_2 s old.heap (IsBlock x) (IsLent x) (IsWithin x from n ∷ []) is)))
 
-loan-step : (s : Shape) (old new : Holding) (last : LastPut) → Sound s old.heap → LoansHeld old → LoansShow old last → (call : LoanCall) (outcome : Outcome) (o : Option OsErr) → loan_refusal s old.heap call ≡ o
-    → LoanStepUnless o old.loans old.heap call outcome new.loans new.heap → Step s (OnLoan call outcome) new last
-loan-step s old new last sound held shows call outcome (Some code) is step =
-    let same = same-holding new old.heap old.loans step.2 step.1 in
-    let start : Step s (OnLoan call (Err code)) old last = record { sound = sound; held = held; shows = subst (LoansShow old) (sym (refused-puts call code last)) shows; tells = refused-loan_tells call code last } in
-    subst (λ o. Step s (OnLoan call o) new last) (sym step.0) (subst (λ held. Step s (OnLoan call (Err code)) held last) (sym same) start)
-loan-step s old new last sound held shows call outcome None is step =
-    let same = same-holding new (heap_after_loan call old.loans old.heap) (loans_after call old.heap.table old.loans) step.2 step.1 in
-    let left = loan-left s old last held shows call (loan_results call old.loans) new sound is same in
-    record {
-      sound = left.sound;
-      held = left.held_too;
-      shows = subst (λ o. LoansShow new (put_by_loan (OnLoan call o) last)) (sym step.0) left.shown;
-      tells = loan-told s old last held shows call outcome is step.0;
-    }
+  -- its reply tells the bytes last put, the flags last set, and where contents are
+  pub act-tells : (set : LastSet) → HasFlags old.heap.table set → (act : Act) → Does s act old new → ActTells s old act last set
+  act-tells set has (Calls call asks outcome) does =
+      let may = step-may s old.heap call asks outcome new.heap sound does.0 in
+      ((call-leaves s old last held shows call asks outcome new sound does.0 does.1).1, (step-flags s old.heap call asks outcome new.heap set may has).1, step-address s old.heap call asks outcome new.heap may)
+  act-tells set has (OnLoan (loan_call.LentPeek x from n) (Ok r)) does = peeked x from n r (loan_refusal s old.heap (loan_call.LentPeek x from n)) refl does
+  act-tells set has act does = tt
 
-pub loan_act-step : (s : Shape) (act : LoanAct) (old new : Holding) (last : LastPut) → Sound s old.heap → LoansHeld old → LoansShow old last → LoanDoes s act old new → Step s act new last
-loan_act-step s (OnHeap act) old new last sound held shows does = record {
-  sound = act-sound s act old.heap new.heap sound does.0;
-  held = heap-held s old last held shows act new sound does.0 does.1 does.2;
-  shows = heap-shows s old last held shows act new sound does.0 does.1 does.2;
-  tells = heap-tells s old last held shows act new.heap sound does.0;
-}
-loan_act-step s (OnLoan call outcome) old new last sound held shows does = loan-step s old new last sound held shows call outcome (loan_refusal s old.heap call) refl does
-
-pub loans-run : (s : Shape) (old : Holding) (run : List LoanDone) (last : LastPut) → Sound s old.heap → LoansHeld old → LoansShow old last → IsLoanRun s old run → AllLoansTell run last × LoansShow (held_after old run) (put_in_loans run last)
-loans-run s old [] last sound held shows is = (tt, shows)
-loans-run s old (d ∷ later) last sound held shows is =
-    let step = loan_act-step s d.act old d.held last sound held shows is.0 in
-    let rest = loans-run s d.held later (put_by_loan d.act last) step.sound step.held step.shows is.1 in
-    ((step.tells, rest.0), rest.1)
-
--- what a run keeps
-pub loans-keep : (s : Shape) (old : Holding) (run : List LoanDone) (last : LastPut) → Sound s old.heap → LoansHeld old → LoansShow old last → IsLoanRun s old run → Sound s (held_after old run).heap × LoansHeld (held_after old run)
-loans-keep s old [] last sound held shows is = (sound, held)
-loans-keep s old (d ∷ later) last sound held shows is =
-    let step = loan_act-step s d.act old d.held last sound held shows is.0 in
-    loans-keep s d.held later (put_by_loan d.act last) step.sound step.held step.shows is.1
-
--- what is known of a new zone's
-pub new-held : (s : Shape) (size : ℕ) → LoansHeld (record { heap = new_heap s size; loans = [] })
-new-held s size = record { fixed = λ x l. absurd (cc l); loaned = λ x. refl; long = λ x l. absurd (cc l) }
-
--- and shown in it
-pub new-shows : (s : Shape) (size : ℕ) (last : LastPut) → LoansShow (record { heap = new_heap s size; loans = [] }) last
-new-shows s size last x block = absurd (cc block)
-
--- from a new zone on
-pub loans-shown : LoansShowLastPut
-loans-shown z run last possible is = loans-run (shape_of z) start run last (sound-new z possible) (record { fixed = λ x l. absurd (cc l); loaned = λ x. refl; long = λ x l. absurd (cc l) }) (λ x block. absurd (cc block)) is
-  where
-    start : Holding
-    start = record { heap = new_heap (shape_of z) z.size; loans = [] }
-
--- ---- addresses, blocks and memFullErr
-
--- a call on a loan moves nothing
-loan-map : (s : Shape) (old new : Holding) (call : LoanCall) (outcome : Outcome) (o : Option OsErr) → LoanStepUnless o old.loans old.heap call outcome new.loans new.heap → new.heap.map ≡ old.heap.map
+-- a call on a lent block moves nothing
+pub loan-map : (s : Shape) (old new : Moment) (call : LoanCall) (outcome : Outcome) (o : Option OsErr) → LoanStepUnless o old.loans old.heap call outcome new.loans new.heap → new.heap.map ≡ old.heap.map
 loan-map s old new call outcome (Some code) step = ap (λ (h : Heap). h.map) step.2
 loan-map s old new (loan_call.Lend x) outcome None step = ap (λ (h : Heap). h.map) step.2
 loan-map s old new call outcome None step = ap (λ (h : Heap). h.map) step.2
 
--- and each block stays
-loan-block : (s : Shape) (old new : Holding) (call : LoanCall) (outcome : Outcome) (o : Option OsErr) → LoanStepUnless o old.loans old.heap call outcome new.loans new.heap → (x : ℕ) → has_block old.heap.table x ≡ true → has_block new.heap.table x ≡ true
-loan-block s old new call outcome (Some code) step x block = ap (λ (h : Heap). has_block h.table x) step.2 ∙ block
-loan-block s old new (loan_call.Return y) outcome None step x block = ap (λ (h : Heap). has_block h.table x) step.2 ∙ written-keeps y (held_bytes y old.loans) old.heap.table x block
-loan-block s old new call outcome None step x block = ap (λ (h : Heap). has_block h.table x) step.2 ∙ block
+-- ---- flags
 
-loan_act-may : (s : Shape) (act : LoanAct) (old new : Holding) → Sound s old.heap → LoanDoes s act old new → LoanActMay s old act new
-loan_act-may s (OnHeap act) old new sound does = (λ x block lost. act-loses s act old.heap new.heap x sound does.0 block lost, act-full s act old.heap new.heap sound does.0)
-loan_act-may s (OnLoan call outcome) old new sound does = λ x block. loan-block s old new call outcome (loan_refusal s old.heap call) does x block
+loan-flags : (old new : Moment) (call : LoanCall) (outcome : Outcome) (o : Option OsErr) (last : LastSet) → LoanStepUnless o old.loans old.heap call outcome new.loans new.heap → HasFlags old.heap.table last → HasFlags new.heap.table last
+loan-flags old new call outcome (Some code) last step has = flags-same old.heap.table new.heap.table last (ap (λ (h : Heap). h.table) step.2) has
+loan-flags old new (loan_call.Lend x) outcome None last step has = subst (λ (h : Heap). HasFlags h.table last) (sym step.2) has
+loan-flags old new (loan_call.Return x) outcome None last step has = subst (λ (h : Heap). HasFlags h.table last) (sym step.2) (flags-written x (held_bytes x old.loans) old.heap.table last has)
+loan-flags old new call outcome None last step has = flags-same old.heap.table new.heap.table last (ap (λ (h : Heap). h.table) step.2) has
 
-loan_act-locked : (s : Shape) (act : LoanAct) (old new : Holding) (h : ℕ) → Sound s old.heap → Sound s new.heap → LoanDoes s act old new → is_locked old.heap.table h ≡ true → is_locked new.heap.table h ≡ true → contents_of s h new.heap.map ≡ contents_of s h old.heap.map
-loan_act-locked s (OnHeap act) old new h sound after does was locked = act-locked s act old.heap new.heap h sound after does.0 was locked
-loan_act-locked s (OnLoan call outcome) old new h sound after does was locked = ap (contents_of s h) (loan-map s old new call outcome (loan_refusal s old.heap call) does)
-
-pub any-put : LastPut
-any-put x = []
-
--- what a step leaves, whatever was put
-module _ (s : Shape) where
-  -- a run goes on from a heap of which this is known
-  pub record Known (held : Holding) : Type 0 where
-    pub sound : Sound s held.heap
-    pub loans : LoansHeld held
-    pub last : LastPut
-    pub shows : LoansShow held last
-
-  pub known-step : (act : LoanAct) (old new : Holding) → Known old → LoanDoes s act old new → Known new
-  known-step act old new known does = let step = loan_act-step s act old new known.last known.sound known.loans known.shows does in record { sound = step.sound; loans = step.held; last = put_by_loan act known.last; shows = step.shows }
-
-  known-run : (old : Holding) (run : List LoanDone) → Known old → IsLoanRun s old run → Known (held_after old run)
-  known-run old [] known is = known
-  known-run old (d ∷ later) known is = known-run d.held later (known-step d.act old d.held known is.0) is.1
-
-  locked-first : (h : ℕ) (old : Holding) (run : List LoanDone) → IsLockedInLoans h old run → is_locked old.heap.table h ≡ true
-  locked-first h old [] locked = locked
-  locked-first h old (d ∷ later) locked = locked.0
-
-  pub locked-run : (h : ℕ) (old : Holding) (run : List LoanDone) → Known old → IsLoanRun s old run → IsLockedInLoans h old run → contents_of s h (held_after old run).heap.map ≡ contents_of s h old.heap.map
-  locked-run h old [] known is locked = refl
-  locked-run h old (d ∷ later) known is locked =
-      let after = known-step d.act old d.held known is.0 in
-      locked-run h d.held later after is.1 locked.1 ∙ loan_act-locked s d.act old d.held h known.sound after.sound is.0 locked.0 (locked-first h d.held later locked.1)
-
-  pub may-run : (old : Holding) (run : List LoanDone) → Known old → IsLoanRun s old run → AllLoansMay s old run
-  may-run old [] known is = tt
-  may-run old (d ∷ later) known is = (loan_act-may s d.act old d.held known.sound is.0, may-run d.held later (known-step d.act old d.held known is.0) is.1)
-
-  stay-run : (start : Holding) (run : List LoanDone) → Known start → IsLoanRun s start run → LoansStay s start run
-  stay-run start run known is =
-      let after = known-run start run known is in
-      let sound = after.sound in
-      record {
-        pointers = λ p live. contents-pointer s (held_after start run).heap.table (held_after start run).heap.map p sound.suits live;
-        locked = λ h more goes locked. locked-run h (held_after start run) more after goes locked;
-        may = may-run start run known is;
-      }
-
--- from a new zone on
-pub loans-stay : LoansKeepAddresses
-loans-stay z run possible is =
-    stay-run (shape_of z) (record { heap = new_heap (shape_of z) z.size; loans = [] }) run (record { sound = sound-new z possible; loans = new-held (shape_of z) z.size; last = any-put; shows = new-shows (shape_of z) z.size any-put }) is
+-- every handle has the flags last set
+pub act-flags : (s : Shape) (act : Act) (old new : Moment) (last : LastSet) → Sound s old.heap → Does s act old new → HasFlags old.heap.table last → HasFlags new.heap.table (set_by_act act last)
+act-flags s (Calls call asks outcome) old new last sound does has = (step-flags s old.heap call asks outcome new.heap last (step-may s old.heap call asks outcome new.heap sound does.0) has).0
+act-flags s (OnLoan call outcome) old new last sound does has = loan-flags old new call outcome (loan_refusal s old.heap call) last does has
+act-flags s (Loads h flags bytes) old new last sound does has = flags-set h (FullHandle flags bytes) flags old.heap.table new.heap.table last (λ _. refl) (ap (λ (heap : Heap). heap.table) does.1) has
+act-flags s (Unloads call) old new last sound does has =
+    flags-same (heap_released call old.heap).table new.heap.table last (ap (λ (heap : Heap). heap.table) does.2) (flags-fewer [] old.heap.table (heap_released call old.heap).table last (fewer-released [] call old.heap refl) has)

@@ -24,9 +24,13 @@ use Rattle.mac_calls.specs.RequestRun.{RequestRun}
 use Rattle.mac_calls.specs.Tests.{Test, IsHandle, IsPointer, IsBlock, NotEmpty, NotLent, NotLocked, IsSize, IsState, IsWithin, KeepsLent, first_refusal, protected_by, refusal}
 use Rattle.zone_laws.proofs.Tables.{by_number, eqb_same, live_at-with_live_same, with_live_agrees}
 use Rattle.call_laws.proofs.Refusals.{passed-NotEmpty}
-use Rattle.heap_laws.specs.LastPut.{LastPut, Shows, Tells, put, put_by, put_with}
+use Rattle.heap_laws.specs.LastPut.{LastPut, Tells, put, put_by, put_with}
 use Rattle.heap_laws.proofs.Fewer.{Fewer, Granted, RunLeaves, block_live, fewer-purged, fewer-refl, fewer-released, fewer-same, leaves-behind, run-leaves}
 use Rattle.heap_laws.proofs.Passed.{pointer-block, test_1, test_2, test_4, test_5}
+
+-- every handle that isn't empty and every pointer of a table has the bytes last put
+abbrev pub TableShows : HandleTable → LastPut → Type 0
+TableShows t last = (x : ℕ) → has_block t x ≡ true → bytes_of t x ≡ last x
 
 -- ---- one number is given something
 
@@ -40,16 +44,16 @@ others-fewer protected x old new fewer y apart h = fewer.same y h
 others-with : (x : ℕ) (l : Live) (old t : HandleTable) → Others x old t → Others x old (with_live x l t)
 others-with x l old t others y apart h = let e = (with_live_agrees x l t).others y apart in e ∙ others y apart (ap block_live (sym e) ∙ h)
 
-shows-others : (x : ℕ) (bytes : List ℕ) (old new : HandleTable) (last : LastPut) → Others x old new → (has_block new x ≡ true → bytes_of new x ≡ bytes) → Shows old last → Shows new (put x bytes last)
+shows-others : (x : ℕ) (bytes : List ℕ) (old new : HandleTable) (last : LastPut) → Others x old new → (has_block new x ≡ true → bytes_of new x ≡ bytes) → TableShows old last → TableShows new (put x bytes last)
 shows-others x bytes old new last others here shows = by_number (λ y. has_block new y ≡ true → bytes_of new y ≡ cond (eqb y x) bytes (last y)) x
     (λ h. here h ∙ ap (λ b. cond b bytes (last x)) (sym (eqb_same x)))
     (λ y apart h. ap live_bytes (others y apart h) ∙ shows y (ap block_live (sym (others y apart h)) ∙ h) ∙ ap (λ b. cond b bytes (last y)) (sym apart))
 
 -- x is given bytes
-pub shows-put : (x : ℕ) (l : Live) (bytes : List ℕ) (old t new : HandleTable) (last : LastPut) → Others x old t → (block_live (Some l) ≡ true → live_bytes (Some l) ≡ bytes) → new ≡ with_live x l t → Shows old last → Shows new (put x bytes last)
+pub shows-put : (x : ℕ) (l : Live) (bytes : List ℕ) (old t new : HandleTable) (last : LastPut) → Others x old t → (block_live (Some l) ≡ true → live_bytes (Some l) ≡ bytes) → new ≡ with_live x l t → TableShows old last → TableShows new (put x bytes last)
 shows-put x l bytes old t new last others holds is shows =
     let has = live_at-with_live_same x l t in
-    subst (λ u. Shows u (put x bytes last)) (sym is)
+    subst (λ u. TableShows u (put x bytes last)) (sym is)
     (shows-others x bytes old (with_live x l t) last (others-with x l old t others) (λ h. ap live_bytes has ∙ holds (sym (ap block_live has) ∙ h)) shows)
 
 -- what has a block is refilled with these bytes
@@ -59,23 +63,23 @@ refilled-holds bytes (Some EmptyHandle) h = absurd (cc h)
 refilled-holds bytes (Some (FullHandle flags old)) h = refl
 refilled-holds bytes (Some (Pointer old)) h = refl
 
-shows-bytes : (x : ℕ) (bytes want : List ℕ) (old t new : HandleTable) (last : LastPut) → Others x old t → bytes ≡ want → new ≡ with_bytes x bytes t → Shows old last → Shows new (put x want last)
+shows-bytes : (x : ℕ) (bytes want : List ℕ) (old t new : HandleTable) (last : LastPut) → Others x old t → bytes ≡ want → new ≡ with_bytes x bytes t → TableShows old last → TableShows new (put x want last)
 shows-bytes x bytes want old t new last others same is shows =
-    subst (λ b. Shows new (put x b last)) same (shows-put x (refilled bytes (live_at t x)) bytes old t new last others (refilled-holds bytes (live_at t x)) is shows)
+    subst (λ b. TableShows new (put x b last)) same (shows-put x (refilled bytes (live_at t x)) bytes old t new last others (refilled-holds bytes (live_at t x)) is shows)
 
 -- a change after which whatever has a block is as it was
-pub shows-fewer : (protected : List ℕ) (old new : HandleTable) (last : LastPut) → Fewer protected old new → Shows old last → Shows new last
+pub shows-fewer : (protected : List ℕ) (old new : HandleTable) (last : LastPut) → Fewer protected old new → TableShows old last → TableShows new last
 shows-fewer protected old new last fewer shows x h = ap live_bytes (fewer.same x h) ∙ shows x (ap block_live (sym (fewer.same x h)) ∙ h)
 
-shows-same : (old new : HandleTable) (last : LastPut) → new ≡ old → Shows old last → Shows new last
-shows-same old new last is shows = subst (λ t. Shows t last) (sym is) shows
+shows-same : (old new : HandleTable) (last : LastPut) → new ≡ old → TableShows old last → TableShows new last
+shows-same old new last is shows = subst (λ t. TableShows t last) (sym is) shows
 
 -- x becomes empty
-shows-empty : (x : ℕ) (old t new : HandleTable) (last : LastPut) → Others x old t → new ≡ with_live x EmptyHandle t → Shows old last → Shows new last
+shows-empty : (x : ℕ) (old t new : HandleTable) (last : LastPut) → Others x old t → new ≡ with_live x EmptyHandle t → TableShows old last → TableShows new last
 shows-empty x old t new last others is shows =
     let u = with_live x EmptyHandle t in
     let rest = others-with x EmptyHandle old t others in
-    subst (λ u. Shows u last) (sym is)
+    subst (λ u. TableShows u last) (sym is)
     (by_number (λ y. has_block u y ≡ true → bytes_of u y ≡ last y) x
     (λ h. absurd (true≢false (sym h ∙ ap block_live (live_at-with_live_same x EmptyHandle t))))
     (λ y apart h. ap live_bytes (rest y apart h) ∙ shows y (ap block_live (sym (rest y apart h)) ∙ h)))
@@ -84,16 +88,16 @@ shows-empty x old t new last others is shows =
 
 -- the table that a call leaves whose request gave x shows what it puts
 abbrev EndsShowing : Heap → MemoryCall → LastPut → Request → Type 0
-EndsShowing old call last r = (x : ℕ) (mid new : HandleTable) → Granted (protected_by call) r x old.table mid → new ≡ table_copied call x old.table mid → Shows new (put_with call (given_results call x) last)
+EndsShowing old call last r = (x : ℕ) (mid new : HandleTable) → Granted (protected_by call) r x old.table mid → new ≡ table_copied call x old.table mid → TableShows new (put_with call (given_results call x) last)
 
-module _ (s : Shape) (old : Heap) (last : LastPut) (shows : Shows old.table last) where
+module _ (s : Shape) (old : Heap) (last : LastPut) (shows : TableShows old.table last) where
   -- bytes over those that a request left
-  copied : (protected : List ℕ) (x : ℕ) (l : Live) (bytes want : List ℕ) (before mid new : HandleTable) → Fewer protected old.table before → bytes ≡ want → mid ≡ with_live x l before → new ≡ with_bytes x bytes mid → Shows new (put x want last)
+  copied : (protected : List ℕ) (x : ℕ) (l : Live) (bytes want : List ℕ) (before mid new : HandleTable) → Fewer protected old.table before → bytes ≡ want → mid ≡ with_live x l before → new ≡ with_bytes x bytes mid → TableShows new (put x want last)
   copied protected x l bytes want before mid new fewer same table is =
       shows-bytes x bytes want old.table (with_live x l before) new last (others-with x l old.table before (others-fewer protected x old.table before fewer)) same (is ∙ ap (with_bytes x bytes) table) shows
 
   -- another size
-  sized : (protected : List ℕ) (x n : ℕ) (before new : HandleTable) → Fewer protected old.table before → is_among protected x ≡ true → has_block old.table x ≡ true → new ≡ with_bytes x (resized n (bytes_of before x)) before → Shows new (put x (resized n (last x)) last)
+  sized : (protected : List ℕ) (x n : ℕ) (before new : HandleTable) → Fewer protected old.table before → is_among protected x ≡ true → has_block old.table x ≡ true → new ≡ with_bytes x (resized n (bytes_of before x)) before → TableShows new (put x (resized n (last x)) last)
   sized protected x n before new fewer among block is =
       shows-bytes x (resized n (bytes_of before x)) (resized n (last x)) old.table before new last (others-fewer protected x old.table before fewer) (ap (λ o. resized n (live_bytes o)) (fewer.protects x among) ∙ ap (resized n) (shows x block)) is shows
 
@@ -135,13 +139,13 @@ module _ (s : Shape) (old : Heap) (last : LastPut) (shows : Shows old.table last
 
   -- ---- calls that make no request
 
-  flagged : (h : ℕ) (flags : Flags) (t new : HandleTable) → Others h old.table t → live_at t h ≡ live_at old.table h → has_block old.table h ≡ true → new ≡ with_flags h flags t → Shows new last
+  flagged : (h : ℕ) (flags : Flags) (t new : HandleTable) → Others h old.table t → live_at t h ≡ live_at old.table h → has_block old.table h ≡ true → new ≡ with_flags h flags t → TableShows new last
   flagged h flags t new others same block is =
       let l = FullHandle flags (bytes_of t h) in
       let u = with_live h l t in
       let has = live_at-with_live_same h l t in
       let rest = others-with h l old.table t others in
-      subst (λ u. Shows u last) (sym is)
+      subst (λ u. TableShows u last) (sym is)
       (by_number (λ y. has_block u y ≡ true → bytes_of u y ≡ last y) h
       (λ _. ap live_bytes has ∙ ap live_bytes same ∙ shows h block)
       (λ y apart b. ap live_bytes (rest y apart b) ∙ shows y (ap block_live (sym (rest y apart b)) ∙ b)))
@@ -149,19 +153,19 @@ module _ (s : Shape) (old : Heap) (last : LastPut) (shows : Shows old.table last
   full : (h : ℕ) (tests : List Test) → first_refusal s old (IsHandle h ∷ NotEmpty h ∷ tests) ≡ None → has_block old.table h ≡ true
   full h tests is = passed-NotEmpty s old h (test_2 s old (IsHandle h) (NotEmpty h) tests is)
 
-  set : (h : ℕ) (flags : Flags) (new : HandleTable) (tests : List Test) → first_refusal s old (IsHandle h ∷ NotEmpty h ∷ tests) ≡ None → new ≡ with_flags h flags old.table → Shows new last
+  set : (h : ℕ) (flags : Flags) (new : HandleTable) (tests : List Test) → first_refusal s old (IsHandle h ∷ NotEmpty h ∷ tests) ≡ None → new ≡ with_flags h flags old.table → TableShows new last
   set h flags new tests is end = flagged h flags old.table new (λ y _ _. refl) refl (full h tests is) end
 
   -- PurgeMem puts nothing, whether it is refused or not
-  purge_puts : (n : ℕ) (new : HandleTable) (outcome : Outcome) → Shows new last → Shows new (put_by (memory_call.PurgeMem n) outcome last)
+  purge_puts : (n : ℕ) (new : HandleTable) (outcome : Outcome) → TableShows new last → TableShows new (put_by (memory_call.PurgeMem n) outcome last)
   purge_puts n new (Ok r) h = h
   purge_puts n new (Err code) h = h
 
   abbrev Ends : MemoryCall → Outcome → Heap → Type 0
-  Ends call outcome new = Shows new.table (put_by call outcome last)
+  Ends call outcome new = TableShows new.table (put_by call outcome last)
 
-  ends : (call : MemoryCall) (outcome want : Outcome) (new : Heap) → outcome ≡ want → Shows new.table (put_by call want last) → Ends call outcome new
-  ends call outcome want new is h = subst (λ o. Shows new.table (put_by call o last)) (sym is) h
+  ends : (call : MemoryCall) (outcome want : Outcome) (new : Heap) → outcome ≡ want → TableShows new.table (put_by call want last) → Ends call outcome new
+  ends call outcome want new is h = subst (λ o. TableShows new.table (put_by call o last)) (sym is) h
 
   quiet-shows : (call : MemoryCall) (outcome : Outcome) (new : Heap) → request_of old.table call ≡ None → refusal s old call ≡ None → QuietStep s old call outcome new → Ends call outcome new
   quiet-shows (memory_call.CompactMem n) outcome new none is q = ends (memory_call.CompactMem n) outcome _ new q.1 (shows-same old.table new.table last q.0.table shows)
@@ -258,5 +262,5 @@ module _ (s : Shape) (old : Heap) (last : LastPut) (shows : Shows old.table last
   unless-shows None call asks outcome new is step = asking-shows (request_of old.table call) call asks outcome new refl is step
 
 -- a call shows what was last put, and tells of it
-pub step-shows : (s : Shape) (old : Heap) (call : MemoryCall) (asks : List Ask) (outcome : Outcome) (new : Heap) (last : LastPut) → MemoryStep s old call asks outcome new → Shows old.table last → Shows new.table (put_by call outcome last) × Tells call outcome last
+pub step-shows : (s : Shape) (old : Heap) (call : MemoryCall) (asks : List Ask) (outcome : Outcome) (new : Heap) (last : LastPut) → MemoryStep s old call asks outcome new → TableShows old.table last → TableShows new.table (put_by call outcome last) × Tells call outcome last
 step-shows s old call asks outcome new last step shows = unless-shows s old last shows (refusal s old call) call asks outcome new refl step

@@ -1,13 +1,11 @@
 -- The trials of a call's requests, and why a block is lost or a request refused.
-use Rattle.std.specs.Prelude.{◌≡◌, ◌⊎◌, ℕ, IsTrue, IsFalse, List, [], ◌∷◌, nat_le, Option, Some, None, Ok, Contains, ⊤, MatchOption}
-use Rattle.mac_base.specs.declared.error.OsErr.{OsErr}
+use Rattle.std.specs.Prelude.{◌≡◌, ◌⊎◌, ℕ, IsTrue, IsFalse, List, [], ◌∷◌, nat_le, Some, Contains, ⊤, MatchOption}
 use Rattle.mac_base.specs.HeadKind.{Shape}
 use Rattle.mac_base.specs.ZoneMap.{at_limit, largest_free}
 use Rattle.mac_base.specs.HandleTable.{is_purgeable}
 use Rattle.mac_base.specs.declared.request.Request.{Request}
 use Rattle.mac_base.specs.declared.request.Request.TheVariants.{NewMaster}
 use Rattle.mac_base.specs.declared.releasing.ReleasingCall.{ReleasingCall}
-use Rattle.mac_base.specs.Releasing.{operand_of}
 use Rattle.mac_base.specs.Request.{candidates_in, fits, is_among}
 use Rattle.mac_base.specs.Heap.{Heap}
 use Rattle.mac_base.specs.Trial.{Fails, SameHeap}

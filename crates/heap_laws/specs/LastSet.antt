@@ -1,18 +1,15 @@
--- The flags last set of each handle, told from the calls and their outcomes alone.
+-- The flags last set of each handle, told from the acts alone.
 use Rattle.std.specs.Prelude.{◌≡◌, ℕ, ◌==◌, if◌then◌else◌, true, false, IsTrue, List, [], ◌∷◌, Ok, Err, ⊤}
 use Rattle.mac_base.specs.declared.block.Flags.{Flags}
 use Rattle.mac_base.specs.FlagState.{flags_from, state_of}
 use Rattle.mac_base.specs.HandleTable.{HandleTable, flags_of, is_full, no_flags}
-use Rattle.mac_base.specs.Heap.{new_heap}
-use Rattle.mac_base.specs.ZoneSizes.{ArePossible, ZoneSizes, shape_of}
 use Rattle.mac_calls.specs.declared.memory_call.MemoryCall.{MemoryCall}
 use Rattle.mac_calls.specs.declared.memory_call.MemoryCall.TheVariants as memory_call
 use Rattle.mac_calls.specs.declared.reply.Results.{Results}
 use Rattle.mac_calls.specs.declared.reply.Results.TheVariants as results
 use Rattle.mac_calls.specs.Outcomes.{Outcome}
 use Rattle.heap_laws.specs.LastPut.{number_in}
-use Rattle.heap_laws.specs.Act.{Calls, Loads, Unloads}
-use Rattle.heap_laws.specs.Loaned.{Holding, IsLoanRun, LoanAct, LoanDone, OnHeap, OnLoan, held_after}
+use Rattle.heap_laws.specs.Act.{Act, Calls, Done, Loads}
 
 -- the flags last set of each number
 abbrev pub LastSet : Type 0
@@ -44,34 +41,21 @@ set_by call (Ok r) last = set_with call r last
 set_by call (Err code) last = last
 
 -- what an act sets: a load the flags of its row
-abbrev pub set_by_act : LoanAct → LastSet → LastSet
-set_by_act (OnHeap (Calls call asks outcome)) last = set_by call outcome last
-set_by_act (OnHeap (Loads h flags bytes)) last = set h flags last
-set_by_act (OnHeap (Unloads call)) last = last
-set_by_act (OnLoan call outcome) last = last
+abbrev pub set_by_act : Act → LastSet → LastSet
+set_by_act (Calls call asks outcome) last = set_by call outcome last
+set_by_act (Loads h flags bytes) last = set h flags last
+set_by_act _ last = last
+
+-- the flags last set once these acts were done
+abbrev pub set_in : List Done → LastSet → LastSet
+set_in [] last = last
+set_in (done ∷ later) last = set_in later (set_by_act done.act last)
 
 -- every handle that isn't empty has the flags last set
 abbrev pub HasFlags : HandleTable → LastSet → Type 0
 HasFlags t last = (h : ℕ) → IsTrue (is_full t h) → flags_of t h ≡ last h
 
--- HGetState tells of them
+-- HGetState tells the flags last set
 abbrev pub TellsFlags : MemoryCall → Outcome → LastSet → Type 0
 TellsFlags (memory_call.HGetState h) (Ok r) last = r ≡ results.Number (state_of (last h))
 TellsFlags _ _ last = ⊤
-
-abbrev pub ActTellsFlags : LoanAct → LastSet → Type 0
-ActTellsFlags (OnHeap (Calls call asks outcome)) last = TellsFlags call outcome last
-ActTellsFlags _ last = ⊤
-
-abbrev pub set_in : List LoanDone → LastSet → LastSet
-set_in [] last = last
-set_in (done ∷ later) last = set_in later (set_by_act done.act last)
-
-abbrev pub AllTellFlags : List LoanDone → LastSet → Type 0
-AllTellFlags [] last = ⊤
-AllTellFlags (done ∷ later) last = ActTellsFlags done.act last × AllTellFlags later (set_by_act done.act last)
-
--- From a new zone on, every handle has the flags last set, and each HGetState tells of them.
-abbrev pub HasFlagsLastSet : Type 0
-HasFlagsLastSet = (z : ZoneSizes) (run : List LoanDone) (last : LastSet) → ArePossible z
-    → (let start : Holding = record { heap = new_heap (shape_of z) z.size; loans = [] } in IsLoanRun (shape_of z) start run → AllTellFlags run last × HasFlags (held_after start run).heap.table (set_in run last))

@@ -1,6 +1,5 @@
-pub mod LastPut
-pub mod Course
 pub mod Act
-pub mod Headline
-pub mod Loaned
+pub mod LastPut
 pub mod LastSet
+pub mod Course
+pub mod Headline

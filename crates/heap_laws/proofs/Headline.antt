@@ -1,0 +1,125 @@
+-- What is promised of every run from a new zone on.
+use Rattle.std.proofs.Common.{◌≡◌, ℕ, Bool, true, false, List, [], ◌∷◌, ◌++◌, Option, Some, None, refl, ap, sym, subst, ◌∙◌, inl, inr}
+use Rattle.std.proofs.lemmas.Bool.{true≢false}
+use Rattle.mac_base.specs.declared.error.OsErr.{OsErr}
+use Rattle.mac_base.specs.HandleTable.{FullHandle, bytes_of, has_block, is_locked}
+use Rattle.mac_base.specs.HeadKind.{Shape}
+use Rattle.mac_base.specs.Heap.{Heap}
+use Rattle.mac_base.specs.Releasing.{heap_released, operand_of}
+use Rattle.mac_base.specs.Sound.{Sound}
+use Rattle.mac_base.specs.ZoneMap.{contents_of}
+use Rattle.mac_base.specs.ZoneSizes.{shape_of}
+use Rattle.mac_calls.specs.declared.loan_call.LoanCall.{LoanCall}
+use Rattle.mac_calls.specs.declared.loan_call.LoanCall.TheVariants as loan_call
+use Rattle.mac_calls.specs.Loans.{LoanStepUnless, held_bytes, loan_refusal}
+use Rattle.mac_calls.specs.Outcomes.{Outcome}
+use Rattle.gap_laws.proofs.KeepsLoans.{contents-pointer}
+use Rattle.heap_laws.specs.Act.{Act, Calls, Does, Done, IsRun, Loads, Moment, OnLoan, Unloads, moment_after, new_zone}
+use Rattle.heap_laws.specs.Headline.{ActMayLose, ActTells, FullWhereItMay, Headline, IsLockedThroughout, KeepsAddress, MayBeLost, OfNext, Promised}
+use Rattle.heap_laws.specs.LastPut.{LastPut, put_by_act, put_in}
+use Rattle.heap_laws.specs.LastSet.{LastSet, set_by_act, set_in}
+use Rattle.heap_laws.proofs.Full.{step-full}
+use Rattle.heap_laws.proofs.Lent.{comes-back}
+use Rattle.heap_laws.proofs.Loaned.{act-tells, loan-map}
+use Rattle.heap_laws.proofs.Locked.{Stay, stay-released, stand-contents, step-locked}
+use Rattle.heap_laws.proofs.Losing.{given-keeps, lost_only, released-keeps, step-loses, written-keeps}
+use Rattle.heap_laws.proofs.Standing.{Standing, run-first, run-later, stand-act, stand-new, stand-run}
+use Rattle.heap_laws.proofs.Steps.{step-may}
+
+-- ---- one act
+
+-- the contents of a handle that is locked before and after it stay
+act-locked : (s : Shape) (act : Act) (old new : Moment) (h : ℕ) → Sound s old.heap → Sound s new.heap → Does s act old new → is_locked old.heap.table h ≡ true → is_locked new.heap.table h ≡ true → KeepsAddress s h old new
+act-locked s (Calls call asks outcome) old new h sound after does was locked = step-locked s old.heap call asks outcome new.heap h sound after does.0 was locked
+act-locked s (OnLoan call outcome) old new h sound after does was locked = ap (contents_of s h) (loan-map s old new call outcome (loan_refusal s old.heap call) does)
+act-locked s (Loads g flags bytes) old new h sound after does was locked = ap (λ (heap : Heap). contents_of s h heap.map) does.1
+act-locked s (Unloads call) old new h sound after does was locked =
+    let stay = subst (Stay s old.heap) (sym does.2) (stay-released s call old.heap) in
+    stand-contents s old.heap new.heap h sound after was locked (stay.place h locked)
+
+-- a call on a loan leaves each block
+loan-block : (s : Shape) (old new : Moment) (call : LoanCall) (outcome : Outcome) (o : Option OsErr) → LoanStepUnless o old.loans old.heap call outcome new.loans new.heap → (x : ℕ) → has_block old.heap.table x ≡ true → has_block new.heap.table x ≡ true
+loan-block s old new call outcome (Some code) step x block = ap (λ (h : Heap). has_block h.table x) step.2 ∙ block
+loan-block s old new (loan_call.Return y) outcome None step x block = ap (λ (h : Heap). has_block h.table x) step.2 ∙ written-keeps y (held_bytes y old.loans) old.heap.table x block
+loan-block s old new call outcome None step x block = ap (λ (h : Heap). has_block h.table x) step.2 ∙ block
+
+-- a block is lost only where it may be
+act-loses : (s : Shape) (act : Act) (old new : Moment) (x : ℕ) → Sound s old.heap → Does s act old new → has_block old.heap.table x ≡ true → has_block new.heap.table x ≡ false → ActMayLose s old.heap act x
+act-loses s (Calls call asks outcome) old new x sound does block lost = step-loses s old.heap call asks outcome new.heap x (step-may s old.heap call asks outcome new.heap sound does.0) block lost
+act-loses s (OnLoan call outcome) old new x sound does block lost = true≢false (sym (loan-block s old new call outcome (loan_refusal s old.heap call) does x block) ∙ lost)
+act-loses s (Loads h flags bytes) old new x sound does block lost =
+    true≢false (sym (ap (λ (heap : Heap). has_block heap.table x) does.1 ∙ given-keeps h (FullHandle flags bytes) old.heap.table x (λ _. refl) block) ∙ lost)
+act-loses s (Unloads call) old new x sound does block lost =
+    lost_only (heap_released call old.heap).table x (operand_of call ≡ x) (released-keeps call old.heap x block) (ap (λ (heap : Heap). has_block heap.table x) (sym does.2) ∙ lost)
+
+-- and memFullErr is given only where it may be
+act-full : (s : Shape) (act : Act) (old new : Moment) → Sound s old.heap → Does s act old new → FullWhereItMay s old.heap act new.heap
+act-full s (Calls call asks outcome) old new sound does = step-full s old.heap call asks outcome new.heap (step-may s old.heap call asks outcome new.heap sound does.0)
+act-full s (OnLoan call outcome) old new sound does = tt
+act-full s (Loads h flags bytes) old new sound does = tt
+act-full s (Unloads call) old new sound does = tt
+
+-- ---- runs
+
+module _ (s : Shape) where
+  tells-next : (from : Moment) (acts : List Done) (put : LastPut) (set : LastSet) → Standing s from put set → IsRun s from acts → OfNext acts (λ done. ActTells s from done.act put set)
+  tells-next from [] put set stands is = tt
+  tells-next from (d ∷ later) put set stands is = act-tells s from d.left put stands.sound stands.held stands.shows set stands.flags d.act is.0
+
+  full-next : (from : Moment) (acts : List Done) → Sound s from.heap → IsRun s from acts → OfNext acts (λ done. FullWhereItMay s from.heap done.act done.left.heap)
+  full-next from [] sound is = tt
+  full-next from (d ∷ later) sound is = act-full s d.act from d.left sound is.0
+
+  -- locked throughout is locked at first
+  locked-first : (h : ℕ) (from : Moment) (acts : List Done) → IsLockedThroughout h from acts → is_locked from.heap.table h ≡ true
+  locked-first h from [] locked = locked
+  locked-first h from (d ∷ later) locked = locked.0
+
+  locked-run : (h : ℕ) (from : Moment) (acts : List Done) (put : LastPut) (set : LastSet) → Standing s from put set → IsRun s from acts → IsLockedThroughout h from acts → KeepsAddress s h from (moment_after from acts)
+  locked-run h from [] put set stands is locked = refl
+  locked-run h from (d ∷ later) put set stands is locked =
+      let next = stand-act s d.act from d.left put set stands is.0 in
+      locked-run h d.left later (put_by_act d.act put) (set_by_act d.act set) next is.1 locked.1
+      ∙ act-locked s d.act from d.left h stands.sound next.sound is.0 locked.0 (locked-first h d.left later locked.1)
+
+  lost-run : (x : ℕ) (from : Moment) (acts : List Done) (put : LastPut) (set : LastSet) → Standing s from put set → IsRun s from acts → has_block from.heap.table x ≡ true → has_block (moment_after from acts).heap.table x ≡ false → MayBeLost s from acts x
+  lost-run x from [] put set stands is block lost = true≢false (sym block ∙ lost)
+  lost-run x from (d ∷ later) put set stands is block lost =
+      by_next (has_block d.left.heap.table x) refl (λ next. lost-run x d.left later (put_by_act d.act put) (set_by_act d.act set) (stand-act s d.act from d.left put set stands is.0) is.1 next lost)
+    where
+      by_next : (b : Bool) → has_block d.left.heap.table x ≡ b → (has_block d.left.heap.table x ≡ true → MayBeLost s d.left later x) → MayBeLost s from (d ∷ later) x
+      by_next true next rest = inr (rest next)
+      by_next false next rest = inl (block, act-loses s d.act from d.left x stands.sound is.0 block next)
+
+  -- the last act leaves the last moment
+  last-left : (from : Moment) (between : List Done) (back : Done) → moment_after from (between ++ back ∷ []) ≡ back.left
+  last-left from [] back = refl
+  last-left from (d ∷ later) back = last-left d.left later back
+
+  -- so all is promised of a run from a moment of which this is known
+  pub promised : (from : Moment) (acts : List Done) (put : LastPut) (set : LastSet) → Standing s from put set → IsRun s from acts → Promised s from acts put set
+  promised from acts put set stands is =
+      let to = stand-run s from acts put set stands is in
+      let sound = to.sound in
+      record {
+        bytes = to.shows;
+        flags = to.flags;
+        replies = tells-next from acts put set stands is;
+        locked = λ h locked. locked-run h from acts put set stands is locked;
+        pointers = λ p live. contents-pointer s (moment_after from acts).heap.table (moment_after from acts).heap.map p sound.suits live;
+        emptied = λ x block lost. lost-run x from acts put set stands is block lost;
+        full = full-next from acts stands.sound is;
+        lent = λ x lend back between run lends not_returned returns.
+            (let back_then = comes-back s x from lend back between put set stands (subst (IsRun s from) run is) lends not_returned returns in
+            let last = ap (moment_after from) run ∙ last-left lend.left between back in (
+              ap (λ (at : Moment). contents_of s x at.heap.map) last ∙ back_then.0,
+              ap (λ (at : Moment). bytes_of at.heap.table x) last ∙ back_then.1,
+            ));
+      }
+
+-- so it is promised of every run from a new zone on
+pub headline : Headline
+headline z first acts put set possible is =
+    let s = shape_of z in
+    promised s (moment_after (new_zone z) first) acts (put_in first put) (set_in first set)
+    (stand-run s (new_zone z) first put set (stand-new z put set possible) (run-first s (new_zone z) first acts is)) (run-later s (new_zone z) first acts is)
