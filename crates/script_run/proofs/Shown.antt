@@ -1,6 +1,6 @@
 -- The lines of a script print the replies of a run of calls.
 use Rattle.std.proofs.Common.{◌≡◌, ℕ, List, [], ◌∷◌, Ok, Err, refl, ap, sym, subst, ◌∙◌}
-use Rattle.std.specs.Prelude.{All}
+use Rattle.std.specs.Prelude.{All, map}
 use Rattle.mac_calls.specs.declared.call.Call.{Call}
 use Rattle.mac_calls.specs.declared.call.Call.TheVariants.{Memory as MemoryCalls, Loan, Resource, MemError, ResError}
 use Rattle.mac_calls.specs.declared.resource_call.ResourceCall.TheVariants.{OpenResFile}
@@ -10,7 +10,11 @@ use Rattle.mac_base.specs.ZoneSizes.{ZoneSizes}
 use Rattle.fork_disk.specs.declared.store.ForkStore.{Ghosts}
 use Rattle.res_files.specs.FilesOn.{FilesOn}
 use Rattle.toolbox.specs.Steps.{Gives}
-use Rattle.toolbox.specs.ToolState.{IsHonest, ToolState, resource_state}
+use Rattle.toolbox.specs.ToolState.{IsHonest, ToolState, resource_state, without_handles}
+use Rattle.mac_calls.specs.Released.{disposed_of}
+use Rattle.mac_base.specs.HeadKind.{Shape}
+use Rattle.mac_base.specs.Heap.{Heap}
+use Rattle.res_calls.specs.Files.{ResState}
 use Rattle.script_lines.specs.declared.line.Line.{Line}
 use Rattle.script_lines.specs.declared.line.Statement.{Statement}
 use Rattle.script_lines.specs.declared.line.Statement.TheVariants.{Call as CallStatement, Answer}
@@ -25,15 +29,23 @@ use Rattle.res_laws.proofs.Tools.{tools-show}
 use Rattle.script_run.specs.Headline.{PrintReplies, PrintsReply, RunShows, tools_of}
 
 module _ {S : Type 0} (store : Ghosts S) where
+  -- the zone and the files of a toolbox that has these
+  state : Shape → Heap → FilesOn S → ResState
+  state shape heap on = record { shape = shape; heap = heap; files = on.files; loads = on.loads; disks = map store.fork on.stores }
+
+  states : (old new : ToolState S) (on : FilesOn S) → new.shape ≡ old.shape → new.resources ≡ on → state new.shape new.heap new.resources ≡ state old.shape new.heap on
+  states old new on shape resources = ap (λ s. state s new.heap new.resources) shape ∙ ap (state old.shape new.heap) resources
+
   -- a step of the toolbox is one of its zone, resource files and loans
   tool-does : (old : ToolState S) (call : Call) (asks : List Ask) (outcome : Outcome) (new : ToolState S) → Gives store old call asks outcome new → new.shape ≡ old.shape → IsHonest store old → ToolDoes (tools_of store old) call asks outcome (tools_of store new)
-  tool-does old (MemoryCalls call) asks outcome new g shape honest = (g.1, g.2, made_of new.shape old.shape new.heap new.resources (without_handles (disposed_of call asks outcome) old.resources) shape g.3)
-  tool-does old (Loan call) asks outcome new g shape honest = (g.1, made_of new.shape old.shape new.heap new.resources old.resources shape g.2)
+  unfolding state
+  tool-does old (MemoryCalls call) asks outcome new g shape honest = (g.1, g.2, states old new (without_handles (disposed_of call asks outcome) old.resources) shape g.3)
+  tool-does old (Loan call) asks outcome new g shape honest = (g.1, states old new old.resources shape g.2)
   tool-does old (Resource call) asks outcome new g shape honest =
       let r = g.0 honest in
       (r.0, anything-left store.may_leave r.0 (resource_state store old) call asks (record { outcome = outcome; state = resource_state store new }) r.1, g.1, shape)
-  tool-does old MemError asks outcome new g shape honest = (g.2, g.3, shape)
-  tool-does old ResError asks outcome new g shape honest = (g.2, g.3, shape)
+  tool-does old MemError asks outcome new g shape honest = (states old new old.resources shape g.4 ∙ ap (λ h. state old.shape h old.resources) g.2, g.3)
+  tool-does old ResError asks outcome new g shape honest = (states old new old.resources shape g.4 ∙ ap (λ h. state old.shape h old.resources) g.2, g.3)
 
   -- devices stay honest
   same-stores : (old new : FilesOn S) → new.stores ≡ old.stores → All store.is_honest old.stores → All store.is_honest new.stores
@@ -83,10 +95,10 @@ module _ {S : Type 0} (store : Ghosts S) where
   lines-print old [] (text ∷ texts) new honest run = absurd run
   lines-print old (line ∷ lines) [] new honest run = absurd run
 
--- whatever the lines of a script print shows the bytes last put
+-- whatever the lines of a script print is the replies of such calls
 pub run-shows : {S : Type 0} (store : Ghosts S) → RunShows store
-run-shows store sizes stores lines [] last put possible honest run = absurd run
-run-shows store sizes stores lines (text ∷ texts) last put possible honest run =
+run-shows store sizes stores lines [] last possible honest run = absurd run
+run-shows store sizes stores lines (text ∷ texts) last possible honest run =
     let start = start_of sizes stores in
     let opened = run.0 in
     let opens = run.1 in
@@ -95,4 +107,4 @@ run-shows store sizes stores lines (text ∷ texts) last put possible honest run
     let opening : Called = record { call = Resource (OpenResFile 1); asks = []; outcome = opens.0; tools = tools_of store opened.toolbox } in
     let calls = opening ∷ printed.calls in
     let goes : IsToolRun (tools_of store start.toolbox) calls = (tool-does store start.toolbox (Resource (OpenResFile 1)) [] opens.0 opened.toolbox opens.1 opens.2 honest, printed.run) in
-    (calls, (opens.7, printed.prints), goes, tools-show sizes (tools_of store start.toolbox) calls put possible refl refl refl goes)
+    (calls, (opens.7, printed.prints), goes, tools-show sizes (tools_of store start.toolbox) calls possible refl refl goes)

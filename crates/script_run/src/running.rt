@@ -35,7 +35,7 @@ pub fn run<S: ForkStore, R: Read, W: Write>(
     ensures ends { (written : List ℕ) × Appends (W.contents writer.old.inner) (W.contents writer.new.inner) written
         × IfSome (R.remaining reader.old.inner) (λ input. Ends S.ForkStore (start_of spec stores.items) input result.0 written result.1.items) }
 
-    // Whatever lines print are the replies of calls over which every handle and pointer shows the bytes last put there, pointers and
+    // Whatever lines print is the replies of calls over which every handle and pointer shows the bytes last put there, pointers and
     // locked handles stay where they are, and blocks are lost and memFullErr is given only where they may.
     ensures headline { RunShows S.ForkStore }
 
