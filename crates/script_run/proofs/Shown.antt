@@ -10,11 +10,9 @@ use Rattle.mac_base.specs.ZoneSizes.{ZoneSizes}
 use Rattle.fork_disk.specs.declared.store.ForkStore.{Ghosts}
 use Rattle.res_files.specs.FilesOn.{FilesOn}
 use Rattle.toolbox.specs.Steps.{Gives}
-use Rattle.toolbox.specs.ToolState.{IsHonest, ToolState, resource_state, without_handles}
-use Rattle.mac_calls.specs.Released.{disposed_of}
-use Rattle.mac_base.specs.HeadKind.{Shape}
-use Rattle.mac_base.specs.Heap.{Heap}
-use Rattle.res_calls.specs.Files.{ResState}
+use Rattle.toolbox.specs.Headline.{tools_of}
+use Rattle.toolbox.specs.ToolState.{IsHonest}
+use Rattle.toolbox.proofs.Headline.{still-honest, tool-does}
 use Rattle.script_lines.specs.declared.line.Line.{Line}
 use Rattle.script_lines.specs.declared.line.Statement.{Statement}
 use Rattle.script_lines.specs.declared.line.Statement.TheVariants.{Call as CallStatement, Answer}
@@ -26,38 +24,9 @@ use Rattle.res_laws.specs.Acts.{Memory}
 use Rattle.res_laws.specs.Tools.{Called, IsToolRun, ToolDoes, Tools}
 use Rattle.res_laws.proofs.Acts.{anything-left}
 use Rattle.res_laws.proofs.Tools.{tools-show}
-use Rattle.script_run.specs.Headline.{PrintReplies, PrintsReply, RunShows, tools_of}
+use Rattle.script_run.specs.Headline.{PrintReplies, PrintsReply, RunShows}
 
 module _ {S : Type 0} (store : Ghosts S) where
-  -- the zone and the files of a toolbox that has these
-  state : Shape → Heap → FilesOn S → ResState
-  state shape heap on = record { shape = shape; heap = heap; files = on.files; loads = on.loads; disks = map store.fork on.stores }
-
-  states : (old new : ToolState S) (on : FilesOn S) → new.shape ≡ old.shape → new.resources ≡ on → state new.shape new.heap new.resources ≡ state old.shape new.heap on
-  states old new on shape resources = ap (λ s. state s new.heap new.resources) shape ∙ ap (state old.shape new.heap) resources
-
-  -- a step of the toolbox is one of its zone, resource files and loans
-  tool-does : (old : ToolState S) (call : Call) (asks : List Ask) (outcome : Outcome) (new : ToolState S) → Gives store old call asks outcome new → new.shape ≡ old.shape → IsHonest store old → ToolDoes (tools_of store old) call asks outcome (tools_of store new)
-  unfolding state
-  tool-does old (MemoryCalls call) asks outcome new g shape honest = (g.1, g.2, states old new (without_handles (disposed_of call asks outcome) old.resources) shape g.3)
-  tool-does old (Loan call) asks outcome new g shape honest = (g.1, states old new old.resources shape g.2)
-  tool-does old (Resource call) asks outcome new g shape honest =
-      let r = g.0 honest in
-      (r.0, anything-left store.may_leave r.0 (resource_state store old) call asks (record { outcome = outcome; state = resource_state store new }) r.1, g.1, shape)
-  tool-does old MemError asks outcome new g shape honest = (states old new old.resources shape g.4 ∙ ap (λ h. state old.shape h old.resources) g.2, g.3)
-  tool-does old ResError asks outcome new g shape honest = (states old new old.resources shape g.4 ∙ ap (λ h. state old.shape h old.resources) g.2, g.3)
-
-  -- devices stay honest
-  same-stores : (old new : FilesOn S) → new.stores ≡ old.stores → All store.is_honest old.stores → All store.is_honest new.stores
-  same-stores old new same honest = subst (All store.is_honest) (sym same) honest
-
-  still-honest : (old : ToolState S) (call : Call) (asks : List Ask) (outcome : Outcome) (new : ToolState S) → Gives store old call asks outcome new → IsHonest store old → IsHonest store new
-  still-honest old (MemoryCalls call) asks outcome new g honest = same-stores old.resources new.resources (ap (λ (on : FilesOn S). on.stores) g.3) honest
-  still-honest old (Loan call) asks outcome new g honest = same-stores old.resources new.resources (ap (λ (on : FilesOn S). on.stores) g.2) honest
-  still-honest old (Resource call) asks outcome new g honest = g.2.0 honest
-  still-honest old MemError asks outcome new g honest = same-stores old.resources new.resources (ap (λ (on : FilesOn S). on.stores) g.4) honest
-  still-honest old ResError asks outcome new g honest = same-stores old.resources new.resources (ap (λ (on : FilesOn S). on.stores) g.4) honest
-
   -- what some lines print
   record Printed (old : Tools) (lines : List Line) (texts : List (List ℕ)) : Type 0 where
     pub calls : List Called
@@ -76,11 +45,11 @@ module _ {S : Type 0} (store : Ghosts S) where
       let call = call_of old.variables line in
       let step = does.2 in
       let outcome : Outcome = (does.0).outcome in
-      let others = rest (still-honest old.toolbox call does.1 outcome mid.toolbox step.0 honest) in
+      let others = rest (still-honest store old.toolbox call does.1 outcome mid.toolbox step.0 honest) in
       record {
         calls = record { call = call; asks = does.1; outcome = outcome; tools = tools_of store mid.toolbox } ∷ others.0;
         prints = (does.5, others.1);
-        run = (tool-does old.toolbox call does.1 outcome mid.toolbox step.0 step.1 honest, others.2);
+        run = (tool-does store old.toolbox call does.1 outcome mid.toolbox step.0 step.1 honest, others.2);
       }
   stated old mid number (Answer line) text Rest honest does rest =
       let others = rest (subst (IsHonest store) (sym does.1) honest) in

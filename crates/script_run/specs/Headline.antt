@@ -3,7 +3,7 @@ use Rattle.std.specs.Prelude.{◌≡◌, ℕ, List, [], ◌∷◌, All, Ok, Err,
 use Rattle.mac_base.specs.ZoneSizes.{ArePossible, ZoneSizes}
 use Rattle.mac_calls.specs.GrowZone.{answered}
 use Rattle.fork_disk.specs.declared.store.ForkStore.{Ghosts}
-use Rattle.toolbox.specs.ToolState.{ToolState, resource_state}
+use Rattle.toolbox.specs.Headline.{tools_of}
 use Rattle.script_lines.specs.declared.line.Line.{Line}
 use Rattle.script_lines.specs.declared.line.Statement.{Statement}
 use Rattle.script_lines.specs.declared.line.Statement.TheVariants.{Call as CallStatement, Answer}
@@ -11,11 +11,7 @@ use Rattle.reply_text.specs.Text.{reply_text}
 use Rattle.script_run.specs.declared.machine.Machine.{Machine}
 use Rattle.script_run.specs.Line.{opening_text, start_of}
 use Rattle.script_run.specs.Run.{IsRun}
-use Rattle.res_laws.specs.Tools.{Called, Headline, IsToolRun, Tools}
-
--- the zone, the resource files and the loans of a toolbox
-abbrev pub tools_of : {S : Type 0} → Ghosts S → ToolState S → Tools
-tools_of store t = record { resources = resource_state store t; loans = t.loans }
+use Rattle.res_laws.specs.Tools.{Called, Headline, IsToolRun}
 
 -- a statement prints the reply of the first of these calls, with the asks that had an answer; an answer is no call, and prints nothing
 abbrev pub PrintsReply : ℕ → Statement → List ℕ → List Called → (List Called → Type 0) → Type 0
