@@ -44,13 +44,13 @@ use Rattle.res_calls.specs.Device.{Device, Works as DeviceWorks, FailsBefore, Fa
 use Rattle.res_calls.specs.Files.{ResState, ResourceEnd, disk_of, refused_with, with_disk, with_files, with_heap}
 use Rattle.res_calls.specs.Loads.{handle_made, load_end, loaded, loaded_flags, loaded_results, loads_bytes, placed_end, placing, row_wanted, unloaded}
 use Rattle.res_calls.specs.Quiet.{quiet_state}
-use Rattle.res_calls.specs.Steps.{GetsPlace, GetsRow, LeaveRelation, LeavesDisk, ResourceStepBy, StepsUnless, Work, Gets, Updates, Opens, Quiet, Works, behind_memory, opened_end, updating, work_of}
+use Rattle.res_calls.specs.Steps.{GetsPlace, GetsRow, LeaveRelation, LeavesDisk, ResourceStepBy, StepsUnless, Work, Gets, Updates, Opens, Quiet, Works, behind_memory, opened_end, updating, work_of, Memory}
 use Rattle.res_calls.specs.Tests.{resource_refusal}
 use Rattle.res_calls.specs.Updates.{Update, behind_update, disposed, file_update, handles_of, row_passes, row_update, update_end}
 use Rattle.zone_laws.proofs.Tables.{live_at-with_live_same}
 use Rattle.heap_laws.specs.Act.{Act, Calls, Does, Done, IsRun, Loads, Moment, Unloads, moment_after}
 use Rattle.heap_laws.proofs.Fewer.{Granted, run-leaves}
-use Rattle.res_laws.specs.Acts.{Anything, IsActOf, Memory}
+use Rattle.res_laws.specs.Acts.{Anything, IsActOf}
 
 module _ (loans : Loans) where
   -- the zone with this heap

@@ -11,10 +11,6 @@ use Rattle.res_calls.specs.Loads.{loaded_flags, row_wanted}
 use Rattle.res_calls.specs.Steps.{LeaveRelation, MemoryRelation}
 use Rattle.heap_laws.specs.Act.{Act, Calls, Loads, OnLoan, Unloads}
 
--- a call of the Memory Manager steps as it may, and just so
-abbrev pub Memory : MemoryRelation
-Memory s old call asks outcome new = MemoryStep s old call asks outcome new × IsExactStep s old call asks outcome new
-
 -- What a call may do to the zone: it calls the Memory Manager, puts the bytes of the row that it gets into a handle's block, with the
 -- row's flags, or releases a block into which they can't be read.
 abbrev pub IsActOf : ResState → ResourceCall → Act → Type 0

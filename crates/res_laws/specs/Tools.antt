@@ -12,12 +12,12 @@ use Rattle.mac_calls.specs.Released.{disposed_of}
 use Rattle.res_calls.specs.Device.{Device}
 use Rattle.res_calls.specs.Changes.{handles_forgotten}
 use Rattle.res_calls.specs.Files.{ResState, with_files, with_heap}
-use Rattle.res_calls.specs.Steps.{ResourceStepBy}
+use Rattle.res_calls.specs.Steps.{Memory, ReadsBack, ResourceStepBy}
 use Rattle.heap_laws.specs.LastPut.{LastPut, put_in}
 use Rattle.heap_laws.specs.LastSet.{LastSet, set_in}
 use Rattle.heap_laws.specs.Act.{Act, Calls, Done, IsRun, Moment, OnLoan, moment_after, new_zone}
 use Rattle.heap_laws.specs.Headline.{Promised}
-use Rattle.res_laws.specs.Acts.{Anything, IsActOf, Memory}
+use Rattle.res_laws.specs.Acts.{Anything, IsActOf}
 
 -- the zone, the resource files and their disks, and the blocks that are lent
 pub record Tools : Type 0 where
@@ -32,14 +32,15 @@ moment_of tools = record { heap = tools.resources.heap; loans = tools.loans }
 abbrev pub with_rows_forgotten : List ℕ → Heap → ResState → ResState
 with_rows_forgotten handles heap state = with_heap heap (with_files (handles_forgotten handles state.files) state)
 
--- From the old state, a call with these asks may have this outcome and leave the new state; the device of a resource call may go in any way.
+-- From the old state, a call with these asks may have this outcome and leave the new state. The device of a resource call may go in any
+-- way; a fork that is updated with success reads back as the table that was saved.
 abbrev pub ToolDoes : Tools → Call → List Ask → Outcome → Tools → Type 0
 ToolDoes old (MemoryCalls call) asks outcome new = IsExactStep old.resources.shape old.resources.heap call asks outcome new.resources.heap × (new.loans ≡ old.loans)
     × (new.resources ≡ with_rows_forgotten (disposed_of call asks outcome) new.resources.heap old.resources)
 ToolDoes old (Loan call) asks outcome new = LoanStep old.resources.shape old.loans old.resources.heap call outcome new.loans new.resources.heap
     × (new.resources ≡ with_heap new.resources.heap old.resources)
 ToolDoes old (Resource call) asks outcome new = (device : Device) × ResourceStepBy Memory Anything device old.resources call asks (record { outcome = outcome; state = new.resources })
-    × (new.loans ≡ old.loans) × (new.resources.shape ≡ old.resources.shape)
+    × (new.loans ≡ old.loans) × (new.resources.shape ≡ old.resources.shape) × ReadsBack old.resources call outcome new.resources
 ToolDoes old _ asks outcome new = (new.resources ≡ old.resources) × (new.loans ≡ old.loans)
 
 -- a call that was made, and what it left

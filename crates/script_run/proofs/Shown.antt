@@ -20,7 +20,7 @@ use Rattle.script_vars.specs.Variables.{call_of}
 use Rattle.script_run.specs.declared.machine.Machine.{Machine}
 use Rattle.script_run.specs.Line.{StatementDoes, start_of}
 use Rattle.script_run.specs.Run.{AreRun}
-use Rattle.res_laws.specs.Acts.{Memory}
+use Rattle.res_calls.specs.Steps.{Memory}
 use Rattle.res_laws.specs.Tools.{Called, IsToolRun, ToolDoes, Tools}
 use Rattle.res_laws.proofs.Acts.{anything-left}
 use Rattle.res_laws.proofs.Tools.{tools-show}

@@ -35,7 +35,7 @@ module _ {S : Type 0} (store : Ghosts S) where
   tool-does old (Loan call) asks outcome new g shape honest = (g.1, states old new old.resources shape g.2)
   tool-does old (Resource call) asks outcome new g shape honest =
       let r = g.0 honest in
-      (r.0, anything-left store.may_leave r.0 (resource_state store old) call asks (record { outcome = outcome; state = resource_state store new }) r.1, g.1, shape)
+      (r.0, anything-left store.may_leave r.0 (resource_state store old) call asks (record { outcome = outcome; state = resource_state store new }) r.1, g.1, shape, g.4 honest)
   tool-does old MemError asks outcome new g shape honest = (states old new old.resources shape g.4 ∙ ap (λ h. state old.shape h old.resources) g.2, g.3)
   tool-does old ResError asks outcome new g shape honest = (states old new old.resources shape g.4 ∙ ap (λ h. state old.shape h old.resources) g.2, g.3)
 
