@@ -1,9 +1,11 @@
 pub mod Fewer
 pub mod Passed
+pub mod Trials
 pub mod Shown
 pub mod Locked
 pub mod Full
 pub mod Losing
+pub mod Alive
 pub mod Runs
 pub mod Spared
 pub mod LoanLists

@@ -1,0 +1,92 @@
+-- A handle or a pointer keeps its number until somebody disposes of it.
+use Rattle.std.proofs.Common.{◌≡◌, ℕ, true, false, List, [], ◌∷◌, Option, Some, None, Ok, Contains, ap, refl, subst, sym, ◌∙◌, inl, inr}
+use Rattle.std.specs.Prelude.{◌&&◌, ◌⊎◌, not}
+use Rattle.std.specs.Option.{option_to_list}
+use Rattle.std.proofs.lemmas.Bool.{true≢false}
+use Rattle.std.proofs.lemmas.List.Elements.{Contains-append_left, Contains-append_right}
+use Rattle.mac_base.specs.declared.block.Flags.{Flags}
+use Rattle.mac_base.specs.declared.releasing.ReleasingCall.{ReleasingCall}
+use Rattle.mac_base.specs.declared.releasing.ReleasingCall.TheVariants.{DisposesHandle, DisposesPtr, Empties}
+use Rattle.mac_base.specs.HandleTable.{HandleTable, Live, EmptyHandle, FullHandle, Pointer, flags_of, is_full, is_handle, is_locked, is_pointer, is_purgeable, live_handle, live_pointer, refilled}
+use Rattle.mac_base.specs.HeadKind.{Shape}
+use Rattle.mac_base.specs.Heap.{Heap}
+use Rattle.mac_base.specs.Releasing.{heap_released, operand_of}
+use Rattle.mac_calls.specs.declared.memory_call.MemoryCall.{MemoryCall}
+use Rattle.mac_calls.specs.declared.reply.Results.{Results}
+use Rattle.mac_calls.specs.GrowZone.{Ask, memory_call}
+use Rattle.mac_calls.specs.MemoryStep.{MemoryStep}
+use Rattle.mac_calls.specs.Outcomes.{Outcome}
+use Rattle.mac_calls.specs.Released.{disposed_by, disposed_in, disposed_itself, released_by, released_itself}
+use Rattle.mac_calls.specs.Tests.{IsPointer, NotLent, refusal}
+use Rattle.zone_laws.proofs.Maps.{both_true}
+use Rattle.zone_laws.proofs.SlotPlaces.{Contains-here}
+use Rattle.zone_laws.proofs.Tables.{full_handle, handle_no_pointer, live_at-with_live_same}
+use Rattle.call_laws.proofs.Refusals.{passed-IsPointer}
+use Rattle.heap_laws.specs.Alive.{HandleMayDie, KeepsNumbers, PointerMayDie}
+use Rattle.heap_laws.proofs.Losing.{MayEnd, Trait, itself-released, released-operand, step-keeps}
+use Rattle.heap_laws.proofs.Passed.{test_1}
+
+refilled-handle : (bytes : List ℕ) (o : Option Live) → live_handle o ≡ true → live_handle (Some (refilled bytes o)) ≡ true
+refilled-handle bytes None h = absurd (cc h)
+refilled-handle bytes (Some EmptyHandle) h = refl
+refilled-handle bytes (Some (FullHandle flags old)) h = refl
+refilled-handle bytes (Some (Pointer old)) h = absurd (cc h)
+
+released-handle : (s : Shape) (call : ReleasingCall) (heap : Heap) → refusal s heap (memory_call call) ≡ None → is_handle heap.table (operand_of call) ≡ true
+    → (is_handle (heap_released call heap).table (operand_of call) ≡ true) ⊎ (disposed_by (call, None) ≡ Some (operand_of call))
+released-handle s (DisposesHandle h) heap passes here = inr refl
+released-handle s (DisposesPtr p) heap passes here =
+    absurd (true≢false (sym (passed-IsPointer s heap p (test_1 s heap (IsPointer p) (NotLent p ∷ []) passes)) ∙ handle_no_pointer heap.table p here))
+released-handle s (Empties h) heap passes here = inl (ap live_handle (live_at-with_live_same h EmptyHandle heap.table))
+
+itself-disposed : (call : ReleasingCall) (results : Results) → disposed_itself (memory_call call) (Ok results) ≡ disposed_by (call, None)
+itself-disposed (DisposesHandle h) results = refl
+itself-disposed (DisposesPtr p) results = refl
+itself-disposed (Empties h) results = refl
+
+-- to be a handle
+abbrev a_handle : Trait
+a_handle = record {
+  holds = live_handle; by = disposed_by; itself = disposed_itself; dead = refl; refills = refilled-handle; fills = λ o flags bytes handle here. refl;
+  releases = released-handle; alike = itself-disposed;
+}
+
+refilled-pointer : (bytes : List ℕ) (o : Option Live) → live_pointer o ≡ true → live_pointer (Some (refilled bytes o)) ≡ true
+refilled-pointer bytes None h = absurd (cc h)
+refilled-pointer bytes (Some EmptyHandle) h = absurd (cc h)
+refilled-pointer bytes (Some (FullHandle flags old)) h = absurd (cc h)
+refilled-pointer bytes (Some (Pointer old)) h = refl
+
+filled-pointer : (o : Option Live) (flags : Flags) (bytes : List ℕ) → live_handle o ≡ true → live_pointer o ≡ true → live_pointer (Some (FullHandle flags bytes)) ≡ true
+filled-pointer None flags bytes handle here = absurd (cc handle)
+filled-pointer (Some EmptyHandle) flags bytes handle here = absurd (cc here)
+filled-pointer (Some (FullHandle f b)) flags bytes handle here = absurd (cc here)
+filled-pointer (Some (Pointer b)) flags bytes handle here = absurd (cc handle)
+
+-- to be a pointer
+abbrev a_pointer : Trait
+a_pointer = record {
+  holds = live_pointer; by = released_by; itself = released_itself; dead = refl; refills = refilled-pointer; fills = filled-pointer;
+  releases = λ s call heap passes here. inr (released-operand call); alike = itself-released;
+}
+
+-- what may be purged is no pointer
+purgeable-no_pointer : (t : HandleTable) (x : ℕ) → is_purgeable t x ≡ true → is_pointer t x ≡ false
+purgeable-no_pointer t x h = handle_no_pointer t x (full_handle t x (both_true (is_full t x) ((flags_of t x).purge && not (is_locked t x)) h).0)
+
+-- a number is kept unless it is disposed of
+pub step-alive : (s : Shape) (old : Heap) (call : MemoryCall) (asks : List Ask) (outcome : Outcome) (new : Heap) → MemoryStep s old call asks outcome new → KeepsNumbers old.table call asks outcome new.table
+step-alive s old call asks outcome new step = record {
+  handles = λ x is not_now. handle x (step-keeps a_handle s old call asks outcome new x step is not_now);
+  pointers = λ x is not_now. pointer x is (step-keeps a_pointer s old call asks outcome new x step is not_now);
+}
+  where
+    handle : (x : ℕ) → MayEnd a_handle x s old call asks outcome → HandleMayDie call asks outcome x
+    handle x (inl itself) = Contains-append_right (disposed_in asks) (option_to_list (disposed_itself call outcome)) x (subst (λ xs. Contains xs x) (sym (ap option_to_list itself)) (Contains-here x []))
+    handle x (inr (inl ended)) = Contains-append_left (disposed_in asks) (option_to_list (disposed_itself call outcome)) x ended
+    handle x (inr (inr purged)) = absurd (cc purged.2)
+
+    pointer : (x : ℕ) → is_pointer old.table x ≡ true → MayEnd a_pointer x s old call asks outcome → PointerMayDie call asks outcome x
+    pointer x is (inl itself) = inl itself
+    pointer x is (inr (inl ended)) = inr ended
+    pointer x is (inr (inr purged)) = absurd (true≢false (sym is ∙ purgeable-no_pointer old.table x purged.0))
