@@ -2,21 +2,33 @@
 use Rattle.std.proofs.Common.{◌≡◌, ℕ, ◌+◌, ◌-◌, ◌<◌, ◌≤◌, Bool, true, false, not, cond, length, List, [], ◌∷◌, ◌++◌, Option, Some, None, MatchOption, refl, ap, sym, subst, ◌∙◌, inl, inr, append-nil, arith}
 use Rattle.std.specs.Prelude.{◌==◌, ◌&&◌, ◌⊎◌, IsTrue, IsFalse, MatchBool}
 use Rattle.std.specs.Option.{option_map_or}
+use Rattle.mac_base.specs.declared.releasing.ReleasingCall.{ReleasingCall}
 use Rattle.mac_base.specs.declared.request.Request.{Request}
 use Rattle.mac_base.specs.declared.request.Request.TheVariants.{NewMaster}
 use Rattle.mac_base.specs.HeadKind.{Shape}
 use Rattle.mac_base.specs.Heap.{Heap, every_slot_live}
-use Rattle.mac_base.specs.Request.{makes_handle, size_needed}
-use Rattle.mac_base.specs.Trial.{Fails, SameHeap, Serves, prepared_by}
+use Rattle.mac_base.specs.Releasing.{heap_released, operand_of}
+use Rattle.mac_base.specs.Request.{is_among, makes_handle, size_needed}
+use Rattle.mac_base.specs.Trial.{Fails, SameHeap, Serves}
 use Rattle.mac_calls.specs.declared.memory_call.MemoryCall.{MemoryCall}
 use Rattle.mac_calls.specs.Effect.{request_of}
-use Rattle.mac_calls.specs.GrowZone.{Answer, Ask, Carried, carried_out, most_answers}
+use Rattle.mac_calls.specs.GrowZone.{Answer, Ask, Carried, carried_from, carried_once, carried_out, heap_unless, memory_call, most_answers}
 use Rattle.mac_calls.specs.MemoryStep.{BehindMaster, EndsRequest, RequestStep}
 use Rattle.mac_calls.specs.Outcomes.{Outcome}
 use Rattle.mac_calls.specs.RequestRun.{EndsUnserved, RequestRun}
-use Rattle.mac_calls.specs.Tests.{protected_by}
+use Rattle.mac_calls.specs.Tests.{protected_by, refusal}
 use Rattle.heap_laws.specs.Course.{Asked, Begins, GaveUp, Tried, calls_in, is_worth_a_trial, needs_master}
-use Rattle.heap_laws.proofs.Fewer.{Fewer, fewer-carried, fewer-failed, fewer-prepared, fewer-refl, fewer-same, fewer-then}
+
+-- the calls of an answer one by one: one that isn't on a protected block is carried out or refused
+pub carried-steps : (s : Shape) (protected : List ℕ) (P : Carried → Type 0)
+    → ((call : ReleasingCall) (c : Carried) → is_among protected (operand_of call) ≡ false → P c
+    → P (record { heap = heap_unless (refusal s c.heap (memory_call call)) (heap_released call c.heap) c.heap; calls = c.calls ++ (call, refusal s c.heap (memory_call call)) ∷ [] }))
+    → (calls : List ReleasingCall) (c : Carried) → P c → P (carried_from s protected calls c)
+carried-steps s protected P step [] c here = here
+carried-steps s protected P step (call ∷ calls) c here =
+    let next : Carried = record { heap = heap_unless (refusal s c.heap (memory_call call)) (heap_released call c.heap) c.heap; calls = c.calls ++ (call, refusal s c.heap (memory_call call)) ∷ [] } in
+    carried-steps s protected P step calls (carried_once s protected call c)
+    (elim (is_among protected (operand_of call)) as (λ b. is_among protected (operand_of call) ≡ b → P (cond b c next)) [ true ↦ λ _. here | false ↦ λ other. step call c other here ] refl)
 
 pub same-refl : (heap : Heap) → SameHeap heap heap
 same-refl heap = record { table = refl; map = refl }
@@ -68,17 +80,11 @@ module _ (s : Shape) (protected : List ℕ) (r : Request) where
   run-trials allowed old (ask ∷ asks) given new run =
       answered-ran allowed old run.2 ask asks given new run.0 run.1 run.3 (λ heap. run-trials (allowed - 1) heap asks given new) ask.answer refl run.4
 
-  -- failed trials leave less
-  pub asked-fewer : (full : Heap) (ask : Ask) (after : Heap) → Asked s protected r full ask after → Fewer protected full.table after.table
-  asked-fewer full ask after asked = fewer-same protected full.table (carried_out s protected (calls_in ask.answer) full).heap.table after.table asked.2.table (fewer-carried s protected (calls_in ask.answer) full)
-
-  pub tried-fewer : (old : Heap) (asks : List Ask) (at : Heap) → Tried s protected r old asks at → Fewer protected old.table at.table
-  tried-fewer old [] at tried = fewer-same protected old.table old.table at.table (ap (λ (heap : Heap). heap.table) tried) (fewer-refl protected old.table)
-  tried-fewer old (ask ∷ asks) at tried =
-      let full = tried.0 in
-      let after = tried.1 in
-      fewer-then protected old.table full.table at.table (fewer-failed s protected r old full tried.2)
-      (fewer-then protected full.table after.table at.table (asked-fewer full ask after tried.3) (tried-fewer after asks at tried.5))
+  -- one more trial failed behind others
+  pub tried-more : (from : Heap) (asks : List Ask) (at full : Heap) (ask : Ask) (after : Heap) → Tried s protected r from asks at → Fails s protected r at full → Asked s protected r full ask after → IsTrue (is_worth_a_trial ask.answer)
+      → Tried s protected r from (asks ++ ask ∷ []) after
+  tried-more from [] at full ask after tried fails asked worth = (full, after, subst (λ heap. Fails s protected r heap full) tried fails, asked, worth, refl)
+  tried-more from (a ∷ asks) at full ask after tried fails asked worth = (tried.0, tried.1, tried.2, tried.3, tried.4, tried-more tried.1 asks at full ask after tried.5 fails asked worth)
 
 -- ---- a call
 
@@ -129,12 +135,3 @@ module _ (s : Shape) (old : Heap) (call : MemoryCall) (asks : List Ask) (outcome
 
   pub step-last : (r : Request) → request_of old.table call ≡ Some r → RequestStep RequestRun (makes_handle r && every_slot_live s old) s old call r asks outcome new → LastRequest s old call asks outcome new
   step-last r makes step = request-last (makes_handle r && every_slot_live s old) r (ap (λ o. option_map_or makes_handle o false && every_slot_live s old) makes) makes step
-
--- where it begins there is no more than at first
-pub begins-fewer : (s : Shape) (old : Heap) (call : MemoryCall) (r : Request) (first : List Ask) (from : Heap) → Begins s old call r first from → Fewer (protected_by call) old.table from.table
-begins-fewer s old call r first from (inl at_entry) = fewer-same (protected_by call) old.table old.table from.table (ap (λ (heap : Heap). heap.table) at_entry.2) (fewer-refl (protected_by call) old.table)
-begins-fewer s old call r first from (inr behind) =
-    let at = behind.2.0 in
-    let serves = behind.2.3 in
-    fewer-then (protected_by call) old.table at.table from.table (tried-fewer s (protected_by call) NewMaster old first at behind.2.2)
-    (fewer-same (protected_by call) at.table (prepared_by s serves.0 at).table from.table serves.2.table (fewer-prepared s (protected_by call) NewMaster at serves.0 serves.1))
