@@ -1,5 +1,5 @@
 -- Calls of the Resource Manager are runs of acts.
-use Rattle.std.proofs.Common.{◌≡◌, ℕ, ◌-◌, Bool, true, false, not, cond, length, List, [], ◌∷◌, Option, Some, None, Ok, Err, Result, refl, ap, sym, subst, ◌∙◌}
+use Rattle.std.proofs.Common.{◌≡◌, ℕ, Bool, true, false, not, cond, length, List, [], ◌∷◌, Option, Some, None, Ok, Err, Result, refl, ap, sym, subst, ◌∙◌}
 use Rattle.std.specs.Prelude.{◌||◌, ◌&&◌, ◌==◌, All, is_some, unwrap_or}
 use Rattle.std.specs.Option.{option_map_or}
 use Rattle.mac_base.specs.declared.error.OsErr.{OsErr}
@@ -16,9 +16,8 @@ use Rattle.mac_base.specs.declared.request.Request.{Request}
 use Rattle.mac_base.specs.declared.request.Request.TheVariants.{NewBlock, Replace}
 use Rattle.mac_base.specs.HandleTable.{FullHandle, HandleTable, is_full, is_lent, live_at, live_bytes, live_full, live_handle, no_flags, zeros}
 use Rattle.mac_base.specs.HeadKind.{Shape}
-use Rattle.mac_base.specs.Heap.{Heap, every_slot_live, table_granted, with_emptied}
+use Rattle.mac_base.specs.Heap.{Heap, table_granted, with_emptied}
 use Rattle.mac_base.specs.Releasing.{heap_released}
-use Rattle.mac_base.specs.Request.{makes_handle}
 use Rattle.mac_calls.specs.declared.memory_call.MemoryCall.{MemoryCall}
 use Rattle.mac_calls.specs.declared.memory_call.MemoryCall.TheVariants as memory_call
 use Rattle.mac_calls.specs.declared.reply.Results.{Results}
@@ -27,12 +26,12 @@ use Rattle.mac_calls.specs.declared.resource_call.ResourceCall.{ResourceCall}
 use Rattle.mac_calls.specs.declared.resource_call.ResourceCall.TheVariants as call
 use Rattle.mac_calls.specs.Effect.{request_of, table_copied}
 use Rattle.mac_calls.specs.ExactStep.{exact_step, heap_after, step_asking, step_unless}
-use Rattle.mac_calls.specs.GrowZone.{Ask, most_answers}
-use Rattle.mac_calls.specs.MemoryStep.{BehindMaster, EndsRequest, MemoryStep, RequestStep, StepAsking, StepUnless}
+use Rattle.mac_calls.specs.GrowZone.{Ask}
+use Rattle.mac_calls.specs.MemoryStep.{MemoryStep, StepUnless}
 use Rattle.mac_calls.specs.Loans.{Loans}
 use Rattle.mac_calls.specs.Outcomes.{Outcome, given_results}
 use Rattle.mac_calls.specs.RequestRun.{RequestRun}
-use Rattle.mac_calls.specs.Tests.{IsHandle, IsSize, NotLent, NotLocked, protected_by, refusal}
+use Rattle.mac_calls.specs.Tests.{IsHandle, IsSize, NotLent, NotLocked, refusal}
 use Rattle.std.proofs.lemmas.List.{length-replicate}
 use Rattle.std.proofs.lemmas.List.Elements.{All-cons, All-nil}
 use Rattle.res_table.specs.OpenFiles.{handle_forgotten, is_open, row_at, rows_changed}
@@ -49,7 +48,7 @@ use Rattle.res_calls.specs.Tests.{resource_refusal}
 use Rattle.res_calls.specs.Updates.{Update, behind_update, disposed, file_update, handles_of, row_passes, row_update, update_end}
 use Rattle.zone_laws.proofs.Tables.{live_at-with_live_same}
 use Rattle.heap_laws.specs.Act.{Act, Calls, Does, Done, IsRun, Loads, Moment, Unloads, moment_after}
-use Rattle.heap_laws.proofs.Fewer.{Granted, run-leaves}
+use Rattle.heap_laws.proofs.Fewer.{Ended, quiet, refused, served, step-ended, unserved}
 use Rattle.res_laws.specs.Acts.{Anything, IsActOf}
 
 module _ (loans : Loans) where
@@ -104,32 +103,17 @@ module _ (loans : Loans) where
     pub is : res ≡ given_results call number
     pub table : new ≡ table_copied call number entry (table_granted r number before)
 
-  gave-own : (s : Shape) (call : MemoryCall) (entry : HandleTable) (r : Request) (given : Option ℕ) (allowed : ℕ) (from : Heap) (asks : List Ask) (mid : Heap) (res : Results) (new : Heap) → RequestRun s (protected_by call) r allowed from asks given mid
-      → EndsRequest call entry given mid (Ok res) new → Gave call r entry res new.table
-  gave-own s call entry r None allowed from asks mid res new run e = absurd (cc e.0)
-  gave-own s call entry r (Some x) allowed from asks mid res new run e =
-      let g : Granted (protected_by call) r x from.table mid.table = run-leaves s (protected_by call) r allowed from asks (Some x) mid run in
-      let same : res ≡ given_results call x = cc e.0 in
-      record { number = x; before = g.before; is = same; table = e.1 ∙ ap (table_copied call x entry) g.table }
-
-  gave-behind : (s : Shape) (call : MemoryCall) (entry : HandleTable) (r : Request) (given : Option ℕ) (allowed : ℕ) (mid : Heap) (asks : List Ask) (res : Results) (new : Heap) → BehindMaster RequestRun s call entry r allowed given mid asks (Ok res) new → Gave call r entry res new.table
-  gave-behind s call entry r (Some x) allowed mid asks res new own = gave-own s call entry r own.0 allowed mid asks own.1 res new own.2 own.3
-  gave-behind s call entry r None allowed mid asks res new failed = absurd (cc failed.1)
-
-  gave-request : (b : Bool) (s : Shape) (old : Heap) (call : MemoryCall) (r : Request) (asks : List Ask) (res : Results) (new : Heap) → RequestStep RequestRun b s old call r asks (Ok res) new → Gave call r old.table res new.table
-  gave-request false s old call r asks res new own = gave-own s call old.table r own.0 most_answers old asks own.1 res new own.2 own.3
-  gave-request true s old call r asks res new both = gave-behind s call old.table r both.2 (most_answers - length both.0) both.3 both.1 res new both.6
-
-  gave-asking : (o : Option Request) (s : Shape) (old : Heap) (call : MemoryCall) (r : Request) (asks : List Ask) (res : Results) (new : Heap) → o ≡ Some r → StepAsking RequestRun o s old call asks (Ok res) new → Gave call r old.table res new.table
-  gave-asking (Some q) s old call r asks res new is step = subst (λ r. Gave call r old.table res new.table) (cc is) (gave-request (makes_handle q && every_slot_live s old) s old call q asks res new step)
-  gave-asking None s old call r asks res new is step = absurd (cc is)
-
-  gave-unless : (o : Option OsErr) (s : Shape) (old : Heap) (call : MemoryCall) (r : Request) (asks : List Ask) (res : Results) (new : Heap) → request_of old.table call ≡ Some r → StepUnless RequestRun o s old call asks (Ok res) new → Gave call r old.table res new.table
-  gave-unless (Some code) s old call r asks res new is step = absurd (cc step.1)
-  gave-unless None s old call r asks res new is step = gave-asking (request_of old.table call) s old call r asks res new is step
-
   gave : (s : Shape) (old : Heap) (call : MemoryCall) (r : Request) (asks : List Ask) (res : Results) (new : Heap) → request_of old.table call ≡ Some r → MemoryStep s old call asks (Ok res) new → Gave call r old.table res new.table
-  gave s old call r asks res new is step = gave-unless (refusal s old call) s old call r asks res new is step
+  gave s old call r asks res new makes step = by_end (step-ended s old call asks (Ok res) new step)
+    where
+      by_end : Ended s old call (Ok res) new → Gave call r old.table res new.table
+      by_end (refused code is same) = absurd (cc is)
+      by_end (unserved q makes_q is fewer) = absurd (cc is)
+      by_end (served q x mid makes_q passed granted is copied) =
+          let same : q ≡ r = cc (sym makes_q ∙ makes) in
+          let given : res ≡ given_results call x = cc is in
+          record { number = x; before = granted.before; is = given; table = copied ∙ ap (table_copied call x old.table) (granted.table ∙ ap (λ r. table_granted r x granted.before) same) }
+      by_end (quiet none passed q) = absurd (cc (sym none ∙ makes))
 
   -- the handle has a block of n bytes, which isn't lent
   record HasPlace (t : HandleTable) (h n : ℕ) : Type 0 where

@@ -1,14 +1,12 @@
 -- What a call of the Resource Manager does to the zone, as acts.
 use Rattle.std.specs.Prelude.{◌≡◌, Some, ⊤}
 use Rattle.mac_calls.specs.declared.resource_call.ResourceCall.{ResourceCall}
-use Rattle.mac_calls.specs.ExactStep.{IsExactStep}
-use Rattle.mac_calls.specs.MemoryStep.{MemoryStep}
 use Rattle.res_table.specs.OpenFiles.{row_at}
 use Rattle.res_table.specs.declared.chain.RowPlace.{RowPlace}
 use Rattle.res_calls.specs.Changes.{FileRow}
 use Rattle.res_calls.specs.Files.{ResState}
 use Rattle.res_calls.specs.Loads.{loaded_flags, row_wanted}
-use Rattle.res_calls.specs.Steps.{LeaveRelation, MemoryRelation}
+use Rattle.res_calls.specs.Steps.{LeaveRelation}
 use Rattle.heap_laws.specs.Act.{Act, Calls, Loads, OnLoan, Unloads}
 
 -- What a call may do to the zone: it calls the Memory Manager, puts the bytes of the row that it gets into a handle's block, with the
