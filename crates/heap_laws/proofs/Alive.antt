@@ -23,7 +23,7 @@ use Rattle.zone_laws.proofs.SlotPlaces.{Contains-here}
 use Rattle.zone_laws.proofs.Tables.{full_handle, handle_no_pointer, live_at-with_live_same}
 use Rattle.call_laws.proofs.Refusals.{passed-IsPointer}
 use Rattle.heap_laws.specs.Alive.{HandleMayDie, KeepsNumbers, PointerMayDie}
-use Rattle.heap_laws.proofs.Losing.{MayEnd, Trait, itself-released, released-operand, step-keeps}
+use Rattle.heap_laws.proofs.Losing.{MayEnd, Trait, itself-released, step-keeps}
 use Rattle.heap_laws.proofs.Passed.{test_1}
 
 refilled-handle : (bytes : List ℕ) (o : Option Live) → live_handle o ≡ true → live_handle (Some (refilled bytes o)) ≡ true
@@ -67,7 +67,7 @@ filled-pointer (Some (Pointer b)) flags bytes handle here = absurd (cc handle)
 abbrev a_pointer : Trait
 a_pointer = record {
   holds = live_pointer; by = released_by; itself = released_itself; dead = refl; refills = refilled-pointer; fills = filled-pointer;
-  releases = λ s call heap passes here. inr (released-operand call); alike = itself-released;
+  releases = λ s call heap passes here. inr refl; alike = itself-released;
 }
 
 -- what may be purged is no pointer
