@@ -1,9 +1,8 @@
 -- A block is lost only where it may be.
-use Rattle.std.proofs.Common.{◌≡◌, ℕ, Bool, true, false, not, cond, length, take, drop, List, [], ◌∷◌, ◌++◌, Option, Some, None, Ok, Contains, refl, ap, sym, subst, ◌∙◌, inl, inr, append-nil, append_assoc, arith}
+use Rattle.std.proofs.Common.{◌≡◌, ℕ, Bool, true, false, not, cond, length, take, drop, List, [], ◌∷◌, ◌++◌, Option, Some, None, Ok, Contains, refl, ap, sym, subst, ◌∙◌, inl, inr, append-nil, append_assoc, arith, ◌-◌}
 use Rattle.std.specs.List.{cons_option}
-use Rattle.std.specs.Prelude.{⊤, flat_map, ◌||◌, ◌&&◌, ◌⊎◌, ◌==◌, filter_map, nat_le, IsFalse}
+use Rattle.std.specs.Prelude.{flat_map, ◌||◌, ◌&&◌, ◌⊎◌, filter_map, nat_le, IsFalse}
 use Rattle.std.proofs.lemmas.Bool.{or_left, true≢false}
-use Rattle.std.proofs.lemmas.Bool.Decides.{nat_tests}
 use Rattle.std.proofs.lemmas.Grind.{flat_map-append}
 use Rattle.std.proofs.lemmas.List.Elements.{All-contains, Contains-append_left, Contains-append_right, filter_map-append, filter_passes}
 use Rattle.mac_base.specs.declared.block.Entry.{Entry}
@@ -26,7 +25,7 @@ use Rattle.mac_base.specs.ZoneState.{written}
 use Rattle.mac_calls.specs.declared.memory_call.MemoryCall.{MemoryCall}
 use Rattle.mac_calls.specs.declared.memory_call.MemoryCall.TheVariants as memory_call
 use Rattle.mac_calls.specs.Effect.{request_of, table_copied}
-use Rattle.mac_calls.specs.GrowZone.{Ask, Carried, carried_out, heap_unless, memory_call as as_call}
+use Rattle.mac_calls.specs.GrowZone.{Ask, Carried, carried_out, heap_unless, memory_call as as_call, most_answers}
 use Rattle.mac_calls.specs.MemoryStep.{EndsRequest, MemoryStep, QuietStep, StepAsking, StepUnless}
 use Rattle.mac_calls.specs.Outcomes.{Outcome}
 use Rattle.mac_calls.specs.declared.reply.Results.{Results}
@@ -253,7 +252,7 @@ module _ (k : Trait) (x : ℕ) where
       last-keeps outcome new last replaces holds =
           let parts = last.parts ∙ ap (λ rest. last.first ++ rest) (sym (append-nil last.rest)) in
           and_then (begins-keep last.request last.first last.rest last.from last.parts last.begins holds)
-          (λ here. and_then (ran-keeps last.request last.first last.from last.begins last.given last.allowed last.rest [] last.mid parts replaces last.ran here) (λ here. inl (ends-keep last.given last.mid outcome new last.ends here)))
+          (λ here. and_then (ran-keeps last.request last.first last.from last.begins last.given (most_answers - length last.first) last.rest [] last.mid parts replaces last.ran here) (λ here. inl (ends-keep last.given last.mid outcome new last.ends here)))
 
     -- ---- any call
 
@@ -301,8 +300,6 @@ module _ (k : Trait) (x : ℕ) where
       flags-keep h flags rest new passes is holds = same (with_flags h flags old.table) new is (full-keeps h flags (bytes_of old.table h) old.table (handle-first s old h rest passes) holds)
 
       quiet-keeps : (call : MemoryCall) (asks : List Ask) (outcome : Outcome) (new : Heap) → refusal s old call ≡ None → request_of old.table call ≡ None → QuietStep s old call outcome new → Holds old.table → Keeps new.table (MayEnd call asks outcome)
-      quiet-keeps (memory_call.CompactMem n) asks outcome new passes none q holds = inl (same old.table new.table q.0.table holds)
-      quiet-keeps (memory_call.MoveHHi h) asks outcome new passes none q holds = inl (same old.table new.table q.0.table holds)
       quiet-keeps (memory_call.HLockHi h) asks outcome new passes none q holds =
           let flags = record (flags_of old.table h) { lock = true } in
           inl (flags-keep h flags (NotEmpty h ∷ NotLocked MemLockedErr h ∷ []) new.table passes (q.2.table ∙ ap (λ t. with_flags h (record (flags_of t h) { lock = true }) t) q.1.table) holds)
