@@ -1,29 +1,28 @@
 -- memFullErr is given only where no usable gap has room.
-use Rattle.std.proofs.Common.{◌≡◌, ℕ, Bool, true, false, cond, length, List, [], ◌∷◌, Option, Some, None, Ok, Err, refl, ap, sym, ◌∙◌, ◌++◌, append_assoc, length-append}
-use Rattle.std.specs.Prelude.{◌||◌, ◌==◌, MatchBool, nat_le, IsFalse}
+use Rattle.std.proofs.Common.{◌≡◌, ℕ, Bool, true, false, cond, length, List, [], ◌∷◌, Option, Some, None, Ok, Err, refl, ap, sym, ◌∙◌, ◌++◌, append_assoc, length-append, arith, ◌-◌}
+use Rattle.std.specs.Prelude.{◌+◌, ◌||◌, ◌==◌, MatchBool, nat_le, IsFalse}
 use Rattle.std.specs.Option.{option_or}
+use Rattle.std.proofs.lemmas.Bool.{or_right}
 use Rattle.std.specs.List.{list_any}
 use Rattle.mac_base.specs.declared.error.OsErr.{OsErr}
-use Rattle.mac_base.specs.declared.error.OsErr.TheVariants.{ParamErr, NilHandleErr, MemFullErr, MemWzErr, MemBcErr, MemLockedErr}
+use Rattle.mac_base.specs.declared.error.OsErr.TheVariants.{NilHandleErr, MemFullErr}
 use Rattle.mac_base.specs.declared.request.Request.{Request}
-use Rattle.mac_base.specs.FlagState.{state_locks}
-use Rattle.mac_base.specs.HandleTable.{bytes_of, is_full, is_handle, is_lent, is_locked, is_pointer}
-use Rattle.mac_base.specs.HeadKind.{Shape, max_size}
+use Rattle.mac_base.specs.HandleTable.{is_handle, is_pointer}
+use Rattle.mac_base.specs.HeadKind.{Shape}
 use Rattle.mac_base.specs.Heap.{Heap}
-use Rattle.mac_base.specs.Loans.{may_be_lent}
 use Rattle.mac_base.specs.Request.{candidates_in}
 use Rattle.mac_base.specs.Trial.{SameHeap}
-use Rattle.mac_base.specs.ZoneMap.{handle_at, largest_free}
-use Rattle.std.specs.Prelude.{is_some, not, ◌+◌}
+use Rattle.mac_base.specs.ZoneMap.{largest_free}
+use Rattle.std.specs.Prelude.{◌+◌}
 use Rattle.mac_calls.specs.declared.memory_call.MemoryCall.{MemoryCall}
 use Rattle.mac_calls.specs.declared.memory_call.MemoryCall.TheVariants as memory_call
 use Rattle.mac_calls.specs.declared.reply.Results.TheVariants as results
 use Rattle.mac_calls.specs.Effect.{request_of}
-use Rattle.mac_calls.specs.GrowZone.{Ask, carried_out}
+use Rattle.mac_calls.specs.GrowZone.{Ask, carried_out, most_answers}
 use Rattle.mac_calls.specs.MemoryStep.{EndsRequest, MemoryStep, QuietStep, StepAsking, StepUnless}
 use Rattle.mac_calls.specs.Outcomes.{Outcome}
 use Rattle.mac_calls.specs.RequestRun.{RequestRun}
-use Rattle.mac_calls.specs.Tests.{Test, IsHandle, IsPointer, IsBlock, NotEmpty, NotLent, NotLocked, IsSize, IsState, IsWithin, IsLent, MayBeLent, KeepsLent, IsContents, first_refusal, protected_by, refusal, refused_by, tests_of, unless_passed}
+use Rattle.mac_calls.specs.Tests.{Test, IsHandle, IsBlock, NotLocked, first_refusal, protected_by, refusal, refused_by, tests_of}
 use Rattle.heap_laws.specs.Course.{GaveUp, HadNoRoom, MayBeFull, calls_in}
 use Rattle.heap_laws.proofs.Trials.{LastRequest, Ran, step-last}
 
@@ -34,45 +33,28 @@ gives_full : Test → Bool
 gives_full (NotLocked MemFullErr h) = true
 gives_full _ = false
 
-passed-full : (code : OsErr) (b : Bool) → unless_passed code b ≡ Some MemFullErr → code ≡ MemFullErr
-passed-full code true h = absurd (cc h)
-passed-full code false h = cc h
+passed-full : {code : OsErr} (b : Bool) → cond b None (Some code) ≡ Some MemFullErr → code ≡ MemFullErr
+passed-full true h = absurd (cc h)
+passed-full false h = cc h
 
-nil-full : (b : Bool) (o : Option OsErr) → cond b (Some NilHandleErr) o ≡ Some MemFullErr → o ≡ Some MemFullErr
-nil-full true o h = absurd (cc h)
-nil-full false o h = h
-
-full_code : (code : OsErr) (h : ℕ) → code ≡ MemFullErr → gives_full (NotLocked code h) ≡ true
-unfolding gives_full
-full_code code h is = ap (λ c. gives_full (NotLocked c h)) is
+nil-full : {o : Option OsErr} (b : Bool) → cond b (Some NilHandleErr) o ≡ Some MemFullErr → o ≡ Some MemFullErr
+nil-full true h = absurd (cc h)
+nil-full false h = h
 
 test-full : (s : Shape) (heap : Heap) (test : Test) → refused_by s heap test ≡ Some MemFullErr → gives_full test ≡ true
 unfolding gives_full
-test-full s heap (IsHandle h) is = absurd (cc (passed-full MemWzErr (is_handle heap.table h) (nil-full (h == 0) (unless_passed MemWzErr (is_handle heap.table h)) is)))
-test-full s heap (IsPointer p) is = absurd (cc (passed-full MemWzErr (is_pointer heap.table p) is))
-test-full s heap (IsBlock x) is = absurd (cc (passed-full MemWzErr (is_handle heap.table x || is_pointer heap.table x) (nil-full (x == 0) (unless_passed MemWzErr (is_handle heap.table x || is_pointer heap.table x)) is)))
-test-full s heap (NotEmpty x) is = absurd (cc (passed-full NilHandleErr (is_full heap.table x || is_pointer heap.table x) is))
-test-full s heap (NotLent x) is = absurd (cc (passed-full MemLockedErr (not (is_lent heap.table x)) is))
-test-full s heap (NotLocked code h) is = full_code code h (passed-full code (not (is_locked heap.table h)) is)
-test-full s heap (IsSize n) is = absurd (cc (passed-full ParamErr (nat_le n max_size) is))
-test-full s heap (IsState n) is = absurd (cc (passed-full ParamErr (nat_le n 255) is))
-test-full s heap (IsWithin x at n) is = absurd (cc (passed-full ParamErr (nat_le (at + n) (length (bytes_of heap.table x))) is))
-test-full s heap (IsLent x) is = absurd (cc (passed-full ParamErr (is_lent heap.table x) is))
-test-full s heap (MayBeLent x) is = absurd (cc (passed-full ParamErr (may_be_lent heap.table x) is))
-test-full s heap (KeepsLent h n) is = absurd (cc (passed-full MemLockedErr (state_locks n || not (is_lent heap.table h)) is))
-test-full s heap (IsContents a) is = absurd (cc (passed-full MemBcErr (is_some (handle_at s a heap.map)) is))
+test-full s heap (NotLocked code h) is = ap (λ code. gives_full (NotLocked code h)) (passed-full _ is)
+test-full s heap (IsHandle h) is = absurd (cc (passed-full (is_handle heap.table h) (nil-full (h == 0) is)))
+test-full s heap (IsBlock x) is = absurd (cc (passed-full (is_handle heap.table x || is_pointer heap.table x) (nil-full (x == 0) is)))
+test-full s heap test is = absurd (cc (passed-full _ is))
 
 some_full : (s : Shape) (heap : Heap) (tests : List Test) → first_refusal s heap tests ≡ Some MemFullErr → list_any gives_full tests ≡ true
 unfolding gives_full
 some_full s heap [] is = absurd (cc is)
 some_full s heap (test ∷ tests) is = by_first (some_full s heap tests) (refused_by s heap test) refl is
   where
-    or_true : (a b : Bool) → b ≡ true → (a || b) ≡ true
-    or_true true b h = refl
-    or_true false b h = h
-
     by_first : (first_refusal s heap tests ≡ Some MemFullErr → list_any gives_full tests ≡ true) → (o : Option OsErr) → refused_by s heap test ≡ o → option_or o (first_refusal s heap tests) ≡ Some MemFullErr → (gives_full test || list_any gives_full tests) ≡ true
-    by_first rest None here h = or_true (gives_full test) (list_any gives_full tests) (rest h)
+    by_first rest None here h = or_right (gives_full test) (list_any gives_full tests) (rest h)
     by_first rest (Some code) here h = ap (λ b. b || list_any gives_full tests) (test-full s heap test (here ∙ h))
 
 none_full : (call : MemoryCall) → list_any gives_full (tests_of call) ≡ false
@@ -102,7 +84,7 @@ module _ (s : Shape) (old : Heap) where
   last-full : (call : MemoryCall) (asks : List Ask) (outcome : Outcome) (new : Heap) → outcome ≡ Err MemFullErr → LastRequest s old call asks outcome new → (r : Request) × HadNoRoom s old call asks r new
   last-full call asks outcome new full last = by_given last.given last.ran last.ends
     where
-      by_given : (given : Option ℕ) → Ran s (protected_by call) last.request last.allowed last.from last.rest given last.mid → EndsRequest call old.table given last.mid outcome new → (r : Request) × HadNoRoom s old call asks r new
+      by_given : (given : Option ℕ) → Ran s (protected_by call) last.request (most_answers - length last.first) last.from last.rest given last.mid → EndsRequest call old.table given last.mid outcome new → (r : Request) × HadNoRoom s old call asks r new
       by_given (Some x) ran ends = absurd (cc (ends.0, full))
       by_given None ran ends = (last.request, (
         last.first ++ ran.0, ran.1, ran.2, ran.3,
@@ -110,7 +92,7 @@ module _ (s : Shape) (old : Heap) where
         (last.first, ran.0, last.from, refl, last.begins, ran.5),
         ran.6,
         gave_up-same s (protected_by call) last.request ran.3 ran.1 last.mid new ends.1 ran.7,
-        λ none. ap length last.parts ∙ length-append last.first last.rest ∙ ap (λ n. length last.first + n) (ran.8 none) ∙ last.left,
+        λ none. ap length last.parts ∙ length-append last.first last.rest ∙ ap (λ n. length last.first + n) (ran.8 none) ∙ omega (arith, last.few),
       ))
 
   -- PurgeMem
@@ -121,10 +103,7 @@ module _ (s : Shape) (old : Heap) where
 
   quiet-full : (call : MemoryCall) (asks : List Ask) (outcome : Outcome) (new : Heap) → request_of old.table call ≡ None → outcome ≡ Err MemFullErr → QuietStep s old call outcome new → MayBeFull s old call asks new
   quiet-full (memory_call.PurgeMem n) asks outcome new none full q = purge-full n outcome new (nat_le n (largest_free new.map)) refl full q.4
-  quiet-full (memory_call.CompactMem n) asks outcome new none full q = absurd (cc (q.1, full))
-  quiet-full (memory_call.MoveHHi h) asks outcome new none full q = absurd (cc (q.1, full))
   quiet-full (memory_call.HLockHi h) asks outcome new none full q = absurd (cc (q.3, full))
-  quiet-full memory_call.MaxMem asks outcome new none full q = absurd (cc (q.1, full))
   quiet-full call asks outcome new none full q = absurd (cc (q.1, full))
 
   -- of a call that makes a request

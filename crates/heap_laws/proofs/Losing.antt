@@ -1,9 +1,8 @@
 -- A block is lost only where it may be.
-use Rattle.std.proofs.Common.{◌≡◌, ℕ, Bool, true, false, not, cond, length, take, drop, List, [], ◌∷◌, ◌++◌, Option, Some, None, Ok, Contains, refl, ap, sym, subst, ◌∙◌, inl, inr, append-nil, append_assoc, arith}
+use Rattle.std.proofs.Common.{◌≡◌, ℕ, Bool, true, false, not, cond, length, take, drop, List, [], ◌∷◌, ◌++◌, Option, Some, None, Ok, Contains, refl, ap, sym, subst, ◌∙◌, inl, inr, append-nil, append_assoc, arith, ◌-◌}
 use Rattle.std.specs.List.{cons_option}
-use Rattle.std.specs.Prelude.{⊤, flat_map, ◌||◌, ◌&&◌, ◌⊎◌, ◌==◌, filter_map, nat_le, IsFalse}
+use Rattle.std.specs.Prelude.{flat_map, ◌||◌, ◌&&◌, ◌⊎◌, filter_map, nat_le, IsFalse}
 use Rattle.std.proofs.lemmas.Bool.{or_left, true≢false}
-use Rattle.std.proofs.lemmas.Bool.Decides.{nat_tests}
 use Rattle.std.proofs.lemmas.Grind.{flat_map-append}
 use Rattle.std.proofs.lemmas.List.Elements.{All-contains, Contains-append_left, Contains-append_right, filter_map-append, filter_passes}
 use Rattle.mac_base.specs.declared.block.Entry.{Entry}
@@ -26,7 +25,7 @@ use Rattle.mac_base.specs.ZoneState.{written}
 use Rattle.mac_calls.specs.declared.memory_call.MemoryCall.{MemoryCall}
 use Rattle.mac_calls.specs.declared.memory_call.MemoryCall.TheVariants as memory_call
 use Rattle.mac_calls.specs.Effect.{request_of, table_copied}
-use Rattle.mac_calls.specs.GrowZone.{Ask, Carried, carried_out, heap_unless, memory_call as as_call}
+use Rattle.mac_calls.specs.GrowZone.{Ask, Carried, carried_out, heap_unless, memory_call as as_call, most_answers}
 use Rattle.mac_calls.specs.MemoryStep.{EndsRequest, MemoryStep, QuietStep, StepAsking, StepUnless}
 use Rattle.mac_calls.specs.Outcomes.{Outcome}
 use Rattle.mac_calls.specs.declared.reply.Results.{Results}
@@ -35,7 +34,7 @@ use Rattle.mac_calls.specs.RequestRun.{RequestRun}
 use Rattle.mac_calls.specs.Tests.{Test, IsHandle, IsSize, IsState, KeepsLent, NotEmpty, NotLent, NotLocked, first_refusal, protected_by, refusal}
 use Rattle.zone_laws.proofs.Maps.{both_true, true_not}
 use Rattle.zone_laws.proofs.SlotPlaces.{Contains-here, Contains-later, Contains-none}
-use Rattle.zone_laws.proofs.Tables.{by_number, live_at-with_live_same, with_live_agrees}
+use Rattle.zone_laws.proofs.Tables.{by_number, eqb_same, live_at-with_live_same, with_live_agrees}
 use Rattle.call_laws.proofs.Refusals.{passed-IsHandle}
 use Rattle.mac_calls.specs.Released.{released_by, released_itself}
 use Rattle.heap_laws.specs.Course.{Asked, Begins, CameShort, GaveUp, MayLose, PurgesFor, Tried, calls_in}
@@ -75,20 +74,9 @@ still-purgeable protected old new x fewer purgeable = ap (λ o. live_full o && (
 handle-first : (s : Shape) (heap : Heap) (h : ℕ) (rest : List Test) → first_refusal s heap (IsHandle h ∷ rest) ≡ None → is_handle heap.table h ≡ true
 handle-first s heap h rest passes = (passed-IsHandle s heap h (test_1 s heap (IsHandle h) rest passes)).1
 
-among-here : (g h : ℕ) → h ≡ g → is_among (g ∷ []) h ≡ true
-among-here g h is = ap (λ b. b || false) (same g h is)
-  where
-    same : (g h : ℕ) → h ≡ g → (g == h) ≡ true
-    same g h is = grind (arith, nat_tests)
-
--- the handle whose block a request replaces is one, and protected
-abbrev Replaces : List ℕ → HandleTable → Request → Type 0
-Replaces protected t (Replace h n) = (is_handle t h ≡ true) × (is_among protected h ≡ true)
-Replaces protected t r = ⊤
-
-still-replaces : (protected : List ℕ) (old new : HandleTable) (r : Request) → Fewer protected old new → Replaces protected old r → Replaces protected new r
-still-replaces protected old new (Replace h n) fewer is = (ap live_handle (fewer.protects h is.1) ∙ is.0, is.1)
-still-replaces protected old new r fewer is = tt
+-- the call's request replaces the block of a handle only where that is one and protected
+abbrev Replaces : Heap → MemoryCall → Request → Type 0
+Replaces old call r = (h n : ℕ) → r ≡ Replace h n → (is_handle old.table h ≡ true) × (is_among (protected_by call) h ≡ true)
 
 module _ (k : Trait) (x : ℕ) where
   abbrev Holds : HandleTable → Type 0
@@ -97,6 +85,11 @@ module _ (k : Trait) (x : ℕ) where
   -- it still holds, or this is why not
   abbrev Keeps : HandleTable → Type 0 → Type 0
   Keeps t Why = Holds t ⊎ Why
+
+  -- and then
+  and_then : {A B Why : Type 0} → A ⊎ Why → (A → B ⊎ Why) → B ⊎ Why
+  and_then (inl here) next = next here
+  and_then (inr why) next = inr why
 
   same : (t u : HandleTable) → u ≡ t → Holds t → Holds u
   same t u is here = subst (λ t. Holds t) (sym is) here
@@ -121,14 +114,14 @@ module _ (k : Trait) (x : ℕ) where
   new-keeps : (g : ℕ) (l : Live) (t : HandleTable) → live_at t g ≡ None → Holds t → Holds (with_live g l t)
   new-keeps g l t none = set-keeps g l t (λ holds. absurd (true≢false (sym holds ∙ ap k.holds none ∙ k.dead)))
 
-  granted-keeps : (protected : List ℕ) (r : Request) (g : ℕ) (t : HandleTable) → NumberGiven r g t → Replaces protected t r → Holds t → Holds (table_granted r g t)
-  granted-keeps protected (NewBlock n) g t number is holds = new-keeps g (FullHandle no_flags (zeros n)) t number holds
-  granted-keeps protected NewEmpty g t number is holds = new-keeps g EmptyHandle t number holds
-  granted-keeps protected (NewPointer n) g t number is holds = new-keeps g (Pointer (zeros n)) t number holds
-  granted-keeps protected NewMaster g t number is holds = holds
-  granted-keeps protected (Reserve n) g t number is holds = holds
-  granted-keeps protected (Resize y n) g t number is holds = bytes-keep y (resized n (bytes_of t y)) t holds
-  granted-keeps protected (Replace h n) g t number is holds = full-keeps h no_flags (zeros n) t is.0 holds
+  granted-keeps : (r : Request) (g : ℕ) (t : HandleTable) → NumberGiven r g t → ((h n : ℕ) → r ≡ Replace h n → is_handle t h ≡ true) → Holds t → Holds (table_granted r g t)
+  granted-keeps (NewBlock n) g t number is holds = new-keeps g (FullHandle no_flags (zeros n)) t number holds
+  granted-keeps NewEmpty g t number is holds = new-keeps g EmptyHandle t number holds
+  granted-keeps (NewPointer n) g t number is holds = new-keeps g (Pointer (zeros n)) t number holds
+  granted-keeps NewMaster g t number is holds = holds
+  granted-keeps (Reserve n) g t number is holds = holds
+  granted-keeps (Resize y n) g t number is holds = bytes-keep y (resized n (bytes_of t y)) t holds
+  granted-keeps (Replace h n) g t number is holds = full-keeps h no_flags (zeros n) t (is h n refl) holds
 
   copied-keeps : (call : MemoryCall) (g : ℕ) (entry t : HandleTable) → Holds t → Holds (table_copied call g entry t)
   copied-keeps (memory_call.HandToHand h) g entry t holds = bytes-keep g (bytes_of entry h) t holds
@@ -220,40 +213,25 @@ module _ (k : Trait) (x : ℕ) where
         tried-keeps (ask ∷ more) done later at last parts tried then holds =
             let full : Heap = then.0 in
             let after : Heap = then.1 in
-            elim (failed-keeps done (ask ∷ (more ++ later)) at full parts tried then.2 holds) [
-              | inr lost ↦ inr lost
-              | inl here ↦ elim (asked-keeps r (first ++ done) ask (more ++ later) full after parts then.3 here) [
-                | inr lost ↦ inr lost
-                | inl here ↦ tried-keeps more (done ++ (ask ∷ [])) later after last (parts ∙ simp append_assoc) (tried-more s (protected_by call) r from done at full ask after tried then.2 then.3 then.4) then.5 here
-              ]
-            ]
+            and_then (failed-keeps done (ask ∷ (more ++ later)) at full parts tried then.2 holds) (λ here. and_then (asked-keeps r (first ++ done) ask (more ++ later) full after parts then.3 here)
+            (λ here. tried-keeps more (done ++ (ask ∷ [])) later after last (parts ∙ simp append_assoc) (tried-more s (protected_by call) r from done at full ask after tried then.2 then.3 then.4) then.5 here))
 
         -- and the end of the run
-        ran-keeps : (given : Option ℕ) (allowed : ℕ) (rest later : List Ask) (mid : Heap) → asks ≡ first ++ (rest ++ later) → Replaces (protected_by call) old.table r → Ran s (protected_by call) r allowed from rest given mid → Holds from.table → Keeps mid.table Lost
+        ran-keeps : (given : Option ℕ) (allowed : ℕ) (rest later : List Ask) (mid : Heap) → asks ≡ first ++ (rest ++ later) → Replaces old call r → Ran s (protected_by call) r allowed from rest given mid → Holds from.table → Keeps mid.table Lost
         ran-keeps (Some g) allowed rest later mid parts replaces ran holds =
             let at : Heap = ran.0 in
             let p : Preparation = ran.2.0 in
             let t = (prepared_by s p at).table in
             let fewer = fewer-then (protected_by call) old.table from.table t (fewer-begun s old call r first from begins)
             (fewer-then (protected_by call) from.table at.table t (fewer-tried s (protected_by call) r from rest at ran.1) (fewer-prepared s (protected_by call) r at p ran.2.1)) in
-            elim (tried-keeps rest [] later from at (parts ∙ simp append_assoc) refl ran.1 holds) [
-              | inr lost ↦ inr lost
-              | inl here ↦ elim (prepared-keeps rest later at p (parts ∙ simp append_assoc) ran.1 ran.2.1 here) [
-                | inr lost ↦ inr lost
-                | inl here ↦ inl (same (table_granted r g t) mid.table ran.2.2.table (granted-keeps (protected_by call) r g t ran.2.2.number (still-replaces (protected_by call) old.table t r fewer replaces) here))
-              ]
-            ]
+            and_then (tried-keeps rest [] later from at (parts ∙ simp append_assoc) refl ran.1 holds) (λ here. and_then (prepared-keeps rest later at p (parts ∙ simp append_assoc) ran.1 ran.2.1 here)
+            (λ here. inl (same (table_granted r g t) mid.table ran.2.2.table (granted-keeps r g t ran.2.2.number (λ h n is. let handle = replaces h n is in ap live_handle (fewer.protects h handle.1) ∙ handle.0) here))))
         ran-keeps None allowed rest later mid parts replaces ran holds =
             let before : List Ask = ran.0 in
             let last : List Ask = ran.1 in
             let whole : asks ≡ first ++ ((before ++ last) ++ later) = parts ∙ ap (λ rest. first ++ (rest ++ later)) ran.4 in
-            elim (tried-keeps before [] (last ++ later) from ran.2 (whole ∙ simp append_assoc) refl ran.5 holds) [
-              | inr lost ↦ inr lost
-              | inl here ↦ elim (failed-keeps before (last ++ later) ran.2 ran.3 (whole ∙ simp append_assoc) ran.5 ran.6 here) [
-                | inr lost ↦ inr lost
-                | inl here ↦ by_last last (whole ∙ simp append_assoc) ran.7 here
-              ]
-            ]
+            and_then (tried-keeps before [] (last ++ later) from ran.2 (whole ∙ simp append_assoc) refl ran.5 holds) (λ here. and_then (failed-keeps before (last ++ later) ran.2 ran.3 (whole ∙ simp append_assoc) ran.5 ran.6 here)
+            (λ here. by_last last (whole ∙ simp append_assoc) ran.7 here))
           where
             by_last : (last : List Ask) → asks ≡ (first ++ ran.0) ++ (last ++ later) → GaveUp s (protected_by call) r ran.3 last mid → Holds (ran.3).table → Keeps mid.table Lost
             by_last [] parts gave here = inl (same (ran.3).table mid.table gave.table here)
@@ -264,21 +242,17 @@ module _ (k : Trait) (x : ℕ) where
       begins-keep r first rest from parts (inl at_entry) holds = inl (same old.table from.table (ap (λ (heap : Heap). heap.table) at_entry.2) holds)
       begins-keep r first rest from parts (inr behind) holds =
           let made = behind.2 in
-          ran-keeps NewMaster [] old (inl (ap (λ b. cond b (Some NewMaster) (request_of old.table call)) behind.0, refl, refl)) (Some made.1) (length first) first rest from parts tt (made.0, made.2, made.3, omega arith) holds
+          ran-keeps NewMaster [] old (inl (ap (λ b. cond b (Some NewMaster) (request_of old.table call)) behind.0, refl, refl)) (Some made.1) (length first) first rest from parts (λ h n is. absurd (cc is)) (made.0, made.2, made.3, omega arith) holds
 
       ends-keep : (given : Option ℕ) (mid : Heap) (outcome : Outcome) (new : Heap) → EndsRequest call old.table given mid outcome new → Holds mid.table → Holds new.table
       ends-keep (Some g) mid outcome new ends holds = same (table_copied call g old.table mid.table) new.table ends.1 (copied-keeps call g old.table mid.table holds)
       ends-keep None mid outcome new ends holds = same mid.table new.table ends.1.table holds
 
-      last-keeps : (outcome : Outcome) (new : Heap) (last : LastRequest s old call asks outcome new) → Replaces (protected_by call) old.table last.request → Holds old.table → Keeps new.table Lost
+      last-keeps : (outcome : Outcome) (new : Heap) (last : LastRequest s old call asks outcome new) → Replaces old call last.request → Holds old.table → Keeps new.table Lost
       last-keeps outcome new last replaces holds =
-          elim (begins-keep last.request last.first last.rest last.from last.parts last.begins holds) [
-            | inr lost ↦ inr lost
-            | inl here ↦ elim (ran-keeps last.request last.first last.from last.begins last.given last.allowed last.rest [] last.mid (last.parts ∙ ap (λ rest. last.first ++ rest) (sym (append-nil last.rest))) replaces last.ran here) [
-              | inr lost ↦ inr lost
-              | inl here ↦ inl (ends-keep last.given last.mid outcome new last.ends here)
-            ]
-          ]
+          let parts = last.parts ∙ ap (λ rest. last.first ++ rest) (sym (append-nil last.rest)) in
+          and_then (begins-keep last.request last.first last.rest last.from last.parts last.begins holds)
+          (λ here. and_then (ran-keeps last.request last.first last.from last.begins last.given (most_answers - length last.first) last.rest [] last.mid parts replaces last.ran here) (λ here. inl (ends-keep last.given last.mid outcome new last.ends here)))
 
     -- ---- any call
 
@@ -296,18 +270,15 @@ module _ (k : Trait) (x : ℕ) where
           need (memory_call.PurgeMem n) is why = absurd (cc is)
           need call is why = why
 
-      -- the handle whose block a call replaces is one
-      call-replaces : (call : MemoryCall) (r : Request) → refusal s old call ≡ None → request_of old.table call ≡ Some r → Replaces (protected_by call) old.table r
-      call-replaces call (Replace h n) passes is = by_call call passes is
+      own-replaces : (call : MemoryCall) (r : Request) → refusal s old call ≡ None → (r ≡ NewMaster) ⊎ (request_of old.table call ≡ Some r) → Replaces old call r
+      own-replaces call r passes (inl master) h n is = absurd (cc (master, is))
+      own-replaces call r passes (inr own) h n is = by_call call passes (own ∙ ap Some is)
         where
-          by_call : (call : MemoryCall) → refusal s old call ≡ None → request_of old.table call ≡ Some (Replace h n) → Replaces (protected_by call) old.table (Replace h n)
-          by_call (memory_call.ReallocateHandle g m) passes is = (ap (is_handle old.table) (cc is) ∙ handle-first s old g (NotLent g ∷ NotLocked MemPurErr g ∷ IsSize m ∷ []) passes, among-here g h (cc is))
+          by_call : (call : MemoryCall) → refusal s old call ≡ None → request_of old.table call ≡ Some (Replace h n) → (is_handle old.table h ≡ true) × (is_among (protected_by call) h ≡ true)
+          by_call (memory_call.ReallocateHandle g m) passes is =
+              let handle = handle-first s old g (NotLent g ∷ NotLocked MemPurErr g ∷ IsSize m ∷ []) passes in
+              subst (λ h. (is_handle old.table h ≡ true) × (is_among (g ∷ []) h ≡ true)) (cc is) (handle, ap (λ b. b || false) (eqb_same g))
           by_call call passes is = absurd (cc is)
-      call-replaces call r passes is = tt
-
-      own-replaces : (call : MemoryCall) (r : Request) → refusal s old call ≡ None → (r ≡ NewMaster) ⊎ (request_of old.table call ≡ Some r) → Replaces (protected_by call) old.table r
-      own-replaces call r passes (inl master) = subst (λ r. Replaces (protected_by call) old.table r) (sym master) tt
-      own-replaces call r passes (inr own) = call-replaces call r passes own
 
       -- ---- calls that make no request
       itself : (call : ReleasingCall) (asks : List Ask) (outcome : Outcome) (new : HandleTable) → refusal s old (as_call call) ≡ None → outcome ≡ Ok Nothing → new ≡ (heap_released call old).table → Holds old.table → Keeps new (MayEnd (as_call call) asks outcome)
@@ -329,8 +300,6 @@ module _ (k : Trait) (x : ℕ) where
       flags-keep h flags rest new passes is holds = same (with_flags h flags old.table) new is (full-keeps h flags (bytes_of old.table h) old.table (handle-first s old h rest passes) holds)
 
       quiet-keeps : (call : MemoryCall) (asks : List Ask) (outcome : Outcome) (new : Heap) → refusal s old call ≡ None → request_of old.table call ≡ None → QuietStep s old call outcome new → Holds old.table → Keeps new.table (MayEnd call asks outcome)
-      quiet-keeps (memory_call.CompactMem n) asks outcome new passes none q holds = inl (same old.table new.table q.0.table holds)
-      quiet-keeps (memory_call.MoveHHi h) asks outcome new passes none q holds = inl (same old.table new.table q.0.table holds)
       quiet-keeps (memory_call.HLockHi h) asks outcome new passes none q holds =
           let flags = record (flags_of old.table h) { lock = true } in
           inl (flags-keep h flags (NotEmpty h ∷ NotLocked MemLockedErr h ∷ []) new.table passes (q.2.table ∙ ap (λ t. with_flags h (record (flags_of t h) { lock = true }) t) q.1.table) holds)
@@ -369,11 +338,7 @@ module _ (k : Trait) (x : ℕ) where
 -- what a number is ends only where it may
 pub step-keeps : (k : Trait) (s : Shape) (old : Heap) (call : MemoryCall) (asks : List Ask) (outcome : Outcome) (new : Heap) (x : ℕ) → MemoryStep s old call asks outcome new → k.holds (live_at old.table x) ≡ true
     → k.holds (live_at new.table x) ≡ false → MayEnd k x s old call asks outcome
-step-keeps k s old call asks outcome new x step holds ends = ended (unless-keep k x s old (refusal s old call) call asks outcome new refl step holds)
-  where
-    ended : Keeps k x new.table (MayEnd k x s old call asks outcome) → MayEnd k x s old call asks outcome
-    ended (inl here) = absurd (true≢false (sym here ∙ ends))
-    ended (inr why) = why
+step-keeps k s old call asks outcome new x step holds ends = elim (unless-keep k x s old (refusal s old call) call asks outcome new refl step holds) [ inl here ↦ absurd (true≢false (sym here ∙ ends)) | inr why ↦ why ]
 
 -- ---- blocks
 
@@ -382,9 +347,6 @@ refilled-block bytes None h = absurd (cc h)
 refilled-block bytes (Some EmptyHandle) h = absurd (cc h)
 refilled-block bytes (Some (FullHandle flags old)) h = refl
 refilled-block bytes (Some (Pointer old)) h = refl
-
-pub released-operand : (call : ReleasingCall) → released_by (call, None) ≡ Some (operand_of call)
-released-operand call = refl
 
 pub itself-released : (call : ReleasingCall) (results : Results) → released_itself (as_call call) (Ok results) ≡ released_by (call, None)
 itself-released (DisposesHandle h) results = refl
@@ -395,7 +357,7 @@ itself-released (Empties h) results = refl
 abbrev a_block : Trait
 a_block = record {
   holds = block_live; by = released_by; itself = released_itself; dead = refl; refills = refilled-block; fills = λ o flags bytes handle here. refl;
-  releases = λ s call heap passes here. inr (released-operand call); alike = itself-released;
+  releases = λ s call heap passes here. inr refl; alike = itself-released;
 }
 
 -- a block is lost only where it may be
