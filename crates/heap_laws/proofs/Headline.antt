@@ -2,7 +2,7 @@
 use Rattle.std.proofs.Common.{◌≡◌, ℕ, Bool, true, false, eqb, List, [], ◌∷◌, ◌++◌, Option, Some, None, refl, ap, sym, subst, ◌∙◌, inl, inr}
 use Rattle.std.proofs.lemmas.Bool.{true≢false}
 use Rattle.mac_base.specs.declared.error.OsErr.{OsErr}
-use Rattle.mac_base.specs.HandleTable.{FullHandle, bytes_of, has_block, is_handle, is_locked, live_handle}
+use Rattle.mac_base.specs.HandleTable.{EmptyHandle, FullHandle, bytes_of, has_block, is_handle, is_locked, live_handle}
 use Rattle.mac_base.specs.HeadKind.{Shape}
 use Rattle.mac_base.specs.Heap.{Heap}
 use Rattle.mac_base.specs.Releasing.{heap_released, operand_of}
@@ -13,9 +13,12 @@ use Rattle.mac_calls.specs.declared.loan_call.LoanCall.{LoanCall}
 use Rattle.mac_calls.specs.declared.loan_call.LoanCall.TheVariants as loan_call
 use Rattle.mac_calls.specs.Loans.{LoanStepUnless, held_bytes, loan_refusal}
 use Rattle.mac_calls.specs.Outcomes.{Outcome}
-use Rattle.zone_laws.proofs.Tables.{eqb-true-is}
+use Rattle.mac_base.specs.declared.releasing.ReleasingCall.{ReleasingCall}
+use Rattle.mac_base.specs.declared.releasing.ReleasingCall.TheVariants.{DisposesHandle, DisposesPtr, Empties}
+use Rattle.mac_calls.specs.Released.{disposed_by}
+use Rattle.zone_laws.proofs.Tables.{eqb-true-is, handle_no_pointer}
 use Rattle.gap_laws.proofs.KeepsLoans.{contents-pointer}
-use Rattle.heap_laws.specs.Act.{Act, Calls, Does, Done, IsRun, Loads, Moment, OnLoan, Unloads, moment_after, new_zone}
+use Rattle.heap_laws.specs.Act.{Act, Calls, Does, Done, HasOperand, IsRun, Loads, Moment, OnLoan, Unloads, moment_after, new_zone}
 use Rattle.heap_laws.specs.Headline.{ActMayDispose, ActMayLose, ActTells, ByOne, FullWhereItMay, Headline, IsLockedThroughout, KeepsAddress, OfNext, Promised}
 use Rattle.heap_laws.specs.LastPut.{LastPut, put_by_act, put_in}
 use Rattle.heap_laws.specs.LastSet.{LastSet, set_by_act, set_in}
@@ -66,11 +69,23 @@ act-disposes s (Calls call asks outcome) old new h sound does was gone = step-al
 act-disposes s (OnLoan call outcome) old new h sound does was gone = true≢false (sym (loan-handle s old new call outcome (loan_refusal s old.heap call) does h was) ∙ gone)
 act-disposes s (Loads g flags bytes) old new h sound does was gone =
     true≢false (sym (ap (λ (heap : Heap). is_handle heap.table h) does.1 ∙ set-keeps a_handle h g (FullHandle flags bytes) old.heap.table (λ _. refl) was) ∙ gone)
-act-disposes s (Unloads call) old new h sound does was gone = by_number_of (eqb h (operand_of call)) refl
+act-disposes s (Unloads call) old new h sound does was gone = by_call call does.0 (ap (λ (heap : Heap). is_handle heap.table h) (sym does.2) ∙ gone)
   where
-    by_number_of : (b : Bool) → eqb h (operand_of call) ≡ b → operand_of call ≡ h
-    by_number_of true is = sym (eqb-true-is h (operand_of call) is)
-    by_number_of false apart = absurd (true≢false (sym (ap (λ (heap : Heap). is_handle heap.table h) does.2 ∙ ap live_handle ((released-agrees call old.heap).others h apart) ∙ was) ∙ gone))
+    other : (call : ReleasingCall) → eqb h (operand_of call) ≡ false → is_handle (heap_released call old.heap).table h ≡ true
+    other call apart = ap live_handle ((released-agrees call old.heap).others h apart) ∙ was
+
+    by_call : (call : ReleasingCall) → HasOperand old.heap call → is_handle (heap_released call old.heap).table h ≡ false → disposed_by (call, None) ≡ Some h
+    by_call (Empties g) has gone = absurd (true≢false (sym (set-keeps a_handle h g EmptyHandle old.heap.table (λ _. refl) was) ∙ gone))
+    by_call (DisposesHandle g) has gone = by_number (eqb h g) refl
+      where
+        by_number : (b : Bool) → eqb h g ≡ b → Some g ≡ Some h
+        by_number true is = ap (λ x. Some x) (sym (eqb-true-is h g is))
+        by_number false apart = absurd (true≢false (sym (other (DisposesHandle g) apart) ∙ gone))
+    by_call (DisposesPtr p) has gone = absurd (true≢false (by_number (eqb h p) refl))
+      where
+        by_number : (b : Bool) → eqb h p ≡ b → true ≡ false
+        by_number true is = sym has ∙ handle_no_pointer old.heap.table p (ap (is_handle old.heap.table) (sym (eqb-true-is h p is)) ∙ was)
+        by_number false apart = sym (other (DisposesPtr p) apart) ∙ gone
 
 -- and memFullErr is given only where it may be
 act-full : (s : Shape) (act : Act) (old new : Moment) → Sound s old.heap → Does s act old new → FullWhereItMay s old.heap act new.heap
