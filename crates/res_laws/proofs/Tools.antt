@@ -19,7 +19,7 @@ use Rattle.heap_laws.proofs.Headline.{promised}
 use Rattle.heap_laws.proofs.Loaned.{LoansHeld}
 use Rattle.heap_laws.proofs.Standing.{Standing, run-first, run-later, stand-new, stand-run}
 use Rattle.res_laws.specs.Acts.{Anything}
-use Rattle.res_laws.specs.Tools.{AreMadeOf, Called, IsActOfCall, IsMadeOf, IsToolRun, ToolDoes, Tools, ToolsShow, all_acts, moment_of}
+use Rattle.res_laws.specs.Tools.{AreMadeOf, Called, IsActOfCall, IsMadeOf, IsToolRun, ToolDoes, Tools, ToolsShow, UpdateReadsBack, all_acts, moment_of, tools_after}
 use Rattle.res_laws.proofs.Acts.{made-of-acts}
 
 -- ---- one call
@@ -105,6 +105,16 @@ part-promised s from first part later put set stands is =
     let behind = run-later s from first (part ++ later) is in
     promised s (moment_after from first) part (put_in first put) (set_in first set) (stand-run s from first put set stands (run-first s from first (part ++ later) is)) (run-first s (moment_after from first) part later behind)
 
+-- each call of a run was made
+call-made : (start : Tools) (first later : List Called) (called : Called) → IsToolRun start (first ++ (called ∷ later)) → ToolDoes (tools_after start first) called.call called.asks called.outcome called.tools
+call-made start [] later called is = is.0
+call-made start (c ∷ first) later called is = call-made c.tools first later called is.1
+
+-- so what it updated reads back
+update-reads : (old : Tools) (call : Call) (asks : List Ask) (outcome : Outcome) (new : Tools) → ToolDoes old call asks outcome new → UpdateReadsBack old call outcome new
+update-reads old (Resource rc) asks outcome new does = does.4
+update-reads old call asks outcome new does = tt
+
 -- from a new zone on
 pub tools-show : ToolsShow
 tools-show z start calls possible shape zone is =
@@ -115,4 +125,5 @@ tools-show z start calls possible shape zone is =
       acts = all.acts;
       own = all.made;
       handles = λ first part later put set same. part-promised s (moment_of start) first part later put set (stands put set) (subst (IsRun s (moment_of start)) same all.run);
+      forks = λ first later called same. update-reads (tools_after start first) called.call called.asks called.outcome called.tools (call-made start first later called (subst (IsToolRun start) same is));
     }

@@ -55,6 +55,16 @@ abbrev pub IsToolRun : Tools → List Called → Type 0
 IsToolRun old [] = ⊤
 IsToolRun old (called ∷ later) = ToolDoes old called.call called.asks called.outcome called.tools × IsToolRun called.tools later
 
+-- the zone and the files after these calls
+abbrev pub tools_after : Tools → List Called → Tools
+tools_after start [] = start
+tools_after start (called ∷ later) = tools_after called.tools later
+
+-- the fork that a call updated with success reads back as the resource table that was saved
+abbrev pub UpdateReadsBack : Tools → Call → Outcome → Tools → Type 0
+UpdateReadsBack old (Resource call) outcome new = ReadsBack old.resources call outcome new.resources
+UpdateReadsBack old _ outcome new = ⊤
+
 -- the act is one of this call: itself, where it is one of the Memory Manager or on a lent block
 abbrev pub IsActOfCall : Tools → Call → List Ask → Outcome → Act → Type 0
 IsActOfCall old (MemoryCalls call) asks outcome act = act ≡ Calls call asks outcome
@@ -86,6 +96,8 @@ pub record Headline (start : Tools) (calls : List Called) : Type 0 where
   -- From each moment to each later one every handle and pointer shows the bytes last put there, and so on.
   pub handles : (first part later : List Done) (put : LastPut) (set : LastSet) → all_acts acts ≡ first ++ (part ++ later)
       → Promised start.resources.shape (moment_after (moment_of start) first) part (put_in first put) (set_in first set)
+  -- Every updated fork reads back as the resource table.
+  pub forks : (first later : List Called) (called : Called) → calls ≡ first ++ (called ∷ later) → UpdateReadsBack (tools_after start first) called.call called.outcome called.tools
 
 -- So it is for each list of calls from a new zone on, whatever stands on the disks.
 abbrev pub ToolsShow : Type 0
