@@ -1,6 +1,4 @@
 mod Rows
-mod FirstStep
-pub mod MoreSteps
 pub mod Prepared
 pub mod Refusals
 pub mod RunAnswers
@@ -14,7 +12,6 @@ pub mod StepPermitted
 pub mod StepQuiet
 pub mod StepRequests
 pub mod Steps
-pub mod Unmoved
 pub mod Lengths
 pub mod LentSteps
 pub mod Walk
