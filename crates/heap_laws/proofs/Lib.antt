@@ -1,7 +1,5 @@
 pub mod Fewer
-pub mod Passed
 pub mod Shown
-pub mod Locked
 pub mod Full
 pub mod Losing
 pub mod Runs

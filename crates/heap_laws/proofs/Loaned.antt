@@ -31,21 +31,20 @@ use Rattle.zone_laws.proofs.LentChanges.{lent_out-fixed, returned-bytes, returne
 use Rattle.zone_laws.proofs.Maps.{both_true}
 use Rattle.zone_laws.proofs.SoundNew.{sound-new}
 use Rattle.zone_laws.proofs.Tables.{by_number, eqb_same, eqb_swap, live_at-with_live_same, with_live_agrees}
-use Rattle.call_laws.proofs.Refusals.{passed-IsWithin, passed-NotEmpty, passed-NotLent}
+use Rattle.call_laws.proofs.LentSteps.{block-here, lent-exact_step, pointer-here}
+use Rattle.call_laws.proofs.Refusals.{passed-IsWithin, passed-NotEmpty, passed-NotLent, test_2, test_3, test_4, test_5, test_6}
 use Rattle.call_laws.proofs.SoundCalls.{length-written}
-use Rattle.call_laws.proofs.StepLent.{lent-exact_step}
 use Rattle.heap_laws.specs.LastPut.{LastPut, Shows, Tells, number_in, put, put_by, put_with}
 use Rattle.heap_laws.specs.Act.{Act, ActTells, Calls, Does, Loads, Unloads, put_by_act}
 use Rattle.heap_laws.specs.Loaned.{AllLoansMay, AllLoansTell, held_after, Holding, IsLoanRun, IsLockedInLoans, LeavesLoans, LoanAct, LoanActMay, LoanDoes, LoanDone, LoansKeepAddresses, LoansShow, LoansShowLastPut, LoansStay, LoanTells, OnHeap, OnLoan, put_by_loan, put_in_loans}
 use Rattle.heap_laws.proofs.Fewer.{block_live}
 use Rattle.heap_laws.proofs.LoanLists.{held-before, held-last, held-with_other, held-with_same, held-without, is_loaned, loaned-last, loaned-with, loaned-without_other, loaned-without_same}
-use Rattle.heap_laws.proofs.Passed.{test_2, test_3, test_4, test_5, test_6}
 use Rattle.heap_laws.proofs.Runs.{act-full, act-locked, act-loses, act-shows, act-sound, step-may}
 use Rattle.heap_laws.proofs.Losing.{written-keeps}
 use Rattle.gap_laws.proofs.KeepsLoans.{contents-pointer}
 use Rattle.mac_base.specs.ZoneMap.{contents_of}
 use Rattle.heap_laws.proofs.Shown.{refilled-holds}
-use Rattle.heap_laws.proofs.Spared.{Spared, block-here, pointer-here, spared-fixed, spared-released}
+use Rattle.heap_laws.proofs.Spared.{Spared, spared-fixed, spared-released}
 
 -- what is known of loans: what is lent is fixed, just what is lent has a loan, and each is as long as its block
 pub record LoansHeld (held : Holding) : Type 0 where

@@ -26,13 +26,14 @@ use Rattle.zone_laws.proofs.SoundReleased.{sound-disposed, sound-disposed_pointe
 use Rattle.zone_laws.proofs.SoundWritten.{sound-same_shape}
 use Rattle.zone_laws.proofs.Tables.{by_number, full_handle, handle_no_pointer, in_order-with_live, live_at-with_live_same, with_live_agrees}
 use Rattle.gap_laws.proofs.KeepsLoans.{contents-pointer}
+use Rattle.gap_laws.proofs.Stays.{Stay, stay-released}
+use Rattle.call_laws.proofs.Locked.{stand-contents, step-locked}
 use Rattle.call_laws.proofs.StepPermitted.{exact-permitted, sound-exact_step}
 use Rattle.heap_laws.specs.LastPut.{LastPut, Shows}
 use Rattle.heap_laws.specs.Act.{Act, ActMayBeFull, ActMayLose, ActTells, Calls, Does, Loads, MayRelease, Unloads, put_by_act}
 use Rattle.heap_laws.specs.Headline.{DerefsAgree, Done, IsLockedThroughout, IsRun, LockedStay, NewZoneShows, OnlyWhereTheyMay, PointersStay, ShowsLastPut, heap_behind}
 use Rattle.heap_laws.proofs.Fewer.{fewer-released}
 use Rattle.heap_laws.proofs.Full.{step-full}
-use Rattle.heap_laws.proofs.Locked.{Stay, stay-released, stand-contents, step-locked}
 use Rattle.heap_laws.proofs.Losing.{given-keeps, lost_only, released-keeps, step-loses}
 use Rattle.heap_laws.proofs.Shown.{shows-fewer, shows-put, step-shows}
 
