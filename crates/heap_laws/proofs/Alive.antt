@@ -19,9 +19,8 @@ use Rattle.mac_calls.specs.Released.{disposed_by, disposed_in, disposed_itself, 
 use Rattle.mac_calls.specs.Tests.{IsPointer, NotLent, refusal}
 use Rattle.zone_laws.proofs.SlotPlaces.{Contains-here}
 use Rattle.zone_laws.proofs.Tables.{handle_no_pointer, live_at-with_live_same}
-use Rattle.call_laws.proofs.Refusals.{passed-IsPointer}
+use Rattle.call_laws.proofs.Refusals.{passed-IsPointer, test_1}
 use Rattle.heap_laws.proofs.Losing.{MayEnd, Trait, step-keeps}
-use Rattle.heap_laws.proofs.Passed.{test_1}
 
 pub refilled-handle : (bytes : List ℕ) (o : Option Live) → live_handle o ≡ true → live_handle (Some (refilled bytes o)) ≡ true
 refilled-handle bytes None h = absurd (cc h)

@@ -25,7 +25,8 @@ use Rattle.heap_laws.specs.LastSet.{LastSet, set_by_act, set_in}
 use Rattle.heap_laws.proofs.Full.{step-full}
 use Rattle.heap_laws.proofs.Lent.{comes-back}
 use Rattle.heap_laws.proofs.Loaned.{act-tells, loan-map}
-use Rattle.heap_laws.proofs.Locked.{Stay, stay-released, stand-contents, step-locked}
+use Rattle.gap_laws.proofs.Stays.{Stay, stay-released}
+use Rattle.call_laws.proofs.Locked.{stand-contents, step-locked}
 use Rattle.heap_laws.proofs.Alive.{a_handle, step-alive}
 use Rattle.heap_laws.proofs.Fewer.{released-agrees}
 use Rattle.heap_laws.proofs.Losing.{bytes-keep, given-keeps, lost_only, released-keeps, set-keeps, step-loses, written-keeps}

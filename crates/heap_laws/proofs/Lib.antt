@@ -1,9 +1,7 @@
 pub mod Fewer
-pub mod Passed
 pub mod Trials
 pub mod Shown
 pub mod Flagged
-pub mod Locked
 pub mod Full
 pub mod Losing
 pub mod Alive

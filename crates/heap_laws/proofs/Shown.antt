@@ -21,10 +21,9 @@ use Rattle.mac_calls.specs.MemoryStep.{MemoryStep, QuietStep}
 use Rattle.mac_calls.specs.Outcomes.{Outcome, given_results}
 use Rattle.mac_calls.specs.Tests.{Test, IsHandle, IsPointer, IsBlock, NotEmpty, NotLent, NotLocked, IsSize, IsState, IsWithin, KeepsLent, first_refusal, protected_by, refusal}
 use Rattle.zone_laws.proofs.Tables.{by_number, eqb_same, live_at-with_live_same, with_live_agrees}
-use Rattle.call_laws.proofs.Refusals.{passed-NotEmpty}
+use Rattle.call_laws.proofs.Refusals.{passed-NotEmpty, pointer-block, test_1, test_2, test_4, test_5}
 use Rattle.heap_laws.specs.LastPut.{LastPut, Tells, put, put_by, put_with}
 use Rattle.heap_laws.proofs.Fewer.{Ended, Fewer, Granted, block_live, fewer-purged, fewer-released, quiet, refused, served, step-ended, unserved}
-use Rattle.heap_laws.proofs.Passed.{pointer-block, test_1, test_2, test_4, test_5}
 
 -- every handle that isn't empty and every pointer of a table has the bytes last put
 abbrev pub TableShows : HandleTable → LastPut → Type 0

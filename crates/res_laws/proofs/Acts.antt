@@ -6,11 +6,9 @@ use Rattle.mac_base.specs.declared.error.OsErr.{OsErr}
 use Rattle.std.specs.List.{list_any}
 use Rattle.mac_base.specs.Loans.{LoansAreFixed}
 use Rattle.mac_base.specs.declared.error.OsErr.TheVariants.{IoErr, MemPurErr}
-use Rattle.call_laws.proofs.LentSteps.{step_keeps_lent}
-use Rattle.call_laws.proofs.Refusals.{passed-NotLent}
+use Rattle.call_laws.proofs.LentSteps.{block-here, step_keeps_lent}
+use Rattle.call_laws.proofs.Refusals.{passed-NotLent, test_2}
 use Rattle.heap_laws.specs.LastPut.{number_in}
-use Rattle.heap_laws.proofs.Passed.{test_2}
-use Rattle.heap_laws.proofs.Spared.{block-here}
 use Rattle.mac_base.specs.declared.releasing.ReleasingCall.TheVariants.{DisposesHandle, Empties}
 use Rattle.mac_base.specs.declared.request.Request.{Request}
 use Rattle.mac_base.specs.declared.request.Request.TheVariants.{NewBlock, Replace}
