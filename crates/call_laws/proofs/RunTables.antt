@@ -69,7 +69,7 @@ released-here s heap (DisposesHandle h) is = passed-NotLent s heap h (test_2 s h
 released-here s heap (DisposesPtr p) is = passed-NotLent s heap p (test_2 s heap (IsPointer p) (NotLent p) [] is)
 released-here s heap (Empties h) is = passed-NotLent s heap h (test_2 s heap (IsHandle h) (NotLent h) (NotLocked MemPurErr h ∷ []) is)
 
-table-grown : (s : Shape) (b : Bool) (heap : Heap) → (cond b (grown s heap) heap).table ≡ heap.table
+pub table-grown : (s : Shape) (b : Bool) (heap : Heap) → (cond b (grown s heap) heap).table ≡ heap.table
 table-grown s true heap = refl
 table-grown s false heap = refl
 
@@ -87,14 +87,14 @@ module _ (s : Shape) (protected : List ℕ) (answers : Type 0) (R : HandleTable 
       rel.next heap.table mid.table (with_all_emptied hs mid).table (rel.emptied heap h first.1 first.0)
       (purged-related hs mid (λ y c. (let later = may y (Contains-later h hs y c) in (may-still heap.table h y first.0 later.0, later.1))))
 
-  prepared-related : (r : Request) (heap : Heap) (p : Preparation) → MayPrepare s protected r heap p → R heap.table (prepared_by s p heap).table
+  pub prepared-related : (r : Request) (heap : Heap) (p : Preparation) → MayPrepare s protected r heap p → R heap.table (prepared_by s p heap).table
   prepared-related r heap p may =
       let mid : Heap = cond p.grows (grown s heap) heap in
       let same : mid.table ≡ heap.table = table-grown s p.grows heap in
       subst (λ t. R t (with_all_emptied p.purges mid).table) same (purged-related p.purges mid (λ h c.
       (let k = candidate-is heap.table protected (blocks_to_purge heap.table r heap.map) h (may.purges_candidates h c) in (subst (λ t. MayEmpty t h) (sym same) k.may, k.unprotected))))
 
-  failed-related : (r : Request) (old new : Heap) → Fails s protected r old new → R old.table new.table
+  pub failed-related : (r : Request) (old new : Heap) → Fails s protected r old new → R old.table new.table
   failed-related r old new fails = subst (λ t. R old.table t) (sym fails.2.table) (prepared-related r old fails.0 fails.1)
 
   -- an answer's calls are carried out
@@ -111,7 +111,7 @@ module _ (s : Shape) (protected : List ℕ) (answers : Type 0) (R : HandleTable 
         | false ↦ λ other. unless-related may call c.heap code other refl
       ] refl
 
-  carried-related : answers → (calls : List ReleasingCall) (c : Carried) → R c.heap.table (carried_from s protected calls c).heap.table
+  pub carried-related : answers → (calls : List ReleasingCall) (c : Carried) → R c.heap.table (carried_from s protected calls c).heap.table
   carried-related may [] c = rel.same c.heap.table
   carried-related may (call ∷ calls) c =
       let then = carried_once s protected call c in

@@ -38,7 +38,8 @@ use Rattle.zone_laws.proofs.Tables.{by_number, eqb_same, live_at-with_live_same,
 use Rattle.call_laws.proofs.Refusals.{passed-IsHandle, test_1}
 use Rattle.mac_calls.specs.Released.{released_by, released_itself}
 use Rattle.heap_laws.specs.Course.{Asked, Begins, CameShort, GaveUp, MayLose, PurgesFor, Tried, calls_in}
-use Rattle.heap_laws.proofs.Fewer.{Fewer, block_live, fewer-begun, fewer-prepared, fewer-then, fewer-tried, released-agrees, table-grown}
+use Rattle.heap_laws.proofs.Fewer.{Fewer, block_live, fewer-begun, fewer-prepared, fewer-then, fewer-tried, released-agrees}
+use Rattle.call_laws.proofs.RunTables.{table-grown}
 use Rattle.heap_laws.proofs.Trials.{LastRequest, Ran, carried-steps, step-last, tried-more}
 
 -- what a number may be, by what is live there, and what ends it: a call of an answer, or a call itself
