@@ -1,0 +1,211 @@
+-- Rows of one type stand together: with a row less, with a row more, and with rows changed that keep their types.
+use Rattle.std.proofs.Common.{◌≡◌, ◌≢◌, refl, sym, ap, ◌∙◌, subst, ℕ, zero, suc, ◌+◌, List, [], ◌∷◌, remove, Bool, true, false, not, AllPairs, bytes_eq, if◌then◌else◌, ◌⊎◌, inl, inr, ◌||◌}
+use Rattle.std.specs.Prelude.{◌&&◌}
+use Rattle.std.specs.List.{list_any, AllByRecursion}
+use Rattle.std.proofs.lemmas.Bool.Decides.{not_from_Decides}
+use Rattle.std.proofs.lemmas.Slice.Eq.{bytes_eq-Decides}
+use Rattle.fork_bytes.specs.declared.layout.TypeCount.{TypeCount}
+use Rattle.fork_bytes.specs.Laws.{IsGrouped}
+use Rattle.fork_bytes.specs.Written.{types_of, counted_before}
+use Rattle.fork_bytes.proofs.Grouped.{Apart, Distinct, counted, distinct_at, distinct_from}
+use Rattle.res_table.specs.declared.row.Row.{Row}
+use Rattle.res_table.specs.Rows.{is_of_type, added}
+use Rattle.res_table.specs.Saved.{bare}
+
+-- the first of these types is this one
+abbrev Heads : List ℕ → List TypeCount → Type 0
+Heads kind [] = ⊥
+Heads kind (first ∷ others) = kind ≡ first.kind
+
+-- one more row before types that are counted
+apart_before : (other kind : List ℕ) (types : List TypeCount) → other ≢ kind → Apart counted other types → Apart counted other (counted_before kind 1 types)
+apart_before other kind [] differ apart = (differ, tt)
+apart_before other kind (first ∷ types) differ apart = by (bytes_eq kind first.kind)
+  where
+    by : (b : Bool) → Apart counted other (if b then record { kind = kind; count = 1 + first.count } ∷ types else record { kind = kind; count = 1 } ∷ first ∷ types)
+    by true = (differ, apart.1)
+    by false = (differ, apart)
+
+apart_behind : (other kind : List ℕ) (types : List TypeCount) → Apart counted other (counted_before kind 1 types) → (other ≢ kind) × Apart counted other types
+apart_behind other kind [] apart = (apart.0, tt)
+apart_behind other kind (first ∷ types) apart = by (bytes_eq kind first.kind) refl apart
+  where
+    by : (b : Bool) → bytes_eq kind first.kind ≡ b → Apart counted other (if b then record { kind = kind; count = 1 + first.count } ∷ types else record { kind = kind; count = 1 } ∷ first ∷ types)
+        → (other ≢ kind) × Apart counted other (first ∷ types)
+    by true is all = (all.0, (subst (λ (k : List ℕ). other ≢ k) ((bytes_eq-Decides kind first.kind).0 is) all.0, all.1))
+    by false is all = (all.0, all.1)
+
+distinct_before : (kind : List ℕ) (types : List TypeCount) → Heads kind types ⊎ Apart counted kind types → Distinct counted types → Distinct counted (counted_before kind 1 types)
+distinct_before kind [] ahead distinct = (tt, tt)
+distinct_before kind (first ∷ types) ahead distinct = by (bytes_eq kind first.kind) refl ahead
+  where
+    by : (b : Bool) → bytes_eq kind first.kind ≡ b → (kind ≡ first.kind) ⊎ Apart counted kind (first ∷ types)
+        → Distinct counted (if b then record { kind = kind; count = 1 + first.count } ∷ types else record { kind = kind; count = 1 } ∷ first ∷ types)
+    by true is ahead = (subst (λ (k : List ℕ). Apart counted k types) (sym ((bytes_eq-Decides kind first.kind).0 is)) distinct.0, distinct.1)
+    by false is (inl same) = absurd (not_from_Decides (bytes_eq kind first.kind) (bytes_eq-Decides kind first.kind) is same)
+    by false is (inr apart) = (apart, distinct)
+
+distinct_behind : (kind : List ℕ) (types : List TypeCount) → Distinct counted (counted_before kind 1 types) → (Heads kind types ⊎ Apart counted kind types) × Distinct counted types
+distinct_behind kind [] distinct = (inr tt, tt)
+distinct_behind kind (first ∷ types) distinct = by (bytes_eq kind first.kind) refl distinct
+  where
+    by : (b : Bool) → bytes_eq kind first.kind ≡ b → Distinct counted (if b then record { kind = kind; count = 1 + first.count } ∷ types else record { kind = kind; count = 1 } ∷ first ∷ types)
+        → ((kind ≡ first.kind) ⊎ Apart counted kind (first ∷ types)) × Distinct counted (first ∷ types)
+    by true is all = let same = (bytes_eq-Decides kind first.kind).0 is in (inl same, (subst (λ (k : List ℕ). Apart counted k types) same all.0, all.1))
+    by false is all = (inr all.0, all.1)
+
+headed : (kind first : List ℕ) (types : List TypeCount) → kind ≡ first → Heads kind (counted_before first 1 types)
+headed kind first [] same = same
+headed kind first (other ∷ types) same = by (bytes_eq first other.kind)
+  where
+    by : (b : Bool) → Heads kind (if b then record { kind = first; count = 1 + other.count } ∷ types else record { kind = first; count = 1 } ∷ other ∷ types)
+    by true = same
+    by false = same
+
+head_is : (kind first : List ℕ) (types : List TypeCount) → Heads kind (counted_before first 1 types) → kind ≡ first
+head_is kind first [] heads = heads
+head_is kind first (other ∷ types) heads = by (bytes_eq first other.kind) heads
+  where
+    by : (b : Bool) → Heads kind (if b then record { kind = first; count = 1 + other.count } ∷ types else record { kind = first; count = 1 } ∷ other ∷ types) → kind ≡ first
+    by true heads = heads
+    by false heads = heads
+
+module _ {D : Type 0} where
+  -- none of these rows is of this type
+  abbrev NoneOf : List ℕ → List (Row D) → Type 0
+  NoneOf kind rows = AllByRecursion (λ (r : Row D). kind ≢ r.resource.kind) rows
+
+  -- the first of these rows is of this type
+  abbrev Starts : List ℕ → List (Row D) → Type 0
+  Starts kind [] = ⊥
+  Starts kind (r ∷ rows) = kind ≡ r.resource.kind
+
+  -- behind each row stands one of its type, or none of its type is left
+  abbrev AreTogether : List (Row D) → Type 0
+  AreTogether [] = Unit {0}
+  AreTogether (r ∷ rows) = (Starts r.resource.kind rows ⊎ NoneOf r.resource.kind rows) × AreTogether rows
+
+  none_apart : (kind : List ℕ) (rows : List (Row D)) → NoneOf kind rows → Apart counted kind (types_of (bare rows))
+  none_apart kind [] none = tt
+  none_apart kind (r ∷ rows) none = apart_before kind r.resource.kind (types_of (bare rows)) none.0 (none_apart kind rows none.1)
+
+  apart_none : (kind : List ℕ) (rows : List (Row D)) → Apart counted kind (types_of (bare rows)) → NoneOf kind rows
+  apart_none kind [] apart = tt
+  apart_none kind (r ∷ rows) apart = let both = apart_behind kind r.resource.kind (types_of (bare rows)) apart in (both.0, apart_none kind rows both.1)
+
+  starts_heads : (kind : List ℕ) (rows : List (Row D)) → Starts kind rows → Heads kind (types_of (bare rows))
+  starts_heads kind [] starts = starts
+  starts_heads kind (r ∷ rows) starts = headed kind r.resource.kind (types_of (bare rows)) starts
+
+  heads_starts : (kind : List ℕ) (rows : List (Row D)) → Heads kind (types_of (bare rows)) → Starts kind rows
+  heads_starts kind [] heads = heads
+  heads_starts kind (r ∷ rows) heads = head_is kind r.resource.kind (types_of (bare rows)) heads
+
+  -- that is what it is to be grouped
+  next_of_types : (kind : List ℕ) (rows : List (Row D)) → Heads kind (types_of (bare rows)) ⊎ Apart counted kind (types_of (bare rows)) → Starts kind rows ⊎ NoneOf kind rows
+  next_of_types kind rows (inl heads) = inl (heads_starts kind rows heads)
+  next_of_types kind rows (inr apart) = inr (apart_none kind rows apart)
+
+  types_of_next : (kind : List ℕ) (rows : List (Row D)) → Starts kind rows ⊎ NoneOf kind rows → Heads kind (types_of (bare rows)) ⊎ Apart counted kind (types_of (bare rows))
+  types_of_next kind rows (inl starts) = inl (starts_heads kind rows starts)
+  types_of_next kind rows (inr none) = inr (none_apart kind rows none)
+
+  together_from : (rows : List (Row D)) → Distinct counted (types_of (bare rows)) → AreTogether rows
+  together_from [] distinct = tt
+  together_from (r ∷ rows) distinct =
+      let both = distinct_behind r.resource.kind (types_of (bare rows)) distinct in (next_of_types r.resource.kind rows both.0, together_from rows both.1)
+
+  together_to : (rows : List (Row D)) → AreTogether rows → Distinct counted (types_of (bare rows))
+  together_to [] together = tt
+  together_to (r ∷ rows) together = distinct_before r.resource.kind (types_of (bare rows)) (types_of_next r.resource.kind rows together.0) (together_to rows together.1)
+
+  together_rows : (rows : List (Row D)) → IsGrouped (bare rows) → AreTogether rows
+  together_rows rows grouped = together_from rows (distinct_from counted (types_of (bare rows)) grouped)
+
+  grouped_rows : (rows : List (Row D)) → AreTogether rows → IsGrouped (bare rows)
+  grouped_rows rows together = distinct_at counted (types_of (bare rows)) (together_to rows together)
+
+  -- one row less
+  none_removed : (kind : List ℕ) (rows : List (Row D)) (at : ℕ) → NoneOf kind rows → NoneOf kind (remove rows at)
+  none_removed kind [] zero none = none
+  none_removed kind [] (suc at) none = none
+  none_removed kind (r ∷ rows) zero none = none.1
+  none_removed kind (r ∷ rows) (suc at) none = (none.0, none_removed kind rows at none.1)
+
+  starts_removed : (kind : List ℕ) (rows : List (Row D)) (at : ℕ) → AreTogether rows → Starts kind rows → Starts kind (remove rows at) ⊎ NoneOf kind (remove rows at)
+  starts_removed kind [] at together starts = absurd starts
+  starts_removed kind (r ∷ rows) zero together starts = subst (λ (k : List ℕ). Starts k rows ⊎ NoneOf k rows) (sym starts) together.0
+  starts_removed kind (r ∷ rows) (suc at) together starts = inl starts
+
+  next_removed : (kind : List ℕ) (rows : List (Row D)) (at : ℕ) → AreTogether rows → Starts kind rows ⊎ NoneOf kind rows → Starts kind (remove rows at) ⊎ NoneOf kind (remove rows at)
+  next_removed kind rows at together (inl starts) = starts_removed kind rows at together starts
+  next_removed kind rows at together (inr none) = inr (none_removed kind rows at none)
+
+  together_removed : (rows : List (Row D)) (at : ℕ) → AreTogether rows → AreTogether (remove rows at)
+  together_removed [] zero together = tt
+  together_removed [] (suc at) together = tt
+  together_removed (r ∷ rows) zero together = together.1
+  together_removed (r ∷ rows) (suc at) together = (next_removed r.resource.kind rows at together.1 together.0, together_removed rows at together.1)
+
+  pub removed_grouped : (at : ℕ) (rows : List (Row D)) → IsGrouped (bare rows) → IsGrouped (bare (remove rows at))
+  removed_grouped at rows grouped = grouped_rows (remove rows at) (together_removed rows at (together_rows rows grouped))
+
+  -- rows of which none is of a type
+  of_other : (kind : List ℕ) (r : Row D) → kind ≢ r.resource.kind → is_of_type kind r ≡ false
+  of_other kind r differ = by (is_of_type kind r) refl
+    where
+      by : (b : Bool) → is_of_type kind r ≡ b → b ≡ false
+      by true is = absurd (differ (sym ((bytes_eq-Decides r.resource.kind kind).0 is)))
+      by false is = refl
+
+  any_of_none : (kind : List ℕ) (rows : List (Row D)) → NoneOf kind rows → list_any (is_of_type kind) rows ≡ false
+  any_of_none kind [] none = refl
+  any_of_none kind (r ∷ rows) none = ap (λ b. b || list_any (is_of_type kind) rows) (of_other kind r none.0) ∙ any_of_none kind rows none.1
+
+  none_of_any : (kind : List ℕ) (rows : List (Row D)) → list_any (is_of_type kind) rows ≡ false → NoneOf kind rows
+  none_of_any kind [] none = tt
+  none_of_any kind (r ∷ rows) none = by (is_of_type kind r) refl none (λ others. none_of_any kind rows others)
+    where
+      by : (b : Bool) → is_of_type kind r ≡ b → (b || list_any (is_of_type kind) rows) ≡ false → (list_any (is_of_type kind) rows ≡ false → NoneOf kind rows) → NoneOf kind (r ∷ rows)
+      by true is none deeper = absurd (cc none)
+      by false is none deeper = (λ same. not_from_Decides (bytes_eq r.resource.kind kind) (bytes_eq-Decides r.resource.kind kind) is (sym same), deeper none)
+
+  -- one row more
+  none_added : (kind : List ℕ) (new : Row D) (rows : List (Row D)) → kind ≢ new.resource.kind → NoneOf kind rows → NoneOf kind (added new rows)
+  none_added kind new [] differ none = (differ, tt)
+  none_added kind new (r ∷ rows) differ none = by (is_of_type new.resource.kind r) (not (list_any (is_of_type new.resource.kind) rows)) (none_added kind new rows differ none.1)
+    where
+      by : (here last : Bool) → NoneOf kind (added new rows) → NoneOf kind (if here && last then r ∷ new ∷ rows else r ∷ added new rows)
+      by true true deeper = (none.0, (differ, none.1))
+      by true false deeper = (none.0, deeper)
+      by false last deeper = (none.0, deeper)
+
+  starts_added : (kind : List ℕ) (new : Row D) (rows : List (Row D)) → Starts kind rows → Starts kind (added new rows)
+  starts_added kind new [] starts = absurd starts
+  starts_added kind new (r ∷ rows) starts = by (is_of_type new.resource.kind r) (not (list_any (is_of_type new.resource.kind) rows))
+    where
+      by : (here last : Bool) → Starts kind (if here && last then r ∷ new ∷ rows else r ∷ added new rows)
+      by true true = starts
+      by true false = starts
+      by false last = starts
+
+  next_added : (kind : List ℕ) (new : Row D) (rows : List (Row D)) → (NoneOf kind rows → kind ≢ new.resource.kind) → Starts kind rows ⊎ NoneOf kind rows → Starts kind (added new rows) ⊎ NoneOf kind (added new rows)
+  next_added kind new rows differ (inl starts) = inl (starts_added kind new rows starts)
+  next_added kind new rows differ (inr none) = inr (none_added kind new rows (differ none) none)
+
+  together_added : (new : Row D) (rows : List (Row D)) → AreTogether rows → AreTogether (added new rows)
+  together_added new [] together = (inr tt, tt)
+  together_added new (r ∷ rows) together = by (is_of_type new.resource.kind r) (list_any (is_of_type new.resource.kind) rows) refl refl (together_added new rows together.1)
+    where
+      some_left : list_any (is_of_type new.resource.kind) rows ≡ true → NoneOf r.resource.kind rows → r.resource.kind ≢ new.resource.kind
+      some_left some none same = absurd (cc (sym some ∙ ap (λ (kind : List ℕ). list_any (is_of_type kind) rows) (sym same) ∙ any_of_none r.resource.kind rows none))
+
+      by : (here some : Bool) → is_of_type new.resource.kind r ≡ here → list_any (is_of_type new.resource.kind) rows ≡ some → AreTogether (added new rows)
+          → AreTogether (if here && not some then r ∷ new ∷ rows else r ∷ added new rows)
+      by true false here none deeper = (inl ((bytes_eq-Decides r.resource.kind new.resource.kind).0 here), (inr (none_of_any new.resource.kind rows none), together.1))
+      by true true here some deeper = (next_added r.resource.kind new rows (some_left some) together.0, deeper)
+      by false some here is deeper =
+          (next_added r.resource.kind new rows (λ none same. not_from_Decides (bytes_eq r.resource.kind new.resource.kind) (bytes_eq-Decides r.resource.kind new.resource.kind) here same) together.0, deeper)
+
+  pub added_grouped : (new : Row D) (rows : List (Row D)) → IsGrouped (bare rows) → IsGrouped (bare (added new rows))
+  added_grouped new rows grouped = grouped_rows (added new rows) (together_added new rows (together_rows rows grouped))

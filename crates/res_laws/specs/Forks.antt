@@ -1,0 +1,75 @@
+-- What the resource forks of open files hold, over runs of calls.
+use Rattle.std.specs.Prelude.{◌≡◌, ◌⊎◌, ℕ, List, [], ◌∷◌, length, Some, Ok, ⊤}
+use Rattle.std.specs.List.{Any}
+use Rattle.mac_base.specs.declared.block.Flags.{Flags}
+use Rattle.res_base.specs.declared.resource.Resource.{Resource}
+use Rattle.mac_calls.specs.declared.call.Call.{Call}
+use Rattle.mac_calls.specs.declared.call.Call.TheVariants.{Resource as ResourceCalls}
+use Rattle.mac_calls.specs.declared.reply.Results.{Results}
+use Rattle.mac_calls.specs.declared.resource_call.ResourceCall.{ResourceCall}
+use Rattle.mac_calls.specs.declared.resource_call.ResourceCall.TheVariants.{AddResource}
+use Rattle.mac_calls.specs.GrowZone.{Ask}
+use Rattle.fork_bytes.specs.declared.table.Table.{Table}
+use Rattle.fork_bytes.specs.Fork.{StandsFor}
+use Rattle.fork_bytes.specs.Laws.{AreBytes}
+use Rattle.fork_bytes.specs.Written.{written}
+use Rattle.res_table.specs.OpenFiles.{no_files, row_at}
+use Rattle.res_table.specs.declared.chain.RowPlace.{RowPlace}
+use Rattle.res_calls.specs.Changes.{FileRow, saved_table}
+use Rattle.res_calls.specs.Device.{Disk}
+use Rattle.res_calls.specs.Files.{ResState, disk_of}
+use Rattle.res_calls.specs.Loads.{row_wanted}
+use Rattle.res_calls.specs.Steps.{Updates, work_of}
+use Rattle.res_calls.specs.Updates.{Update}
+use Rattle.heap_laws.specs.Act.{Loads}
+use Rattle.res_laws.specs.Acts.{IsActOf}
+use Rattle.res_laws.specs.Tools.{Called, IsToolRun, ToolDoes, Tools}
+
+-- a resource of a fork has the type, the ID, the name and the bytes of a row
+abbrev pub IsOfRow : FileRow → Resource (List ℕ) → Type 0
+IsOfRow r q = (q.kind ≡ r.resource.kind) × (q.id ≡ r.resource.id) × (q.name ≡ r.resource.name) × (q.datum ≡ r.resource.datum)
+
+-- The bytes of a row are those that its file's fork has for its type and ID. One that was added and never saved has none.
+abbrev pub HasBytes : Disk → FileRow → Type 0
+HasBytes fork r = (r.resource.datum ≡ []) ⊎ ((table : Table) × StandsFor fork table × Any (IsOfRow r) table.rows)
+
+-- all rows of the open files have such bytes
+abbrev pub ReadOffForks : ResState → Type 0
+ReadOffForks state = (p : RowPlace) (r : FileRow) → row_at p state.files ≡ Some r → HasBytes (disk_of p.file state) r
+
+-- a type that AddResource is given has four bytes
+abbrev pub HasType : Call → Type 0
+HasType (ResourceCalls (AddResource h kind id name)) = length kind ≡ 4
+HasType _ = ⊤
+
+-- what the types of the program say of a run: at each call the disks are of bytes, and a resource type has four
+abbrev pub AreTyped : Tools → List Called → Type 0
+AreTyped old [] = ⊤
+AreTyped old (called ∷ later) = ((k : ℕ) → AreBytes (disk_of k old.resources)) × HasType called.call × AreTyped called.tools later
+
+-- the state behind a run
+abbrev pub tools_behind : Tools → List Called → Tools
+tools_behind old [] = old
+tools_behind old (called ∷ later) = tools_behind called.tools later
+
+-- a run of calls from a state where no file is open
+pub record IsFileRun (start : Tools) (run : List Called) : Type 0 where
+  pub none : start.resources.files ≡ no_files
+  pub is : IsToolRun start run
+  pub typed : AreTyped start run
+
+-- Every fork that is updated is the written form of the resource map as it is saved, and reads back as that map, if the call succeeds.
+abbrev pub UpdatesReadBack : Type 0
+UpdatesReadBack = (start : Tools) (run : List Called) → IsFileRun start run → (call : ResourceCall) (u : Update) (asks : List Ask) (results : Results) (new : Tools)
+    → work_of (tools_behind start run).resources call ≡ Updates u → ToolDoes (tools_behind start run) (ResourceCalls call) asks (Ok results) new
+    → (disk_of u.file new.resources ≡ written (saved_table u.table)) × StandsFor (disk_of u.file new.resources) (saved_table u.table)
+
+-- At each moment the rows of the open files have the bytes of their forks.
+abbrev pub RowsReadOffForks : Type 0
+RowsReadOffForks = (start : Tools) (run : List Called) → IsFileRun start run → ReadOffForks (tools_behind start run).resources
+
+-- Every load puts the bytes that the fork has for the resource.
+abbrev pub LoadsReadForks : Type 0
+LoadsReadForks = (start : Tools) (run : List Called) → IsFileRun start run → (call : ResourceCall) (h : ℕ) (flags : Flags) (bytes : List ℕ)
+    → let state = (tools_behind start run).resources in IsActOf state call (Loads h flags bytes)
+    → (p : RowPlace) × (r : FileRow) × (row_wanted state call ≡ Some p) × (row_at p state.files ≡ Some r) × HasBytes (disk_of p.file state) r × (bytes ≡ r.resource.datum)
