@@ -1,3 +1,4 @@
 pub mod Acts
 pub mod Tools
 pub mod Grouped
+pub mod ForkRows
