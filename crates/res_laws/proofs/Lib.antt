@@ -2,3 +2,4 @@ pub mod Acts
 pub mod Tools
 pub mod Grouped
 pub mod ForkRows
+pub mod ForkFiles
