@@ -3,3 +3,4 @@ pub mod Tools
 pub mod Grouped
 pub mod ForkRows
 pub mod ForkFiles
+pub mod Forks
