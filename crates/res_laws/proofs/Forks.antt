@@ -1,10 +1,12 @@
 -- Over runs of calls updated forks read back, and the rows of the open files have the bytes of their forks.
 use Rattle.std.proofs.Common.{◌≡◌, ℕ, ◌+◌, ◌-◌, ◌<◌, ◌≤◌, Bool, true, false, not, List, [], ◌∷◌, length, map, set, Option, Some, None, Ok, Err, Result, refl, sym, ap, subst, ◌∙◌, arith, cond, inl, inr, length-set}
-use Rattle.std.specs.Prelude.{◌&&◌, ◌==◌, ℤ, pos, negsuc, FitsSigned, IfSome, find, is_none, nat_le, option_and_then, option_map}
+use Rattle.std.specs.Prelude.{◌&&◌, ◌==◌, ℤ, bit_and, bit_or, pos, negsuc, FitsSigned, IfSome, find, is_none, nat_le, option_and_then, option_map}
 use Rattle.std.specs.Int.{w16}
 use Rattle.std.specs.List.{AllByRecursion}
 use Rattle.std.specs.Option.{option_map_or, option_or}
-use Rattle.std.proofs.lemmas.Bool.{leb-true}
+use Rattle.std.proofs.lemmas.Bool.{eq-eqb, leb-true}
+use Rattle.std.proofs.lemmas.Nat.{and_or_self}
+use Rattle.res_table.specs.Attributes.{is_marked, unmarked}
 use Rattle.mac_base.specs.declared.error.OsErr.{OsErr}
 use Rattle.mac_base.specs.declared.error.OsErr.TheVariants.{AddResFailed, DskFulErr, FnfErr, IoErr, ParamErr, ResNotFound}
 use Rattle.mac_base.specs.HandleTable.{HandleTable, is_full}
@@ -39,7 +41,7 @@ use Rattle.res_calls.specs.Steps.{Gets, GetsPlace, GetsRow, LeavesDisk, Opens, Q
 use Rattle.res_calls.specs.Tests.{AllUnlent, CanWriteFile, CanWriteRow, ChangedUnlent, HasFile, HasRow, IsFile, IsId, IsOpen, MayBeAdded, ResourceTest, UnlentChanged, first_refused_for, is_id, may_be_added, refused_for, resource_refusal}
 use Rattle.res_calls.specs.Updates.{Update, behind_update, can_be_made, disposed, file_update, fits_fork, new_row, row_passes, row_update, update_end, update_of, updated_at, updated_if_changed, updated_row, updated_table}
 use Rattle.res_laws.specs.Acts.{Anything, Memory}
-use Rattle.res_laws.specs.Forks.{AreTyped, HasBytes, HasType, IsFileRun, LoadsReadForks, RowsReadOffForks, UpdatesReadBack, tools_behind}
+use Rattle.res_laws.specs.Forks.{AreTyped, HasBytes, IsFileRun, IsTyped, LoadsReadForks, RowsReadOffForks, UpdatesReadBack, tools_behind}
 use Rattle.res_laws.specs.Tools.{Called, IsToolRun, ToolDoes, Tools}
 use Rattle.res_laws.proofs.ForkRows.{Alike, IsNamed, IsWhole, alike-all, alike-at, alike-grouped, alike-map, all-more, both-true, opened-bytes, opened-whole, saved-bytes, saved-stands}
 use Rattle.res_laws.proofs.ForkFiles.{AreKept, File, IsKept, IsKeptRow, added-kept, all-forgotten-kept, apart-changed, apart-closed, changed-kept, closed-kept, disk-here, disk_in, forgotten-kept, found-kept, kept-row, kept-there, opened-kept, removed-kept, row-kept}
@@ -215,20 +217,21 @@ record MayOpen (old : ResState) (k : ℕ) : Type 0 where
   pub low : 1 ≤ k
   pub high : k ≤ length old.disks
   pub closed : is_open k old.files ≡ false
+  pub bytes : AreBytes (disk_of k old)
 
-may-open : (old : ResState) (rc : ResourceCall) (k : ℕ) → work_of old rc ≡ Opens k → resource_refusal old rc ≡ None → MayOpen old k
-may-open old (call.OpenResFile j) k is none = by (is_open j old.files) refl is
+may-open : (old : ResState) (rc : ResourceCall) (k : ℕ) → IsTyped old (Resource rc) → work_of old rc ≡ Opens k → resource_refusal old rc ≡ None → MayOpen old k
+may-open old (call.OpenResFile j) k typed is none = by (is_open j old.files) refl is
   where
     by : (b : Bool) → is_open j old.files ≡ b → cond b Quiet (Opens j) ≡ Opens k → MayOpen old k
     by true closed is = absurd (cc is)
     by false closed is =
         let both = both-true (nat_le 1 j) (nat_le j (length old.disks)) (passed FnfErr (nat_le 1 j && nat_le j (length old.disks)) (first-passed (refused_for old (IsFile j)) None none)) in
         let same : j ≡ k = cc is in
-        subst (MayOpen old) same (record { low = leb-true 1 j both.0; high = leb-true j (length old.disks) both.1; closed = closed })
-may-open old (call.WriteResource h) k is none = absurd (not-updating (row_update old h) k is)
-may-open old (call.UpdateResFile named) k is none = absurd (not-updating (file_update old named) k is)
-may-open old (call.CloseResFile named) k is none = absurd (not-updating (file_update old named) k is)
-may-open old rc k is none = absurd (not-getting (row_wanted old rc) k is)
+        subst (MayOpen old) same (record { low = leb-true 1 j both.0; high = leb-true j (length old.disks) both.1; closed = closed; bytes = typed })
+may-open old (call.WriteResource h) k typed is none = absurd (not-updating (row_update old h) k is)
+may-open old (call.UpdateResFile named) k typed is none = absurd (not-updating (file_update old named) k is)
+may-open old (call.CloseResFile named) k typed is none = absurd (not-updating (file_update old named) k is)
+may-open old rc k typed is none = absurd (not-getting (row_wanted old rc) k is)
 
 with-opened : (old : ResState) (k : ℕ) (table : FileTable) → MayOpen old k → IsWhole table → AllByRecursion (HasBytes (disk_of k old)) table.rows → Kept old → Kept (with_files (file_opened k table old.files) old)
 with-opened old k table may whole bytes kept = opened-kept old.disks old.files.files (record { number = k; table = table }) may.closed (record {
@@ -240,18 +243,18 @@ with-opened old k table may whole bytes kept = opened-kept old.disks old.files.f
   map_attributes = whole.map_attributes;
 }) kept
 
-read-kept : IsReadWhole → (old : ResState) (k : ℕ) (read : Result (FileTable) OsErr) → MayOpen old k → AreBytes (disk_of k old) → Kept old → Reads (disk_of k old) read → Kept (opened_end k old read).state
-read-kept read_whole old k read may bytes kept (empty none) =
+read-kept : IsReadWhole → (old : ResState) (k : ℕ) (read : Result (FileTable) OsErr) → MayOpen old k → Kept old → Reads (disk_of k old) read → Kept (opened_end k old read).state
+read-kept read_whole old k read may kept (empty none) =
     with-opened old k empty_table may (record { rows = tt; grouped = none-grouped; extra = length-replicate {A = ℕ} 240 0; map_attributes = omega arith }) tt kept
-read-kept read_whole old k read may bytes kept (fork table stands) =
-    with-opened old k (opened_table table) may (opened-whole read_whole (disk_of k old) table bytes stands) (opened-bytes (disk_of k old) table stands) kept
-read-kept read_whole old k read may bytes kept (short some few) = kept
-read-kept read_whole old k read may bytes kept (damaged long none) = kept
+read-kept read_whole old k read may kept (fork table stands) =
+    with-opened old k (opened_table table) may (opened-whole read_whole (disk_of k old) table may.bytes stands) (opened-bytes (disk_of k old) table stands) kept
+read-kept read_whole old k read may kept (short some few) = kept
+read-kept read_whole old k read may kept (damaged long none) = kept
 
-opens-kept : IsReadWhole → (device : Device) (old : ResState) (k : ℕ) (read : Result (FileTable) OsErr) → MayOpen old k → AreBytes (disk_of k old) → Kept old → ReadsBy device (disk_of k old) read → Kept (opened_end k old read).state
-opens-kept read_whole DeviceWorks old k read may bytes kept reads = read-kept read_whole old k read may bytes kept reads
-opens-kept read_whole FailsBefore old k read may bytes kept reads = subst (λ r. Kept (opened_end k old r).state) (sym reads) kept
-opens-kept read_whole (FailsWriting left) old k read may bytes kept reads = subst (λ r. Kept (opened_end k old r).state) (sym reads) kept
+opens-kept : IsReadWhole → (device : Device) (old : ResState) (k : ℕ) (read : Result (FileTable) OsErr) → MayOpen old k → Kept old → ReadsBy device (disk_of k old) read → Kept (opened_end k old read).state
+opens-kept read_whole DeviceWorks old k read may kept reads = read-kept read_whole old k read may kept reads
+opens-kept read_whole FailsBefore old k read may kept reads = subst (λ r. Kept (opened_end k old r).state) (sym reads) kept
+opens-kept read_whole (FailsWriting left) old k read may kept reads = subst (λ r. Kept (opened_end k old r).state) (sym reads) kept
 
 -- a row is gotten
 gets-kept : (device : Device) (old : ResState) (rc : ResourceCall) (asks : List Ask) (end : ResourceEnd) (p : RowPlace) (o : Option FileRow) → Kept old → GetsPlace Memory Anything device old rc asks end p o → Kept end.state
@@ -277,18 +280,28 @@ gets-kept device old rc asks end p (Some r) kept gets = by_place (placing old.he
         (placed-kept gets.0 (behind_memory asks gets.1 old) (all-forgotten-kept old.disks (disposed_in asks) old.files kept))
 
 -- a call that needs neither room in the zone nor a disk
-attributes-kept : (change : ResAttrs → ResAttrs) (h : ℕ) (state : ResState) → Kept state → AreKept state.disks (attributes_changed change h state.files).files
-attributes-kept change h state kept = by (place_of_handle h state.files)
+attributes-kept : (change : ResAttrs → ResAttrs) → ((a : ResAttrs) → is_marked a ≡ true → is_marked (change a) ≡ true) → (h : ℕ) (state : ResState) → Kept state → AreKept state.disks (attributes_changed change h state.files).files
+attributes-kept change keeps h state kept = by (place_of_handle h state.files)
   where
+    still : (disk : Disk) (r : FileRow) → IsKeptRow disk r → IsKeptRow disk (with_attributes (change r.resource.attributes) r)
+    still disk r (named, inl new) = (named, inl (new.0, keeps r.resource.attributes new.1))
+    still disk r (named, inr has) = (named, inr has)
+
     by : (o : Option RowPlace) → AreKept state.disks (option_map_or (λ p. row_changed p (λ r. with_attributes (change r.resource.attributes) r) state.files) o state.files).files
     by None = kept
-    by (Some p) = row-kept state.disks p (λ r. with_attributes (change r.resource.attributes) r) state.files (λ r. refl) (λ disk r is. is) kept
+    by (Some p) = row-kept state.disks p (λ r. with_attributes (change r.resource.attributes) r) state.files (λ r. refl) still kept
+
+marked-is : (a : ResAttrs) → is_marked (marked a) ≡ true
+marked-is a = eq-eqb (bit_and (bit_or a.0 2) 2) 2 (and_or_self 2 a.0)
+
+replaced-is : (n : ℕ) (a : ResAttrs) → is_marked a ≡ true → is_marked (replaced_attributes n a) ≡ true
+replaced-is n a is = subst (λ b. is_marked (cond b (marked (record { 0 = n })) (unmarked (record { 0 = n }))) ≡ true) (sym is) (marked-is (record { 0 = n }))
 
 name-short : (o : Option (List ℕ)) → nat_le (option_map_or length o 0) 255 ≡ true → IfSome o (λ name. length name ≤ 255)
 name-short None is = tt
 name-short (Some name) is = leb-true (length name) 255 is
 
-quiet-kept : (old : ResState) (rc : ResourceCall) → HasType (Resource rc) → resource_refusal old rc ≡ None → Kept old → Kept (quiet_state rc old)
+quiet-kept : (old : ResState) (rc : ResourceCall) → IsTyped old (Resource rc) → resource_refusal old rc ≡ None → Kept old → Kept (quiet_state rc old)
 quiet-kept old (call.ReleaseResource h) typed none kept = elim (row_passes is_changed h old.files) as (λ b. Kept (cond b old (with_heap (disposed old.shape (h ∷ []) old.heap) (with_files (handle_forgotten h old.files) old)))) [
   | true ↦ kept
   | false ↦ forgotten-kept old.disks h old.files kept
@@ -312,44 +325,44 @@ quiet-kept old (call.AddResource h kind id name) typed none kept = by old.files.
         let short = nat_le (option_map_or length name 0) 255 && rows_fit (bare (added (new_row h kind id name) (current_rows old.files))) in
         let late = both-true (is_none (place_of_handle h old.files)) short (both-true (is_full old.heap.table h) (is_none (place_of_handle h old.files) && short) added_is).1 in
         let name_is = both-true (nat_le (option_map_or length name 0) 255) (rows_fit (bare (added (new_row h kind id name) (current_rows old.files)))) late.1 in
-        ((typed, id-fits id id_is, name-short name name_is.0), inl refl)
+        ((typed, id-fits id id_is, name-short name name_is.0), inl (refl, refl))
 
     by : (o : Option ℕ) → AreKept old.disks (option_map_or (λ k. rows_changed k (added (new_row h kind id name)) old.files) o old.files).files
     by None = kept
     by (Some k) = added-kept old.disks k (new_row h kind id name) old.files.files is kept
-quiet-kept old (call.ChangedResource h) typed none kept = attributes-kept marked h old kept
-quiet-kept old (call.SetResAttrs h n) typed none kept = attributes-kept (replaced_attributes n) h old kept
+quiet-kept old (call.ChangedResource h) typed none kept = attributes-kept marked (λ a is. marked-is a) h old kept
+quiet-kept old (call.SetResAttrs h n) typed none kept = attributes-kept (replaced_attributes n) (replaced-is n) h old kept
 quiet-kept old rc typed none kept = kept
 
 -- ---- calls, and runs of them
 
 module _ (read_again : IsReadAgain) (read_whole : IsReadWhole) where
-  works-kept : (device : Device) (old : ResState) (rc : ResourceCall) (asks : List Ask) (end : ResourceEnd) (w : Work) → HasType (Resource rc) → ((k : ℕ) → AreBytes (disk_of k old)) → Kept old → resource_refusal old rc ≡ None → work_of old rc ≡ w
+  works-kept : (device : Device) (old : ResState) (rc : ResourceCall) (asks : List Ask) (end : ResourceEnd) (w : Work) → IsTyped old (Resource rc) → Kept old → resource_refusal old rc ≡ None → work_of old rc ≡ w
       → Works Memory Anything device old rc asks end w → Kept end.state
-  works-kept device old rc asks end (Gets p) typed bytes kept none is works = gets-kept device old rc asks end p (row_at p old.files) kept works
-  works-kept device old rc asks end (Updates u) typed bytes kept none is works = subst (λ (e : ResourceEnd). Kept e.state) (sym works.2) (updates-kept read_again device old rc u kept (makes old u kept rc is none))
-  works-kept device old rc asks end (Opens k) typed bytes kept none is works =
-      subst (λ (e : ResourceEnd). Kept e.state) (sym works.3) (opens-kept read_whole device old k works.1 (may-open old rc k is none) (bytes k) kept works.2)
-  works-kept device old rc asks end Quiet typed bytes kept none is works = subst (λ (e : ResourceEnd). Kept e.state) (sym works.1) (quiet-kept old rc typed none kept)
+  works-kept device old rc asks end (Gets p) typed kept none is works = gets-kept device old rc asks end p (row_at p old.files) kept works
+  works-kept device old rc asks end (Updates u) typed kept none is works = subst (λ (e : ResourceEnd). Kept e.state) (sym works.2) (updates-kept read_again device old rc u kept (makes old u kept rc is none))
+  works-kept device old rc asks end (Opens k) typed kept none is works =
+      subst (λ (e : ResourceEnd). Kept e.state) (sym works.3) (opens-kept read_whole device old k works.1 (may-open old rc k typed is none) kept works.2)
+  works-kept device old rc asks end Quiet typed kept none is works = subst (λ (e : ResourceEnd). Kept e.state) (sym works.1) (quiet-kept old rc typed none kept)
 
-  step-kept : (device : Device) (old : ResState) (rc : ResourceCall) (asks : List Ask) (end : ResourceEnd) → HasType (Resource rc) → ((k : ℕ) → AreBytes (disk_of k old)) → Kept old → ResourceStepBy Memory Anything device old rc asks end → Kept end.state
-  step-kept device old rc asks end typed bytes kept step = by (resource_refusal old rc) refl step
+  step-kept : (device : Device) (old : ResState) (rc : ResourceCall) (asks : List Ask) (end : ResourceEnd) → IsTyped old (Resource rc) → Kept old → ResourceStepBy Memory Anything device old rc asks end → Kept end.state
+  step-kept device old rc asks end typed kept step = by (resource_refusal old rc) refl step
     where
       by : (o : Option OsErr) → resource_refusal old rc ≡ o → StepsUnless Memory Anything o device old rc asks end → Kept end.state
       by (Some code) is step = subst (λ (e : ResourceEnd). Kept e.state) (sym step.1) kept
-      by None is step = works-kept device old rc asks end (work_of old rc) typed bytes kept is refl step
+      by None is step = works-kept device old rc asks end (work_of old rc) typed kept is refl step
 
-  tool-kept : (old : Tools) (c : Call) (asks : List Ask) (outcome : Outcome) (new : Tools) → HasType c → ((k : ℕ) → AreBytes (disk_of k old.resources)) → Kept old.resources → ToolDoes old c asks outcome new → Kept new.resources
-  tool-kept old (MemoryCalls c) asks outcome new typed bytes kept does =
+  tool-kept : (old : Tools) (c : Call) (asks : List Ask) (outcome : Outcome) (new : Tools) → IsTyped old.resources c → Kept old.resources → ToolDoes old c asks outcome new → Kept new.resources
+  tool-kept old (MemoryCalls c) asks outcome new typed kept does =
       subst Kept (sym does.2) (all-forgotten-kept old.resources.disks (disposed_of c asks outcome) old.resources.files kept)
-  tool-kept old (Loan c) asks outcome new typed bytes kept does = subst Kept (sym does.1) kept
-  tool-kept old (Resource rc) asks outcome new typed bytes kept does = step-kept does.0 old.resources rc asks (record { outcome = outcome; state = new.resources }) typed bytes kept does.1
-  tool-kept old MemError asks outcome new typed bytes kept does = subst Kept (sym does.0) kept
-  tool-kept old ResError asks outcome new typed bytes kept does = subst Kept (sym does.0) kept
+  tool-kept old (Loan c) asks outcome new typed kept does = subst Kept (sym does.1) kept
+  tool-kept old (Resource rc) asks outcome new typed kept does = step-kept does.0 old.resources rc asks (record { outcome = outcome; state = new.resources }) typed kept does.1
+  tool-kept old MemError asks outcome new typed kept does = subst Kept (sym does.0) kept
+  tool-kept old ResError asks outcome new typed kept does = subst Kept (sym does.0) kept
 
   run-kept : (old : Tools) (run : List Called) → IsToolRun old run → AreTyped old run → Kept old.resources → Kept (tools_behind old run).resources
   run-kept old [] is typed kept = kept
-  run-kept old (c ∷ later) is typed kept = run-kept c.tools later is.1 typed.2 (tool-kept old c.call c.asks c.outcome c.tools typed.1 typed.0 kept is.0)
+  run-kept old (c ∷ later) is typed kept = run-kept c.tools later is.1 typed.1 (tool-kept old c.call c.asks c.outcome c.tools typed.0 kept is.0)
 
   file-run-kept : (start : Tools) (run : List Called) → IsFileRun start run → Kept (tools_behind start run).resources
   file-run-kept start run is = run-kept start run is.is is.typed (subst (λ (files : Files). AreKept start.resources.disks files.files) (sym is.none) (tt, tt))

@@ -1,5 +1,5 @@
 -- What the resource forks of open files hold, over runs of calls.
-use Rattle.std.specs.Prelude.{◌≡◌, ◌⊎◌, ℕ, List, [], ◌∷◌, length, Some, Ok, ⊤}
+use Rattle.std.specs.Prelude.{◌≡◌, ◌⊎◌, ℕ, true, List, [], ◌∷◌, length, Some, Ok, ⊤}
 use Rattle.std.specs.List.{Any}
 use Rattle.mac_base.specs.declared.block.Flags.{Flags}
 use Rattle.res_base.specs.declared.resource.Resource.{Resource}
@@ -7,13 +7,14 @@ use Rattle.mac_calls.specs.declared.call.Call.{Call}
 use Rattle.mac_calls.specs.declared.call.Call.TheVariants.{Resource as ResourceCalls}
 use Rattle.mac_calls.specs.declared.reply.Results.{Results}
 use Rattle.mac_calls.specs.declared.resource_call.ResourceCall.{ResourceCall}
-use Rattle.mac_calls.specs.declared.resource_call.ResourceCall.TheVariants.{AddResource}
+use Rattle.mac_calls.specs.declared.resource_call.ResourceCall.TheVariants.{AddResource, OpenResFile}
 use Rattle.mac_calls.specs.GrowZone.{Ask}
 use Rattle.fork_bytes.specs.declared.table.Table.{Table}
 use Rattle.fork_bytes.specs.Fork.{StandsFor}
 use Rattle.fork_bytes.specs.Laws.{AreBytes}
 use Rattle.fork_bytes.specs.Written.{written}
 use Rattle.res_table.specs.OpenFiles.{no_files, row_at}
+use Rattle.res_table.specs.Rows.{is_changed}
 use Rattle.res_table.specs.declared.chain.RowPlace.{RowPlace}
 use Rattle.res_calls.specs.Changes.{FileRow, saved_table}
 use Rattle.res_calls.specs.Device.{Disk}
@@ -29,23 +30,24 @@ use Rattle.res_laws.specs.Tools.{Called, IsToolRun, ToolDoes, Tools}
 abbrev pub IsOfRow : FileRow → Resource (List ℕ) → Type 0
 IsOfRow r q = (q.kind ≡ r.resource.kind) × (q.id ≡ r.resource.id) × (q.name ≡ r.resource.name) × (q.datum ≡ r.resource.datum)
 
--- The bytes of a row are those that its file's fork has for its type and ID. One that was added and never saved has none.
+-- The bytes of a row are those that its file's fork has for its type and ID. A resource that was added and not yet saved has none.
 abbrev pub HasBytes : Disk → FileRow → Type 0
-HasBytes fork r = (r.resource.datum ≡ []) ⊎ ((table : Table) × StandsFor fork table × Any (IsOfRow r) table.rows)
+HasBytes fork r = ((r.resource.datum ≡ []) × (is_changed r ≡ true)) ⊎ ((table : Table) × StandsFor fork table × Any (IsOfRow r) table.rows)
 
 -- all rows of the open files have such bytes
 abbrev pub ReadOffForks : ResState → Type 0
 ReadOffForks state = (p : RowPlace) (r : FileRow) → row_at p state.files ≡ Some r → HasBytes (disk_of p.file state) r
 
--- a type that AddResource is given has four bytes
-abbrev pub HasType : Call → Type 0
-HasType (ResourceCalls (AddResource h kind id name)) = length kind ≡ 4
-HasType _ = ⊤
+-- what the types of the program say of a call: a resource type has four bytes, and a file that is opened is of bytes
+abbrev pub IsTyped : ResState → Call → Type 0
+IsTyped old (ResourceCalls (AddResource h kind id name)) = length kind ≡ 4
+IsTyped old (ResourceCalls (OpenResFile k)) = AreBytes (disk_of k old)
+IsTyped old _ = ⊤
 
--- what the types of the program say of a run: at each call the disks are of bytes, and a resource type has four
+-- so they say of each call of a run
 abbrev pub AreTyped : Tools → List Called → Type 0
 AreTyped old [] = ⊤
-AreTyped old (called ∷ later) = ((k : ℕ) → AreBytes (disk_of k old.resources)) × HasType called.call × AreTyped called.tools later
+AreTyped old (called ∷ later) = IsTyped old.resources called.call × AreTyped called.tools later
 
 -- the state behind a run
 abbrev pub tools_behind : Tools → List Called → Tools
