@@ -1,8 +1,7 @@
 -- The open files and their disks: each file has a number of its own, and its rows have the bytes of its fork.
-use Rattle.std.proofs.Common.{◌≡◌, ℕ, zero, suc, ◌-◌, ◌<◌, ◌≤◌, Bool, true, false, List, [], ◌∷◌, ◌++◌, length, map, set, get_or, Option, Some, None, refl, sym, ap, subst, ◌∙◌, arith, cond, length-set}
-use Rattle.std.specs.Prelude.{◌||◌, ◌==◌, find, fold, slice_get, unwrap_or, if◌then◌else◌, option_map, option_and_then, remove, ⊤}
+use Rattle.std.proofs.Common.{◌≡◌, ℕ, zero, suc, ◌-◌, ◌<◌, ◌≤◌, Bool, true, false, List, [], ◌∷◌, ◌++◌, length, map, set, Option, Some, None, refl, sym, ap, subst, ◌∙◌, arith, cond, length-set}
+use Rattle.std.specs.Prelude.{◌||◌, ◌==◌, find, slice_get, unwrap_or, if◌then◌else◌, option_map, option_and_then, ⊤}
 use Rattle.std.specs.List.{AllByRecursion, list_any}
-use Rattle.std.specs.Option.{option_map_or}
 use Rattle.std.proofs.lemmas.Bool.{eqb-true, eqb-false, ne_eqb}
 use Rattle.std.proofs.lemmas.List.{get_or-set_same, get_or-set_other}
 use Rattle.std.proofs.lemmas.Option.{unwrap_or-slice_get}
@@ -15,7 +14,7 @@ use Rattle.res_table.specs.declared.chain.RowPlace.{RowPlace}
 use Rattle.res_calls.specs.Changes.{FileRow, FileTable, Files, handles_forgotten, row_changed}
 use Rattle.res_calls.specs.Device.{Disk}
 use Rattle.res_laws.specs.Forks.{HasBytes}
-use Rattle.res_laws.proofs.ForkRows.{Alike, IsNamed, IsWhole, alike-all, alike-at, alike-grouped, alike-map, all-added, all-more, all-removed}
+use Rattle.res_laws.proofs.ForkRows.{Alike, IsNamed, alike-all, alike-at, alike-grouped, alike-map, all-added, all-removed}
 use Rattle.res_laws.proofs.Grouped.{added_grouped, removed_grouped}
 
 abbrev pub File : Type 0
@@ -210,7 +209,7 @@ forgotten-each disks h (f ∷ fs) all =
     (with-alike disks f (forgotten h f.table.rows) (alike-map P P (forgetting h) (λ r. ap (λ q. q.kind) (forgetting-same h r)) (λ r is. still disk r is) f.table.rows) all.0, forgotten-each disks h fs all.1)
   where
     still : (disk : Disk) (r : FileRow) → IsKeptRow disk r → IsKeptRow disk (forgetting h r)
-    still disk r is = elim (has_handle h r) as (λ b. IsKeptRow disk (if b then with_handle None r else r)) [ | true ↦ is | false ↦ is ]
+    still disk r is = elim (has_handle h r) as (λ b. IsKeptRow disk (if b then with_handle None r else r)) [ true ↦ is | false ↦ is ]
 
 pub forgotten-kept : (disks : List Disk) (h : ℕ) (files : Files) → AreKept disks files.files → AreKept disks (handle_forgotten h files).files
 forgotten-kept disks h files kept = (forgotten-each disks h files.files kept.0, subst AreApart (sym (forgotten-numbers h files.files)) kept.1)

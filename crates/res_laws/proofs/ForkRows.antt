@@ -1,6 +1,6 @@
 -- The rows of an open file: what each is, what its file's fork has of it, and that the table may be written and is read again.
-use Rattle.std.proofs.Common.{◌≡◌, ◌≢◌, ℕ, zero, suc, ◌+◌, ◌<◌, ◌≤◌, Bool, true, false, not, List, [], ◌∷◌, length, map, remove, Option, Some, None, refl, sym, ap, subst, ◌∙◌, arith, inl, inr, AllPairs}
-use Rattle.std.specs.Prelude.{◌&&◌, ◌⊎◌, nat_le, IfSome, FitsSigned, ⊤, if◌then◌else◌}
+use Rattle.std.proofs.Common.{◌≡◌, ◌≢◌, ℕ, zero, suc, ◌+◌, ◌<◌, ◌≤◌, Bool, true, false, not, List, [], ◌∷◌, length, map, remove, Option, Some, None, refl, sym, ap, subst, ◌∙◌, arith, inr, AllPairs}
+use Rattle.std.specs.Prelude.{◌&&◌, nat_le, IfSome, FitsSigned, ⊤, if◌then◌else◌}
 use Rattle.std.specs.Int.{w16}
 use Rattle.std.specs.List.{AllByRecursion, Any, list_any}
 use Rattle.std.specs.Option.{option_map_or}

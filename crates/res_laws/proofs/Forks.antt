@@ -1,6 +1,6 @@
 -- Over runs of calls updated forks read back, and the rows of the open files have the bytes of their forks.
-use Rattle.std.proofs.Common.{◌≡◌, ℕ, ◌+◌, ◌-◌, ◌<◌, ◌≤◌, Bool, true, false, not, List, [], ◌∷◌, length, map, set, Option, Some, None, Ok, Err, Result, refl, sym, ap, subst, ◌∙◌, arith, cond, inl, inr, length-set}
-use Rattle.std.specs.Prelude.{◌&&◌, ◌==◌, ℤ, bit_and, bit_or, pos, negsuc, FitsSigned, IfSome, find, is_none, nat_le, option_and_then, option_map}
+use Rattle.std.proofs.Common.{◌≡◌, ℕ, ◌-◌, ◌≤◌, Bool, true, false, List, [], ◌∷◌, length, map, set, Option, Some, None, Ok, Err, Result, refl, sym, ap, subst, ◌∙◌, arith, cond, inl, inr, length-set}
+use Rattle.std.specs.Prelude.{◌&&◌, ℤ, bit_and, bit_or, pos, negsuc, FitsSigned, IfSome, find, is_none, nat_le, option_and_then, option_map}
 use Rattle.std.specs.Int.{w16}
 use Rattle.std.specs.List.{AllByRecursion}
 use Rattle.std.specs.Option.{option_map_or, option_or}
@@ -10,7 +10,6 @@ use Rattle.res_table.specs.Attributes.{is_marked, unmarked}
 use Rattle.mac_base.specs.declared.error.OsErr.{OsErr}
 use Rattle.mac_base.specs.declared.error.OsErr.TheVariants.{AddResFailed, DskFulErr, FnfErr, IoErr, ParamErr, ResNotFound}
 use Rattle.mac_base.specs.HandleTable.{HandleTable, is_full}
-use Rattle.mac_base.specs.Heap.{Heap}
 use Rattle.mac_calls.specs.declared.call.Call.{Call}
 use Rattle.mac_calls.specs.declared.call.Call.TheVariants.{Memory as MemoryCalls, Loan, Resource, MemError, ResError}
 use Rattle.mac_calls.specs.declared.memory_call.MemoryCall.{MemoryCall}
@@ -24,7 +23,7 @@ use Rattle.mac_calls.specs.Tests.{unless_passed}
 use Rattle.fork_bytes.specs.Fork.{StandsFor}
 use Rattle.fork_bytes.specs.Laws.{AreBytes, IsGrouped, IsReadAgain, IsReadWhole}
 use Rattle.fork_bytes.specs.Written.{written}
-use Rattle.res_table.specs.OpenFiles.{changed_file, file_closed, file_opened, handle_forgotten, is_numbered, is_open, no_files, place_of_handle, row_at, rows_changed, table_in, with_rows}
+use Rattle.res_table.specs.OpenFiles.{file_closed, file_opened, handle_forgotten, is_numbered, is_open, place_of_handle, row_at, rows_changed, table_in, with_rows}
 use Rattle.res_table.specs.Rows.{added, changed_at, is_changed, removed_at, with_attributes, with_handle}
 use Rattle.res_table.specs.Saved.{bare}
 use Rattle.res_table.specs.declared.chain.RowPlace.{RowPlace}
@@ -36,8 +35,8 @@ use Rattle.res_calls.specs.Device.{Device, Disk, Reads, ReadsBy, Works as Device
 use Rattle.res_calls.specs.Files.{ResState, ResourceEnd, disk_of, file_named, refused_with, with_disk, with_files, with_heap}
 use Rattle.res_calls.specs.Fitting.{rows_fit}
 use Rattle.res_calls.specs.Loads.{handle_made, load_end, loaded, loaded_results, unloaded, loads_bytes, placed_end, placing, read_fails, row_wanted}
-use Rattle.res_calls.specs.Quiet.{attributes_changed, quiet_state, row_removed}
-use Rattle.res_calls.specs.Steps.{Gets, GetsPlace, GetsRow, LeavesDisk, Opens, Quiet, ResourceStepBy, StepsUnless, Updates, Work, Works, behind_memory, opened_end, updating, work_of}
+use Rattle.res_calls.specs.Quiet.{attributes_changed, quiet_state}
+use Rattle.res_calls.specs.Steps.{Gets, GetsPlace, GetsRow, Opens, Quiet, ResourceStepBy, StepsUnless, Updates, Work, Works, behind_memory, opened_end, updating, work_of}
 use Rattle.res_calls.specs.Tests.{AllUnlent, CanWriteFile, CanWriteRow, ChangedUnlent, HasFile, HasRow, IsFile, IsId, IsOpen, MayBeAdded, ResourceTest, UnlentChanged, first_refused_for, is_id, may_be_added, refused_for, resource_refusal}
 use Rattle.res_calls.specs.Updates.{Update, behind_update, can_be_made, disposed, file_update, fits_fork, new_row, row_passes, row_update, update_end, update_of, updated_at, updated_if_changed, updated_row, updated_table}
 use Rattle.res_laws.specs.Acts.{Anything, Memory}
@@ -88,10 +87,10 @@ updated-whole : (t : HandleTable) (table : FileTable) → IsWhole table → IsWh
 updated-whole t table whole = whole-alike table (map (updated_if_changed t) table.rows) (alike-map IsNamed IsNamed (updated_if_changed t) same still table.rows) whole
   where
     same : (r : FileRow) → (updated_if_changed t r).resource.kind ≡ r.resource.kind
-    same r = elim (is_changed r) as (λ b. (cond b (updated_row t r) r).resource.kind ≡ r.resource.kind) [ | true ↦ refl | false ↦ refl ]
+    same r = elim (is_changed r) as (λ b. (cond b (updated_row t r) r).resource.kind ≡ r.resource.kind) [ true ↦ refl | false ↦ refl ]
 
     still : (r : FileRow) → IsNamed r → IsNamed (updated_if_changed t r)
-    still r is = elim (is_changed r) as (λ b. IsNamed (cond b (updated_row t r) r)) [ | true ↦ is | false ↦ is ]
+    still r is = elim (is_changed r) as (λ b. IsNamed (cond b (updated_row t r) r)) [ true ↦ is | false ↦ is ]
 
 updated-at-whole : (t : HandleTable) (i : ℕ) (table : FileTable) → IsWhole table → IsWhole (updated_at t i table)
 updated-at-whole t i table whole = whole-alike table (changed_at i (updated_row t) table.rows) (alike-at IsNamed IsNamed (updated_row t) (λ r. refl) (λ r is. is) (λ r is. is) i table.rows) whole
@@ -321,7 +320,7 @@ quiet-kept old (call.AddResource h kind id name) typed none kept = by old.files.
     is disk =
         let id_is = passed ParamErr (is_id id) (first-passed (refused_for old (IsId id)) (first_refused_for old (MayBeAdded h kind id name ∷ [])) behind) in
         let added_is = passed AddResFailed (may_be_added old h (new_row h kind id name))
-            (first-passed (refused_for old (MayBeAdded h kind id name)) None (later-passed (refused_for old (IsId id)) (first_refused_for old (MayBeAdded h kind id name ∷ [])) behind)) in
+        (first-passed (refused_for old (MayBeAdded h kind id name)) None (later-passed (refused_for old (IsId id)) (first_refused_for old (MayBeAdded h kind id name ∷ [])) behind)) in
         let short = nat_le (option_map_or length name 0) 255 && rows_fit (bare (added (new_row h kind id name) (current_rows old.files))) in
         let late = both-true (is_none (place_of_handle h old.files)) short (both-true (is_full old.heap.table h) (is_none (place_of_handle h old.files) && short) added_is).1 in
         let name_is = both-true (nat_le (option_map_or length name 0) 255) (rows_fit (bare (added (new_row h kind id name) (current_rows old.files)))) late.1 in

@@ -1,5 +1,5 @@
 -- Rows of one type stand together: with a row less, with a row more, and with rows changed that keep their types.
-use Rattle.std.proofs.Common.{◌≡◌, ◌≢◌, refl, sym, ap, ◌∙◌, subst, ℕ, zero, suc, ◌+◌, List, [], ◌∷◌, remove, Bool, true, false, not, AllPairs, bytes_eq, if◌then◌else◌, ◌⊎◌, inl, inr, ◌||◌}
+use Rattle.std.proofs.Common.{◌≡◌, ◌≢◌, refl, sym, ap, ◌∙◌, subst, ℕ, zero, suc, ◌+◌, List, [], ◌∷◌, remove, Bool, true, false, not, bytes_eq, if◌then◌else◌, ◌⊎◌, inl, inr, ◌||◌}
 use Rattle.std.specs.Prelude.{◌&&◌}
 use Rattle.std.specs.List.{list_any, AllByRecursion}
 use Rattle.std.proofs.lemmas.Bool.Decides.{not_from_Decides}
