@@ -40,7 +40,7 @@ use Rattle.res_calls.specs.Steps.{Gets, GetsPlace, GetsRow, Opens, Quiet, Resour
 use Rattle.res_calls.specs.Tests.{AllUnlent, CanWriteFile, CanWriteRow, ChangedUnlent, HasFile, HasRow, IsFile, IsId, IsOpen, MayBeAdded, ResourceTest, UnlentChanged, first_refused_for, is_id, may_be_added, refused_for, resource_refusal}
 use Rattle.res_calls.specs.Updates.{Update, behind_update, can_be_made, disposed, file_update, fits_fork, new_row, row_passes, row_update, update_end, update_of, updated_at, updated_if_changed, updated_row, updated_table}
 use Rattle.res_laws.specs.Acts.{Anything, Memory}
-use Rattle.res_laws.specs.Forks.{AreTyped, HasBytes, IsFileRun, IsTyped, LoadsReadForks, RowsReadOffForks, UpdatesReadBack, tools_behind}
+use Rattle.res_laws.specs.Forks.{AreTyped, HasBytes, IsReached, IsTyped, LoadsReadForks, RowsReadOffForks, UpdatesReadBack, tools_behind}
 use Rattle.res_laws.specs.Tools.{Called, IsToolRun, ToolDoes, Tools}
 use Rattle.res_laws.proofs.ForkRows.{Alike, IsNamed, IsWhole, alike-all, alike-at, alike-grouped, alike-map, all-more, both-true, opened-bytes, opened-whole, saved-bytes, saved-stands}
 use Rattle.res_laws.proofs.ForkFiles.{AreKept, File, IsKept, IsKeptRow, added-kept, all-forgotten-kept, apart-changed, apart-closed, changed-kept, closed-kept, disk-here, disk_in, forgotten-kept, found-kept, kept-row, kept-there, opened-kept, removed-kept, row-kept}
@@ -363,14 +363,15 @@ module _ (read_again : IsReadAgain) (read_whole : IsReadWhole) where
   run-kept old [] is typed kept = kept
   run-kept old (c ∷ later) is typed kept = run-kept c.tools later is.1 typed.1 (tool-kept old c.call c.asks c.outcome c.tools typed.0 kept is.0)
 
-  file-run-kept : (start : Tools) (run : List Called) → IsFileRun start run → Kept (tools_behind start run).resources
-  file-run-kept start run is = run-kept start run is.is is.typed (subst (λ (files : Files). AreKept start.resources.disks files.files) (sym is.none) (tt, tt))
+  reached-kept : (tools : Tools) → IsReached tools → Kept tools.resources
+  reached-kept tools reached = subst (λ (tools : Tools). Kept tools.resources) reached.ends
+      (run-kept reached.start reached.run reached.is reached.typed (subst (λ (files : Files). AreKept reached.start.resources.disks files.files) (sym reached.none) (tt, tt)))
 
   pub rows-read-off-forks : RowsReadOffForks
-  rows-read-off-forks start run is p r stands = kept-row (tools_behind start run).resources.disks p r (tools_behind start run).resources.files (file-run-kept start run is) stands
+  rows-read-off-forks tools reached p r stands = kept-row tools.resources.disks p r tools.resources.files (reached-kept tools reached) stands
 
   pub loads-read-forks : LoadsReadForks
-  loads-read-forks start run is c h flags bytes act = (act.0, act.1, act.2, act.3, rows-read-off-forks start run is act.0 act.1 act.3, act.5)
+  loads-read-forks old c h flags bytes reached act = (act.0, act.1, act.2, act.3, rows-read-off-forks old reached act.0 act.1 act.3, act.5)
 
   -- the disk behind an update that succeeded
   behind-disks : (rc : ResourceCall) (k : ℕ) (state : ResState) → (behind_update rc k state).disks ≡ state.disks
@@ -388,18 +389,16 @@ module _ (read_again : IsReadAgain) (read_whole : IsReadWhole) where
   update-saved (FailsWriting left) old rc u results new m is = let failed = ap (λ (e : ResourceEnd). e.outcome) is in absurd (cc failed)
 
   pub updates-read-back : UpdatesReadBack
-  updates-read-back start run is c u asks results new works does = by (resource_refusal old c) refl does.1
+  updates-read-back old new c u asks results reached works does = by (resource_refusal old.resources c) refl does.1
     where
-      old : ResState
-      old = (tools_behind start run).resources
-
       end : ResourceEnd
       end = record { outcome = Ok results; state = new.resources }
 
-      by : (o : Option OsErr) → resource_refusal old c ≡ o → StepsUnless Memory Anything o does.0 old c asks end → (disk_of u.file new.resources ≡ written (saved_table u.table)) × StandsFor (disk_of u.file new.resources) (saved_table u.table)
+      by : (o : Option OsErr) → resource_refusal old.resources c ≡ o → StepsUnless Memory Anything o does.0 old.resources c asks end
+          → (disk_of u.file new.resources ≡ written (saved_table u.table)) × StandsFor (disk_of u.file new.resources) (saved_table u.table)
       by (Some code) none step = let refused = ap (λ (e : ResourceEnd). e.outcome) step.1 in absurd (cc refused)
       by None none step =
-          let m = makes old u (file-run-kept start run is) c works none in
-          let made : Works Memory Anything does.0 old c asks end (Updates u) = subst (Works Memory Anything does.0 old c asks end) works step in
-          let saved = update-saved does.0 old c u results new.resources m made.2 in
+          let m = makes old.resources u (reached-kept old reached) c works none in
+          let made : Works Memory Anything does.0 old.resources c asks end (Updates u) = subst (Works Memory Anything does.0 old.resources c asks end) works step in
+          let saved = update-saved does.0 old.resources c u results new.resources m made.2 in
           (saved, subst (λ d. StandsFor d (saved_table u.table)) (sym saved) (saved-stands read_again u.table m.whole m.fits))

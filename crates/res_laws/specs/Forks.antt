@@ -32,7 +32,8 @@ IsOfRow r q = (q.kind ≡ r.resource.kind) × (q.id ≡ r.resource.id) × (q.nam
 
 -- The bytes of a row are those that its file's fork has for its type and ID. A resource that was added and not yet saved has none.
 abbrev pub HasBytes : Disk → FileRow → Type 0
-HasBytes fork r = ((r.resource.datum ≡ []) × (is_changed r ≡ true)) ⊎ ((table : Table) × StandsFor fork table × Any (IsOfRow r) table.rows)
+HasBytes fork r = ((r.resource.datum ≡ []) × (is_changed r ≡ true))
+    ⊎ ((table : Table) × StandsFor fork table × Any (IsOfRow r) table.rows)
 
 -- all rows of the open files have such bytes
 abbrev pub ReadOffForks : ResState → Type 0
@@ -54,24 +55,27 @@ abbrev pub tools_behind : Tools → List Called → Tools
 tools_behind old [] = old
 tools_behind old (called ∷ later) = tools_behind called.tools later
 
--- a run of calls from a state where no file is open
-pub record IsFileRun (start : Tools) (run : List Called) : Type 0 where
+-- the state is reached by a run of calls from one where no file is open
+pub record IsReached (tools : Tools) : Type 0 where
+  pub start : Tools
+  pub run : List Called
   pub none : start.resources.files ≡ no_files
   pub is : IsToolRun start run
   pub typed : AreTyped start run
+  pub ends : tools_behind start run ≡ tools
 
--- Every fork that is updated is the written form of the resource map as it is saved, and reads back as that map, if the call succeeds.
+-- Every fork that is updated reads back as the table that was saved: that of the file, where each changed row has its contents.
 abbrev pub UpdatesReadBack : Type 0
-UpdatesReadBack = (start : Tools) (run : List Called) → IsFileRun start run → (call : ResourceCall) (u : Update) (asks : List Ask) (results : Results) (new : Tools)
-    → work_of (tools_behind start run).resources call ≡ Updates u → ToolDoes (tools_behind start run) (ResourceCalls call) asks (Ok results) new
+UpdatesReadBack = (old new : Tools) (call : ResourceCall) (u : Update) (asks : List Ask) (results : Results) → IsReached old
+    → work_of old.resources call ≡ Updates u → ToolDoes old (ResourceCalls call) asks (Ok results) new
     → (disk_of u.file new.resources ≡ written (saved_table u.table)) × StandsFor (disk_of u.file new.resources) (saved_table u.table)
 
 -- At each moment the rows of the open files have the bytes of their forks.
 abbrev pub RowsReadOffForks : Type 0
-RowsReadOffForks = (start : Tools) (run : List Called) → IsFileRun start run → ReadOffForks (tools_behind start run).resources
+RowsReadOffForks = (tools : Tools) → IsReached tools → ReadOffForks tools.resources
 
--- Every load puts the bytes that the fork has for the resource.
+-- A load gives the bytes that the fork has for the resource that the call gets.
 abbrev pub LoadsReadForks : Type 0
-LoadsReadForks = (start : Tools) (run : List Called) → IsFileRun start run → (call : ResourceCall) (h : ℕ) (flags : Flags) (bytes : List ℕ)
-    → let state = (tools_behind start run).resources in IsActOf state call (Loads h flags bytes)
-    → (p : RowPlace) × (r : FileRow) × (row_wanted state call ≡ Some p) × (row_at p state.files ≡ Some r) × HasBytes (disk_of p.file state) r × (bytes ≡ r.resource.datum)
+LoadsReadForks = (old : Tools) (call : ResourceCall) (h : ℕ) (flags : Flags) (bytes : List ℕ) → IsReached old
+    → IsActOf old.resources call (Loads h flags bytes) → (p : RowPlace) × (r : FileRow) × (row_wanted old.resources call ≡ Some p)
+    × (row_at p old.resources.files ≡ Some r) × HasBytes (disk_of p.file old.resources) r × (bytes ≡ r.resource.datum)
