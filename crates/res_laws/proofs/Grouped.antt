@@ -1,7 +1,7 @@
--- Rows of one type stand together: with a row less, with a row more, and with rows changed that keep their types.
+-- Rows of one type stand together: they still do with a row less, and with a row more.
 use Rattle.std.proofs.Common.{◌≡◌, ◌≢◌, refl, sym, ap, ◌∙◌, subst, ℕ, zero, suc, ◌+◌, List, [], ◌∷◌, remove, Bool, true, false, not, bytes_eq, if◌then◌else◌, ◌⊎◌, inl, inr, ◌||◌}
 use Rattle.std.specs.Prelude.{◌&&◌}
-use Rattle.std.specs.List.{list_any, AllByRecursion}
+use Rattle.std.specs.List.{list_any}
 use Rattle.std.proofs.lemmas.Bool.Decides.{not_from_Decides}
 use Rattle.std.proofs.lemmas.Slice.Eq.{bytes_eq-Decides}
 use Rattle.fork_bytes.specs.declared.layout.TypeCount.{TypeCount}
@@ -12,200 +12,150 @@ use Rattle.res_table.specs.declared.row.Row.{Row}
 use Rattle.res_table.specs.Rows.{is_of_type, added}
 use Rattle.res_table.specs.Saved.{bare}
 
+-- ---- types that are counted
+
 -- the first of these types is this one
 abbrev Heads : List ℕ → List TypeCount → Type 0
 Heads kind [] = ⊥
 Heads kind (first ∷ others) = kind ≡ first.kind
 
--- one more row before types that are counted
+-- a row of this type may stand before these types: they begin with it, or it is not among them
+abbrev MayPrecede : List ℕ → List TypeCount → Type 0
+MayPrecede kind types = Heads kind types ⊎ Apart counted kind types
+
+same_type : (kind other : List ℕ) → bytes_eq kind other ≡ true → kind ≡ other
+same_type kind other is = (bytes_eq-Decides kind other).0 is
+
+other_type : (kind other : List ℕ) → bytes_eq kind other ≡ false → kind ≢ other
+other_type kind other is same = not_from_Decides (bytes_eq kind other) (bytes_eq-Decides kind other) is same
+
+-- the types once one more row of a type stands before them
+abbrev preceded : Bool → List ℕ → TypeCount → List TypeCount → List TypeCount
+preceded b kind first types = if b then record { kind = kind; count = 1 + first.count } ∷ types else record { kind = kind; count = 1 } ∷ first ∷ types
+
 apart_before : (other kind : List ℕ) (types : List TypeCount) → other ≢ kind → Apart counted other types → Apart counted other (counted_before kind 1 types)
 apart_before other kind [] differ apart = (differ, tt)
-apart_before other kind (first ∷ types) differ apart = by (bytes_eq kind first.kind)
-  where
-    by : (b : Bool) → Apart counted other (if b then record { kind = kind; count = 1 + first.count } ∷ types else record { kind = kind; count = 1 } ∷ first ∷ types)
-    by true = (differ, apart.1)
-    by false = (differ, apart)
+apart_before other kind (first ∷ types) differ apart =
+    elim (bytes_eq kind first.kind) as (λ b. Apart counted other (preceded b kind first types)) [ | true ↦ (differ, apart.1) | false ↦ (differ, apart) ]
 
 apart_behind : (other kind : List ℕ) (types : List TypeCount) → Apart counted other (counted_before kind 1 types) → (other ≢ kind) × Apart counted other types
 apart_behind other kind [] apart = (apart.0, tt)
 apart_behind other kind (first ∷ types) apart = by (bytes_eq kind first.kind) refl apart
   where
-    by : (b : Bool) → bytes_eq kind first.kind ≡ b → Apart counted other (if b then record { kind = kind; count = 1 + first.count } ∷ types else record { kind = kind; count = 1 } ∷ first ∷ types)
-        → (other ≢ kind) × Apart counted other (first ∷ types)
-    by true is all = (all.0, (subst (λ (k : List ℕ). other ≢ k) ((bytes_eq-Decides kind first.kind).0 is) all.0, all.1))
+    by : (b : Bool) → bytes_eq kind first.kind ≡ b → Apart counted other (preceded b kind first types) → (other ≢ kind) × Apart counted other (first ∷ types)
+    by true is all = (all.0, (subst (λ (k : List ℕ). other ≢ k) (same_type kind first.kind is) all.0, all.1))
     by false is all = (all.0, all.1)
 
-distinct_before : (kind : List ℕ) (types : List TypeCount) → Heads kind types ⊎ Apart counted kind types → Distinct counted types → Distinct counted (counted_before kind 1 types)
-distinct_before kind [] ahead distinct = (tt, tt)
-distinct_before kind (first ∷ types) ahead distinct = by (bytes_eq kind first.kind) refl ahead
+distinct_before : (kind : List ℕ) (types : List TypeCount) → MayPrecede kind types → Distinct counted types → Distinct counted (counted_before kind 1 types)
+distinct_before kind [] may distinct = (tt, tt)
+distinct_before kind (first ∷ types) may distinct = by (bytes_eq kind first.kind) refl may
   where
-    by : (b : Bool) → bytes_eq kind first.kind ≡ b → (kind ≡ first.kind) ⊎ Apart counted kind (first ∷ types)
-        → Distinct counted (if b then record { kind = kind; count = 1 + first.count } ∷ types else record { kind = kind; count = 1 } ∷ first ∷ types)
-    by true is ahead = (subst (λ (k : List ℕ). Apart counted k types) (sym ((bytes_eq-Decides kind first.kind).0 is)) distinct.0, distinct.1)
-    by false is (inl same) = absurd (not_from_Decides (bytes_eq kind first.kind) (bytes_eq-Decides kind first.kind) is same)
+    by : (b : Bool) → bytes_eq kind first.kind ≡ b → MayPrecede kind (first ∷ types) → Distinct counted (preceded b kind first types)
+    by true is may = (subst (λ (k : List ℕ). Apart counted k types) (sym (same_type kind first.kind is)) distinct.0, distinct.1)
+    by false is (inl same) = absurd (other_type kind first.kind is same)
     by false is (inr apart) = (apart, distinct)
 
-distinct_behind : (kind : List ℕ) (types : List TypeCount) → Distinct counted (counted_before kind 1 types) → (Heads kind types ⊎ Apart counted kind types) × Distinct counted types
+distinct_behind : (kind : List ℕ) (types : List TypeCount) → Distinct counted (counted_before kind 1 types) → MayPrecede kind types × Distinct counted types
 distinct_behind kind [] distinct = (inr tt, tt)
 distinct_behind kind (first ∷ types) distinct = by (bytes_eq kind first.kind) refl distinct
   where
-    by : (b : Bool) → bytes_eq kind first.kind ≡ b → Distinct counted (if b then record { kind = kind; count = 1 + first.count } ∷ types else record { kind = kind; count = 1 } ∷ first ∷ types)
-        → ((kind ≡ first.kind) ⊎ Apart counted kind (first ∷ types)) × Distinct counted (first ∷ types)
-    by true is all = let same = (bytes_eq-Decides kind first.kind).0 is in (inl same, (subst (λ (k : List ℕ). Apart counted k types) same all.0, all.1))
+    by : (b : Bool) → bytes_eq kind first.kind ≡ b → Distinct counted (preceded b kind first types) → MayPrecede kind (first ∷ types) × Distinct counted (first ∷ types)
+    by true is all = let same = same_type kind first.kind is in (inl same, (subst (λ (k : List ℕ). Apart counted k types) same all.0, all.1))
     by false is all = (inr all.0, all.1)
 
 headed : (kind first : List ℕ) (types : List TypeCount) → kind ≡ first → Heads kind (counted_before first 1 types)
 headed kind first [] same = same
-headed kind first (other ∷ types) same = by (bytes_eq first other.kind)
-  where
-    by : (b : Bool) → Heads kind (if b then record { kind = first; count = 1 + other.count } ∷ types else record { kind = first; count = 1 } ∷ other ∷ types)
-    by true = same
-    by false = same
+headed kind first (other ∷ types) same = elim (bytes_eq first other.kind) as (λ b. Heads kind (preceded b first other types)) [ | true ↦ same | false ↦ same ]
 
 head_is : (kind first : List ℕ) (types : List TypeCount) → Heads kind (counted_before first 1 types) → kind ≡ first
 head_is kind first [] heads = heads
-head_is kind first (other ∷ types) heads = by (bytes_eq first other.kind) heads
-  where
-    by : (b : Bool) → Heads kind (if b then record { kind = first; count = 1 + other.count } ∷ types else record { kind = first; count = 1 } ∷ other ∷ types) → kind ≡ first
-    by true heads = heads
-    by false heads = heads
+head_is kind first (other ∷ types) heads =
+    (elim (bytes_eq first other.kind) as (λ b. Heads kind (preceded b first other types) → kind ≡ first) [ | true ↦ λ heads. heads | false ↦ λ heads. heads ]) heads
 
 module _ {D : Type 0} where
-  -- none of these rows is of this type
-  abbrev NoneOf : List ℕ → List (Row D) → Type 0
-  NoneOf kind rows = AllByRecursion (λ (r : Row D). kind ≢ r.resource.kind) rows
+  abbrev types_in : List (Row D) → List TypeCount
+  types_in rows = types_of (bare rows)
 
-  -- the first of these rows is of this type
-  abbrev Starts : List ℕ → List (Row D) → Type 0
-  Starts kind [] = ⊥
-  Starts kind (r ∷ rows) = kind ≡ r.resource.kind
+  -- ---- one row less
+  apart_removed : (kind : List ℕ) (rows : List (Row D)) (at : ℕ) → Apart counted kind (types_in rows) → Apart counted kind (types_in (remove rows at))
+  apart_removed kind [] zero apart = tt
+  apart_removed kind [] (suc at) apart = tt
+  apart_removed kind (r ∷ rows) zero apart = (apart_behind kind r.resource.kind (types_in rows) apart).1
+  apart_removed kind (r ∷ rows) (suc at) apart =
+      let both = apart_behind kind r.resource.kind (types_in rows) apart in apart_before kind r.resource.kind (types_in (remove rows at)) both.0 (apart_removed kind rows at both.1)
 
-  -- behind each row stands one of its type, or none of its type is left
-  abbrev AreTogether : List (Row D) → Type 0
-  AreTogether [] = Unit {0}
-  AreTogether (r ∷ rows) = (Starts r.resource.kind rows ⊎ NoneOf r.resource.kind rows) × AreTogether rows
+  may_removed : (kind : List ℕ) (rows : List (Row D)) (at : ℕ) → Distinct counted (types_in rows) → MayPrecede kind (types_in rows) → MayPrecede kind (types_in (remove rows at))
+  may_removed kind rows at distinct (inr apart) = inr (apart_removed kind rows at apart)
+  may_removed kind [] at distinct (inl heads) = absurd heads
+  may_removed kind (r ∷ rows) zero distinct (inl heads) =
+      subst (λ (k : List ℕ). MayPrecede k (types_in rows)) (sym (head_is kind r.resource.kind (types_in rows) heads)) (distinct_behind r.resource.kind (types_in rows) distinct).0
+  may_removed kind (r ∷ rows) (suc at) distinct (inl heads) = inl (headed kind r.resource.kind (types_in (remove rows at)) (head_is kind r.resource.kind (types_in rows) heads))
 
-  none_apart : (kind : List ℕ) (rows : List (Row D)) → NoneOf kind rows → Apart counted kind (types_of (bare rows))
-  none_apart kind [] none = tt
-  none_apart kind (r ∷ rows) none = apart_before kind r.resource.kind (types_of (bare rows)) none.0 (none_apart kind rows none.1)
-
-  apart_none : (kind : List ℕ) (rows : List (Row D)) → Apart counted kind (types_of (bare rows)) → NoneOf kind rows
-  apart_none kind [] apart = tt
-  apart_none kind (r ∷ rows) apart = let both = apart_behind kind r.resource.kind (types_of (bare rows)) apart in (both.0, apart_none kind rows both.1)
-
-  starts_heads : (kind : List ℕ) (rows : List (Row D)) → Starts kind rows → Heads kind (types_of (bare rows))
-  starts_heads kind [] starts = starts
-  starts_heads kind (r ∷ rows) starts = headed kind r.resource.kind (types_of (bare rows)) starts
-
-  heads_starts : (kind : List ℕ) (rows : List (Row D)) → Heads kind (types_of (bare rows)) → Starts kind rows
-  heads_starts kind [] heads = heads
-  heads_starts kind (r ∷ rows) heads = head_is kind r.resource.kind (types_of (bare rows)) heads
-
-  -- that is what it is to be grouped
-  next_of_types : (kind : List ℕ) (rows : List (Row D)) → Heads kind (types_of (bare rows)) ⊎ Apart counted kind (types_of (bare rows)) → Starts kind rows ⊎ NoneOf kind rows
-  next_of_types kind rows (inl heads) = inl (heads_starts kind rows heads)
-  next_of_types kind rows (inr apart) = inr (apart_none kind rows apart)
-
-  types_of_next : (kind : List ℕ) (rows : List (Row D)) → Starts kind rows ⊎ NoneOf kind rows → Heads kind (types_of (bare rows)) ⊎ Apart counted kind (types_of (bare rows))
-  types_of_next kind rows (inl starts) = inl (starts_heads kind rows starts)
-  types_of_next kind rows (inr none) = inr (none_apart kind rows none)
-
-  together_from : (rows : List (Row D)) → Distinct counted (types_of (bare rows)) → AreTogether rows
-  together_from [] distinct = tt
-  together_from (r ∷ rows) distinct =
-      let both = distinct_behind r.resource.kind (types_of (bare rows)) distinct in (next_of_types r.resource.kind rows both.0, together_from rows both.1)
-
-  together_to : (rows : List (Row D)) → AreTogether rows → Distinct counted (types_of (bare rows))
-  together_to [] together = tt
-  together_to (r ∷ rows) together = distinct_before r.resource.kind (types_of (bare rows)) (types_of_next r.resource.kind rows together.0) (together_to rows together.1)
-
-  together_rows : (rows : List (Row D)) → IsGrouped (bare rows) → AreTogether rows
-  together_rows rows grouped = together_from rows (distinct_from counted (types_of (bare rows)) grouped)
-
-  grouped_rows : (rows : List (Row D)) → AreTogether rows → IsGrouped (bare rows)
-  grouped_rows rows together = distinct_at counted (types_of (bare rows)) (together_to rows together)
-
-  -- one row less
-  none_removed : (kind : List ℕ) (rows : List (Row D)) (at : ℕ) → NoneOf kind rows → NoneOf kind (remove rows at)
-  none_removed kind [] zero none = none
-  none_removed kind [] (suc at) none = none
-  none_removed kind (r ∷ rows) zero none = none.1
-  none_removed kind (r ∷ rows) (suc at) none = (none.0, none_removed kind rows at none.1)
-
-  starts_removed : (kind : List ℕ) (rows : List (Row D)) (at : ℕ) → AreTogether rows → Starts kind rows → Starts kind (remove rows at) ⊎ NoneOf kind (remove rows at)
-  starts_removed kind [] at together starts = absurd starts
-  starts_removed kind (r ∷ rows) zero together starts = subst (λ (k : List ℕ). Starts k rows ⊎ NoneOf k rows) (sym starts) together.0
-  starts_removed kind (r ∷ rows) (suc at) together starts = inl starts
-
-  next_removed : (kind : List ℕ) (rows : List (Row D)) (at : ℕ) → AreTogether rows → Starts kind rows ⊎ NoneOf kind rows → Starts kind (remove rows at) ⊎ NoneOf kind (remove rows at)
-  next_removed kind rows at together (inl starts) = starts_removed kind rows at together starts
-  next_removed kind rows at together (inr none) = inr (none_removed kind rows at none)
-
-  together_removed : (rows : List (Row D)) (at : ℕ) → AreTogether rows → AreTogether (remove rows at)
-  together_removed [] zero together = tt
-  together_removed [] (suc at) together = tt
-  together_removed (r ∷ rows) zero together = together.1
-  together_removed (r ∷ rows) (suc at) together = (next_removed r.resource.kind rows at together.1 together.0, together_removed rows at together.1)
+  distinct_removed : (rows : List (Row D)) (at : ℕ) → Distinct counted (types_in rows) → Distinct counted (types_in (remove rows at))
+  distinct_removed [] zero distinct = tt
+  distinct_removed [] (suc at) distinct = tt
+  distinct_removed (r ∷ rows) zero distinct = (distinct_behind r.resource.kind (types_in rows) distinct).1
+  distinct_removed (r ∷ rows) (suc at) distinct =
+      let both = distinct_behind r.resource.kind (types_in rows) distinct in
+      distinct_before r.resource.kind (types_in (remove rows at)) (may_removed r.resource.kind rows at both.1 both.0) (distinct_removed rows at both.1)
 
   pub removed_grouped : (at : ℕ) (rows : List (Row D)) → IsGrouped (bare rows) → IsGrouped (bare (remove rows at))
-  removed_grouped at rows grouped = grouped_rows (remove rows at) (together_removed rows at (together_rows rows grouped))
+  removed_grouped at rows grouped = distinct_at counted (types_in (remove rows at)) (distinct_removed rows at (distinct_from counted (types_in rows) grouped))
 
-  -- rows of which none is of a type
-  of_other : (kind : List ℕ) (r : Row D) → kind ≢ r.resource.kind → is_of_type kind r ≡ false
-  of_other kind r differ = by (is_of_type kind r) refl
+  -- ---- one row more
+  any_of_none : (kind : List ℕ) (rows : List (Row D)) → list_any (is_of_type kind) rows ≡ true → Apart counted kind (types_in rows) → ⊥
+  any_of_none kind [] some apart = cc some
+  any_of_none kind (r ∷ rows) some apart = let both = apart_behind kind r.resource.kind (types_in rows) apart in by (is_of_type kind r) refl some (λ some. any_of_none kind rows some both.1)
     where
-      by : (b : Bool) → is_of_type kind r ≡ b → b ≡ false
-      by true is = absurd (differ (sym ((bytes_eq-Decides r.resource.kind kind).0 is)))
-      by false is = refl
+      by : (b : Bool) → is_of_type kind r ≡ b → (b || list_any (is_of_type kind) rows) ≡ true → (list_any (is_of_type kind) rows ≡ true → ⊥) → ⊥
+      by true is some deeper = (apart_behind kind r.resource.kind (types_in rows) apart).0 (sym (same_type r.resource.kind kind is))
+      by false is some deeper = deeper some
 
-  any_of_none : (kind : List ℕ) (rows : List (Row D)) → NoneOf kind rows → list_any (is_of_type kind) rows ≡ false
-  any_of_none kind [] none = refl
-  any_of_none kind (r ∷ rows) none = ap (λ b. b || list_any (is_of_type kind) rows) (of_other kind r none.0) ∙ any_of_none kind rows none.1
-
-  none_of_any : (kind : List ℕ) (rows : List (Row D)) → list_any (is_of_type kind) rows ≡ false → NoneOf kind rows
+  none_of_any : (kind : List ℕ) (rows : List (Row D)) → list_any (is_of_type kind) rows ≡ false → Apart counted kind (types_in rows)
   none_of_any kind [] none = tt
-  none_of_any kind (r ∷ rows) none = by (is_of_type kind r) refl none (λ others. none_of_any kind rows others)
+  none_of_any kind (r ∷ rows) none = by (is_of_type kind r) refl none (none_of_any kind rows)
     where
-      by : (b : Bool) → is_of_type kind r ≡ b → (b || list_any (is_of_type kind) rows) ≡ false → (list_any (is_of_type kind) rows ≡ false → NoneOf kind rows) → NoneOf kind (r ∷ rows)
+      by : (b : Bool) → is_of_type kind r ≡ b → (b || list_any (is_of_type kind) rows) ≡ false → (list_any (is_of_type kind) rows ≡ false → Apart counted kind (types_in rows)) → Apart counted kind (types_in (r ∷ rows))
       by true is none deeper = absurd (cc none)
-      by false is none deeper = (λ same. not_from_Decides (bytes_eq r.resource.kind kind) (bytes_eq-Decides r.resource.kind kind) is (sym same), deeper none)
+      by false is none deeper = apart_before kind r.resource.kind (types_in rows) (λ same. other_type r.resource.kind kind is (sym same)) (deeper none)
 
-  -- one row more
-  none_added : (kind : List ℕ) (new : Row D) (rows : List (Row D)) → kind ≢ new.resource.kind → NoneOf kind rows → NoneOf kind (added new rows)
-  none_added kind new [] differ none = (differ, tt)
-  none_added kind new (r ∷ rows) differ none = by (is_of_type new.resource.kind r) (not (list_any (is_of_type new.resource.kind) rows)) (none_added kind new rows differ none.1)
-    where
-      by : (here last : Bool) → NoneOf kind (added new rows) → NoneOf kind (if here && last then r ∷ new ∷ rows else r ∷ added new rows)
-      by true true deeper = (none.0, (differ, none.1))
-      by true false deeper = (none.0, deeper)
-      by false last deeper = (none.0, deeper)
+  module _ (new : Row D) where
+    abbrev with_new : Bool → Bool → Row D → List (Row D) → List (Row D)
+    with_new here some r rows = if here && not some then r ∷ new ∷ rows else r ∷ added new rows
 
-  starts_added : (kind : List ℕ) (new : Row D) (rows : List (Row D)) → Starts kind rows → Starts kind (added new rows)
-  starts_added kind new [] starts = absurd starts
-  starts_added kind new (r ∷ rows) starts = by (is_of_type new.resource.kind r) (not (list_any (is_of_type new.resource.kind) rows))
-    where
-      by : (here last : Bool) → Starts kind (if here && last then r ∷ new ∷ rows else r ∷ added new rows)
-      by true true = starts
-      by true false = starts
-      by false last = starts
+    apart_added : (kind : List ℕ) (rows : List (Row D)) → kind ≢ new.resource.kind → Apart counted kind (types_in rows) → Apart counted kind (types_in (added new rows))
+    apart_added kind [] differ apart = (differ, tt)
+    apart_added kind (r ∷ rows) differ apart =
+        let both = apart_behind kind r.resource.kind (types_in rows) apart in
+        let deeper = apart_before kind r.resource.kind (types_in (added new rows)) both.0 (apart_added kind rows differ both.1) in
+        let last = apart_before kind r.resource.kind (types_in (new ∷ rows)) both.0 (apart_before kind new.resource.kind (types_in rows) differ both.1) in
+        elim (is_of_type new.resource.kind r && not (list_any (is_of_type new.resource.kind) rows)) as (λ b. Apart counted kind (types_in (if b then r ∷ new ∷ rows else r ∷ added new rows))) [ | true ↦ last | false ↦ deeper ]
 
-  next_added : (kind : List ℕ) (new : Row D) (rows : List (Row D)) → (NoneOf kind rows → kind ≢ new.resource.kind) → Starts kind rows ⊎ NoneOf kind rows → Starts kind (added new rows) ⊎ NoneOf kind (added new rows)
-  next_added kind new rows differ (inl starts) = inl (starts_added kind new rows starts)
-  next_added kind new rows differ (inr none) = inr (none_added kind new rows (differ none) none)
+    may_added : (kind : List ℕ) (rows : List (Row D)) → (Apart counted kind (types_in rows) → kind ≢ new.resource.kind) → MayPrecede kind (types_in rows) → MayPrecede kind (types_in (added new rows))
+    may_added kind rows differ (inr apart) = inr (apart_added kind rows (differ apart) apart)
+    may_added kind [] differ (inl heads) = absurd heads
+    may_added kind (r ∷ rows) differ (inl heads) =
+        let same = head_is kind r.resource.kind (types_in rows) heads in
+        inl (elim (is_of_type new.resource.kind r && not (list_any (is_of_type new.resource.kind) rows)) as (λ b. Heads kind (types_in (if b then r ∷ new ∷ rows else r ∷ added new rows))) [
+          | true ↦ headed kind r.resource.kind (types_in (new ∷ rows)) same
+          | false ↦ headed kind r.resource.kind (types_in (added new rows)) same
+        ])
 
-  together_added : (new : Row D) (rows : List (Row D)) → AreTogether rows → AreTogether (added new rows)
-  together_added new [] together = (inr tt, tt)
-  together_added new (r ∷ rows) together = by (is_of_type new.resource.kind r) (list_any (is_of_type new.resource.kind) rows) refl refl (together_added new rows together.1)
-    where
-      some_left : list_any (is_of_type new.resource.kind) rows ≡ true → NoneOf r.resource.kind rows → r.resource.kind ≢ new.resource.kind
-      some_left some none same = absurd (cc (sym some ∙ ap (λ (kind : List ℕ). list_any (is_of_type kind) rows) (sym same) ∙ any_of_none r.resource.kind rows none))
-
-      by : (here some : Bool) → is_of_type new.resource.kind r ≡ here → list_any (is_of_type new.resource.kind) rows ≡ some → AreTogether (added new rows)
-          → AreTogether (if here && not some then r ∷ new ∷ rows else r ∷ added new rows)
-      by true false here none deeper = (inl ((bytes_eq-Decides r.resource.kind new.resource.kind).0 here), (inr (none_of_any new.resource.kind rows none), together.1))
-      by true true here some deeper = (next_added r.resource.kind new rows (some_left some) together.0, deeper)
-      by false some here is deeper =
-          (next_added r.resource.kind new rows (λ none same. not_from_Decides (bytes_eq r.resource.kind new.resource.kind) (bytes_eq-Decides r.resource.kind new.resource.kind) here same) together.0, deeper)
+    distinct_added : (rows : List (Row D)) → Distinct counted (types_in rows) → Distinct counted (types_in (added new rows))
+    distinct_added [] distinct = (tt, tt)
+    distinct_added (r ∷ rows) distinct =
+        let both = distinct_behind r.resource.kind (types_in rows) distinct in by (is_of_type new.resource.kind r) (list_any (is_of_type new.resource.kind) rows) refl refl both.0 both.1 (distinct_added rows both.1)
+      where
+        by : (here some : Bool) → is_of_type new.resource.kind r ≡ here → list_any (is_of_type new.resource.kind) rows ≡ some → MayPrecede r.resource.kind (types_in rows) → Distinct counted (types_in rows)
+            → Distinct counted (types_in (added new rows)) → Distinct counted (types_in (with_new here some r rows))
+        by true false here none may rest deeper =
+            distinct_before r.resource.kind (types_in (new ∷ rows)) (inl (headed r.resource.kind new.resource.kind (types_in rows) (same_type r.resource.kind new.resource.kind here)))
+            (distinct_before new.resource.kind (types_in rows) (inr (none_of_any new.resource.kind rows none)) rest)
+        by true true here some may rest deeper =
+            let some_left : Apart counted r.resource.kind (types_in rows) → r.resource.kind ≢ new.resource.kind = λ apart same. any_of_none new.resource.kind rows some (subst (λ (k : List ℕ). Apart counted k (types_in rows)) same apart) in
+            distinct_before r.resource.kind (types_in (added new rows)) (may_added r.resource.kind rows some_left may) deeper
+        by false some here is may rest deeper =
+            distinct_before r.resource.kind (types_in (added new rows)) (may_added r.resource.kind rows (λ apart. other_type r.resource.kind new.resource.kind here) may) deeper
 
   pub added_grouped : (new : Row D) (rows : List (Row D)) → IsGrouped (bare rows) → IsGrouped (bare (added new rows))
-  added_grouped new rows grouped = grouped_rows (added new rows) (together_added new rows (together_rows rows grouped))
+  added_grouped new rows grouped = distinct_at counted (types_in (added new rows)) (distinct_added new rows (distinct_from counted (types_in rows) grouped))
