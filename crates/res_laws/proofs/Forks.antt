@@ -1,6 +1,6 @@
 -- Over runs of calls updated forks read back, and the rows of the open files have the bytes of their forks.
 use Rattle.std.proofs.Common.{◌≡◌, ℕ, ◌-◌, ◌≤◌, Bool, true, false, List, [], ◌∷◌, length, map, set, Option, Some, None, Ok, Err, Result, refl, sym, ap, subst, ◌∙◌, arith, cond, inl, inr, length-set}
-use Rattle.std.specs.Prelude.{◌&&◌, ℤ, bit_and, bit_or, pos, negsuc, FitsSigned, IfSome, find, is_none, nat_le, option_and_then, option_map}
+use Rattle.std.specs.Prelude.{◌==◌, ◌&&◌, ℤ, bit_and, bit_or, pos, negsuc, FitsSigned, IfSome, find, is_none, nat_le, option_and_then, option_map}
 use Rattle.std.specs.Int.{w16}
 use Rattle.std.specs.List.{AllByRecursion}
 use Rattle.std.specs.Option.{option_map_or, option_or}
@@ -21,9 +21,9 @@ use Rattle.mac_calls.specs.Outcomes.{Outcome}
 use Rattle.mac_calls.specs.Released.{disposed_in, disposed_of}
 use Rattle.mac_calls.specs.Tests.{unless_passed}
 use Rattle.fork_bytes.specs.Fork.{StandsFor}
-use Rattle.fork_bytes.specs.Laws.{AreBytes, IsGrouped, IsReadAgain, IsReadWhole}
+use Rattle.fork_bytes.specs.Laws.{AreBytes, IsReadAgain, IsReadWhole}
 use Rattle.fork_bytes.specs.Written.{written}
-use Rattle.res_table.specs.OpenFiles.{file_closed, file_opened, handle_forgotten, is_numbered, is_open, place_of_handle, row_at, rows_changed, table_in, with_rows}
+use Rattle.res_table.specs.OpenFiles.{file_opened, handle_forgotten, is_numbered, is_open, place_of_handle, row_at, rows_changed, table_in, with_rows}
 use Rattle.res_table.specs.Rows.{added, changed_at, is_changed, removed_at, with_attributes, with_handle}
 use Rattle.res_table.specs.Saved.{bare}
 use Rattle.res_table.specs.declared.chain.RowPlace.{RowPlace}
@@ -31,7 +31,7 @@ use Rattle.res_base.specs.declared.resource.ResAttrs.{ResAttrs}
 use Rattle.std.proofs.lemmas.List.{length-replicate}
 use Rattle.res_calls.specs.Attributes.{marked, replaced_attributes}
 use Rattle.res_calls.specs.Changes.{FileRow, FileTable, Files, current_rows, opened_table, row_changed, saved_table, with_changed_rows}
-use Rattle.res_calls.specs.Device.{Device, Disk, Reads, ReadsBy, Works as DeviceWorks, FailsBefore, FailsWriting, empty, empty_table, fork, short, damaged}
+use Rattle.res_calls.specs.Device.{Device, Disk, ReadsBy, Works as DeviceWorks, FailsBefore, FailsWriting, empty, empty_table, fork, short, damaged}
 use Rattle.res_calls.specs.Files.{ResState, ResourceEnd, disk_of, file_named, refused_with, with_disk, with_files, with_heap}
 use Rattle.res_calls.specs.Fitting.{rows_fit}
 use Rattle.res_calls.specs.Loads.{handle_made, load_end, loaded, loaded_results, unloaded, loads_bytes, placed_end, placing, read_fails, row_wanted}
@@ -97,10 +97,8 @@ updated-at-whole t i table whole = whole-alike table (changed_at i (updated_row 
 
 -- what is known of an update
 record Makes (old : ResState) (u : Update) : Type 0 where
-  pub file : File
-  pub found : find (is_numbered u.file) old.files.files ≡ Some file
-  pub kept : IsKept old.disks file
-  pub number : file.number ≡ u.file
+  pub low : 1 ≤ u.file
+  pub high : u.file ≤ length old.disks
   pub whole : IsWhole u.table
   pub fits : fits_fork u.table ≡ true
 
@@ -114,8 +112,18 @@ module _ (old : ResState) (u : Update) (kept : Kept old) where
           let v : Update = record { file = k; table = change f.table } in
           let same : v ≡ u = cc is in
           let both = found-kept (IsKept old.disks) k old.files.files f found kept.0 in
-          let whole : IsWhole f.table = record { rows = all-more (IsKeptRow (disk_in f.number old.disks)) IsNamed (λ r is. is.0) f.table.rows both.0.rows; grouped = both.0.grouped; extra = both.0.extra; map_attributes = both.0.map_attributes } in
-          subst (λ (u : Update). fits_fork u.table ≡ true → Makes old u) same (λ fits. record { file = f; found = found; kept = both.0; number = both.1; whole = still f.table whole; fits = fits }) fits
+          let whole : IsWhole f.table = record {
+            rows = all-more (IsKeptRow (disk_in f.number old.disks)) IsNamed (λ r is. is.0) f.table.rows both.0.rows;
+            grouped = both.0.grouped;
+            extra = both.0.extra;
+            map_attributes = both.0.map_attributes;
+          } in
+          subst (λ (u : Update). fits_fork u.table ≡ true → Makes old u) same (λ fits. record {
+            low = subst (λ n. 1 ≤ n) both.1 both.0.low;
+            high = subst (λ n. n ≤ length old.disks) both.1 both.0.high;
+            whole = still f.table whole;
+            fits = fits;
+          }) fits
 
   fits-of : (o : Option Update) → o ≡ Some u → unless_passed DskFulErr (can_be_made o) ≡ None → fits_fork u.table ≡ true
   fits-of o is none = sym (ap can_be_made is) ∙ passed DskFulErr (can_be_made o) none
@@ -160,48 +168,60 @@ both-kept : (P Q : FileRow → Type 0) (rows : List FileRow) → AllByRecursion 
 both-kept P Q [] all too = tt
 both-kept P Q (r ∷ rows) all too = ((all.0, too.0), both-kept P Q rows all.1 too.1)
 
-none-grouped : IsGrouped []
-none-grouped i j d before within = absurd (omega (arith, within))
+module _ (read_again : IsReadAgain) (old : ResState) (u : Update) (kept : Kept old) (m : Makes old u) where
+  abbrev saved : Disk
+  saved = written (saved_table u.table)
 
--- an update that succeeds
-written-kept : IsReadAgain → (old : ResState) (u : Update) → Kept old → Makes old u → Kept (with_disk u.file (written (saved_table u.table)) (with_files (rows_changed u.file (λ _. u.table.rows) old.files) old))
-written-kept read_again old u kept m =
-    (changed-kept (IsKept old.disks) (IsKept disks) u.file (λ f differ is. kept-there old.disks u.file saved f low differ is) (λ _. u.table.rows) old.files.files here kept.1 kept.0, apart-changed u.file (λ _. u.table.rows) old.files.files kept.1)
-  where
-    saved : Disk
-    saved = written (saved_table u.table)
+  -- the state once the table is written
+  abbrev with_saved : ResState
+  with_saved = with_disk u.file saved (with_files (rows_changed u.file (λ _. u.table.rows) old.files) old)
 
-    disks : List Disk
-    disks = set old.disks (u.file - 1) saved
+  -- the files besides the updated one have their disks
+  still-kept : (disk : Disk) (f : File) → (f.number == u.file) ≡ false → IsKept old.disks f → IsKept (set old.disks (u.file - 1) disk) f
+  still-kept disk f differ is = kept-there old.disks u.file disk f m.low differ is
 
-    low : 1 ≤ u.file
-    low = subst (λ k. 1 ≤ k) m.number m.kept.low
+  -- it has the disk that is written
+  here-kept : (f : File) → find (is_numbered u.file) old.files.files ≡ Some f → IsKept old.disks f → IsKept with_saved.disks (with_rows (λ _. u.table.rows) f)
+  here-kept f found is =
+      let number = (found-kept (IsKept old.disks) u.file old.files.files f found kept.0).1 in
+      let disk : disk_in f.number with_saved.disks ≡ saved = ap (λ k. disk_in k with_saved.disks) number ∙ disk-here old.disks u.file saved m.low m.high in
+      let rows = both-kept IsNamed (HasBytes saved) u.table.rows m.whole.rows (saved-bytes read_again u.table m.whole m.fits) in
+      record {
+        low = is.low;
+        high = omega (arith, is.high, length-set old.disks (u.file - 1) saved);
+        rows = subst (λ d. AllByRecursion (IsKeptRow d) u.table.rows) (sym disk) rows;
+        grouped = m.whole.grouped;
+        extra = is.extra;
+        map_attributes = is.map_attributes;
+      }
 
-    here : (f : File) → find (is_numbered u.file) old.files.files ≡ Some f → IsKept old.disks f → IsKept disks (with_rows (λ _. u.table.rows) f)
-    here f found is =
-        let number = (found-kept (IsKept old.disks) u.file old.files.files f found kept.0).1 in
-        let disk : disk_in f.number disks ≡ saved = ap (λ k. disk_in k disks) number ∙ disk-here old.disks u.file saved low (subst (λ k. k ≤ length old.disks) number is.high) in
-        record {
-          low = is.low;
-          high = omega (arith, is.high, length-set old.disks (u.file - 1) saved);
-          rows = subst (λ d. AllByRecursion (IsKeptRow d) u.table.rows) (sym disk) (both-kept IsNamed (HasBytes saved) u.table.rows m.whole.rows (saved-bytes read_again u.table m.whole m.fits));
-          grouped = m.whole.grouped;
-          extra = is.extra;
-          map_attributes = is.map_attributes;
-        }
+  saved-kept : Kept with_saved
+  saved-kept = (
+    changed-kept (IsKept old.disks) (IsKept with_saved.disks) u.file (still-kept saved) (λ _. u.table.rows) old.files.files here-kept kept.1 kept.0,
+    apart-changed u.file (λ _. u.table.rows) old.files.files kept.1,
+  )
 
-closes-kept : (k : ℕ) (state : ResState) → Kept state → Kept (with_files (file_closed k state.files) state)
-closes-kept k state kept = (closed-kept (IsKept state.disks) (IsKept state.disks) k (λ f differ is. is) state.files kept.1 kept.0, apart-closed k state.files kept.1)
+  behind-kept : (rc : ResourceCall) → Kept (behind_update rc u.file with_saved)
+  behind-kept (call.CloseResFile named) =
+      (closed-kept (IsKept with_saved.disks) (IsKept with_saved.disks) u.file (λ f differ is. is) with_saved.files saved-kept.1 saved-kept.0, apart-closed u.file with_saved.files saved-kept.1)
+  behind-kept rc = saved-kept
 
-behind-kept : (rc : ResourceCall) (k : ℕ) (state : ResState) → Kept state → Kept (behind_update rc k state)
-behind-kept (call.CloseResFile named) k state kept = closes-kept k state kept
-behind-kept rc k state kept = kept
+  updates-kept : (device : Device) (rc : ResourceCall) → Kept (update_end device rc u old).state
+  updates-kept DeviceWorks rc = behind-kept rc
+  updates-kept FailsBefore rc = kept
+  updates-kept (FailsWriting left) rc =
+      (closed-kept (IsKept old.disks) (IsKept (set old.disks (u.file - 1) left)) u.file (still-kept left) old.files kept.1 kept.0, apart-closed u.file old.files kept.1)
 
-updates-kept : IsReadAgain → (device : Device) (old : ResState) (rc : ResourceCall) (u : Update) → Kept old → Makes old u → Kept (update_end device rc u old).state
-updates-kept read_again DeviceWorks old rc u kept m = behind-kept rc u.file (with_disk u.file (written (saved_table u.table)) (with_files (rows_changed u.file (λ _. u.table.rows) old.files) old)) (written-kept read_again old u kept m)
-updates-kept read_again FailsBefore old rc u kept m = kept
-updates-kept read_again (FailsWriting left) old rc u kept m =
-    (closed-kept (IsKept old.disks) (IsKept (set old.disks (u.file - 1) left)) u.file (λ f differ is. kept-there old.disks u.file left f (subst (λ k. 1 ≤ k) m.number m.kept.low) differ is) old.files kept.1 kept.0, apart-closed u.file old.files kept.1)
+  -- the disk behind an update that succeeded
+  behind-disks : (rc : ResourceCall) → (behind_update rc u.file with_saved).disks ≡ with_saved.disks
+  behind-disks (call.CloseResFile named) = refl
+  behind-disks rc = refl
+
+  update-saved : (device : Device) (rc : ResourceCall) (end : ResourceEnd) (results : Results) → end.outcome ≡ Ok results → end ≡ update_end device rc u old → disk_of u.file end.state ≡ saved
+  update-saved DeviceWorks rc end results ok is =
+      ap (disk_in u.file) (ap (λ (e : ResourceEnd). e.state.disks) is ∙ behind-disks rc) ∙ disk-here old.disks u.file saved m.low m.high
+  update-saved FailsBefore rc end results ok is = let failed = sym ok ∙ ap (λ (e : ResourceEnd). e.outcome) is in absurd (cc failed)
+  update-saved (FailsWriting left) rc end results ok is = let failed = sym ok ∙ ap (λ (e : ResourceEnd). e.outcome) is in absurd (cc failed)
 
 -- a file is opened
 not-updating : (o : Option Update) (k : ℕ) → updating o ≡ Opens k → ⊥
@@ -242,16 +262,14 @@ with-opened old k table may whole bytes kept = opened-kept old.disks old.files.f
   map_attributes = whole.map_attributes;
 }) kept
 
-read-kept : IsReadWhole → (old : ResState) (k : ℕ) (read : Result (FileTable) OsErr) → MayOpen old k → Kept old → Reads (disk_of k old) read → Kept (opened_end k old read).state
-read-kept read_whole old k read may kept (empty none) =
-    with-opened old k empty_table may (record { rows = tt; grouped = none-grouped; extra = length-replicate {A = ℕ} 240 0; map_attributes = omega arith }) tt kept
-read-kept read_whole old k read may kept (fork table stands) =
-    with-opened old k (opened_table table) may (opened-whole read_whole (disk_of k old) table may.bytes stands) (opened-bytes (disk_of k old) table stands) kept
-read-kept read_whole old k read may kept (short some few) = kept
-read-kept read_whole old k read may kept (damaged long none) = kept
-
 opens-kept : IsReadWhole → (device : Device) (old : ResState) (k : ℕ) (read : Result (FileTable) OsErr) → MayOpen old k → Kept old → ReadsBy device (disk_of k old) read → Kept (opened_end k old read).state
-opens-kept read_whole DeviceWorks old k read may kept reads = read-kept read_whole old k read may kept reads
+opens-kept read_whole DeviceWorks old k read may kept (empty none) =
+    let whole : IsWhole empty_table = record { rows = tt; grouped = λ i j d before within. absurd (omega (arith, within)); extra = length-replicate {A = ℕ} 240 0; map_attributes = omega arith } in
+    with-opened old k empty_table may whole tt kept
+opens-kept read_whole DeviceWorks old k read may kept (fork table stands) =
+    with-opened old k (opened_table table) may (opened-whole read_whole (disk_of k old) table may.bytes stands) (opened-bytes (disk_of k old) table stands) kept
+opens-kept read_whole DeviceWorks old k read may kept (short some few) = kept
+opens-kept read_whole DeviceWorks old k read may kept (damaged long none) = kept
 opens-kept read_whole FailsBefore old k read may kept reads = subst (λ r. Kept (opened_end k old r).state) (sym reads) kept
 opens-kept read_whole (FailsWriting left) old k read may kept reads = subst (λ r. Kept (opened_end k old r).state) (sym reads) kept
 
@@ -339,7 +357,7 @@ module _ (read_again : IsReadAgain) (read_whole : IsReadWhole) where
   works-kept : (device : Device) (old : ResState) (rc : ResourceCall) (asks : List Ask) (end : ResourceEnd) (w : Work) → IsTyped old (Resource rc) → Kept old → resource_refusal old rc ≡ None → work_of old rc ≡ w
       → Works Memory Anything device old rc asks end w → Kept end.state
   works-kept device old rc asks end (Gets p) typed kept none is works = gets-kept device old rc asks end p (row_at p old.files) kept works
-  works-kept device old rc asks end (Updates u) typed kept none is works = subst (λ (e : ResourceEnd). Kept e.state) (sym works.2) (updates-kept read_again device old rc u kept (makes old u kept rc is none))
+  works-kept device old rc asks end (Updates u) typed kept none is works = subst (λ (e : ResourceEnd). Kept e.state) (sym works.2) (updates-kept read_again old u kept (makes old u kept rc is none) device rc)
   works-kept device old rc asks end (Opens k) typed kept none is works =
       subst (λ (e : ResourceEnd). Kept e.state) (sym works.3) (opens-kept read_whole device old k works.1 (may-open old rc k typed is none) kept works.2)
   works-kept device old rc asks end Quiet typed kept none is works = subst (λ (e : ResourceEnd). Kept e.state) (sym works.1) (quiet-kept old rc typed none kept)
@@ -373,21 +391,6 @@ module _ (read_again : IsReadAgain) (read_whole : IsReadWhole) where
   pub loads-read-forks : LoadsReadForks
   loads-read-forks old c h flags bytes reached act = (act.0, act.1, act.2, act.3, rows-read-off-forks old reached act.0 act.1 act.3, act.5)
 
-  -- the disk behind an update that succeeded
-  behind-disks : (rc : ResourceCall) (k : ℕ) (state : ResState) → (behind_update rc k state).disks ≡ state.disks
-  behind-disks (call.CloseResFile named) k state = refl
-  behind-disks rc k state = refl
-
-  update-saved : (device : Device) (old : ResState) (rc : ResourceCall) (u : Update) (results : Results) (new : ResState) → Makes old u → (let end : ResourceEnd = record { outcome = Ok results; state = new } in end ≡ update_end device rc u old)
-      → disk_of u.file new ≡ written (saved_table u.table)
-  update-saved DeviceWorks old rc u results new m is =
-      let low : 1 ≤ u.file = subst (λ k. 1 ≤ k) m.number m.kept.low in
-      let high : u.file ≤ length old.disks = subst (λ k. k ≤ length old.disks) m.number m.kept.high in
-      let written_on = with_disk u.file (written (saved_table u.table)) (with_files (rows_changed u.file (λ _. u.table.rows) old.files) old) in
-      ap (disk_in u.file) (ap (λ (e : ResourceEnd). e.state.disks) is ∙ behind-disks rc u.file written_on) ∙ disk-here old.disks u.file (written (saved_table u.table)) low high
-  update-saved FailsBefore old rc u results new m is = let failed = ap (λ (e : ResourceEnd). e.outcome) is in absurd (cc failed)
-  update-saved (FailsWriting left) old rc u results new m is = let failed = ap (λ (e : ResourceEnd). e.outcome) is in absurd (cc failed)
-
   pub updates-read-back : UpdatesReadBack
   updates-read-back old new c u asks results reached works does = by (resource_refusal old.resources c) refl does.1
     where
@@ -400,5 +403,5 @@ module _ (read_again : IsReadAgain) (read_whole : IsReadWhole) where
       by None none step =
           let m = makes old.resources u (reached-kept old reached) c works none in
           let made : Works Memory Anything does.0 old.resources c asks end (Updates u) = subst (Works Memory Anything does.0 old.resources c asks end) works step in
-          let saved = update-saved does.0 old.resources c u results new.resources m made.2 in
+          let saved = update-saved read_again old.resources u (reached-kept old reached) m does.0 c end results refl made.2 in
           (saved, subst (λ d. StandsFor d (saved_table u.table)) (sym saved) (saved-stands read_again u.table m.whole m.fits))

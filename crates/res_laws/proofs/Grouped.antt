@@ -1,5 +1,5 @@
 -- Rows of one type stand together: they still do with a row less, and with a row more.
-use Rattle.std.proofs.Common.{◌≡◌, ◌≢◌, refl, sym, ap, ◌∙◌, subst, ℕ, zero, suc, ◌+◌, List, [], ◌∷◌, remove, Bool, true, false, not, bytes_eq, if◌then◌else◌, ◌⊎◌, inl, inr, ◌||◌}
+use Rattle.std.proofs.Common.{◌≡◌, ◌≢◌, refl, sym, subst, ℕ, zero, suc, ◌+◌, List, [], ◌∷◌, remove, Bool, true, false, not, bytes_eq, if◌then◌else◌, ◌⊎◌, inl, inr, ◌||◌}
 use Rattle.std.specs.Prelude.{◌&&◌}
 use Rattle.std.specs.List.{list_any}
 use Rattle.std.proofs.lemmas.Bool.Decides.{not_from_Decides}
@@ -36,7 +36,7 @@ preceded b kind first types = if b then record { kind = kind; count = 1 + first.
 apart_before : (other kind : List ℕ) (types : List TypeCount) → other ≢ kind → Apart counted other types → Apart counted other (counted_before kind 1 types)
 apart_before other kind [] differ apart = (differ, tt)
 apart_before other kind (first ∷ types) differ apart =
-    elim (bytes_eq kind first.kind) as (λ b. Apart counted other (preceded b kind first types)) [ | true ↦ (differ, apart.1) | false ↦ (differ, apart) ]
+    elim (bytes_eq kind first.kind) as (λ b. Apart counted other (preceded b kind first types)) [ true ↦ (differ, apart.1) | false ↦ (differ, apart) ]
 
 apart_behind : (other kind : List ℕ) (types : List TypeCount) → Apart counted other (counted_before kind 1 types) → (other ≢ kind) × Apart counted other types
 apart_behind other kind [] apart = (apart.0, tt)
@@ -65,12 +65,12 @@ distinct_behind kind (first ∷ types) distinct = by (bytes_eq kind first.kind) 
 
 headed : (kind first : List ℕ) (types : List TypeCount) → kind ≡ first → Heads kind (counted_before first 1 types)
 headed kind first [] same = same
-headed kind first (other ∷ types) same = elim (bytes_eq first other.kind) as (λ b. Heads kind (preceded b first other types)) [ | true ↦ same | false ↦ same ]
+headed kind first (other ∷ types) same = elim (bytes_eq first other.kind) as (λ b. Heads kind (preceded b first other types)) [ true ↦ same | false ↦ same ]
 
 head_is : (kind first : List ℕ) (types : List TypeCount) → Heads kind (counted_before first 1 types) → kind ≡ first
 head_is kind first [] heads = heads
 head_is kind first (other ∷ types) heads =
-    (elim (bytes_eq first other.kind) as (λ b. Heads kind (preceded b first other types) → kind ≡ first) [ | true ↦ λ heads. heads | false ↦ λ heads. heads ]) heads
+    (elim (bytes_eq first other.kind) as (λ b. Heads kind (preceded b first other types) → kind ≡ first) [ true ↦ λ heads. heads | false ↦ λ heads. heads ]) heads
 
 module _ {D : Type 0} where
   abbrev types_in : List (Row D) → List TypeCount
@@ -129,7 +129,7 @@ module _ {D : Type 0} where
         let both = apart_behind kind r.resource.kind (types_in rows) apart in
         let deeper = apart_before kind r.resource.kind (types_in (added new rows)) both.0 (apart_added kind rows differ both.1) in
         let last = apart_before kind r.resource.kind (types_in (new ∷ rows)) both.0 (apart_before kind new.resource.kind (types_in rows) differ both.1) in
-        elim (is_of_type new.resource.kind r && not (list_any (is_of_type new.resource.kind) rows)) as (λ b. Apart counted kind (types_in (if b then r ∷ new ∷ rows else r ∷ added new rows))) [ | true ↦ last | false ↦ deeper ]
+        elim (is_of_type new.resource.kind r && not (list_any (is_of_type new.resource.kind) rows)) as (λ b. Apart counted kind (types_in (if b then r ∷ new ∷ rows else r ∷ added new rows))) [ true ↦ last | false ↦ deeper ]
 
     may_added : (kind : List ℕ) (rows : List (Row D)) → (Apart counted kind (types_in rows) → kind ≢ new.resource.kind) → MayPrecede kind (types_in rows) → MayPrecede kind (types_in (added new rows))
     may_added kind rows differ (inr apart) = inr (apart_added kind rows (differ apart) apart)
