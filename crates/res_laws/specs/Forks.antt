@@ -64,7 +64,7 @@ pub record IsReached (tools : Tools) : Type 0 where
   pub typed : AreTyped start run
   pub ends : tools_behind start run ≡ tools
 
--- Every fork that is updated reads back as the table that was saved: that of the file, where each changed row has its contents.
+-- Every fork that is updated reads back as the table that was saved: the file's, where each row that the call saves has its contents.
 abbrev pub UpdatesReadBack : Type 0
 UpdatesReadBack = (old new : Tools) (call : ResourceCall) (u : Update) (asks : List Ask) (results : Results) → IsReached old
     → work_of old.resources call ≡ Updates u → ToolDoes old (ResourceCalls call) asks (Ok results) new
