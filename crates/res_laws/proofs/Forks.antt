@@ -32,11 +32,11 @@ use Rattle.res_table.specs.declared.chain.OpenFile.{OpenFile}
 use Rattle.res_table.specs.declared.chain.RowPlace.{RowPlace}
 use Rattle.res_table.proofs.Adding.{insert-at-end}
 use Rattle.res_calls.specs.Attributes.{marked, replaced_attributes}
-use Rattle.res_calls.specs.Changes.{FileRow, FileTable, Files, handles_forgotten, opened_table, row_changed, saved_table}
-use Rattle.res_calls.specs.Device.{Device, Disk, ReadsBy, Works as DeviceWorks, FailsBefore, FailsWriting, empty, empty_table, fork}
+use Rattle.res_calls.specs.Changes.{FileRow, FileTable, Files, handles_forgotten, row_changed, saved_table}
+use Rattle.res_calls.specs.Device.{Device, Disk, ReadsBy, Works as DeviceWorks, FailsBefore, FailsWriting, empty, fork}
 use Rattle.res_calls.specs.Files.{ResState, ResourceEnd, disk_of, file_named, refused_with, with_disk, with_files, with_heap}
-use Rattle.res_calls.specs.Loads.{handle_made, load_end, loaded, loaded_results, loads_bytes, placed_end, placing, read_fails, row_wanted, unloaded}
-use Rattle.res_calls.specs.Quiet.{attributes_changed, quiet_state}
+use Rattle.res_calls.specs.Loads.{found_end, handle_made, load_end, loaded, loaded_results, loads_bytes, placed_end, placing, read_fails, row_wanted, unloaded}
+use Rattle.res_calls.specs.Quiet.{attributes_changed, quiet_end, quiet_state}
 use Rattle.res_calls.specs.Steps.{Gets, GetsPlace, GetsRow, IsSaved, Opens, Quiet, ReadsBack, StepsUnless, Work, Works, behind_memory, opened_end, update_in, updating, work_of}
 use Rattle.res_calls.specs.Tests.{resource_refusal}
 use Rattle.res_calls.specs.Updates.{Update, disposed, file_update, new_row, row_passes, row_update, update_end, update_of, updated_at, updated_table}
@@ -51,7 +51,8 @@ module _ (P : FileRow → Type 0) where
   row-is : (rows : List FileRow) (i : ℕ) (r : FileRow) → slice_get rows i ≡ Some r → All P rows → P r
   row-is rows i r is all = subst P (get_or_from_slice_get rows i r r is) (all i r (slice_get_within rows i r is))
 
-  row-changed : (i : ℕ) (change : FileRow → FileRow) → ((r : FileRow) → P r → P (change r)) → (rows : List FileRow) → All P rows → All P (changed_at i change rows)
+  row-changed : (i : ℕ) (change : FileRow → FileRow) → ((r : FileRow) → P r → P (change r)) → (rows : List FileRow) → All P rows
+      → All P (changed_at i change rows)
   row-changed i change still rows all = by (slice_get rows i) refl
     where
       by : (o : Option FileRow) → slice_get rows i ≡ o → All P (option_map_or (λ r. set rows i (change r)) o rows)
@@ -96,6 +97,10 @@ IsKept state f = (1 ≤ f.number) × HaveBytes (disk_of f.number state) f.table.
 abbrev IsApart : File → (File → Type 0) → File → Type 0
 IsApart f P g = (is_numbered f.number g ≡ false) × P g
 
+-- none of these files has the number
+abbrev HasNone : ℕ → List File → Type 0
+HasNone k fs = list_any (is_numbered k) fs ≡ false
+
 -- each of these files is this, and no two have one number
 abbrev AreKept : (File → Type 0) → List File → Type 0
 AreKept P [] = ⊤
@@ -117,23 +122,26 @@ module _ (k : ℕ) where
   apart P Q f there g differ is = (is.0, there g differ is.1)
 
   -- no file has the number
-  others-kept : (P Q : File → Type 0) → Elsewhere P Q → (fs : List File) → list_any (is_numbered k) fs ≡ false → AreKept P fs → AreKept Q fs
+  others-kept : (P Q : File → Type 0) → Elsewhere P Q → (fs : List File) → HasNone k fs → AreKept P fs → AreKept Q fs
   others-kept P Q there [] none kept = tt
   others-kept P Q there (f ∷ fs) none kept =
       let both = or_parts (is_numbered k f) (list_any (is_numbered k) fs) none in
       (there f both.0 kept.0, others-kept (IsApart f P) (IsApart f Q) (apart P Q f there) fs both.1 kept.1)
 
   -- the files behind the one that has it
-  behind-kept : (P Q : File → Type 0) → Elsewhere P Q → (f : File) → is_numbered k f ≡ true → (fs : List File) → AreKept (IsApart f P) fs → AreKept (IsApart f Q) fs
+  behind-kept : (P Q : File → Type 0) → Elsewhere P Q → (f : File) → is_numbered k f ≡ true → (fs : List File)
+      → AreKept (IsApart f P) fs → AreKept (IsApart f Q) fs
   behind-kept P Q there f here fs kept =
-      all-kept (IsApart f P) (IsApart f Q) (λ g is. (is.0, there g (subst (λ n. is_numbered n g ≡ false) (eqb-true f.number k here) is.0) is.1)) fs kept
+      let differ = λ (g : File). subst (λ n. is_numbered n g ≡ false) (eqb-true f.number k here) in
+      all-kept (IsApart f P) (IsApart f Q) (λ g is. (is.0, there g (differ g is.0) is.1)) fs kept
 
   -- its rows change
-  changed-kept : (change : List FileRow → List FileRow) (P Q : File → Type 0) → Elsewhere P Q → ((f : File) → f.number ≡ k → P f → Q (with_rows change f))
-      → (fs : List File) → AreKept P fs → AreKept Q (changed_file k change fs)
+  changed-kept : (change : List FileRow → List FileRow) (P Q : File → Type 0) → Elsewhere P Q
+      → ((f : File) → f.number ≡ k → P f → Q (with_rows change f)) → (fs : List File) → AreKept P fs → AreKept Q (changed_file k change fs)
   changed-kept change P Q there here [] kept = tt
   changed-kept change P Q there here (f ∷ fs) kept =
-      by (is_numbered k f) refl (changed-kept change (IsApart f P) (IsApart f Q) (apart P Q f there) (λ g number is. (is.0, here g number is.1)) fs kept.1)
+      let too : (g : File) → g.number ≡ k → IsApart f P g → IsApart f Q (with_rows change g) = λ g number is. (is.0, here g number is.1) in
+      by (is_numbered k f) refl (changed-kept change (IsApart f P) (IsApart f Q) (apart P Q f there) too fs kept.1)
     where
       by : (b : Bool) → is_numbered k f ≡ b → AreKept (IsApart f Q) (changed_file k change fs)
           → AreKept Q (if b then with_rows change f ∷ fs else f ∷ changed_file k change fs)
@@ -143,9 +151,11 @@ module _ (k : ℕ) where
   -- it is closed
   without-kept : (P Q : File → Type 0) → Elsewhere P Q → (fs : List File) → AreKept P fs → AreKept Q (without k fs)
   without-kept P Q there [] kept = tt
-  without-kept P Q there (f ∷ fs) kept = by (is_numbered k f) refl (without-kept (IsApart f P) (IsApart f Q) (apart P Q f there) fs kept.1)
+  without-kept P Q there (f ∷ fs) kept =
+      by (is_numbered k f) refl (without-kept (IsApart f P) (IsApart f Q) (apart P Q f there) fs kept.1)
     where
-      by : (b : Bool) → is_numbered k f ≡ b → AreKept (IsApart f Q) (without k fs) → AreKept Q (if b then fs else f ∷ without k fs)
+      by : (b : Bool) → is_numbered k f ≡ b → AreKept (IsApart f Q) (without k fs)
+          → AreKept Q (if b then fs else f ∷ without k fs)
       by true is deeper = all-kept (IsApart f Q) Q (λ g is. is.1) fs (behind-kept P Q there f is fs kept.1)
       by false is deeper = (there f is kept.0, deeper)
 
@@ -170,7 +180,7 @@ module _ (k : ℕ) where
       by false here is deeper = let found = deeper is in (found.0.1, found.1)
 
 -- one more is opened
-opened-kept : (P : File → Type 0) (f : File) → P f → (fs : List File) → list_any (is_numbered f.number) fs ≡ false → AreKept P fs → AreKept P (fs ++ f ∷ [])
+opened-kept : (P : File → Type 0) (f : File) → P f → (fs : List File) → HasNone f.number fs → AreKept P fs → AreKept P (fs ++ f ∷ [])
 opened-kept P f is [] none kept = (is, tt)
 opened-kept P f is (g ∷ fs) none kept =
     let both = or_parts (is_numbered f.number g) (list_any (is_numbered f.number) fs) none in
@@ -178,7 +188,8 @@ opened-kept P f is (g ∷ fs) none kept =
     (kept.0, opened-kept (IsApart g P) f (differ, is) fs both.1 kept.1)
 
 -- rows forget their handles
-map-kept : (h : ℕ) (P Q : File → Type 0) → ((f : File) → P f → Q (file_forgotten h f)) → (fs : List File) → AreKept P fs → AreKept Q (map (file_forgotten h) fs)
+map-kept : (h : ℕ) (P Q : File → Type 0) → ((f : File) → P f → Q (file_forgotten h f)) → (fs : List File) → AreKept P fs
+    → AreKept Q (map (file_forgotten h) fs)
 map-kept h P Q here [] kept = tt
 map-kept h P Q here (f ∷ fs) kept = (here f kept.0, map-kept h (IsApart f P) (IsApart f Q) (λ g is. (is.0, here g is.1)) fs kept.1)
 
@@ -225,27 +236,33 @@ module _ (state : ResState) where
   handle-kept : (p : RowPlace) (h : ℕ) (files : Files) → FilesKept files → FilesKept (row_changed p (with_handle (Some h)) files)
   handle-kept p h files kept = row-kept p (with_handle (Some h)) (λ disk r is. is) files kept
 
+  -- so it is where something changes, if there is that
+  some-kept : {X : Type 0} (of : X → Files) (files : Files) → ((x : X) → FilesKept (of x)) → FilesKept files → (o : Option X) → FilesKept (option_map_or of o files)
+  some-kept of files here kept None = kept
+  some-kept of files here kept (Some x) = here x
+
   -- attributes change, and resChanged stays set
-  attributes-kept : (change : ResAttrs → ResAttrs) → ((a : ResAttrs) → is_marked a ≡ true → is_marked (change a) ≡ true) → (h : ℕ) (files : Files)
-      → FilesKept files → FilesKept (attributes_changed change h files)
-  attributes-kept change keeps h files kept = by (place_of_handle h files)
+  attributes-kept : (change : ResAttrs → ResAttrs) → ((a : ResAttrs) → is_marked a ≡ true → is_marked (change a) ≡ true) → (h : ℕ)
+      → (files : Files) → FilesKept files → FilesKept (attributes_changed change h files)
+  attributes-kept change keeps h files kept =
+      let to : FileRow → FileRow = λ r. with_attributes (change r.resource.attributes) r in
+      some-kept (λ p. row_changed p to files) files (λ p. row-kept p to still files kept) kept (place_of_handle h files)
     where
       still : (disk : Disk) (r : FileRow) → HasBytes disk r → HasBytes disk (with_attributes (change r.resource.attributes) r)
       still disk r (inl new) = inl (new.0, keeps r.resource.attributes new.1)
       still disk r (inr has) = inr has
 
-      by : (o : Option RowPlace) → FilesKept (option_map_or (λ p. row_changed p (λ r. with_attributes (change r.resource.attributes) r) files) o files)
-      by None = kept
-      by (Some p) = row-kept p (λ r. with_attributes (change r.resource.attributes) r) still files kept
-
   -- what opening reads
-  opens-kept : (device : Device) (k : ℕ) → 1 ≤ k → is_open k state.files ≡ false → Kept state → (read : Result FileTable OsErr) → ReadsBy device (disk_of k state) read → Kept (opened_end k state read).state
-  opens-kept DeviceWorks k low closed kept (Ok t) (empty none) =
-      opened-kept (IsKept state) (record { number = k; table = empty_table }) (low, All-nil (HasBytes (disk_of k state))) state.files.files closed kept
-  opens-kept DeviceWorks k low closed kept (Ok t) (fork table stands) =
-      opened-kept (IsKept state) (record { number = k; table = opened_table table }) (low, opened-bytes (disk_of k state) table stands) state.files.files closed kept
-  opens-kept FailsBefore k low closed kept (Ok t) reads = absurd (cc reads)
-  opens-kept (FailsWriting left) k low closed kept (Ok t) reads = absurd (cc reads)
+  read-bytes : (device : Device) (disk : Disk) (table : FileTable) → ReadsBy device disk (Ok table) → HaveBytes disk table.rows
+  read-bytes DeviceWorks disk table (empty none) = All-nil (HasBytes disk)
+  read-bytes DeviceWorks disk table (fork read stands) = opened-bytes disk read stands
+  read-bytes FailsBefore disk table reads = absurd (cc reads)
+  read-bytes (FailsWriting left) disk table reads = absurd (cc reads)
+
+  opens-kept : (device : Device) (k : ℕ) → 1 ≤ k → is_open k state.files ≡ false → Kept state → (read : Result FileTable OsErr)
+      → ReadsBy device (disk_of k state) read → Kept (opened_end k state read).state
+  opens-kept device k low closed kept (Ok table) reads =
+      opened-kept (IsKept state) (record { number = k; table = table }) (low, read-bytes device (disk_of k state) table reads) state.files.files closed kept
   opens-kept device k low closed kept (Err code) reads = kept
 
 -- ---- updates
@@ -322,16 +339,14 @@ quiet-kept old (call.ReleaseResource h) kept =
     let forgotten = forgotten-kept old (h ∷ []) old.files kept in
     elim (row_passes is_changed h old.files) as (λ b. Kept (cond b old new)) [ true ↦ kept | false ↦ forgotten ]
 quiet-kept old (call.DetachResource h) kept = forgotten-kept old (h ∷ []) old.files kept
-quiet-kept old (call.RemoveResource h) kept = by (place_of_handle h old.files)
-  where
-    by : (o : Option RowPlace) → FilesKept old (option_map_or (λ (p : RowPlace). rows_changed p.file (removed_at p.index) old.files) o old.files)
-    by None = kept
-    by (Some p) = rows-kept old p.file (removed_at p.index) (λ disk rows all. row-removed (HasBytes disk) p.index rows all) old.files kept
-quiet-kept old (call.AddResource h kind id name) kept = by old.files.current
-  where
-    by : (o : Option ℕ) → FilesKept old (option_map_or (λ k. rows_changed k (added (new_row h kind id name)) old.files) o old.files)
-    by None = kept
-    by (Some k) = rows-kept old k (added (new_row h kind id name)) (λ disk rows all. row-added (HasBytes disk) (new_row h kind id name) (inl (refl, refl)) rows all) old.files kept
+quiet-kept old (call.RemoveResource h) kept =
+    let to = λ (p : RowPlace). removed_at p.index in
+    let here = λ (p : RowPlace). rows-kept old p.file (to p) (λ disk rows all. row-removed (HasBytes disk) p.index rows all) old.files kept in
+    some-kept old (λ (p : RowPlace). rows_changed p.file (to p) old.files) old.files here kept (place_of_handle h old.files)
+quiet-kept old (call.AddResource h kind id name) kept =
+    let new = new_row h kind id name in
+    let here = λ (k : ℕ). rows-kept old k (added new) (λ disk rows all. row-added (HasBytes disk) new (inl (refl, refl)) rows all) old.files kept in
+    some-kept old (λ k. rows_changed k (added new) old.files) old.files here kept old.files.current
 quiet-kept old (call.ChangedResource h) kept = attributes-kept old marked (λ a is. marked-is a) h old.files kept
 quiet-kept old (call.SetResAttrs h n) kept = attributes-kept old (replaced_attributes n) (replaced-is n) h old.files kept
 quiet-kept old rc kept = kept
@@ -341,8 +356,12 @@ module _ (device : Device) (old : ResState) (asks : List Ask) (end : ResourceEnd
   abbrev Keeps : ResourceCall → Work → Type 0
   Keeps rc w = Works Memory Anything device old rc asks end w → OnOk end.outcome (IsSaved (update_in w) end.state) → Kept end.state
 
+  -- the call ended so
+  ended : (e : ResourceEnd) → end ≡ e → Kept e.state → Kept end.state
+  ended e is kept = subst (λ (e : ResourceEnd). Kept e.state) (sym is) kept
+
   quiet : (rc : ResourceCall) → Keeps rc Quiet
-  quiet rc works reads = subst (λ (e : ResourceEnd). Kept e.state) (sym works.1) (quiet-kept old rc kept)
+  quiet rc works reads = ended (quiet_end rc old) works.1 (quiet-kept old rc kept)
 
   updating-keeps : (rc : ResourceCall) (o : Option Update) → IsLow old kept o → Keeps rc (updating o)
   updating-keeps rc None low works reads = quiet rc works reads
@@ -351,28 +370,34 @@ module _ (device : Device) (old : ResState) (asks : List Ask) (end : ResourceEnd
 
   opening-keeps : (rc : ResourceCall) (k : ℕ) → 1 ≤ k → (b : Bool) → is_open k old.files ≡ b → Keeps rc (cond b Quiet (Opens k))
   opening-keeps rc k low true is works reads = quiet rc works reads
-  opening-keeps rc k low false closed works reads = subst (λ (e : ResourceEnd). Kept e.state) (sym works.3) (opens-kept old device k low closed kept works.1 works.2)
+  opening-keeps rc k low false closed works reads =
+      ended (opened_end k old works.1) works.3 (opens-kept old device k low closed kept works.1 works.2)
 
-  loaded-kept : (rc : ResourceCall) (p : RowPlace) (r : FileRow) (h : ℕ) (loads : Bool) (state : ResState) → Kept state → Kept (load_end device loads rc p r h state).state
+  loaded-kept : (rc : ResourceCall) (p : RowPlace) (r : FileRow) (h : ℕ) (loads : Bool) (state : ResState) → Kept state
+      → Kept (load_end device loads rc p r h state).state
   loaded-kept rc p r h false state kept = handle-kept state p h state.files kept
   loaded-kept rc p r h true state kept =
       let failed = refused_with IoErr (with_heap (unloaded h r state.heap) state) in
-      let files = row_changed p (with_handle (Some h)) state.files in
-      let done : ResourceEnd = record { outcome = Ok (loaded_results rc h); state = with_files files (with_heap (loaded h r state.heap) state) } in
-      elim (read_fails device true r) as (λ b. Kept (cond b failed done).state) [ true ↦ kept | false ↦ handle-kept state p h state.files kept ]
+      let new = with_files (row_changed p (with_handle (Some h)) state.files) (with_heap (loaded h r state.heap) state) in
+      let done : ResourceEnd = record { outcome = Ok (loaded_results rc h); state = new } in
+      let is = handle-kept state p h state.files kept in
+      elim (read_fails device true r) as (λ b. Kept (cond b failed done).state) [ true ↦ kept | false ↦ is ]
 
   placed-kept : (rc : ResourceCall) (p : RowPlace) (r : FileRow) (outcome : Outcome) (state : ResState) → Kept state
       → Kept (placed_end device (loads_bytes old rc) rc p r outcome state).state
   placed-kept rc p r (Err code) state kept = kept
   placed-kept rc p r (Ok res) state kept = loaded-kept rc p r (handle_made r (Ok res)) (loads_bytes old rc) state kept
 
-  row-gets : (rc : ResourceCall) (p : RowPlace) (r : FileRow) (o : Option MemoryCall) → GetsRow Memory Anything device old rc asks end p r o → Kept end.state
-  row-gets rc p r None gets = subst (λ (e : ResourceEnd). Kept e.state) (sym gets.1) kept
+  row-gets : (rc : ResourceCall) (p : RowPlace) (r : FileRow) (o : Option MemoryCall) → GetsRow Memory Anything device old rc asks end p r o
+      → Kept end.state
+  row-gets rc p r None gets = ended (found_end rc r old) gets.1 kept
   row-gets rc p r (Some inner) gets =
-      let behind = forgotten-kept old (disposed_in asks) old.files kept in
-      subst (λ (e : ResourceEnd). Kept e.state) (sym gets.3) (placed-kept rc p r gets.0 (behind_memory asks gets.1 old) behind)
+      let behind = behind_memory asks gets.1 old in
+      let placed = placed-kept rc p r gets.0 behind (forgotten-kept old (disposed_in asks) old.files kept) in
+      ended (placed_end device (loads_bytes old rc) rc p r gets.0 behind) gets.3 placed
 
-  place-gets : (rc : ResourceCall) (p : RowPlace) (o : Option FileRow) → GetsPlace Memory Anything device old rc asks end p o → Kept end.state
+  place-gets : (rc : ResourceCall) (p : RowPlace) (o : Option FileRow) → GetsPlace Memory Anything device old rc asks end p o
+      → Kept end.state
   place-gets rc p None gets = absurd gets
   place-gets rc p (Some r) gets = row-gets rc p r (placing old.heap.table (loads_bytes old rc) r) gets
 
@@ -397,11 +422,13 @@ module _ (device : Device) (old : ResState) (asks : List Ask) (end : ResourceEnd
 
   steps-keep : (rc : ResourceCall) (o : Option OsErr) → resource_refusal old rc ≡ o → StepsUnless Memory Anything o device old rc asks end
       → ReadsBack old rc end.outcome end.state → Kept end.state
-  steps-keep rc (Some code) is step reads = subst (λ (e : ResourceEnd). Kept e.state) (sym step.1) kept
+  steps-keep rc (Some code) is step reads = ended (refused_with code old) step.1 kept
   steps-keep rc None is step reads = works-keep rc is step reads
 
-tool-kept : (old : Tools) (c : Call) (asks : List Ask) (outcome : Outcome) (new : Tools) → Kept old.resources → ToolDoes old c asks outcome new → Kept new.resources
-tool-kept old (MemoryCalls c) asks outcome new kept does = subst Kept (sym does.2) (forgotten-kept old.resources (disposed_of c asks outcome) old.resources.files kept)
+tool-kept : (old : Tools) (c : Call) (asks : List Ask) (outcome : Outcome) (new : Tools) → Kept old.resources → ToolDoes old c asks outcome new
+    → Kept new.resources
+tool-kept old (MemoryCalls c) asks outcome new kept does =
+    subst Kept (sym does.2) (forgotten-kept old.resources (disposed_of c asks outcome) old.resources.files kept)
 tool-kept old (Loan c) asks outcome new kept does = subst Kept (sym does.1) kept
 tool-kept old (Resource rc) asks outcome new kept does =
     let end : ResourceEnd = record { outcome = outcome; state = new.resources } in
