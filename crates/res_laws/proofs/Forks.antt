@@ -1,6 +1,6 @@
 -- Over runs of calls each row of an open file has the bytes that its fork has.
 use Rattle.std.proofs.Common.{◌≡◌, ◌<◌, ℕ, ◌-◌, ◌≤◌, Bool, true, false, List, [], ◌∷◌, ◌++◌, length, map, set, take, drop, suc, get_or, Option, Some, None, Ok, Err, Result, refl, sym, subst, ◌∙◌, arith, cond, inl, inr}
-use Rattle.std.specs.Prelude.{◌&&◌, All, IfSome, OnOk, bit_and, bit_or, find, nat_le, option_and_then, option_map, slice_get, if◌then◌else◌, ⊤}
+use Rattle.std.specs.Prelude.{◌&&◌, All, OnOk, bit_and, bit_or, find, nat_le, option_and_then, option_map, slice_get, if◌then◌else◌, ⊤}
 use Rattle.std.specs.List.{list_any}
 use Rattle.std.specs.Option.{option_map_or, option_or}
 use Rattle.std.proofs.lemmas.Bool.{eq-eqb, eqb-true, eqb-false, leb-true, ne_eqb, or_parts}
@@ -19,7 +19,6 @@ use Rattle.mac_calls.specs.GrowZone.{Ask}
 use Rattle.mac_calls.specs.Outcomes.{Outcome}
 use Rattle.mac_calls.specs.Released.{disposed_in, disposed_of}
 use Rattle.mac_calls.specs.Tests.{unless_passed}
-use Rattle.fork_bytes.specs.declared.table.Table.{Table}
 use Rattle.fork_bytes.specs.Fork.{StandsFor}
 use Rattle.fork_bytes.specs.Written.{written}
 use Rattle.res_base.specs.declared.resource.ResAttrs.{ResAttrs}
@@ -35,13 +34,12 @@ use Rattle.res_calls.specs.Attributes.{marked, replaced_attributes}
 use Rattle.res_calls.specs.Changes.{FileRow, FileTable, Files, handles_forgotten, row_changed, saved_table}
 use Rattle.res_calls.specs.Device.{Device, Disk, ReadsBy, Works as DeviceWorks, FailsBefore, FailsWriting, empty, fork}
 use Rattle.res_calls.specs.Files.{ResState, ResourceEnd, disk_of, file_named, refused_with, with_disk, with_files, with_heap}
-use Rattle.res_calls.specs.Loads.{found_end, handle_made, load_end, loaded, loaded_results, loads_bytes, placed_end, placing, read_fails, row_wanted, unloaded}
+use Rattle.res_calls.specs.Loads.{found_end, handle_made, loaded, loaded_results, loads_bytes, placed_end, placing, read_fails, row_wanted, unloaded}
 use Rattle.res_calls.specs.Quiet.{attributes_changed, quiet_end, quiet_state}
-use Rattle.res_calls.specs.Steps.{Gets, GetsPlace, GetsRow, IsSaved, Opens, Quiet, ReadsBack, StepsUnless, Work, Works, behind_memory, opened_end, update_in, updating, work_of}
+use Rattle.res_calls.specs.Steps.{Gets, GetsPlace, GetsRow, IsSaved, Memory, Opens, Quiet, ReadsBack, StepsUnless, Work, Works, behind_memory, opened_end, update_in, updating, work_of}
 use Rattle.res_calls.specs.Tests.{resource_refusal}
-use Rattle.res_calls.specs.Updates.{Update, disposed, file_update, new_row, row_passes, row_update, update_end, update_of, updated_at, updated_table}
+use Rattle.res_calls.specs.Updates.{Update, disposed, new_row, row_passes, update_end, update_of, updated_at, updated_table}
 use Rattle.res_laws.specs.Acts.{Anything}
-use Rattle.res_calls.specs.Steps.{Memory}
 use Rattle.res_laws.specs.Forks.{HasBytes, ReadOffForks}
 use Rattle.res_laws.specs.Tools.{Called, IsToolRun, ToolDoes, Tools, tools_after}
 
@@ -72,7 +70,7 @@ module _ (P : FileRow → Type 0) where
 abbrev HaveBytes : Disk → List FileRow → Type 0
 HaveBytes disk rows = All (HasBytes disk) rows
 
--- those of a table that is saved there, and those that are read of it
+-- those of a table that is saved there, and those that opening reads of it
 saved-bytes : (disk : Disk) (table : FileTable) → StandsFor disk (saved_table table) → HaveBytes disk table.rows
 saved-bytes disk table stands i d within =
     let save = saved_row (λ (bytes : List ℕ). bytes) in
@@ -80,9 +78,12 @@ saved-bytes disk table stands i d within =
     let there : i < length (map save table.rows) = omega (arith, within, length-map table.rows save) in
     inr (saved_table table, stands, (i, q, there, get_or-map save table.rows i d q within, (refl, refl, refl, refl)))
 
-opened-bytes : (disk : Disk) (table : Table) → StandsFor disk table → HaveBytes disk (map opened_row table.rows)
-opened-bytes disk table stands = All-map (HasBytes disk) opened_row table.rows (λ i d within.
-    let q = get_or table.rows i d in inr (table, stands, (i, q, within, get_or_default table.rows i q d within, (refl, refl, refl, refl))))
+read-bytes : (device : Device) (disk : Disk) (table : FileTable) → ReadsBy device disk (Ok table) → HaveBytes disk table.rows
+read-bytes DeviceWorks disk table (empty none) = All-nil (HasBytes disk)
+read-bytes DeviceWorks disk table (fork read stands) = All-map (HasBytes disk) opened_row read.rows (λ i d within.
+    let q = get_or read.rows i d in inr (read, stands, (i, q, within, get_or_default read.rows i q d within, (refl, refl, refl, refl))))
+read-bytes FailsBefore disk table reads = absurd (cc reads)
+read-bytes (FailsWriting left) disk table reads = absurd (cc reads)
 
 -- ---- the open files
 
@@ -162,10 +163,9 @@ module _ (k : ℕ) where
   closed-kept : (P Q : File → Type 0) → Elsewhere P Q → (files : Files) → AreKept P files.files → AreKept Q (file_closed k files).files
   closed-kept P Q there files kept = by (is_open k files) refl
     where
-      closed : Files
-      closed = record { files = without k files.files; current = if is_current k files then last_number (without k files.files) else files.current }
-
-      by : (b : Bool) → is_open k files ≡ b → AreKept Q (cond b closed files).files
+      by : (b : Bool) → is_open k files ≡ b → AreKept Q (cond b
+          (record { files = without k files.files; current = if is_current k files then last_number (without k files.files) else files.current })
+          files).files
       by true is = without-kept P Q there files.files kept
       by false is = others-kept P Q there files.files is kept
 
@@ -253,12 +253,6 @@ module _ (state : ResState) where
       still disk r (inr has) = inr has
 
   -- what opening reads
-  read-bytes : (device : Device) (disk : Disk) (table : FileTable) → ReadsBy device disk (Ok table) → HaveBytes disk table.rows
-  read-bytes DeviceWorks disk table (empty none) = All-nil (HasBytes disk)
-  read-bytes DeviceWorks disk table (fork read stands) = opened-bytes disk read stands
-  read-bytes FailsBefore disk table reads = absurd (cc reads)
-  read-bytes (FailsWriting left) disk table reads = absurd (cc reads)
-
   opens-kept : (device : Device) (k : ℕ) → 1 ≤ k → is_open k state.files ≡ false → Kept state → (read : Result FileTable OsErr)
       → ReadsBy device (disk_of k state) read → Kept (opened_end k state read).state
   opens-kept device k low closed kept (Ok table) reads =
@@ -267,62 +261,33 @@ module _ (state : ResState) where
 
 -- ---- updates
 
-module _ (old : ResState) (kept : Kept old) where
-  -- an update is of a file that is open, whose number is one
-  abbrev IsLow : Option Update → Type 0
-  IsLow update = IfSome update (λ u. 1 ≤ u.file)
+module _ (old : ResState) (kept : Kept old) (u : Update) (low : 1 ≤ u.file) where
+  -- the other files have their disks
+  still-kept : (disk : Disk) (f : File) → is_numbered u.file f ≡ false → IsKept old f → IsKept (with_disk u.file disk old) f
+  still-kept disk f differ is =
+      let disks = set old.disks (u.file - 1) disk in
+      let other = λ (same : f.number - 1 ≡ u.file - 1). eqb-false f.number u.file differ (omega (arith, same, is.0, low)) in
+      let there = unwrap_or-slice_get disks (f.number - 1) [] ∙ get_or-set_other old.disks (u.file - 1) (f.number - 1) disk [] other in
+      (is.0, subst (λ d. HaveBytes d f.table.rows) (sym (there ∙ sym (unwrap_or-slice_get old.disks (f.number - 1) []))) is.1)
 
-  update-low : (k : ℕ) (change : FileTable → FileTable) → IsLow (update_of k change old.files)
-  update-low k change = by (find (is_numbered k) old.files.files) refl
-    where
-      by : (o : Option File) → find (is_numbered k) old.files.files ≡ o
-          → IsLow (option_map (λ (table : FileTable). record { file = k; table = change table }) (option_map table_in o))
-      by None found = tt
-      by (Some f) found = let here = found-kept k (IsKept old) old.files.files f found kept in subst (λ n. 1 ≤ n) here.1 here.0.0
+  -- the state once the table is written
+  abbrev with_saved : ResState
+  with_saved = with_disk u.file (written (saved_table u.table)) (with_files (rows_changed u.file (λ _. u.table.rows) old.files) old)
 
-  file-low : (named : Option ℕ) → IsLow (file_update old named)
-  file-low named = by (file_named named old.files)
-    where
-      by : (o : Option ℕ) → IsLow (option_and_then (λ k. update_of k (updated_table old.heap.table) old.files) o)
-      by None = tt
-      by (Some k) = update-low k (updated_table old.heap.table)
+  saved-kept : StandsFor (disk_of u.file with_saved) (saved_table u.table) → Kept with_saved
+  saved-kept stands =
+      let rows = saved-bytes (disk_of u.file with_saved) u.table stands in
+      let here : (f : File) → f.number ≡ u.file → IsKept old f → IsKept with_saved (with_rows (λ _. u.table.rows) f) =
+      λ f number is. (is.0, subst (λ k. HaveBytes (disk_of k with_saved) u.table.rows) (sym number) rows) in
+      let there = still-kept (written (saved_table u.table)) in
+      changed-kept u.file (λ _. u.table.rows) (IsKept old) (IsKept with_saved) there here old.files.files kept
 
-  row-low : (h : ℕ) → IsLow (row_update old h)
-  row-low h = by (row_passes is_changed h old.files) (place_of_handle h old.files)
-    where
-      by : (b : Bool) (o : Option RowPlace)
-          → IsLow (cond b (option_map_or (λ (p : RowPlace). update_of p.file (updated_at old.heap.table p.index) old.files) o None) None)
-      by true None = tt
-      by true (Some p) = update-low p.file (updated_at old.heap.table p.index)
-      by false o = tt
-
-  module _ (u : Update) (low : 1 ≤ u.file) where
-    -- the other files have their disks
-    still-kept : (disk : Disk) (f : File) → is_numbered u.file f ≡ false → IsKept old f → IsKept (with_disk u.file disk old) f
-    still-kept disk f differ is =
-        let disks = set old.disks (u.file - 1) disk in
-        let other = λ (same : f.number - 1 ≡ u.file - 1). eqb-false f.number u.file differ (omega (arith, same, is.0, low)) in
-        let there = unwrap_or-slice_get disks (f.number - 1) [] ∙ get_or-set_other old.disks (u.file - 1) (f.number - 1) disk [] other in
-        (is.0, subst (λ d. HaveBytes d f.table.rows) (sym (there ∙ sym (unwrap_or-slice_get old.disks (f.number - 1) []))) is.1)
-
-    -- the state once the table is written
-    abbrev with_saved : ResState
-    with_saved = with_disk u.file (written (saved_table u.table)) (with_files (rows_changed u.file (λ _. u.table.rows) old.files) old)
-
-    saved-kept : StandsFor (disk_of u.file with_saved) (saved_table u.table) → Kept with_saved
-    saved-kept stands =
-        let rows = saved-bytes (disk_of u.file with_saved) u.table stands in
-        let here : (f : File) → f.number ≡ u.file → IsKept old f → IsKept with_saved (with_rows (λ _. u.table.rows) f) =
-        λ f number is. (is.0, subst (λ k. HaveBytes (disk_of k with_saved) u.table.rows) (sym number) rows) in
-        changed-kept u.file (λ _. u.table.rows) (IsKept old) (IsKept with_saved) (still-kept (written (saved_table u.table))) here old.files.files kept
-
-    update-kept : (device : Device) (rc : ResourceCall) → OnOk (update_end device rc u old).outcome (IsSaved (Some u) (update_end device rc u old).state)
-        → Kept (update_end device rc u old).state
-    update-kept DeviceWorks (call.CloseResFile named) stands =
-        closed-kept u.file (IsKept with_saved) (IsKept with_saved) (λ f differ is. is) with_saved.files (saved-kept stands)
-    update-kept DeviceWorks rc stands = saved-kept stands
-    update-kept FailsBefore rc stands = kept
-    update-kept (FailsWriting left) rc stands = closed-kept u.file (IsKept old) (IsKept (with_disk u.file left old)) (still-kept left) old.files kept
+  update-kept : (device : Device) (rc : ResourceCall) → let e = update_end device rc u old in OnOk e.outcome (IsSaved (Some u) e.state) → Kept e.state
+  update-kept DeviceWorks (call.CloseResFile named) stands =
+      closed-kept u.file (IsKept with_saved) (IsKept with_saved) (λ f differ is. is) with_saved.files (saved-kept stands)
+  update-kept DeviceWorks rc stands = saved-kept stands
+  update-kept FailsBefore rc stands = kept
+  update-kept (FailsWriting left) rc stands = closed-kept u.file (IsKept old) (IsKept (with_disk u.file left old)) (still-kept left) old.files kept
 
 -- ---- calls, and runs of them
 
@@ -363,37 +328,54 @@ module _ (device : Device) (old : ResState) (asks : List Ask) (end : ResourceEnd
   quiet : (rc : ResourceCall) → Keeps rc Quiet
   quiet rc works reads = ended (quiet_end rc old) works.1 (quiet-kept old rc kept)
 
-  updating-keeps : (rc : ResourceCall) (o : Option Update) → IsLow old kept o → Keeps rc (updating o)
-  updating-keeps rc None low works reads = quiet rc works reads
-  updating-keeps rc (Some u) low works reads =
-      subst (λ (e : ResourceEnd). OnOk e.outcome (IsSaved (Some u) e.state) → Kept e.state) (sym works.2) (update-kept old kept u low device rc) reads
+  -- an update is of a file that is open, whose number is one
+  update-keeps : (rc : ResourceCall) (k : ℕ) (change : FileTable → FileTable) → Keeps rc (updating (update_of k change old.files))
+  update-keeps rc k change = by (find (is_numbered k) old.files.files) refl
+    where
+      by : (o : Option File) → find (is_numbered k) old.files.files ≡ o
+          → Keeps rc (updating (option_map (λ (table : FileTable). record { file = k; table = change table }) (option_map table_in o)))
+      by None found works reads = quiet rc works reads
+      by (Some f) found works reads =
+          let here = found-kept k (IsKept old) old.files.files f found kept in
+          let u : Update = record { file = k; table = change f.table } in
+          let ends = update-kept old kept u (subst (λ n. 1 ≤ n) here.1 here.0.0) device rc in
+          subst (λ (e : ResourceEnd). OnOk e.outcome (IsSaved (Some u) e.state) → Kept e.state) (sym works.2) ends reads
 
-  opening-keeps : (rc : ResourceCall) (k : ℕ) → 1 ≤ k → (b : Bool) → is_open k old.files ≡ b → Keeps rc (cond b Quiet (Opens k))
-  opening-keeps rc k low true is works reads = quiet rc works reads
-  opening-keeps rc k low false closed works reads =
-      ended (opened_end k old works.1) works.3 (opens-kept old device k low closed kept works.1 works.2)
+  file-keeps : (rc : ResourceCall) (o : Option ℕ) → Keeps rc (updating (option_and_then (λ k. update_of k (updated_table old.heap.table) old.files) o))
+  file-keeps rc None works reads = quiet rc works reads
+  file-keeps rc (Some k) works reads = update-keeps rc k (updated_table old.heap.table) works reads
 
-  loaded-kept : (rc : ResourceCall) (p : RowPlace) (r : FileRow) (h : ℕ) (loads : Bool) (state : ResState) → Kept state
-      → Kept (load_end device loads rc p r h state).state
-  loaded-kept rc p r h false state kept = handle-kept state p h state.files kept
-  loaded-kept rc p r h true state kept =
+  row-keeps : (rc : ResourceCall) (b : Bool) (o : Option RowPlace)
+      → Keeps rc (updating (cond b (option_map_or (λ (p : RowPlace). update_of p.file (updated_at old.heap.table p.index) old.files) o None) None))
+  row-keeps rc true (Some p) works reads = update-keeps rc p.file (updated_at old.heap.table p.index) works reads
+  row-keeps rc true None works reads = quiet rc works reads
+  row-keeps rc false o works reads = quiet rc works reads
+
+  opening-keeps : (rc : ResourceCall) (k : ℕ) (low b : Bool) → nat_le 1 k ≡ low → is_open k old.files ≡ b
+      → option_or (unless_passed FnfErr (low && nat_le k (length old.disks))) None ≡ None → Keeps rc (cond b Quiet (Opens k))
+  opening-keeps rc k false b low is none works reads = absurd (cc none)
+  opening-keeps rc k true true low is none works reads = quiet rc works reads
+  opening-keeps rc k true false low closed none works reads =
+      ended (opened_end k old works.1) works.3 (opens-kept old device k (leb-true 1 k low) closed kept works.1 works.2)
+
+  placed-kept : (rc : ResourceCall) (p : RowPlace) (r : FileRow) (loads : Bool) (outcome : Outcome) (state : ResState) → Kept state
+      → Kept (placed_end device loads rc p r outcome state).state
+  placed-kept rc p r loads (Err code) state kept = kept
+  placed-kept rc p r false (Ok res) state kept = handle-kept state p (handle_made r (Ok res)) state.files kept
+  placed-kept rc p r true (Ok res) state kept =
+      let h = handle_made r (Ok res) in
       let failed = refused_with IoErr (with_heap (unloaded h r state.heap) state) in
       let new = with_files (row_changed p (with_handle (Some h)) state.files) (with_heap (loaded h r state.heap) state) in
       let done : ResourceEnd = record { outcome = Ok (loaded_results rc h); state = new } in
       let is = handle-kept state p h state.files kept in
       elim (read_fails device true r) as (λ b. Kept (cond b failed done).state) [ true ↦ kept | false ↦ is ]
 
-  placed-kept : (rc : ResourceCall) (p : RowPlace) (r : FileRow) (outcome : Outcome) (state : ResState) → Kept state
-      → Kept (placed_end device (loads_bytes old rc) rc p r outcome state).state
-  placed-kept rc p r (Err code) state kept = kept
-  placed-kept rc p r (Ok res) state kept = loaded-kept rc p r (handle_made r (Ok res)) (loads_bytes old rc) state kept
-
   row-gets : (rc : ResourceCall) (p : RowPlace) (r : FileRow) (o : Option MemoryCall) → GetsRow Memory Anything device old rc asks end p r o
       → Kept end.state
   row-gets rc p r None gets = ended (found_end rc r old) gets.1 kept
   row-gets rc p r (Some inner) gets =
       let behind = behind_memory asks gets.1 old in
-      let placed = placed-kept rc p r gets.0 behind (forgotten-kept old (disposed_in asks) old.files kept) in
+      let placed = placed-kept rc p r (loads_bytes old rc) gets.0 behind (forgotten-kept old (disposed_in asks) old.files kept) in
       ended (placed_end device (loads_bytes old rc) rc p r gets.0 behind) gets.3 placed
 
   place-gets : (rc : ResourceCall) (p : RowPlace) (o : Option FileRow) → GetsPlace Memory Anything device old rc asks end p o
@@ -405,19 +387,11 @@ module _ (device : Device) (old : ResState) (asks : List Ask) (end : ResourceEnd
   getting-keeps rc None works reads = quiet rc works reads
   getting-keeps rc (Some p) works reads = place-gets rc p (row_at p old.files) works
 
-  -- the number of a file that may be opened
-  number-low : (k : ℕ) (b : Bool) → option_or (unless_passed FnfErr (nat_le 1 k && b)) None ≡ None → 1 ≤ k
-  number-low k b none = by (nat_le 1 k) refl none
-    where
-      by : (low : Bool) → nat_le 1 k ≡ low → option_or (unless_passed FnfErr (low && b)) None ≡ None → 1 ≤ k
-      by true low none = leb-true 1 k low
-      by false low none = absurd (cc none)
-
   works-keep : (rc : ResourceCall) → resource_refusal old rc ≡ None → Keeps rc (work_of old rc)
-  works-keep (call.WriteResource h) none = updating-keeps (call.WriteResource h) (row_update old h) (row-low old kept h)
-  works-keep (call.UpdateResFile named) none = updating-keeps (call.UpdateResFile named) (file_update old named) (file-low old kept named)
-  works-keep (call.CloseResFile named) none = updating-keeps (call.CloseResFile named) (file_update old named) (file-low old kept named)
-  works-keep (call.OpenResFile k) none = opening-keeps (call.OpenResFile k) k (number-low k (nat_le k (length old.disks)) none) (is_open k old.files) refl
+  works-keep (call.WriteResource h) none = row-keeps (call.WriteResource h) (row_passes is_changed h old.files) (place_of_handle h old.files)
+  works-keep (call.UpdateResFile named) none = file-keeps (call.UpdateResFile named) (file_named named old.files)
+  works-keep (call.CloseResFile named) none = file-keeps (call.CloseResFile named) (file_named named old.files)
+  works-keep (call.OpenResFile k) none = opening-keeps (call.OpenResFile k) k (nat_le 1 k) (is_open k old.files) refl refl none
   works-keep rc none = getting-keeps rc (row_wanted old rc)
 
   steps-keep : (rc : ResourceCall) (o : Option OsErr) → resource_refusal old rc ≡ o → StepsUnless Memory Anything o device old rc asks end
