@@ -1,6 +1,6 @@
 -- Over runs of calls each row of an open file has the bytes that its fork has.
 use Rattle.std.proofs.Common.{◌≡◌, ◌<◌, ℕ, ◌-◌, ◌≤◌, Bool, true, false, List, [], ◌∷◌, ◌++◌, length, map, set, take, drop, suc, get_or, Option, Some, None, Ok, Err, Result, refl, sym, subst, ◌∙◌, arith, cond, inl, inr}
-use Rattle.std.specs.Prelude.{◌&&◌, All, OnOk, bit_and, bit_or, find, nat_le, option_and_then, option_map, slice_get, if◌then◌else◌, ⊤}
+use Rattle.std.specs.Prelude.{◌&&◌, All, IfSome, OnOk, bit_and, bit_or, find, nat_le, option_and_then, option_map, slice_get, if◌then◌else◌, ⊤}
 use Rattle.std.specs.List.{list_any}
 use Rattle.std.specs.Option.{option_map_or, option_or}
 use Rattle.std.proofs.lemmas.Bool.{eq-eqb, eqb-true, eqb-false, leb-true, ne_eqb, or_parts}
@@ -49,8 +49,8 @@ module _ (P : FileRow → Type 0) where
   row-is : (rows : List FileRow) (i : ℕ) (r : FileRow) → slice_get rows i ≡ Some r → All P rows → P r
   row-is rows i r is all = subst P (get_or_from_slice_get rows i r r is) (all i r (slice_get_within rows i r is))
 
-  row-changed : (i : ℕ) (change : FileRow → FileRow) → ((r : FileRow) → P r → P (change r)) → (rows : List FileRow) → All P rows
-      → All P (changed_at i change rows)
+  row-changed : (i : ℕ) (change : FileRow → FileRow) → ((r : FileRow) → P r → P (change r)) → (rows : List FileRow)
+      → All P rows → All P (changed_at i change rows)
   row-changed i change still rows all = by (slice_get rows i) refl
     where
       by : (o : Option FileRow) → slice_get rows i ≡ o → All P (option_map_or (λ r. set rows i (change r)) o rows)
@@ -138,11 +138,12 @@ module _ (k : ℕ) where
 
   -- its rows change
   changed-kept : (change : List FileRow → List FileRow) (P Q : File → Type 0) → Elsewhere P Q
-      → ((f : File) → f.number ≡ k → P f → Q (with_rows change f)) → (fs : List File) → AreKept P fs → AreKept Q (changed_file k change fs)
+      → ((f : File) → f.number ≡ k → P f → Q (with_rows change f))
+      → (fs : List File) → AreKept P fs → AreKept Q (changed_file k change fs)
   changed-kept change P Q there here [] kept = tt
   changed-kept change P Q there here (f ∷ fs) kept =
-      let too : (g : File) → g.number ≡ k → IsApart f P g → IsApart f Q (with_rows change g) = λ g number is. (is.0, here g number is.1) in
-      by (is_numbered k f) refl (changed-kept change (IsApart f P) (IsApart f Q) (apart P Q f there) too fs kept.1)
+      by (is_numbered k f) refl
+      (changed-kept change (IsApart f P) (IsApart f Q) (apart P Q f there) (λ g number is. (is.0, here g number is.1)) fs kept.1)
     where
       by : (b : Bool) → is_numbered k f ≡ b → AreKept (IsApart f Q) (changed_file k change fs)
           → AreKept Q (if b then with_rows change f ∷ fs else f ∷ changed_file k change fs)
@@ -160,7 +161,8 @@ module _ (k : ℕ) where
       by true is deeper = all-kept (IsApart f Q) Q (λ g is. is.1) fs (behind-kept P Q there f is fs kept.1)
       by false is deeper = (there f is kept.0, deeper)
 
-  closed-kept : (P Q : File → Type 0) → Elsewhere P Q → (files : Files) → AreKept P files.files → AreKept Q (file_closed k files).files
+  closed-kept : (P Q : File → Type 0) → Elsewhere P Q → (files : Files) → AreKept P files.files
+      → AreKept Q (file_closed k files).files
   closed-kept P Q there files kept = by (is_open k files) refl
     where
       by : (b : Bool) → is_open k files ≡ b → AreKept Q (cond b
@@ -169,18 +171,20 @@ module _ (k : ℕ) where
       by true is = without-kept P Q there files.files kept
       by false is = others-kept P Q there files.files is kept
 
-  -- a file that has it is found
-  found-kept : (P : File → Type 0) (fs : List File) (f : File) → find (is_numbered k) fs ≡ Some f → AreKept P fs → P f × (f.number ≡ k)
-  found-kept P [] f is kept = absurd (cc is)
-  found-kept P (g ∷ fs) f is kept = by (is_numbered k g) refl is (λ is. found-kept (IsApart g P) fs f is kept.1)
+  -- a file that has it, if it is found
+  found-kept : (P Q : File → Type 0) → ((f : File) → P f → Q f) → (fs : List File) → AreKept P fs
+      → IfSome (find (is_numbered k) fs) (λ f. Q f × (f.number ≡ k))
+  found-kept P Q more [] kept = tt
+  found-kept P Q more (f ∷ fs) kept = by (is_numbered k f) refl (found-kept (IsApart f P) Q (λ g is. more g is.1) fs kept.1)
     where
-      by : (b : Bool) → is_numbered k g ≡ b → cond b (Some g) (find (is_numbered k) fs) ≡ Some f
-          → (find (is_numbered k) fs ≡ Some f → IsApart g P f × (f.number ≡ k)) → P f × (f.number ≡ k)
-      by true here is deeper = let same : g ≡ f = cc is in subst (λ (f : File). P f × (f.number ≡ k)) same (kept.0, eqb-true g.number k here)
-      by false here is deeper = let found = deeper is in (found.0.1, found.1)
+      by : (b : Bool) → is_numbered k f ≡ b → IfSome (find (is_numbered k) fs) (λ f. Q f × (f.number ≡ k))
+          → IfSome (cond b (Some f) (find (is_numbered k) fs)) (λ f. Q f × (f.number ≡ k))
+      by true is deeper = (more f kept.0, eqb-true f.number k is)
+      by false is deeper = deeper
 
 -- one more is opened
-opened-kept : (P : File → Type 0) (f : File) → P f → (fs : List File) → HasNone f.number fs → AreKept P fs → AreKept P (fs ++ f ∷ [])
+opened-kept : (P : File → Type 0) (f : File) → P f → (fs : List File) → HasNone f.number fs → AreKept P fs
+    → AreKept P (fs ++ f ∷ [])
 opened-kept P f is [] none kept = (is, tt)
 opened-kept P f is (g ∷ fs) none kept =
     let both = or_parts (is_numbered f.number g) (list_any (is_numbered f.number) fs) none in
@@ -197,14 +201,15 @@ map-kept h P Q here (f ∷ fs) kept = (here f kept.0, map-kept h (IsApart f P) (
 
 -- so each row has its bytes
 kept-reads : (state : ResState) → Kept state → ReadOffForks state
-kept-reads state kept p r is = by (find (is_numbered p.file) state.files.files) refl is
+kept-reads state kept p r =
+    by (find (is_numbered p.file) state.files.files) (found-kept p.file (IsKept state) (IsKept state) (λ f is. is) state.files.files kept)
   where
-    by : (o : Option File) → find (is_numbered p.file) state.files.files ≡ o
-        → option_and_then (λ (table : FileTable). slice_get table.rows p.index) (option_map table_in o) ≡ Some r → HasBytes (disk_of p.file state) r
+    by : (o : Option File) → IfSome o (λ f. IsKept state f × (f.number ≡ p.file))
+        → option_and_then (λ (table : FileTable). slice_get table.rows p.index) (option_map table_in o) ≡ Some r
+        → HasBytes (disk_of p.file state) r
     by None found is = absurd (cc is)
     by (Some f) found is =
-        let here = found-kept p.file (IsKept state) state.files.files f found kept in
-        subst (λ k. HasBytes (disk_of k state) r) here.1 (row-is (HasBytes (disk_of f.number state)) f.table.rows p.index r is here.0.1)
+        subst (λ k. HasBytes (disk_of k state) r) found.1 (row-is (HasBytes (disk_of f.number state)) f.table.rows p.index r is found.0.1)
 
 module _ (state : ResState) where
   -- the files are kept beside these disks
@@ -213,7 +218,8 @@ module _ (state : ResState) where
 
   forgotten-kept : (hs : List ℕ) (files : Files) → FilesKept files → FilesKept (handles_forgotten hs files)
   forgotten-kept [] files kept = kept
-  forgotten-kept (h ∷ hs) files kept = forgotten-kept hs (handle_forgotten h files) (map-kept h (IsKept state) (IsKept state) here files.files kept)
+  forgotten-kept (h ∷ hs) files kept =
+      forgotten-kept hs (handle_forgotten h files) (map-kept h (IsKept state) (IsKept state) here files.files kept)
     where
       still : (disk : Disk) (r : FileRow) → HasBytes disk r → HasBytes disk (forgetting h r)
       still disk r is = elim (has_handle h r) as (λ b. HasBytes disk (if b then with_handle None r else r)) [ true ↦ is | false ↦ is ]
@@ -223,27 +229,30 @@ module _ (state : ResState) where
           let disk = disk_of f.number state in
           (is.0, All-map (HasBytes disk) (forgetting h) f.table.rows (λ i d within. still disk (get_or f.table.rows i d) (is.1 i d within)))
 
-  rows-kept : (k : ℕ) (change : List FileRow → List FileRow) → ((disk : Disk) (rows : List FileRow) → HaveBytes disk rows → HaveBytes disk (change rows))
+  rows-kept : (k : ℕ) (change : List FileRow → List FileRow)
+      → ((disk : Disk) (rows : List FileRow) → HaveBytes disk rows → HaveBytes disk (change rows))
       → (files : Files) → FilesKept files → FilesKept (rows_changed k change files)
   rows-kept k change still files kept =
-      changed-kept k change (IsKept state) (IsKept state) (λ f differ is. is) (λ f number is. (is.0, still (disk_of f.number state) f.table.rows is.1)) files.files kept
+      changed-kept k change (IsKept state) (IsKept state) (λ f differ is. is)
+      (λ f number is. (is.0, still (disk_of f.number state) f.table.rows is.1)) files.files kept
 
   row-kept : (p : RowPlace) (change : FileRow → FileRow) → ((disk : Disk) (r : FileRow) → HasBytes disk r → HasBytes disk (change r))
       → (files : Files) → FilesKept files → FilesKept (row_changed p change files)
   row-kept p change still files kept =
-      rows-kept p.file (changed_at p.index change) (λ disk rows all. row-changed (HasBytes disk) p.index change (still disk) rows all) files kept
+      rows-kept p.file (changed_at p.index change) (λ disk. row-changed (HasBytes disk) p.index change (still disk)) files kept
 
   handle-kept : (p : RowPlace) (h : ℕ) (files : Files) → FilesKept files → FilesKept (row_changed p (with_handle (Some h)) files)
   handle-kept p h files kept = row-kept p (with_handle (Some h)) (λ disk r is. is) files kept
 
   -- so it is where something changes, if there is that
-  some-kept : {X : Type 0} (of : X → Files) (files : Files) → ((x : X) → FilesKept (of x)) → FilesKept files → (o : Option X) → FilesKept (option_map_or of o files)
+  some-kept : {X : Type 0} (of : X → Files) (files : Files) → ((x : X) → FilesKept (of x)) → FilesKept files → (o : Option X)
+      → FilesKept (option_map_or of o files)
   some-kept of files here kept None = kept
   some-kept of files here kept (Some x) = here x
 
   -- attributes change, and resChanged stays set
-  attributes-kept : (change : ResAttrs → ResAttrs) → ((a : ResAttrs) → is_marked a ≡ true → is_marked (change a) ≡ true) → (h : ℕ)
-      → (files : Files) → FilesKept files → FilesKept (attributes_changed change h files)
+  attributes-kept : (change : ResAttrs → ResAttrs) → ((a : ResAttrs) → is_marked a ≡ true → is_marked (change a) ≡ true)
+      → (h : ℕ) (files : Files) → FilesKept files → FilesKept (attributes_changed change h files)
   attributes-kept change keeps h files kept =
       let to : FileRow → FileRow = λ r. with_attributes (change r.resource.attributes) r in
       some-kept (λ p. row_changed p to files) files (λ p. row-kept p to still files kept) kept (place_of_handle h files)
@@ -253,10 +262,11 @@ module _ (state : ResState) where
       still disk r (inr has) = inr has
 
   -- what opening reads
-  opens-kept : (device : Device) (k : ℕ) → 1 ≤ k → is_open k state.files ≡ false → Kept state → (read : Result FileTable OsErr)
-      → ReadsBy device (disk_of k state) read → Kept (opened_end k state read).state
+  opens-kept : (device : Device) (k : ℕ) → 1 ≤ k → is_open k state.files ≡ false → Kept state
+      → (read : Result FileTable OsErr) → ReadsBy device (disk_of k state) read → Kept (opened_end k state read).state
   opens-kept device k low closed kept (Ok table) reads =
-      opened-kept (IsKept state) (record { number = k; table = table }) (low, read-bytes device (disk_of k state) table reads) state.files.files closed kept
+      let rows = read-bytes device (disk_of k state) table reads in
+      opened-kept (IsKept state) (record { number = k; table = table }) (low, rows) state.files.files closed kept
   opens-kept device k low closed kept (Err code) reads = kept
 
 -- ---- updates
@@ -282,12 +292,14 @@ module _ (old : ResState) (kept : Kept old) (u : Update) (low : 1 ≤ u.file) wh
       let there = still-kept (written (saved_table u.table)) in
       changed-kept u.file (λ _. u.table.rows) (IsKept old) (IsKept with_saved) there here old.files.files kept
 
-  update-kept : (device : Device) (rc : ResourceCall) → let e = update_end device rc u old in OnOk e.outcome (IsSaved (Some u) e.state) → Kept e.state
+  update-kept : (device : Device) (rc : ResourceCall) → let e = update_end device rc u old in
+      OnOk e.outcome (IsSaved (Some u) e.state) → Kept e.state
   update-kept DeviceWorks (call.CloseResFile named) stands =
       closed-kept u.file (IsKept with_saved) (IsKept with_saved) (λ f differ is. is) with_saved.files (saved-kept stands)
   update-kept DeviceWorks rc stands = saved-kept stands
   update-kept FailsBefore rc stands = kept
-  update-kept (FailsWriting left) rc stands = closed-kept u.file (IsKept old) (IsKept (with_disk u.file left old)) (still-kept left) old.files kept
+  update-kept (FailsWriting left) rc stands =
+      closed-kept u.file (IsKept old) (IsKept (with_disk u.file left old)) (still-kept left) old.files kept
 
 -- ---- calls, and runs of them
 
@@ -306,11 +318,11 @@ quiet-kept old (call.ReleaseResource h) kept =
 quiet-kept old (call.DetachResource h) kept = forgotten-kept old (h ∷ []) old.files kept
 quiet-kept old (call.RemoveResource h) kept =
     let to = λ (p : RowPlace). removed_at p.index in
-    let here = λ (p : RowPlace). rows-kept old p.file (to p) (λ disk rows all. row-removed (HasBytes disk) p.index rows all) old.files kept in
+    let here = λ (p : RowPlace). rows-kept old p.file (to p) (λ disk. row-removed (HasBytes disk) p.index) old.files kept in
     some-kept old (λ (p : RowPlace). rows_changed p.file (to p) old.files) old.files here kept (place_of_handle h old.files)
 quiet-kept old (call.AddResource h kind id name) kept =
     let new = new_row h kind id name in
-    let here = λ (k : ℕ). rows-kept old k (added new) (λ disk rows all. row-added (HasBytes disk) new (inl (refl, refl)) rows all) old.files kept in
+    let here = λ (k : ℕ). rows-kept old k (added new) (λ disk. row-added (HasBytes disk) new (inl (refl, refl))) old.files kept in
     some-kept old (λ k. rows_changed k (added new) old.files) old.files here kept old.files.current
 quiet-kept old (call.ChangedResource h) kept = attributes-kept old marked (λ a is. marked-is a) h old.files kept
 quiet-kept old (call.SetResAttrs h n) kept = attributes-kept old (replaced_attributes n) (replaced-is n) h old.files kept
@@ -330,18 +342,19 @@ module _ (device : Device) (old : ResState) (asks : List Ask) (end : ResourceEnd
 
   -- an update is of a file that is open, whose number is one
   update-keeps : (rc : ResourceCall) (k : ℕ) (change : FileTable → FileTable) → Keeps rc (updating (update_of k change old.files))
-  update-keeps rc k change = by (find (is_numbered k) old.files.files) refl
+  update-keeps rc k change =
+      by (find (is_numbered k) old.files.files) (found-kept k (IsKept old) (λ f. 1 ≤ f.number) (λ f is. is.0) old.files.files kept)
     where
-      by : (o : Option File) → find (is_numbered k) old.files.files ≡ o
+      by : (o : Option File) → IfSome o (λ f. (1 ≤ f.number) × (f.number ≡ k))
           → Keeps rc (updating (option_map (λ (table : FileTable). record { file = k; table = change table }) (option_map table_in o)))
       by None found works reads = quiet rc works reads
       by (Some f) found works reads =
-          let here = found-kept k (IsKept old) old.files.files f found kept in
           let u : Update = record { file = k; table = change f.table } in
-          let ends = update-kept old kept u (subst (λ n. 1 ≤ n) here.1 here.0.0) device rc in
+          let ends = update-kept old kept u (subst (λ n. 1 ≤ n) found.1 found.0) device rc in
           subst (λ (e : ResourceEnd). OnOk e.outcome (IsSaved (Some u) e.state) → Kept e.state) (sym works.2) ends reads
 
-  file-keeps : (rc : ResourceCall) (o : Option ℕ) → Keeps rc (updating (option_and_then (λ k. update_of k (updated_table old.heap.table) old.files) o))
+  file-keeps : (rc : ResourceCall) (o : Option ℕ)
+      → Keeps rc (updating (option_and_then (λ k. update_of k (updated_table old.heap.table) old.files) o))
   file-keeps rc None works reads = quiet rc works reads
   file-keeps rc (Some k) works reads = update-keeps rc k (updated_table old.heap.table) works reads
 
@@ -370,8 +383,8 @@ module _ (device : Device) (old : ResState) (asks : List Ask) (end : ResourceEnd
       let is = handle-kept state p h state.files kept in
       elim (read_fails device true r) as (λ b. Kept (cond b failed done).state) [ true ↦ kept | false ↦ is ]
 
-  row-gets : (rc : ResourceCall) (p : RowPlace) (r : FileRow) (o : Option MemoryCall) → GetsRow Memory Anything device old rc asks end p r o
-      → Kept end.state
+  row-gets : (rc : ResourceCall) (p : RowPlace) (r : FileRow) (o : Option MemoryCall)
+      → GetsRow Memory Anything device old rc asks end p r o → Kept end.state
   row-gets rc p r None gets = ended (found_end rc r old) gets.1 kept
   row-gets rc p r (Some inner) gets =
       let behind = behind_memory asks gets.1 old in
@@ -394,13 +407,13 @@ module _ (device : Device) (old : ResState) (asks : List Ask) (end : ResourceEnd
   works-keep (call.OpenResFile k) none = opening-keeps (call.OpenResFile k) k (nat_le 1 k) (is_open k old.files) refl refl none
   works-keep rc none = getting-keeps rc (row_wanted old rc)
 
-  steps-keep : (rc : ResourceCall) (o : Option OsErr) → resource_refusal old rc ≡ o → StepsUnless Memory Anything o device old rc asks end
-      → ReadsBack old rc end.outcome end.state → Kept end.state
+  steps-keep : (rc : ResourceCall) (o : Option OsErr) → resource_refusal old rc ≡ o
+      → StepsUnless Memory Anything o device old rc asks end → ReadsBack old rc end.outcome end.state → Kept end.state
   steps-keep rc (Some code) is step reads = ended (refused_with code old) step.1 kept
   steps-keep rc None is step reads = works-keep rc is step reads
 
-tool-kept : (old : Tools) (c : Call) (asks : List Ask) (outcome : Outcome) (new : Tools) → Kept old.resources → ToolDoes old c asks outcome new
-    → Kept new.resources
+tool-kept : (old : Tools) (c : Call) (asks : List Ask) (outcome : Outcome) (new : Tools) → Kept old.resources
+    → ToolDoes old c asks outcome new → Kept new.resources
 tool-kept old (MemoryCalls c) asks outcome new kept does =
     subst Kept (sym does.2) (forgotten-kept old.resources (disposed_of c asks outcome) old.resources.files kept)
 tool-kept old (Loan c) asks outcome new kept does = subst Kept (sym does.1) kept
@@ -410,7 +423,8 @@ tool-kept old (Resource rc) asks outcome new kept does =
 tool-kept old MemError asks outcome new kept does = subst Kept (sym does.0) kept
 tool-kept old ResError asks outcome new kept does = subst Kept (sym does.0) kept
 
-run-kept : (old : Tools) (first later : List Called) → Kept old.resources → IsToolRun old (first ++ later) → Kept (tools_after old first).resources
+run-kept : (old : Tools) (first later : List Called) → Kept old.resources → IsToolRun old (first ++ later)
+    → Kept (tools_after old first).resources
 run-kept old [] later kept is = kept
 run-kept old (c ∷ first) later kept is = run-kept c.tools first later (tool-kept old c.call c.asks c.outcome c.tools kept is.0) is.1
 
