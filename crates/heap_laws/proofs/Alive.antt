@@ -1,13 +1,12 @@
 -- A handle or a pointer keeps its number until somebody disposes of it.
-use Rattle.std.proofs.Common.{◌≡◌, ℕ, true, false, List, [], ◌∷◌, Option, Some, None, Ok, Contains, ap, refl, subst, sym, ◌∙◌, inl, inr}
+use Rattle.std.proofs.Common.{◌≡◌, ℕ, true, false, List, [], ◌∷◌, Some, None, Ok, Contains, ap, refl, subst, sym, ◌∙◌, inl, inr}
 use Rattle.std.specs.Prelude.{◌&&◌, ◌⊎◌, not}
 use Rattle.std.specs.Option.{option_to_list}
 use Rattle.std.proofs.lemmas.Bool.{true≢false}
 use Rattle.std.proofs.lemmas.List.Elements.{Contains-append_left, Contains-append_right}
-use Rattle.mac_base.specs.declared.block.Flags.{Flags}
 use Rattle.mac_base.specs.declared.releasing.ReleasingCall.{ReleasingCall}
 use Rattle.mac_base.specs.declared.releasing.ReleasingCall.TheVariants.{DisposesHandle, DisposesPtr, Empties}
-use Rattle.mac_base.specs.HandleTable.{HandleTable, Live, EmptyHandle, FullHandle, Pointer, flags_of, is_full, is_handle, is_locked, is_pointer, is_purgeable, live_handle, live_pointer, refilled}
+use Rattle.mac_base.specs.HandleTable.{HandleTable, EmptyHandle, flags_of, is_full, is_handle, is_locked, is_pointer, is_purgeable, live_handle}
 use Rattle.mac_base.specs.HeadKind.{Shape}
 use Rattle.mac_base.specs.Heap.{Heap}
 use Rattle.mac_base.specs.Releasing.{heap_released, operand_of}
@@ -26,12 +25,6 @@ use Rattle.heap_laws.specs.Alive.{HandleMayDie, KeepsNumbers, PointerMayDie}
 use Rattle.heap_laws.proofs.Losing.{MayEnd, Trait, itself-released, step-keeps}
 use Rattle.heap_laws.proofs.Passed.{test_1}
 
-refilled-handle : (bytes : List ℕ) (o : Option Live) → live_handle o ≡ true → live_handle (Some (refilled bytes o)) ≡ true
-refilled-handle bytes None h = absurd (cc h)
-refilled-handle bytes (Some EmptyHandle) h = refl
-refilled-handle bytes (Some (FullHandle flags old)) h = refl
-refilled-handle bytes (Some (Pointer old)) h = absurd (cc h)
-
 released-handle : (s : Shape) (call : ReleasingCall) (heap : Heap) → refusal s heap (memory_call call) ≡ None → is_handle heap.table (operand_of call) ≡ true
     → (is_handle (heap_released call heap).table (operand_of call) ≡ true) ⊎ (disposed_by (call, None) ≡ Some (operand_of call))
 released-handle s (DisposesHandle h) heap passes here = inr refl
@@ -46,29 +39,11 @@ itself-disposed (Empties h) results = refl
 
 -- to be a handle
 abbrev a_handle : Trait
-a_handle = record {
-  holds = live_handle; by = disposed_by; itself = disposed_itself; dead = refl; refills = refilled-handle; fills = λ o flags bytes handle here. refl;
-  releases = released-handle; alike = itself-disposed;
-}
-
-refilled-pointer : (bytes : List ℕ) (o : Option Live) → live_pointer o ≡ true → live_pointer (Some (refilled bytes o)) ≡ true
-refilled-pointer bytes None h = absurd (cc h)
-refilled-pointer bytes (Some EmptyHandle) h = absurd (cc h)
-refilled-pointer bytes (Some (FullHandle flags old)) h = absurd (cc h)
-refilled-pointer bytes (Some (Pointer old)) h = refl
-
-filled-pointer : (o : Option Live) (flags : Flags) (bytes : List ℕ) → live_handle o ≡ true → live_pointer o ≡ true → live_pointer (Some (FullHandle flags bytes)) ≡ true
-filled-pointer None flags bytes handle here = absurd (cc handle)
-filled-pointer (Some EmptyHandle) flags bytes handle here = absurd (cc here)
-filled-pointer (Some (FullHandle f b)) flags bytes handle here = absurd (cc here)
-filled-pointer (Some (Pointer b)) flags bytes handle here = absurd (cc handle)
+a_handle = record { test = λ handle full pointer. handle; by = disposed_by; itself = disposed_itself; dead = refl; fills = λ h. refl; releases = released-handle; alike = itself-disposed }
 
 -- to be a pointer
 abbrev a_pointer : Trait
-a_pointer = record {
-  holds = live_pointer; by = released_by; itself = released_itself; dead = refl; refills = refilled-pointer; fills = filled-pointer;
-  releases = λ s call heap passes here. inr refl; alike = itself-released;
-}
+a_pointer = record { test = λ handle full pointer. pointer; by = released_by; itself = released_itself; dead = refl; fills = λ h. h; releases = λ s call heap passes here. inr refl; alike = itself-released }
 
 -- what may be purged is no pointer
 purgeable-no_pointer : (t : HandleTable) (x : ℕ) → is_purgeable t x ≡ true → is_pointer t x ≡ false

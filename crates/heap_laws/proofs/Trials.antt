@@ -68,8 +68,7 @@ module _ (s : Shape) (protected : List ℕ) (r : Request) where
     where
       by_value : (let c = carried_out s protected a.calls full in (b : Bool) → (a.value == 0) ≡ b → MatchBool b (EndsUnserved c.heap asks given new) (RequestRun s protected r (allowed - 1) c.heap asks given new) → Ran allowed old (ask ∷ asks) given new)
       by_value true zero ends =
-          let c : Carried = carried_out s protected a.calls full in
-          ran-last given allowed old full c.heap ask asks new fails (asked full ask new (Some a) is needed run.0 ends.2) (ap is_worth_a_trial is ∙ ap not zero) ends
+          ran-last given allowed old full (carried_out s protected a.calls full).heap ask asks new fails (asked full ask new (Some a) is needed run.0 ends.2) (ap is_worth_a_trial is ∙ ap not zero) ends
       by_value false worth more =
           let c : Carried = carried_out s protected a.calls full in
           ran-more given allowed old full c.heap ask asks new left fails (asked full ask c.heap (Some a) is needed run.0 (same-refl c.heap)) (ap is_worth_a_trial is ∙ ap not worth) (later c.heap more)
