@@ -1,7 +1,7 @@
 -- A block is lost only where it may be.
 use Rattle.std.proofs.Common.{◌≡◌, ℕ, Bool, true, false, not, cond, length, take, drop, List, [], ◌∷◌, ◌++◌, Option, Some, None, Ok, Contains, refl, ap, sym, subst, ◌∙◌, inl, inr, append-nil, append_assoc, arith, ◌-◌}
 use Rattle.std.specs.List.{cons_option}
-use Rattle.std.specs.Prelude.{flat_map, ◌||◌, ◌&&◌, ◌⊎◌, filter_map, IsFalse}
+use Rattle.std.specs.Prelude.{flat_map, ◌||◌, ◌&&◌, ◌⊎◌, filter_map}
 use Rattle.std.proofs.lemmas.Bool.{or_left, true≢false}
 use Rattle.std.proofs.lemmas.Grind.{flat_map-append}
 use Rattle.std.proofs.lemmas.List.Elements.{All-contains, Contains-append_left, Contains-append_right, filter_map-append, filter_passes}
@@ -18,9 +18,9 @@ use Rattle.mac_base.specs.HandleTable.{HandleTable, Live, EmptyHandle, FullHandl
 use Rattle.mac_base.specs.HeadKind.{Shape}
 use Rattle.mac_base.specs.Heap.{Heap, grown, table_granted, with_all_emptied, with_emptied}
 use Rattle.mac_base.specs.Releasing.{heap_released, operand_of}
-use Rattle.mac_base.specs.Request.{blocks_to_purge, candidates_in, fits, is_among}
+use Rattle.mac_base.specs.Request.{blocks_to_purge, candidates_in, is_among}
 use Rattle.mac_base.specs.Trial.{Fails, MayPrepare, NumberGiven, Preparation, prepared_by}
-use Rattle.mac_base.specs.ZoneMap.{ZoneMap, at_limit, handle_of}
+use Rattle.mac_base.specs.ZoneMap.{ZoneMap, handle_of}
 use Rattle.mac_base.specs.ZoneState.{written}
 use Rattle.mac_calls.specs.declared.memory_call.MemoryCall.{MemoryCall}
 use Rattle.mac_calls.specs.declared.memory_call.MemoryCall.TheVariants as memory_call
@@ -116,8 +116,7 @@ module _ (k : Trait) (x : ℕ) where
       (λ y apart holds. inl (ap (test_of k) ((with_live_agrees g l t).others y apart) ∙ holds)) x
 
   set-keeps : (g : ℕ) (l : Live) (t : HandleTable) → (test_of k (live_at t g) ≡ true → test_of k (Some l) ≡ true) → Holds t → Holds (with_live g l t)
-  set-keeps g l t here = by_number (λ y. test_of k (live_at t y) ≡ true → test_of k (live_at (with_live g l t) y) ≡ true) g
-      (λ holds. ap (test_of k) (live_at-with_live_same g l t) ∙ here holds) (λ y apart holds. ap (test_of k) ((with_live_agrees g l t).others y apart) ∙ holds) x
+  set-keeps g l t here holds = elim (set-or g l t holds) [ inl kept ↦ kept | inr lost ↦ absurd (true≢false (sym (here (subst (λ y. test_of k (live_at t y) ≡ true) (sym lost.0) holds)) ∙ lost.1)) ]
 
   bytes-keep : (g : ℕ) (bytes : List ℕ) (t : HandleTable) → Holds t → Holds (with_bytes g bytes t)
   bytes-keep g bytes t = set-keeps g (refilled bytes (live_at t g)) t (refills bytes (live_at t g))
@@ -207,14 +206,15 @@ module _ (k : Trait) (x : ℕ) where
         prepared-keeps : (done later : List Ask) (at : Heap) (p : Preparation) → asks ≡ (first ++ done) ++ later → Tried s (protected_by call) r from done at → MayPrepare s (protected_by call) r at p → Holds at.table → Keeps (prepared_by s p at).table Lost
         prepared-keeps done later at p parts tried may holds =
             let mid : Heap = cond p.grows (grown s at) at in
-            elim (purges-keep p.purges mid (same at.table mid.table (table-grown s p.grows at) holds)) [ inl here ↦ inl here | inr c ↦ inr (inr (purged c may.purges_at_need)) ]
-          where
-            purged : Contains p.purges x × (test_of k (Some EmptyHandle) ≡ false) → (p.purges ≡ []) ⊎ IsFalse (fits s at.table r (at_limit s at.map)) → Purged old.table (protected_by call) ((r : Request) × CameShort s old call asks r)
-            purged c (inl none) = absurd (Contains-none x (subst (λ hs. Contains hs x) none c.0))
-            purged c (inr short) =
-                let facts = candidate-purgeable at.table (protected_by call) (blocks_to_purge at.table r at.map) x (may.purges_candidates x c.0) in
-                let fewer = fewer-then (protected_by call) old.table from.table at.table (fewer-begun s old call r first from begins) (fewer-tried s (protected_by call) r from done at tried) in
-                (still-purgeable (protected_by call) old.table at.table x fewer facts.0, facts.1, c.1, (r, (first ++ done, later, at, parts, (first, done, from, refl, begins, tried), short)))
+            elim (purges-keep p.purges mid (same at.table mid.table (table-grown s p.grows at) holds)) [
+              | inl here ↦ inl here
+              | inr c ↦ elim may.purges_at_need [
+                | inl none ↦ absurd (Contains-none x (subst (λ hs. Contains hs x) none c.0))
+                | inr short ↦ (let facts = candidate-purgeable at.table (protected_by call) (blocks_to_purge at.table r at.map) x (may.purges_candidates x c.0) in
+                    let fewer = fewer-then (protected_by call) old.table from.table at.table (fewer-begun s old call r first from begins) (fewer-tried s (protected_by call) r from done at tried) in
+                    inr (inr (still-purgeable (protected_by call) old.table at.table x fewer facts.0, facts.1, c.1, (r, (first ++ done, later, at, parts, (first, done, from, refl, begins, tried), short)))))
+              ]
+            ]
 
         failed-keeps : (done later : List Ask) (at full : Heap) → asks ≡ (first ++ done) ++ later → Tried s (protected_by call) r from done at → Fails s (protected_by call) r at full → Holds at.table → Keeps full.table Lost
         failed-keeps done later at full parts tried fails holds = subst (λ t. Keeps t Lost) (sym fails.2.table) (prepared-keeps done later at fails.0 parts tried fails.1 holds)
@@ -274,13 +274,9 @@ module _ (k : Trait) (x : ℕ) where
       MayEnd call asks outcome = (k.itself call outcome ≡ Some x) ⊎ (Contains (ended_in asks) x ⊎ Purged old.table (protected_by call) (PurgesFor s old call asks))
 
       lost-may : (call : MemoryCall) (r : Request) (asks : List Ask) (outcome : Outcome) → request_of old.table call ≡ Some r → Lost old call asks → MayEnd call asks outcome
-      lost-may call r asks outcome is (inl ended) = inr (inl ended)
-      lost-may call r asks outcome is (inr purged) = inr (inr (purged.0, purged.1, purged.2, need call is purged.3))
-        where
-          need : (call : MemoryCall) → request_of old.table call ≡ Some r → ((r : Request) × CameShort s old call asks r) → PurgesFor s old call asks
-          need memory_call.MaxMem is why = absurd (cc is)
-          need (memory_call.PurgeMem n) is why = absurd (cc is)
-          need call is why = why
+      lost-may memory_call.MaxMem r asks outcome is lost = absurd (cc is)
+      lost-may (memory_call.PurgeMem n) r asks outcome is lost = absurd (cc is)
+      lost-may call r asks outcome is lost = inr lost
 
       own-replaces : (call : MemoryCall) (r : Request) → refusal s old call ≡ None → (r ≡ NewMaster) ⊎ (request_of old.table call ≡ Some r) → Replaces old call r
       own-replaces call r passes (inl master) h n is = absurd (cc (master, is))
@@ -358,16 +354,11 @@ a_block = record { test = λ handle full pointer. full || pointer; by = released
 
 -- a block is lost only where it may be
 pub step-loses : (s : Shape) (old : Heap) (call : MemoryCall) (asks : List Ask) (outcome : Outcome) (new : Heap) (x : ℕ) → MemoryStep s old call asks outcome new → has_block old.table x ≡ true → has_block new.table x ≡ false → MayLose s old call asks outcome x
-step-loses s old call asks outcome new x step block lost = may (step-keeps a_block s old call asks outcome new x step block lost)
-  where
-    may : MayEnd a_block x s old call asks outcome → MayLose s old call asks outcome x
-    may (inl itself) = inl itself
-    may (inr (inl released)) = inr (inl released)
-    may (inr (inr purged)) = inr (inr (purged.0, purged.1, purged.3))
+step-loses s old call asks outcome new x step block lost =
+    elim (step-keeps a_block s old call asks outcome new x step block lost) [ inl itself ↦ inl itself | inr other ↦ inr (elim other [ inl released ↦ inl released | inr purged ↦ inr (purged.0, purged.1, purged.3) ]) ]
 
 pub lost_only : (t : HandleTable) (x : ℕ) (Why : Type 0) → (has_block t x ≡ true) ⊎ Why → has_block t x ≡ false → Why
-lost_only t x Why (inl here) lost = absurd (true≢false (sym here ∙ lost))
-lost_only t x Why (inr why) lost = why
+lost_only t x Why keeps lost = elim keeps [ inl here ↦ absurd (true≢false (sym here ∙ lost)) | inr why ↦ why ]
 
 pub released-keeps : (call : ReleasingCall) (heap : Heap) (x : ℕ) → has_block heap.table x ≡ true → (has_block (heap_released call heap).table x ≡ true) ⊎ (operand_of call ≡ x)
 released-keeps call heap = by_number (λ y. has_block heap.table y ≡ true → (has_block (heap_released call heap).table y ≡ true) ⊎ (operand_of call ≡ y)) (operand_of call) (λ _. inr refl) (λ y apart block. inl (ap block_live ((released-agrees call heap).others y apart) ∙ block))
