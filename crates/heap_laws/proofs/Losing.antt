@@ -191,7 +191,7 @@ module _ (k : Trait) (x : ℕ) where
     module _ (old : Heap) (call : MemoryCall) (asks : List Ask) where
       -- why it ends in the requests of the call
       abbrev Lost : Type 0
-      Lost = Contains (ended_in asks) x ⊎ Purged old.table (protected_by call) ((r : Request) × CameShort s old call asks r)
+      Lost = Contains (ended_in asks) x ⊎ Purged old.table (protected_by call) ((r : Request) × CameShort s old call asks x r)
 
       asked-keeps : (r : Request) (before : List Ask) (ask : Ask) (later : List Ask) (full after : Heap) → asks ≡ before ++ (ask ∷ later) → Asked s (protected_by call) r full ask after → Holds full.table → Keeps after.table Lost
       asked-keeps r before ask later full after parts asked holds =
@@ -212,7 +212,7 @@ module _ (k : Trait) (x : ℕ) where
                 | inl none ↦ absurd (Contains-none x (subst (λ hs. Contains hs x) none c.0))
                 | inr short ↦ (let facts = candidate-purgeable at.table (protected_by call) (blocks_to_purge at.table r at.map) x (may.purges_candidates x c.0) in
                     let fewer = fewer-then (protected_by call) old.table from.table at.table (fewer-begun s old call r first from begins) (fewer-tried s (protected_by call) r from done at tried) in
-                    inr (inr (still-purgeable (protected_by call) old.table at.table x fewer facts.0, facts.1, c.1, (r, (first ++ done, later, at, parts, (first, done, from, refl, begins, tried), short)))))
+                    inr (inr (still-purgeable (protected_by call) old.table at.table x fewer facts.0, facts.1, c.1, (r, (first ++ done, later, at, parts, (first, done, from, refl, begins, tried), short, may.purges_candidates x c.0)))))
               ]
             ]
 
@@ -271,7 +271,7 @@ module _ (k : Trait) (x : ℕ) where
     module _ (old : Heap) where
       -- why it ends
       abbrev pub MayEnd : MemoryCall → List Ask → Outcome → Type 0
-      MayEnd call asks outcome = (k.itself call outcome ≡ Some x) ⊎ (Contains (ended_in asks) x ⊎ Purged old.table (protected_by call) (PurgesFor s old call asks))
+      MayEnd call asks outcome = (k.itself call outcome ≡ Some x) ⊎ (Contains (ended_in asks) x ⊎ Purged old.table (protected_by call) (PurgesFor s old call asks x))
 
       lost-may : (call : MemoryCall) (r : Request) (asks : List Ask) (outcome : Outcome) → request_of old.table call ≡ Some r → Lost old call asks → MayEnd call asks outcome
       lost-may memory_call.MaxMem r asks outcome is lost = absurd (cc is)
@@ -294,7 +294,7 @@ module _ (k : Trait) (x : ℕ) where
 
       -- what was purged where there was need
       purged-keeps : (call : MemoryCall) (asks : List Ask) (outcome : Outcome) (hs : List ℕ) (new : HandleTable) → new ≡ (with_all_emptied hs old).table → protected_by call ≡ [] → ((h : ℕ) → Contains hs h → Contains (candidates_in old.table [] old.map) h)
-          → (hs ≡ []) ⊎ PurgesFor s old call asks → Holds old.table → Keeps new (MayEnd call asks outcome)
+          → (hs ≡ []) ⊎ PurgesFor s old call asks x → Holds old.table → Keeps new (MayEnd call asks outcome)
       purged-keeps call asks outcome hs new is none may need holds = elim (purges-keep hs old holds) [
         | inl here ↦ inl (same (with_all_emptied hs old).table new is here)
         | inr c ↦ (let facts = candidate-purgeable old.table [] old.map x (may x c.0) in
