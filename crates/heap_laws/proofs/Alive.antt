@@ -1,12 +1,12 @@
 -- A handle or a pointer keeps its number until somebody disposes of it.
-use Rattle.std.proofs.Common.{◌≡◌, ℕ, true, false, List, [], ◌∷◌, Some, None, Ok, Contains, ap, refl, subst, sym, ◌∙◌, inl, inr}
+use Rattle.std.proofs.Common.{◌≡◌, ℕ, true, List, [], ◌∷◌, Some, None, Ok, Contains, ap, refl, subst, sym, ◌∙◌, inl, inr}
 use Rattle.std.specs.Prelude.{◌&&◌, ◌⊎◌, not}
 use Rattle.std.specs.Option.{option_to_list}
 use Rattle.std.proofs.lemmas.Bool.{true≢false}
 use Rattle.std.proofs.lemmas.List.Elements.{Contains-append_left, Contains-append_right}
 use Rattle.mac_base.specs.declared.releasing.ReleasingCall.{ReleasingCall}
 use Rattle.mac_base.specs.declared.releasing.ReleasingCall.TheVariants.{DisposesHandle, DisposesPtr, Empties}
-use Rattle.mac_base.specs.HandleTable.{HandleTable, EmptyHandle, flags_of, is_full, is_handle, is_locked, is_pointer, is_purgeable, live_handle}
+use Rattle.mac_base.specs.HandleTable.{EmptyHandle, flags_of, is_full, is_handle, is_locked, live_handle}
 use Rattle.mac_base.specs.HeadKind.{Shape}
 use Rattle.mac_base.specs.Heap.{Heap}
 use Rattle.mac_base.specs.Releasing.{heap_released, operand_of}
@@ -21,7 +21,7 @@ use Rattle.zone_laws.proofs.Maps.{both_true}
 use Rattle.zone_laws.proofs.SlotPlaces.{Contains-here}
 use Rattle.zone_laws.proofs.Tables.{full_handle, handle_no_pointer, live_at-with_live_same}
 use Rattle.call_laws.proofs.Refusals.{passed-IsPointer}
-use Rattle.heap_laws.specs.Alive.{HandleMayDie, KeepsNumbers, PointerMayDie}
+use Rattle.heap_laws.specs.Alive.{HandleMayDie, KeepsNumbers}
 use Rattle.heap_laws.proofs.Losing.{MayEnd, Trait, itself-released, step-keeps}
 use Rattle.heap_laws.proofs.Passed.{test_1}
 
@@ -45,23 +45,20 @@ a_handle = record { test = λ handle full pointer. handle; by = disposed_by; its
 abbrev a_pointer : Trait
 a_pointer = record { test = λ handle full pointer. pointer; by = released_by; itself = released_itself; dead = refl; fills = λ h. h; releases = λ s call heap passes here. inr refl; alike = itself-released }
 
--- what may be purged is no pointer
-purgeable-no_pointer : (t : HandleTable) (x : ℕ) → is_purgeable t x ≡ true → is_pointer t x ≡ false
-purgeable-no_pointer t x h = handle_no_pointer t x (full_handle t x (both_true (is_full t x) ((flags_of t x).purge && not (is_locked t x)) h).0)
-
--- a number is kept unless it is disposed of
+-- a number is kept unless it is disposed of: a handle that is purged stays one, and no pointer is purged
 pub step-alive : (s : Shape) (old : Heap) (call : MemoryCall) (asks : List Ask) (outcome : Outcome) (new : Heap) → MemoryStep s old call asks outcome new → KeepsNumbers old.table call asks outcome new.table
 step-alive s old call asks outcome new step = record {
-  handles = λ x is not_now. handle x (step-keeps a_handle s old call asks outcome new x step is not_now);
-  pointers = λ x is not_now. pointer x is (step-keeps a_pointer s old call asks outcome new x step is not_now);
+  handles = λ x is gone. handle x (step-keeps a_handle s old call asks outcome new x step is gone);
+  pointers = λ x is gone. elim (step-keeps a_pointer s old call asks outcome new x step is gone) [
+    | inl itself ↦ inl itself
+    | inr other ↦ elim other [
+      | inl ended ↦ inr ended
+      | inr purged ↦ (let full = (both_true (is_full old.table x) ((flags_of old.table x).purge && not (is_locked old.table x)) purged.0).0 in absurd (true≢false (sym is ∙ handle_no_pointer old.table x (full_handle old.table x full))))
+    ]
+  ];
 }
   where
     handle : (x : ℕ) → MayEnd a_handle x s old call asks outcome → HandleMayDie call asks outcome x
     handle x (inl itself) = Contains-append_right (disposed_in asks) (option_to_list (disposed_itself call outcome)) x (subst (λ xs. Contains xs x) (sym (ap option_to_list itself)) (Contains-here x []))
     handle x (inr (inl ended)) = Contains-append_left (disposed_in asks) (option_to_list (disposed_itself call outcome)) x ended
     handle x (inr (inr purged)) = absurd (cc purged.2)
-
-    pointer : (x : ℕ) → is_pointer old.table x ≡ true → MayEnd a_pointer x s old call asks outcome → PointerMayDie call asks outcome x
-    pointer x is (inl itself) = inl itself
-    pointer x is (inr (inl ended)) = inr ended
-    pointer x is (inr (inr purged)) = absurd (true≢false (sym is ∙ purgeable-no_pointer old.table x purged.0))

@@ -1,4 +1,4 @@
--- A block is lost only where it may be.
+-- What a number is, it stays until something ends it: a block is lost only where it may be.
 use Rattle.std.proofs.Common.{◌≡◌, ℕ, Bool, true, false, not, cond, length, take, drop, List, [], ◌∷◌, ◌++◌, Option, Some, None, Ok, Contains, refl, ap, sym, subst, ◌∙◌, inl, inr, append-nil, append_assoc, arith, ◌-◌}
 use Rattle.std.specs.List.{cons_option}
 use Rattle.std.specs.Prelude.{flat_map, ◌||◌, ◌&&◌, ◌⊎◌, filter_map}
@@ -14,7 +14,7 @@ use Rattle.mac_base.specs.declared.releasing.ReleasingCall.TheVariants.{Disposes
 use Rattle.mac_base.specs.declared.request.Request.{Request}
 use Rattle.mac_base.specs.declared.request.Request.TheVariants.{NewBlock, NewEmpty, NewPointer, NewMaster, Reserve, Resize, Replace}
 use Rattle.mac_base.specs.FlagState.{flags_from}
-use Rattle.mac_base.specs.HandleTable.{HandleTable, Live, EmptyHandle, FullHandle, Pointer, bytes_of, flags_of, has_block, is_full, is_handle, is_locked, is_purgeable, live_at, live_flags, live_full, live_handle, live_pointer, no_flags, refilled, resized, with_bytes, with_flags, with_live, zeros}
+use Rattle.mac_base.specs.HandleTable.{HandleTable, Live, EmptyHandle, FullHandle, Pointer, bytes_of, flags_of, has_block, is_full, is_handle, is_locked, is_pointer, is_purgeable, live_at, live_flags, live_full, live_handle, live_pointer, no_flags, refilled, resized, with_bytes, with_flags, with_live, zeros}
 use Rattle.mac_base.specs.HeadKind.{Shape}
 use Rattle.mac_base.specs.Heap.{Heap, grown, table_granted, with_all_emptied, with_emptied}
 use Rattle.mac_base.specs.Releasing.{heap_released, operand_of}
@@ -64,13 +64,11 @@ candidate-purgeable t protected m x c =
     let both = both_true (is_purgeable t x) (not (is_among protected x)) passes in
     (both.0, true_not (is_among protected x) both.1)
 
--- what is purgeable has a block
-purgeable-block : (t : HandleTable) (x : ℕ) → is_purgeable t x ≡ true → has_block t x ≡ true
-purgeable-block t x h = or_left (is_full t x) (live_pointer (live_at t x)) (both_true (is_full t x) ((flags_of t x).purge && not (is_locked t x)) h).0
-
--- what was purged behind an answer was purgeable before it
+-- what is purgeable was so as long as it had a block
 still-purgeable : (protected : List ℕ) (old new : HandleTable) (x : ℕ) → Fewer protected old new → is_purgeable new x ≡ true → is_purgeable old x ≡ true
-still-purgeable protected old new x fewer purgeable = ap (λ o. live_full o && ((live_flags o).purge && not (live_flags o).lock)) (sym (fewer.same x (purgeable-block new x purgeable))) ∙ purgeable
+still-purgeable protected old new x fewer purgeable =
+    let block = or_left (is_full new x) (is_pointer new x) (both_true (is_full new x) ((flags_of new x).purge && not (is_locked new x)) purgeable).0 in
+    ap (λ o. live_full o && ((live_flags o).purge && not (live_flags o).lock)) (sym (fewer.same x block)) ∙ purgeable
 
 -- what is passed as a handle is one
 handle-first : (s : Shape) (heap : Heap) (h : ℕ) (rest : List Test) → first_refusal s heap (IsHandle h ∷ rest) ≡ None → is_handle heap.table h ≡ true
