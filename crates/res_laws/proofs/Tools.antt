@@ -21,6 +21,7 @@ use Rattle.heap_laws.proofs.Standing.{Standing, run-first, run-later, stand-new,
 use Rattle.res_laws.specs.Acts.{Anything}
 use Rattle.res_laws.specs.Tools.{AreMadeOf, Called, IsActOfCall, IsMadeOf, IsToolRun, ToolDoes, Tools, ToolsShow, UpdateReadsBack, all_acts, moment_of, tools_after}
 use Rattle.res_laws.proofs.Acts.{made-of-acts}
+use Rattle.res_laws.proofs.Forks.{run-reads}
 
 -- ---- one call
 
@@ -117,7 +118,7 @@ update-reads old call asks outcome new does = tt
 
 -- from a new zone on
 pub tools-show : ToolsShow
-tools-show z start calls possible shape zone is =
+tools-show z start calls possible shape zone none is =
     let s = start.resources.shape in
     let stands : (put : LastPut) (set : LastSet) → Standing s (moment_of start) put set = λ put set. subst (λ s. Standing s (moment_of start) put set) (sym shape) (subst (λ at. Standing (shape_of z) at put set) (sym zone) (stand-new z put set possible)) in
     let all = all-made start calls any-put any-set (stands any-put any-set) is in
@@ -126,4 +127,5 @@ tools-show z start calls possible shape zone is =
       own = all.made;
       handles = λ first part later put set same. part-promised s (moment_of start) first part later put set (stands put set) (subst (IsRun s (moment_of start)) same all.run);
       forks = λ first later called same. update-reads (tools_after start first) called.call called.asks called.outcome called.tools (call-made start first later called (subst (IsToolRun start) same is));
+      rows = λ first later same. run-reads start first later none (subst (IsToolRun start) same is);
     }

@@ -9,6 +9,7 @@ use Rattle.mac_calls.specs.GrowZone.{Ask}
 use Rattle.mac_calls.specs.Loans.{Loans, LoanStep}
 use Rattle.mac_calls.specs.Outcomes.{Outcome}
 use Rattle.mac_calls.specs.Released.{disposed_of}
+use Rattle.res_table.specs.OpenFiles.{no_files}
 use Rattle.res_calls.specs.Device.{Device}
 use Rattle.res_calls.specs.Changes.{handles_forgotten}
 use Rattle.res_calls.specs.Files.{ResState, with_files, with_heap}
@@ -18,6 +19,7 @@ use Rattle.heap_laws.specs.LastSet.{LastSet, set_in}
 use Rattle.heap_laws.specs.Act.{Act, Calls, Done, IsRun, Moment, OnLoan, moment_after, new_zone}
 use Rattle.heap_laws.specs.Headline.{Promised}
 use Rattle.res_laws.specs.Acts.{Anything, IsActOf}
+use Rattle.res_laws.specs.Forks.{ReadOffForks}
 
 -- the zone, the resource files and their disks, and the blocks that are lent
 pub record Tools : Type 0 where
@@ -98,8 +100,10 @@ pub record Headline (start : Tools) (calls : List Called) : Type 0 where
       → Promised start.resources.shape (moment_after (moment_of start) first) part (put_in first put) (set_in first set)
   -- Every updated fork reads back as the resource table.
   pub forks : (first later : List Called) (called : Called) → calls ≡ first ++ (called ∷ later) → UpdateReadsBack (tools_after start first) called.call called.outcome called.tools
+  -- Each row of an open file has the bytes that its fork has, and so has each block into which it is loaded.
+  pub rows : (first later : List Called) → calls ≡ first ++ later → ReadOffForks (tools_after start first).resources
 
--- So it is for each list of calls from a new zone on, whatever stands on the disks.
+-- So it is for each list of calls from a new zone on, whatever stands on the disks, where no file is open.
 abbrev pub ToolsShow : Type 0
 ToolsShow = (z : ZoneSizes) (start : Tools) (calls : List Called) → ArePossible z → start.resources.shape ≡ shape_of z → moment_of start ≡ new_zone z
-    → IsToolRun start calls → Headline start calls
+    → start.resources.files ≡ no_files → IsToolRun start calls → Headline start calls

@@ -76,4 +76,4 @@ run-shows store sizes stores lines (text ∷ texts) last possible honest run =
     let opening : Called = record { call = Resource (OpenResFile 1); asks = []; outcome = opens.0; tools = tools_of store opened.toolbox } in
     let calls = opening ∷ printed.calls in
     let goes : IsToolRun (tools_of store start.toolbox) calls = (tool-does store start.toolbox (Resource (OpenResFile 1)) [] opens.0 opened.toolbox opens.1 opens.2 honest, printed.run) in
-    (calls, (opens.7, printed.prints), goes, tools-show sizes (tools_of store start.toolbox) calls possible refl refl goes)
+    (calls, (opens.7, printed.prints), goes, tools-show sizes (tools_of store start.toolbox) calls possible refl refl refl goes)

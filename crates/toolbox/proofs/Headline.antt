@@ -65,4 +65,4 @@ pub toolbox-shows : {S : Type 0} (store : Ghosts S) → ToolboxShows store
 unfolding moment
 toolbox-shows store sizes start steps possible new honest are =
     let run = are-run store start steps honest are in
-    (run, tools-show sizes (tools_of store start) (calls_of store steps) possible new.shape (ap (λ heap. moment heap start.loans) new.heap ∙ ap (moment _) new.loans) run)
+    (run, tools-show sizes (tools_of store start) (calls_of store steps) possible new.shape (ap (λ heap. moment heap start.loans) new.heap ∙ ap (moment _) new.loans) new.files run)

@@ -6,6 +6,7 @@ use Rattle.mac_calls.specs.declared.call.Call.{Call}
 use Rattle.mac_calls.specs.GrowZone.{Ask}
 use Rattle.mac_calls.specs.Outcomes.{Outcome}
 use Rattle.fork_disk.specs.declared.store.ForkStore.{Ghosts}
+use Rattle.res_table.specs.OpenFiles.{no_files}
 use Rattle.res_laws.specs.Tools.{Called, Headline, IsToolRun, Tools}
 use Rattle.toolbox.specs.Steps.{Steps}
 use Rattle.toolbox.specs.ToolState.{IsHonest, ToolState, resource_state}
@@ -30,11 +31,12 @@ AreSteps store old (step ∷ later) = Steps store old step.call step.asks step.o
 abbrev pub calls_of : {S : Type 0} → Ghosts S → List (Stepped S) → List Called
 calls_of {S = S} store steps = map (λ (step : Stepped S). record { call = step.call; asks = step.asks; outcome = step.outcome; tools = tools_of store step.left }) steps
 
--- nothing was done in the zone
+-- nothing was done in the zone, and no file is open
 pub record IsNew {S : Type 0} (sizes : ZoneSizes) (t : ToolState S) : Type 0 where
   pub shape : t.shape ≡ shape_of sizes
   pub heap : t.heap ≡ new_heap (shape_of sizes) sizes.size
   pub loans : t.loans ≡ []
+  pub files : t.resources.files ≡ no_files
 
 -- This is promised of the calls that are made of a toolbox over a new zone, where the devices of its stores are honest.
 abbrev pub ToolboxShows : {S : Type 0} → Ghosts S → Type 0
