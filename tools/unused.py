@@ -14,6 +14,7 @@ It knows words and not scopes, so a bound variable of the same name counts as a 
 
 import re
 import sys
+from collections import Counter
 from pathlib import Path
 
 TOP = Path(__file__).resolve().parent.parent / "crates"
@@ -32,128 +33,97 @@ NAMES, AS = r"(?:\.\{(.*?)\})?", r"(?:\s+as\s+(\S+?))?"
 IMPORT = re.compile(r"\buse\s+(?:Rattle\.)?([\w.]+?)" + NAMES + AS + r"\s*(?:;|$)", re.M | re.S)
 USING = re.compile(r"(\w+)::(proofs(?:::\w+)*)::(\w+)")
 DECLARED = re.compile(r"((?:(?:pub|abbrev|unfoldable|data|record|ruleset)\s+)*)(\S+)")
-WORD = re.compile(r"[^\s(){}\[\],;:]+|:+")
+COMMENT = re.compile(r"(^|\s)--(\s.*|$)")
 
 
 def words(text):
-    """The words of a text, each with what stands before and behind its first dot, too."""
-    found = set()
-    for word in WORD.findall(text):
-        found.add(word)
-        found.update(part for part in word.split(".") if part)
-    return found
-
-
-class Declaration:
-    def __init__(self, name):
-        self.name, self.public, self.data = name, False, False
-        self.names = {name}
-        self.text, self.words, self.lines = "", set(), []
-
-    def add(self, text, lines):
-        self.text += text + "\n"
-        self.lines += lines
+    """The words of a text, and the parts of those with dots."""
+    found = set(re.findall(r"[^\s(){}\[\],;:]+", text))
+    return found.union(*(word.split(".") for word in found))
 
 
 class File:
-    """A file: what it imports, what it declares, and, of a .rt file, its words."""
+    """A file: what it imports; of what it declares the words, which of it is `pub`, and the names
+    by which it is used; and all words of a .rt file."""
 
     def __init__(self, path):
-        self.path, self.declared, self.passed = path, {}, {}
-        self.module = ".".join(path.relative_to(TOP).with_suffix("").parts)
-        self.answers = path.stem in ANSWERS
-        self.names, self.modules = {}, {}
-        text = path.read_text()
+        self.path, self.module = path, ".".join(path.relative_to(TOP).with_suffix("").parts)
+        self.crate, self.answers = self.module.split(".")[0], path.stem in ANSWERS
+        self.imported, self.modules, self.passed = {}, {}, {}
+        self.declared, self.public, self.called, self.words = {}, set(), {}, set()
         if path.suffix == ".rt":
-            code = re.sub(r"//.*", "", text)
+            code = re.sub(r"//.*", "", path.read_text())
             self.imports(code)
             for crate, proofs, name in USING.findall(code):
-                crate = self.module.split(".")[0] if crate == "crate" else crate
-                module = f"{crate}.{proofs.replace('::', '.')}"
-                self.names.setdefault(name, set()).add((module, name))
+                module = [self.crate if crate == "crate" else crate, *proofs.split("::")]
+                self.imported.setdefault(name, set()).add((".".join(module), name))
             self.words = words(IMPORT.sub("", code))
         else:
-            self.words = set()
-            self.parse(text.split("\n"))
+            self.read(path.read_text().split("\n"))
 
     def imports(self, code):
-        for path, braces, name in IMPORT.findall(code):
-            if not braces:
-                self.modules[name or path.split(".")[-1]] = path
-            for item in re.split(r"\s*,\s*", braces.strip()):
-                parts = item.split(" as ")
-                self.names.setdefault(parts[-1].strip(), set()).add((path, parts[0].strip()))
+        for path, names, other in IMPORT.findall(code):
+            if not names:
+                self.modules[other or path.split(".")[-1]] = path
+            for item in re.split(r"\s*,\s*", names.strip()):
+                was, _, now = item.partition(" as ")
+                self.imported.setdefault(now or was, set()).add((path, was))
+                if code.startswith("pub use "):
+                    self.passed[was] = path
 
-    def parse(self, lines):
-        headers = []  # of the modules round a line: how far their bodies stand in, and their heads
-        now = None  # the declaration or header that the lines further in belong to
-        for number, line in enumerate(lines):
-            code = re.sub(r"(^|\s)--(\s.*|$)", "", line)
-            if not code.strip():
-                continue
+    def read(self, lines):
+        heads = []  # of the modules round a line: how far their bodies stand in, and their words
+        name, is_data = None, False  # of the declaration that lines further in belong to
+        for line in lines:
+            code = COMMENT.sub("", line).rstrip()
             indent = len(code) - len(code.lstrip())
-            while headers and indent < headers[-1][0]:
-                headers.pop()
-            if indent > (headers[-1][0] if headers else 0) or code.lstrip()[0] in "])}":
-                if now is not None:
-                    now.add(code, [number])
-                    constructor = re.match(r"\s+(\S+) :", code)
-                    if constructor and now.data:
-                        now.names.add(constructor[1])
-                continue
             code = code.strip()
-            if code.startswith(("use ", "pub use ")):
+            if not code:
+                continue
+            while heads and indent < heads[-1][0]:
+                heads.pop()
+            if indent > (heads[-1][0] if heads else 0) or code[0] in "])}":
+                constructor = re.match(r"(\S+) :", code)
+                if is_data and constructor:
+                    self.called[constructor[1]] = name
+            elif code.startswith(("use ", "pub use ")):
                 self.imports(code)
-                if code.startswith("pub "):
-                    for path, braces, _ in IMPORT.findall(code):
-                        self.passed.update({name: path for name in braces.split(", ")})
-                now = None
+                name = None
             elif code.startswith("module "):
-                headers.append((indent + 2, code))
-                now = None
+                heads.append((indent + 2, words(code)))
+                name = None
             elif code.startswith(("mod ", "pub mod ", "infix", "open ")):
-                now = None
-            elif code.startswith("unfolding "):
-                if now is not None:
-                    now.add(code, [number])
-            else:
-                heading, name = DECLARED.match(code).groups()
-                now = self.declared.setdefault(name, Declaration(name))
-                now.public |= "pub" in heading.split()
-                now.data |= "data" in heading.split()
-                now.add(code, [number])
-                for _, header in headers:
-                    now.text += header + "\n"
-        for one in self.declared.values():
-            one.words = words(one.text)
+                name = None
+            elif not code.startswith("unfolding "):
+                marks, name = DECLARED.match(code).groups()
+                is_data = "data" in marks.split()
+                if "pub" in marks.split():
+                    self.public.add(name)
+                self.called[name] = name
+                self.declared.setdefault(name, set()).update(*(head[1] for head in heads))
+            if name:
+                self.declared[name] |= words(code)
 
 
-def main():
-    wanted = [word for word in sys.argv[1:] if word != "--count"]
-    files = {}
-    for path in sorted(TOP.glob("*/*/**/*")):
-        inside = path.relative_to(TOP).parts[1]
-        if inside in ("src", "specs", "proofs") and path.suffix in (".rt", ".antt"):
-            file = File(path)
-            files[file.module] = file
+def unused(files):
+    """The files and names of what isn't used."""
     live, waiting = set(), []
 
     def use(module, name):
-        """A declaration of a module is used, by its name or by a constructor's."""
         while module in files and name in files[module].passed:
             module = files[module].passed[name]
         if module in files:
-            for one in files[module].declared.values():
-                if (name in one.names or "◌" in one.name) and (module, one.name) not in live:
-                    live.add((module, one.name))
-                    waiting.append((files[module], one))
+            file = files[module]
+            # what stands between its operands is used by other words than its name
+            for one in [file.called.get(name), *(other for other in file.declared if "◌" in other)]:
+                if one and (module, one) not in live:
+                    live.add((module, one))
+                    waiting.append((file, file.declared[one]))
 
     def follow(file, said):
-        """What these words of a file use."""
-        for name, one in file.declared.items():
-            if one.names & said:
-                use(file.module, name)
-        for name, imported in file.names.items():
+        for name in said & file.called.keys():
+            use(file.module, name)
+        for name, imported in file.imported.items():
             if name in said or "◌" in name:
                 for module, original in imported:
                     use(module, original)
@@ -164,24 +134,28 @@ def main():
 
     for file in files.values():
         follow(file, file.words)
-        for name, one in file.declared.items():
-            if file.module in EXAMPLES or file.answers and one.public:
+        for name in file.declared:
+            if file.module in EXAMPLES or file.answers and name in file.public:
                 use(file.module, name)
     while waiting:
-        file, one = waiting.pop()
-        follow(file, one.words)
-    counts = {}
-    for file in files.values():
-        crate = file.module.split(".")[0]
-        for name in file.declared:
-            if (file.module, name) not in live and (not wanted or crate in wanted):
-                counts[crate] = counts.get(crate, 0) + 1
-                if "--count" not in sys.argv:
-                    print(f"crates/{file.path.relative_to(TOP)}: {name}")
+        follow(*waiting.pop())
+    all_declared = [(file, name) for file in files.values() for name in file.declared]
+    return [(file, name) for file, name in all_declared if (file.module, name) not in live]
+
+
+def main():
+    wanted = [word for word in sys.argv[1:] if word != "--count"]
+    paths = [path for part in ("src", "specs", "proofs") for path in TOP.glob(f"*/{part}/**/*")]
+    files = [File(path) for path in sorted(paths) if path.suffix in (".rt", ".antt")]
+    found = unused({file.module: file for file in files})
+    found = [(file, name) for file, name in found if not wanted or file.crate in wanted]
     if "--count" in sys.argv:
-        for crate, count in counts.items():
+        for crate, count in Counter(file.crate for file, _ in found).items():
             print(f"{count:5} {crate}")
-        print(f"{sum(counts.values()):5} in all")
+        print(f"{len(found):5} in all")
+    else:
+        for file, name in found:
+            print(f"crates/{file.path.relative_to(TOP)}: {name}")
 
 
 main()
