@@ -64,6 +64,7 @@ record Keeps (h : ℕ) (old : Heap) (outcome : Outcome) (new : Heap) : Type 0 wh
   pub same : Same h old.table new.table
   pub other : OutcomeOther h outcome
 
+-- h is as it was in a table that is the new one
 kept : (h : ℕ) (old new : Heap) {t : HandleTable} (outcome : Outcome) {o : Outcome} → new.table ≡ t → Same h old.table t → outcome ≡ o → OutcomeOther h o → Keeps h old outcome new
 kept h old new outcome table same is other = record { same = ap (λ (t : HandleTable). live_at t h) table ∙ same; other = subst (OutcomeOther h) (sym is) other }
 
