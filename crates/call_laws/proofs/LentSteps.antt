@@ -65,9 +65,11 @@ kept-fixed old new kept fixed x lent =
 pub loans-fixed : (old new : Heap) → LoansKept old.table new.table → LoansAreFixed old → LoansAreFixed new
 loans-fixed old new kept fixed = kept-fixed old.table new.table kept fixed
 
+-- nothing changes
 kept-refl : (t : HandleTable) → LoansKept t t
 kept-refl t = record { lent = refl; as_before = λ _ x _. refl }
 
+-- one change after another
 kept-then : (a b c : HandleTable) → LoansKept a b → LoansKept b c → LoansKept a c
 kept-then a b c one two = record { lent = two.lent ∙ one.lent; as_before = λ fixed x lent. two.as_before (kept-fixed a b one fixed) x (kept-lent a b x one ∙ lent) ∙ one.as_before fixed x lent }
 
@@ -78,6 +80,7 @@ kept-same old new is = subst (LoansKept old) (sym is) (kept-refl old)
 kept-but : (x : ℕ) (old new : HandleTable) → new.lent ≡ old.lent → (AreFixed old → is_lent old x ≡ false) → ((y : ℕ) → eqb y x ≡ false → live_at new y ≡ live_at old y) → LoansKept old new
 kept-but x old new same here others = record { lent = same; as_before = λ fixed y lent. ap form (others y (lent-apart old x y (here fixed) lent)) }
 
+-- a block is released that isn't lent
 kept-released : (call : ReleasingCall) (heap : Heap) → (LoansAreFixed heap → is_lent heap.table (operand_of call) ≡ false) → LoansKept heap.table (heap_released call heap).table
 kept-released (DisposesHandle h) heap here = kept-but h heap.table (heap_released (DisposesHandle h) heap).table refl here (without_agrees h heap.table).others
 kept-released (DisposesPtr p) heap here = kept-but p heap.table (heap_released (DisposesPtr p) heap).table refl here (without_agrees p heap.table).others
@@ -106,6 +109,7 @@ not_live-here t x none fixed = elim (is_lent t x) as (λ b. is_lent t x ≡ b �
 pub given-here : (old before : HandleTable) (x : ℕ) → LoansKept old before → live_at before x ≡ None → AreFixed old → is_lent old x ≡ false
 given-here old before x kept none fixed = sym (kept-lent old before x kept) ∙ not_live-here before x none (kept-fixed old before kept fixed)
 
+-- what is granted is not lent
 lent_granted : (r : Request) (x : ℕ) (t : HandleTable) → (table_granted r x t).lent ≡ t.lent
 lent_granted NewEmpty x t = refl
 lent_granted _ x t = refl
@@ -194,6 +198,7 @@ module _ (s : Shape) (heap : Heap) where
   passed_state false true is h = absurd (cc is)
   passed_state false false is h = absurd (cc h)
 
+  -- what a call does by itself
   effect-kept : (call : MemoryCall) → refusal s heap call ≡ None → LoansKept heap.table (effect_of s call heap).table
   effect-kept (memory_call.DisposeHandle h) is = kept-released (DisposesHandle h) heap (λ _. passed-NotLent s heap h (test_2 s heap (IsHandle h) (NotLent h) [] is))
   effect-kept (memory_call.DisposePtr p) is = kept-released (DisposesPtr p) heap (λ _. passed-NotLent s heap p (test_2 s heap (IsPointer p) (NotLent p) [] is))
@@ -213,6 +218,7 @@ module _ (s : Shape) (heap : Heap) where
       (passed-NotLent s heap y (test_6 s heap (IsBlock x) (NotEmpty x) (NotLent x) (IsBlock y) (NotEmpty y) (NotLent y) (IsWithin x at n ∷ IsWithin y to n ∷ []) is))
   effect-kept call is = kept-refl heap.table
 
+  -- and what it may move and purge
   quiet-kept : (call : MemoryCall) (outcome : Outcome) (new : Heap) → refusal s heap call ≡ None → QuietStep s heap call outcome new → LoansKept heap.table new.table
   quiet-kept (memory_call.CompactMem n) outcome new is quiet = kept-same heap.table new.table quiet.0.table
   quiet-kept (memory_call.MoveHHi h) outcome new is quiet = kept-same heap.table new.table quiet.0.table

@@ -87,6 +87,7 @@ module _ (s : Shape) (protected : List ℕ) (answers : Type 0) (R : HandleTable 
       rel.next heap.table mid.table (with_all_emptied hs mid).table (rel.emptied heap h first.1 first.0)
       (purged-related hs mid (λ y c. (let later = may y (Contains-later h hs y c) in (may-still heap.table h y first.0 later.0, later.1))))
 
+  -- a trial prepares the heap, and may fail
   pub prepared-related : (r : Request) (heap : Heap) (p : Preparation) → MayPrepare s protected r heap p → R heap.table (prepared_by s p heap).table
   prepared-related r heap p may =
       let mid : Heap = cond p.grows (grown s heap) heap in
@@ -117,6 +118,7 @@ module _ (s : Shape) (protected : List ℕ) (answers : Type 0) (R : HandleTable 
       let then = carried_once s protected call c in
       rel.next c.heap.table then.heap.table (carried_from s protected calls then).heap.table (once-related may call c) (carried-related may calls then)
 
+  -- a run behind another change, and one that ends here
   ran-behind : (r : Request) (given : Option ℕ) (a b c : HandleTable) → R a b → Ran R r given b c → Ran R r given a c
   ran-behind r given a b c one ran = record { before = ran.before; related = rel.next a b ran.before one ran.related; served = ran.served }
 
@@ -153,6 +155,7 @@ passed-ok s old call asks res new step = by_refusal (refusal s old call) refl st
     by_refusal (Some code) is step = absurd (cc step.1)
 
 module _ (s : Shape) (call : MemoryCall) (answers : Type 0) (R : HandleTable → HandleTable → Type 0) (rel : Releases (protected_by call) answers R) where
+  -- the call's own request, and the one for a master block before it
   ended : (r : Request) (entry : HandleTable) (from mid : Heap) (given : Option ℕ) (outcome : Outcome) (new : Heap) → R entry from.table → Ran R r given from.table mid.table → EndsRequest call entry given mid outcome new
       → Asked R call r entry new.table outcome
   ended r entry from mid None outcome new first ran e = record { before = ran.before; related = rel.next entry from.table ran.before first ran.related; ended = inl (e.0, e.1.table ∙ ran.served) }

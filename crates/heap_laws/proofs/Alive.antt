@@ -1,12 +1,12 @@
 -- A handle or a pointer keeps its number until somebody disposes of it.
-use Rattle.std.proofs.Common.{◌≡◌, ℕ, true, false, List, [], ◌∷◌, Option, Some, None, Ok, Contains, ap, refl, subst, sym, ◌∙◌, inl, inr}
+use Rattle.std.proofs.Common.{◌≡◌, ℕ, true, false, List, [], ◌∷◌, Some, None, Ok, Contains, ap, refl, subst, sym, ◌∙◌, inl, inr}
 use Rattle.std.specs.Prelude.{◌⊎◌}
 use Rattle.std.specs.Option.{option_to_list}
 use Rattle.std.proofs.lemmas.Bool.{true≢false}
 use Rattle.std.proofs.lemmas.List.Elements.{Contains-append_left, Contains-append_right}
 use Rattle.mac_base.specs.declared.releasing.ReleasingCall.{ReleasingCall}
 use Rattle.mac_base.specs.declared.releasing.ReleasingCall.TheVariants.{DisposesHandle, DisposesPtr, Empties}
-use Rattle.mac_base.specs.HandleTable.{Live, EmptyHandle, FullHandle, Pointer, is_handle, live_handle, refilled}
+use Rattle.mac_base.specs.HandleTable.{EmptyHandle, is_handle, live_handle}
 use Rattle.mac_base.specs.HeadKind.{Shape}
 use Rattle.mac_base.specs.Heap.{Heap}
 use Rattle.mac_base.specs.Releasing.{heap_released, operand_of}
@@ -22,12 +22,6 @@ use Rattle.zone_laws.proofs.Tables.{handle_no_pointer, live_at-with_live_same}
 use Rattle.call_laws.proofs.Refusals.{passed-IsPointer, test_1}
 use Rattle.heap_laws.proofs.Losing.{MayEnd, Trait, step-keeps}
 
-pub refilled-handle : (bytes : List ℕ) (o : Option Live) → live_handle o ≡ true → live_handle (Some (refilled bytes o)) ≡ true
-refilled-handle bytes None h = absurd (cc h)
-refilled-handle bytes (Some EmptyHandle) h = refl
-refilled-handle bytes (Some (FullHandle flags old)) h = refl
-refilled-handle bytes (Some (Pointer old)) h = absurd (cc h)
-
 pub released-handle : (s : Shape) (call : ReleasingCall) (heap : Heap) → refusal s heap (memory_call call) ≡ None → is_handle heap.table (operand_of call) ≡ true
     → (is_handle (heap_released call heap).table (operand_of call) ≡ true) ⊎ (disposed_by (call, None) ≡ Some (operand_of call))
 released-handle s (DisposesHandle h) heap passes here = inr refl
@@ -42,10 +36,7 @@ itself-disposed (Empties h) results = refl
 
 -- to be a handle
 abbrev pub a_handle : Trait
-a_handle = record {
-  holds = live_handle; by = disposed_by; itself = disposed_itself; dead = refl; refills = refilled-handle; fills = λ o flags bytes handle here. refl;
-  releases = released-handle; alike = itself-disposed;
-}
+a_handle = record { test = λ handle full pointer. handle; by = disposed_by; itself = disposed_itself; dead = refl; fills = λ h. refl; releases = released-handle; alike = itself-disposed }
 
 -- a handle stays one, unless it is disposed of
 pub step-alive : (s : Shape) (old : Heap) (call : MemoryCall) (asks : List Ask) (outcome : Outcome) (new : Heap) (h : ℕ) → MemoryStep s old call asks outcome new → is_handle old.table h ≡ true → is_handle new.table h ≡ false

@@ -13,7 +13,6 @@ use Rattle.mac_base.specs.Heap.{Heap}
 use Rattle.mac_base.specs.Request.{candidates_in}
 use Rattle.mac_base.specs.Trial.{SameHeap}
 use Rattle.mac_base.specs.ZoneMap.{largest_free}
-use Rattle.std.specs.Prelude.{◌+◌}
 use Rattle.mac_calls.specs.declared.memory_call.MemoryCall.{MemoryCall}
 use Rattle.mac_calls.specs.declared.memory_call.MemoryCall.TheVariants as memory_call
 use Rattle.mac_calls.specs.declared.reply.Results.TheVariants as results

@@ -1,7 +1,7 @@
--- A block is lost only where it may be.
+-- What a number is, it stays until something ends it: a block is lost only where it may be.
 use Rattle.std.proofs.Common.{◌≡◌, ℕ, Bool, true, false, not, cond, length, take, drop, List, [], ◌∷◌, ◌++◌, Option, Some, None, Ok, Contains, refl, ap, sym, subst, ◌∙◌, inl, inr, append-nil, append_assoc, arith, ◌-◌}
 use Rattle.std.specs.List.{cons_option}
-use Rattle.std.specs.Prelude.{flat_map, ◌||◌, ◌&&◌, ◌⊎◌, filter_map, nat_le, IsFalse}
+use Rattle.std.specs.Prelude.{flat_map, ◌||◌, ◌&&◌, ◌⊎◌, filter_map}
 use Rattle.std.proofs.lemmas.Bool.{or_left, true≢false}
 use Rattle.std.proofs.lemmas.Grind.{flat_map-append}
 use Rattle.std.proofs.lemmas.List.Elements.{All-contains, Contains-append_left, Contains-append_right, filter_map-append, filter_passes}
@@ -14,13 +14,13 @@ use Rattle.mac_base.specs.declared.releasing.ReleasingCall.TheVariants.{Disposes
 use Rattle.mac_base.specs.declared.request.Request.{Request}
 use Rattle.mac_base.specs.declared.request.Request.TheVariants.{NewBlock, NewEmpty, NewPointer, NewMaster, Reserve, Resize, Replace}
 use Rattle.mac_base.specs.FlagState.{flags_from}
-use Rattle.mac_base.specs.HandleTable.{HandleTable, Live, EmptyHandle, FullHandle, Pointer, bytes_of, flags_of, has_block, is_full, is_handle, is_locked, is_purgeable, live_at, live_flags, live_full, live_handle, live_pointer, no_flags, refilled, resized, with_bytes, with_flags, with_live, zeros}
+use Rattle.mac_base.specs.HandleTable.{HandleTable, Live, EmptyHandle, FullHandle, Pointer, bytes_of, flags_of, has_block, is_full, is_handle, is_locked, is_pointer, is_purgeable, live_at, live_flags, live_full, live_handle, live_pointer, no_flags, refilled, resized, with_bytes, with_flags, with_live, zeros}
 use Rattle.mac_base.specs.HeadKind.{Shape}
 use Rattle.mac_base.specs.Heap.{Heap, grown, table_granted, with_all_emptied, with_emptied}
 use Rattle.mac_base.specs.Releasing.{heap_released, operand_of}
-use Rattle.mac_base.specs.Request.{blocks_to_purge, candidates_in, fits, is_among}
+use Rattle.mac_base.specs.Request.{blocks_to_purge, candidates_in, is_among}
 use Rattle.mac_base.specs.Trial.{Fails, MayPrepare, NumberGiven, Preparation, prepared_by}
-use Rattle.mac_base.specs.ZoneMap.{ZoneMap, at_limit, handle_of, largest_free}
+use Rattle.mac_base.specs.ZoneMap.{ZoneMap, handle_of}
 use Rattle.mac_base.specs.ZoneState.{written}
 use Rattle.mac_calls.specs.declared.memory_call.MemoryCall.{MemoryCall}
 use Rattle.mac_calls.specs.declared.memory_call.MemoryCall.TheVariants as memory_call
@@ -42,17 +42,19 @@ use Rattle.heap_laws.proofs.Fewer.{Fewer, block_live, fewer-begun, fewer-prepare
 use Rattle.call_laws.proofs.RunTables.{table-grown}
 use Rattle.heap_laws.proofs.Trials.{LastRequest, Ran, carried-steps, step-last, tried-more}
 
--- what a number may be, by what is live there, and what ends it: a call of an answer, or a call itself
+-- what a number may be, by whether it is a handle, a full one, a pointer; and what ends it: a call of an answer, or a call itself
 pub record Trait : Type 0 where
-  pub holds : Option Live → Bool
+  pub test : Bool → Bool → Bool → Bool
   pub by : ReleasingCall × Option OsErr → Option ℕ
   pub itself : MemoryCall → Outcome → Option ℕ
-  pub dead : holds None ≡ false
-  pub refills : (bytes : List ℕ) (o : Option Live) → holds o ≡ true → holds (Some (refilled bytes o)) ≡ true
-  pub fills : (o : Option Live) (flags : Flags) (bytes : List ℕ) → live_handle o ≡ true → holds o ≡ true → holds (Some (FullHandle flags bytes)) ≡ true
-  pub releases : (s : Shape) (call : ReleasingCall) (heap : Heap) → refusal s heap (as_call call) ≡ None → holds (live_at heap.table (operand_of call)) ≡ true
-      → (holds (live_at (heap_released call heap).table (operand_of call)) ≡ true) ⊎ (by (call, None) ≡ Some (operand_of call))
+  pub dead : test false false false ≡ false
+  pub fills : test true false false ≡ true → test true true false ≡ true
+  pub releases : (s : Shape) (call : ReleasingCall) (heap : Heap) → refusal s heap (as_call call) ≡ None → (let holds = λ (o : Option Live). test (live_handle o) (live_full o) (live_pointer o) ≡ true in
+      holds (live_at heap.table (operand_of call)) → holds (live_at (heap_released call heap).table (operand_of call)) ⊎ (by (call, None) ≡ Some (operand_of call)))
   pub alike : (call : ReleasingCall) (results : Results) → itself (as_call call) (Ok results) ≡ by (call, None)
+
+abbrev pub test_of : Trait → Option Live → Bool
+test_of k o = k.test (live_handle o) (live_full o) (live_pointer o)
 
 -- what may be purged is purgeable, and not protected
 candidate-purgeable : (t : HandleTable) (protected : List ℕ) (m : ZoneMap) (x : ℕ) → Contains (candidates_in t protected m) x → (is_purgeable t x ≡ true) × (is_among protected x ≡ false)
@@ -62,13 +64,11 @@ candidate-purgeable t protected m x c =
     let both = both_true (is_purgeable t x) (not (is_among protected x)) passes in
     (both.0, true_not (is_among protected x) both.1)
 
--- what is purgeable has a block
-purgeable-block : (t : HandleTable) (x : ℕ) → is_purgeable t x ≡ true → has_block t x ≡ true
-purgeable-block t x h = or_left (is_full t x) (live_pointer (live_at t x)) (both_true (is_full t x) ((flags_of t x).purge && not (is_locked t x)) h).0
-
--- what was purged behind an answer was purgeable before it
+-- what is purgeable was so as long as it had a block
 still-purgeable : (protected : List ℕ) (old new : HandleTable) (x : ℕ) → Fewer protected old new → is_purgeable new x ≡ true → is_purgeable old x ≡ true
-still-purgeable protected old new x fewer purgeable = ap (λ o. live_full o && ((live_flags o).purge && not (live_flags o).lock)) (sym (fewer.same x (purgeable-block new x purgeable))) ∙ purgeable
+still-purgeable protected old new x fewer purgeable =
+    let block = or_left (is_full new x) (is_pointer new x) (both_true (is_full new x) ((flags_of new x).purge && not (is_locked new x)) purgeable).0 in
+    ap (λ o. live_full o && ((live_flags o).purge && not (live_flags o).lock)) (sym (fewer.same x block)) ∙ purgeable
 
 -- what is passed as a handle is one
 handle-first : (s : Shape) (heap : Heap) (h : ℕ) (rest : List Test) → first_refusal s heap (IsHandle h ∷ rest) ≡ None → is_handle heap.table h ≡ true
@@ -80,7 +80,7 @@ Replaces old call r = (h n : ℕ) → r ≡ Replace h n → (is_handle old.table
 
 module _ (k : Trait) (x : ℕ) where
   abbrev Holds : HandleTable → Type 0
-  Holds t = k.holds (live_at t x) ≡ true
+  Holds t = test_of k (live_at t x) ≡ true
 
   -- it still holds, or this is why not
   abbrev Keeps : HandleTable → Type 0 → Type 0
@@ -96,23 +96,34 @@ module _ (k : Trait) (x : ℕ) where
 
   -- ---- the table
 
-  set-or : (g : ℕ) (l : Live) (t : HandleTable) → Holds t → Keeps (with_live g l t) ((g ≡ x) × (k.holds (Some l) ≡ false))
-  set-or g l t = by_number (λ y. k.holds (live_at t y) ≡ true → (k.holds (live_at (with_live g l t) y) ≡ true) ⊎ ((g ≡ y) × (k.holds (Some l) ≡ false))) g
-      (λ _. elim (k.holds (Some l)) as (λ b. k.holds (Some l) ≡ b → (k.holds (live_at (with_live g l t) g) ≡ true) ⊎ ((g ≡ g) × (b ≡ false))) [ true ↦ λ is. inl (ap k.holds (live_at-with_live_same g l t) ∙ is) | false ↦ λ is. inr (refl, refl) ] refl)
-      (λ y apart holds. inl (ap k.holds ((with_live_agrees g l t).others y apart) ∙ holds)) x
+  refills : (bytes : List ℕ) (o : Option Live) → test_of k o ≡ true → test_of k (Some (refilled bytes o)) ≡ true
+  refills bytes None h = absurd (true≢false (sym h ∙ k.dead))
+  refills bytes (Some EmptyHandle) h = h
+  refills bytes (Some (FullHandle flags old)) h = h
+  refills bytes (Some (Pointer old)) h = h
 
-  pub set-keeps : (g : ℕ) (l : Live) (t : HandleTable) → (k.holds (live_at t g) ≡ true → k.holds (Some l) ≡ true) → Holds t → Holds (with_live g l t)
-  set-keeps g l t here = by_number (λ y. k.holds (live_at t y) ≡ true → k.holds (live_at (with_live g l t) y) ≡ true) g
-      (λ holds. ap k.holds (live_at-with_live_same g l t) ∙ here holds) (λ y apart holds. ap k.holds ((with_live_agrees g l t).others y apart) ∙ holds) x
+  fills : (o : Option Live) (flags : Flags) (bytes : List ℕ) → live_handle o ≡ true → test_of k o ≡ true → test_of k (Some (FullHandle flags bytes)) ≡ true
+  fills None flags bytes handle h = absurd (cc handle)
+  fills (Some EmptyHandle) flags bytes handle h = k.fills h
+  fills (Some (FullHandle f b)) flags bytes handle h = h
+  fills (Some (Pointer b)) flags bytes handle h = absurd (cc handle)
+
+  set-or : (g : ℕ) (l : Live) (t : HandleTable) → Holds t → Keeps (with_live g l t) ((g ≡ x) × (test_of k (Some l) ≡ false))
+  set-or g l t = by_number (λ y. test_of k (live_at t y) ≡ true → (test_of k (live_at (with_live g l t) y) ≡ true) ⊎ ((g ≡ y) × (test_of k (Some l) ≡ false))) g
+      (λ _. elim (test_of k (Some l)) as (λ b. test_of k (Some l) ≡ b → (test_of k (live_at (with_live g l t) g) ≡ true) ⊎ ((g ≡ g) × (b ≡ false))) [ true ↦ λ is. inl (ap (test_of k) (live_at-with_live_same g l t) ∙ is) | false ↦ λ is. inr (refl, refl) ] refl)
+      (λ y apart holds. inl (ap (test_of k) ((with_live_agrees g l t).others y apart) ∙ holds)) x
+
+  pub set-keeps : (g : ℕ) (l : Live) (t : HandleTable) → (test_of k (live_at t g) ≡ true → test_of k (Some l) ≡ true) → Holds t → Holds (with_live g l t)
+  set-keeps g l t here holds = elim (set-or g l t holds) [ inl kept ↦ kept | inr lost ↦ absurd (true≢false (sym (here (subst (λ y. test_of k (live_at t y) ≡ true) (sym lost.0) holds)) ∙ lost.1)) ]
 
   pub bytes-keep : (g : ℕ) (bytes : List ℕ) (t : HandleTable) → Holds t → Holds (with_bytes g bytes t)
-  bytes-keep g bytes t = set-keeps g (refilled bytes (live_at t g)) t (k.refills bytes (live_at t g))
+  bytes-keep g bytes t = set-keeps g (refilled bytes (live_at t g)) t (refills bytes (live_at t g))
 
   full-keeps : (g : ℕ) (flags : Flags) (bytes : List ℕ) (t : HandleTable) → is_handle t g ≡ true → Holds t → Holds (with_live g (FullHandle flags bytes) t)
-  full-keeps g flags bytes t handle = set-keeps g (FullHandle flags bytes) t (k.fills (live_at t g) flags bytes handle)
+  full-keeps g flags bytes t handle = set-keeps g (FullHandle flags bytes) t (fills (live_at t g) flags bytes handle)
 
   new-keeps : (g : ℕ) (l : Live) (t : HandleTable) → live_at t g ≡ None → Holds t → Holds (with_live g l t)
-  new-keeps g l t none = set-keeps g l t (λ holds. absurd (true≢false (sym holds ∙ ap k.holds none ∙ k.dead)))
+  new-keeps g l t none = set-keeps g l t (λ holds. absurd (true≢false (sym holds ∙ ap (test_of k) none ∙ k.dead)))
 
   granted-keeps : (r : Request) (g : ℕ) (t : HandleTable) → NumberGiven r g t → ((h n : ℕ) → r ≡ Replace h n → is_handle t h ≡ true) → Holds t → Holds (table_granted r g t)
   granted-keeps (NewBlock n) g t number is holds = new-keeps g (FullHandle no_flags (zeros n)) t number holds
@@ -131,21 +142,19 @@ module _ (k : Trait) (x : ℕ) where
   copied-keeps (memory_call.HandAndHand a b) g entry t holds = bytes-keep b (bytes_of entry b ++ bytes_of entry a) t holds
   copied-keeps call g entry t holds = holds
 
-  purges-keep : (hs : List ℕ) (heap : Heap) → Holds heap.table → Keeps (with_all_emptied hs heap).table (Contains hs x × (k.holds (Some EmptyHandle) ≡ false))
+  purges-keep : (hs : List ℕ) (heap : Heap) → Holds heap.table → Keeps (with_all_emptied hs heap).table (Contains hs x × (test_of k (Some EmptyHandle) ≡ false))
   purges-keep [] heap holds = inl holds
-  purges-keep (h ∷ hs) heap holds = by_first (set-or h EmptyHandle heap.table holds) (purges-keep hs (with_emptied heap h))
-    where
-      by_first : Keeps (with_emptied heap h).table ((h ≡ x) × (k.holds (Some EmptyHandle) ≡ false)) → (Holds (with_emptied heap h).table → Keeps (with_all_emptied (h ∷ hs) heap).table (Contains hs x × (k.holds (Some EmptyHandle) ≡ false)))
-          → Keeps (with_all_emptied (h ∷ hs) heap).table (Contains (h ∷ hs) x × (k.holds (Some EmptyHandle) ≡ false))
-      by_first (inr here) later = inr (subst (λ y. Contains (h ∷ hs) y) here.0 (Contains-here h hs), here.1)
-      by_first (inl holds) later = elim (later holds) [ inl here ↦ inl here | inr there ↦ inr (Contains-later h hs x there.0, there.1) ]
+  purges-keep (h ∷ hs) heap holds = elim (set-or h EmptyHandle heap.table holds) [
+    | inr here ↦ inr (subst (λ y. Contains (h ∷ hs) y) here.0 (Contains-here h hs), here.1)
+    | inl holds ↦ elim (purges-keep hs (with_emptied heap h) holds) [ inl here ↦ inl here | inr there ↦ inr (Contains-later h hs x there.0, there.1) ]
+  ]
 
   -- ---- an answer's calls
 
   module _ (s : Shape) where
     releases-keep : (call : ReleasingCall) (heap : Heap) → refusal s heap (as_call call) ≡ None → Holds heap.table → Keeps (heap_released call heap).table (k.by (call, None) ≡ Some x)
-    releases-keep call heap passes = by_number (λ y. k.holds (live_at heap.table y) ≡ true → (k.holds (live_at (heap_released call heap).table y) ≡ true) ⊎ (k.by (call, None) ≡ Some y)) (operand_of call)
-        (k.releases s call heap passes) (λ y apart holds. inl (ap k.holds ((released-agrees call heap).others y apart) ∙ holds)) x
+    releases-keep call heap passes = by_number (λ y. test_of k (live_at heap.table y) ≡ true → (test_of k (live_at (heap_released call heap).table y) ≡ true) ⊎ (k.by (call, None) ≡ Some y)) (operand_of call)
+        (k.releases s call heap passes) (λ y apart holds. inl (ap (test_of k) ((released-agrees call heap).others y apart) ∙ holds)) x
 
     -- these calls ended it
     abbrev Ended : List (ReleasingCall × Option OsErr) → Type 0
@@ -175,12 +184,12 @@ module _ (k : Trait) (x : ℕ) where
 
     -- it was purged for this reason
     abbrev Purged : HandleTable → List ℕ → Type 0 → Type 0
-    Purged t protected Need = (is_purgeable t x ≡ true) × (is_among protected x ≡ false) × (k.holds (Some EmptyHandle) ≡ false) × Need
+    Purged t protected Need = (is_purgeable t x ≡ true) × (is_among protected x ≡ false) × (test_of k (Some EmptyHandle) ≡ false) × Need
 
     module _ (old : Heap) (call : MemoryCall) (asks : List Ask) where
       -- why it ends in the requests of the call
       abbrev Lost : Type 0
-      Lost = Contains (ended_in asks) x ⊎ Purged old.table (protected_by call) ((r : Request) × CameShort s old call asks r)
+      Lost = Contains (ended_in asks) x ⊎ Purged old.table (protected_by call) ((r : Request) × CameShort s old call asks x r)
 
       asked-keeps : (r : Request) (before : List Ask) (ask : Ask) (later : List Ask) (full after : Heap) → asks ≡ before ++ (ask ∷ later) → Asked s (protected_by call) r full ask after → Holds full.table → Keeps after.table Lost
       asked-keeps r before ask later full after parts asked holds =
@@ -195,14 +204,15 @@ module _ (k : Trait) (x : ℕ) where
         prepared-keeps : (done later : List Ask) (at : Heap) (p : Preparation) → asks ≡ (first ++ done) ++ later → Tried s (protected_by call) r from done at → MayPrepare s (protected_by call) r at p → Holds at.table → Keeps (prepared_by s p at).table Lost
         prepared-keeps done later at p parts tried may holds =
             let mid : Heap = cond p.grows (grown s at) at in
-            elim (purges-keep p.purges mid (same at.table mid.table (table-grown s p.grows at) holds)) [ inl here ↦ inl here | inr c ↦ inr (inr (purged c may.purges_at_need)) ]
-          where
-            purged : Contains p.purges x × (k.holds (Some EmptyHandle) ≡ false) → (p.purges ≡ []) ⊎ IsFalse (fits s at.table r (at_limit s at.map)) → Purged old.table (protected_by call) ((r : Request) × CameShort s old call asks r)
-            purged c (inl none) = absurd (Contains-none x (subst (λ hs. Contains hs x) none c.0))
-            purged c (inr short) =
-                let facts = candidate-purgeable at.table (protected_by call) (blocks_to_purge at.table r at.map) x (may.purges_candidates x c.0) in
-                let fewer = fewer-then (protected_by call) old.table from.table at.table (fewer-begun s old call r first from begins) (fewer-tried s (protected_by call) r from done at tried) in
-                (still-purgeable (protected_by call) old.table at.table x fewer facts.0, facts.1, c.1, (r, (first ++ done, later, at, parts, (first, done, from, refl, begins, tried), short)))
+            elim (purges-keep p.purges mid (same at.table mid.table (table-grown s p.grows at) holds)) [
+              | inl here ↦ inl here
+              | inr c ↦ elim may.purges_at_need [
+                | inl none ↦ absurd (Contains-none x (subst (λ hs. Contains hs x) none c.0))
+                | inr short ↦ (let facts = candidate-purgeable at.table (protected_by call) (blocks_to_purge at.table r at.map) x (may.purges_candidates x c.0) in
+                    let fewer = fewer-then (protected_by call) old.table from.table at.table (fewer-begun s old call r first from begins) (fewer-tried s (protected_by call) r from done at tried) in
+                    inr (inr (still-purgeable (protected_by call) old.table at.table x fewer facts.0, facts.1, c.1, (r, (first ++ done, later, at, parts, (first, done, from, refl, begins, tried), short, may.purges_candidates x c.0)))))
+              ]
+            ]
 
         failed-keeps : (done later : List Ask) (at full : Heap) → asks ≡ (first ++ done) ++ later → Tried s (protected_by call) r from done at → Fails s (protected_by call) r at full → Holds at.table → Keeps full.table Lost
         failed-keeps done later at full parts tried fails holds = subst (λ t. Keeps t Lost) (sym fails.2.table) (prepared-keeps done later at fails.0 parts tried fails.1 holds)
@@ -259,16 +269,12 @@ module _ (k : Trait) (x : ℕ) where
     module _ (old : Heap) where
       -- why it ends
       abbrev pub MayEnd : MemoryCall → List Ask → Outcome → Type 0
-      MayEnd call asks outcome = (k.itself call outcome ≡ Some x) ⊎ (Contains (ended_in asks) x ⊎ Purged old.table (protected_by call) (PurgesFor s old call asks))
+      MayEnd call asks outcome = (k.itself call outcome ≡ Some x) ⊎ (Contains (ended_in asks) x ⊎ Purged old.table (protected_by call) (PurgesFor s old call asks x))
 
       lost-may : (call : MemoryCall) (r : Request) (asks : List Ask) (outcome : Outcome) → request_of old.table call ≡ Some r → Lost old call asks → MayEnd call asks outcome
-      lost-may call r asks outcome is (inl ended) = inr (inl ended)
-      lost-may call r asks outcome is (inr purged) = inr (inr (purged.0, purged.1, purged.2, need call is purged.3))
-        where
-          need : (call : MemoryCall) → request_of old.table call ≡ Some r → ((r : Request) × CameShort s old call asks r) → PurgesFor s old call asks
-          need memory_call.MaxMem is why = absurd (cc is)
-          need (memory_call.PurgeMem n) is why = absurd (cc is)
-          need call is why = why
+      lost-may memory_call.MaxMem r asks outcome is lost = absurd (cc is)
+      lost-may (memory_call.PurgeMem n) r asks outcome is lost = absurd (cc is)
+      lost-may call r asks outcome is lost = inr lost
 
       own-replaces : (call : MemoryCall) (r : Request) → refusal s old call ≡ None → (r ≡ NewMaster) ⊎ (request_of old.table call ≡ Some r) → Replaces old call r
       own-replaces call r passes (inl master) h n is = absurd (cc (master, is))
@@ -284,16 +290,14 @@ module _ (k : Trait) (x : ℕ) where
       itself : (call : ReleasingCall) (asks : List Ask) (outcome : Outcome) (new : HandleTable) → refusal s old (as_call call) ≡ None → outcome ≡ Ok Nothing → new ≡ (heap_released call old).table → Holds old.table → Keeps new (MayEnd (as_call call) asks outcome)
       itself call asks outcome new passes ends is holds = elim (releases-keep call old passes holds) [ inl here ↦ inl (same (heap_released call old).table new is here) | inr by ↦ inr (inl (ap (k.itself (as_call call)) ends ∙ k.alike call Nothing ∙ by)) ]
 
-      purge-keeps : (n : ℕ) (asks : List Ask) (outcome : Outcome) (new : HandleTable) (hs : List ℕ) → (hs ≡ []) ⊎ IsFalse (nat_le n (largest_free old.map)) → ((h : ℕ) → Contains hs h → Contains (candidates_in old.table [] old.map) h)
-          → Contains hs x × (k.holds (Some EmptyHandle) ≡ false) → MayEnd (memory_call.PurgeMem n) asks outcome
-      purge-keeps n asks outcome new hs (inl none) may c = absurd (Contains-none x (subst (λ hs. Contains hs x) none c.0))
-      purge-keeps n asks outcome new hs (inr short) may c = let facts = candidate-purgeable old.table [] old.map x (may x c.0) in inr (inr (facts.0, refl, c.1, short))
-
-      max-keeps : (asks : List Ask) (outcome : Outcome) → Contains (candidates_in old.table [] old.map) x × (k.holds (Some EmptyHandle) ≡ false) → MayEnd memory_call.MaxMem asks outcome
-      max-keeps asks outcome c = let facts = candidate-purgeable old.table [] old.map x c.0 in inr (inr (facts.0, refl, c.1, tt))
-
-      purged-keeps : (hs : List ℕ) (new : HandleTable) (Why : Type 0) → new ≡ (with_all_emptied hs old).table → (Contains hs x × (k.holds (Some EmptyHandle) ≡ false) → Why) → Holds old.table → Keeps new Why
-      purged-keeps hs new Why is why holds = elim (purges-keep hs old holds) [ inl here ↦ inl (same (with_all_emptied hs old).table new is here) | inr c ↦ inr (why c) ]
+      -- what was purged where there was need
+      purged-keeps : (call : MemoryCall) (asks : List Ask) (outcome : Outcome) (hs : List ℕ) (new : HandleTable) → new ≡ (with_all_emptied hs old).table → protected_by call ≡ [] → ((h : ℕ) → Contains hs h → Contains (candidates_in old.table [] old.map) h)
+          → (hs ≡ []) ⊎ PurgesFor s old call asks x → Holds old.table → Keeps new (MayEnd call asks outcome)
+      purged-keeps call asks outcome hs new is none may need holds = elim (purges-keep hs old holds) [
+        | inl here ↦ inl (same (with_all_emptied hs old).table new is here)
+        | inr c ↦ (let facts = candidate-purgeable old.table [] old.map x (may x c.0) in
+            elim need [ inl gone ↦ absurd (Contains-none x (subst (λ hs. Contains hs x) gone c.0)) | inr why ↦ inr (inr (inr (facts.0, ap (λ xs. is_among xs x) none, c.1, why))) ])
+      ]
 
       -- other flags
       flags-keep : (h : ℕ) (flags : Flags) (rest : List Test) (new : HandleTable) → first_refusal s old (IsHandle h ∷ rest) ≡ None → new ≡ with_flags h flags old.table → Holds old.table → Holds new
@@ -301,10 +305,9 @@ module _ (k : Trait) (x : ℕ) where
 
       quiet-keeps : (call : MemoryCall) (asks : List Ask) (outcome : Outcome) (new : Heap) → refusal s old call ≡ None → request_of old.table call ≡ None → QuietStep s old call outcome new → Holds old.table → Keeps new.table (MayEnd call asks outcome)
       quiet-keeps (memory_call.HLockHi h) asks outcome new passes none q holds =
-          let flags = record (flags_of old.table h) { lock = true } in
-          inl (flags-keep h flags (NotEmpty h ∷ NotLocked MemLockedErr h ∷ []) new.table passes (q.2.table ∙ ap (λ t. with_flags h (record (flags_of t h) { lock = true }) t) q.1.table) holds)
-      quiet-keeps memory_call.MaxMem asks outcome new passes none q holds = purged-keeps (candidates_in old.table [] old.map) new.table (MayEnd memory_call.MaxMem asks outcome) q.0.table (max-keeps asks outcome) holds
-      quiet-keeps (memory_call.PurgeMem n) asks outcome new passes none q holds = purged-keeps q.0 new.table (MayEnd (memory_call.PurgeMem n) asks outcome) q.3.table (purge-keeps n asks outcome new.table q.0 q.1 q.2) holds
+          inl (flags-keep h _ (NotEmpty h ∷ NotLocked MemLockedErr h ∷ []) new.table passes (q.2.table ∙ ap (λ t. with_flags h (record (flags_of t h) { lock = true }) t) q.1.table) holds)
+      quiet-keeps memory_call.MaxMem asks outcome new passes none q holds = purged-keeps memory_call.MaxMem asks outcome (candidates_in old.table [] old.map) new.table q.0.table refl (λ h c. c) (inr tt) holds
+      quiet-keeps (memory_call.PurgeMem n) asks outcome new passes none q holds = purged-keeps (memory_call.PurgeMem n) asks outcome q.0 new.table q.3.table refl q.2 q.1 holds
       quiet-keeps (memory_call.DisposeHandle h) asks outcome new passes none q holds = itself (DisposesHandle h) asks outcome new.table passes q.1 q.0.table holds
       quiet-keeps (memory_call.DisposePtr p) asks outcome new passes none q holds = itself (DisposesPtr p) asks outcome new.table passes q.1 q.0.table holds
       quiet-keeps (memory_call.EmptyHandle h) asks outcome new passes none q holds = itself (Empties h) asks outcome new.table passes q.1 q.0.table holds
@@ -315,12 +318,8 @@ module _ (k : Trait) (x : ℕ) where
       quiet-keeps (memory_call.HSetRBit h) asks outcome new passes none q holds = inl (flags-keep h _ (NotEmpty h ∷ []) new.table passes q.0.table holds)
       quiet-keeps (memory_call.HClrRBit h) asks outcome new passes none q holds = inl (flags-keep h _ (NotEmpty h ∷ []) new.table passes q.0.table holds)
       quiet-keeps (memory_call.HSetState h n) asks outcome new passes none q holds = inl (flags-keep h (flags_from n) (NotEmpty h ∷ IsState n ∷ KeepsLent h n ∷ []) new.table passes q.0.table holds)
-      quiet-keeps (memory_call.Poke y at bytes) asks outcome new passes none q holds =
-          let filled = written at bytes (bytes_of old.table y) in
-          inl (same (with_bytes y filled old.table) new.table q.0.table (bytes-keep y filled old.table holds))
-      quiet-keeps (memory_call.BlockMove y at z to n) asks outcome new passes none q holds =
-          let filled = written to (take n (drop at (bytes_of old.table y))) (bytes_of old.table z) in
-          inl (same (with_bytes z filled old.table) new.table q.0.table (bytes-keep z filled old.table holds))
+      quiet-keeps (memory_call.Poke y at bytes) asks outcome new passes none q holds = inl (same _ new.table q.0.table (bytes-keep y (written at bytes (bytes_of old.table y)) old.table holds))
+      quiet-keeps (memory_call.BlockMove y at z to n) asks outcome new passes none q holds = inl (same _ new.table q.0.table (bytes-keep z (written to (take n (drop at (bytes_of old.table y))) (bytes_of old.table z)) old.table holds))
       quiet-keeps call asks outcome new passes none q holds = inl (same old.table new.table q.0.table holds)
 
       -- ---- all calls
@@ -336,17 +335,11 @@ module _ (k : Trait) (x : ℕ) where
       unless-keep None call asks outcome new is step holds = asking-keeps (request_of old.table call) call asks outcome new is refl step holds
 
 -- what a number is ends only where it may
-pub step-keeps : (k : Trait) (s : Shape) (old : Heap) (call : MemoryCall) (asks : List Ask) (outcome : Outcome) (new : Heap) (x : ℕ) → MemoryStep s old call asks outcome new → k.holds (live_at old.table x) ≡ true
-    → k.holds (live_at new.table x) ≡ false → MayEnd k x s old call asks outcome
+pub step-keeps : (k : Trait) (s : Shape) (old : Heap) (call : MemoryCall) (asks : List Ask) (outcome : Outcome) (new : Heap) (x : ℕ) → MemoryStep s old call asks outcome new → test_of k (live_at old.table x) ≡ true
+    → test_of k (live_at new.table x) ≡ false → MayEnd k x s old call asks outcome
 step-keeps k s old call asks outcome new x step holds ends = elim (unless-keep k x s old (refusal s old call) call asks outcome new refl step holds) [ inl here ↦ absurd (true≢false (sym here ∙ ends)) | inr why ↦ why ]
 
 -- ---- blocks
-
-refilled-block : (bytes : List ℕ) (o : Option Live) → block_live o ≡ true → block_live (Some (refilled bytes o)) ≡ true
-refilled-block bytes None h = absurd (cc h)
-refilled-block bytes (Some EmptyHandle) h = absurd (cc h)
-refilled-block bytes (Some (FullHandle flags old)) h = refl
-refilled-block bytes (Some (Pointer old)) h = refl
 
 pub itself-released : (call : ReleasingCall) (results : Results) → released_itself (as_call call) (Ok results) ≡ released_by (call, None)
 itself-released (DisposesHandle h) results = refl
@@ -355,23 +348,15 @@ itself-released (Empties h) results = refl
 
 -- to have a block
 abbrev a_block : Trait
-a_block = record {
-  holds = block_live; by = released_by; itself = released_itself; dead = refl; refills = refilled-block; fills = λ o flags bytes handle here. refl;
-  releases = λ s call heap passes here. inr refl; alike = itself-released;
-}
+a_block = record { test = λ handle full pointer. full || pointer; by = released_by; itself = released_itself; dead = refl; fills = λ h. refl; releases = λ s call heap passes here. inr refl; alike = itself-released }
 
 -- a block is lost only where it may be
 pub step-loses : (s : Shape) (old : Heap) (call : MemoryCall) (asks : List Ask) (outcome : Outcome) (new : Heap) (x : ℕ) → MemoryStep s old call asks outcome new → has_block old.table x ≡ true → has_block new.table x ≡ false → MayLose s old call asks outcome x
-step-loses s old call asks outcome new x step block lost = may (step-keeps a_block s old call asks outcome new x step block lost)
-  where
-    may : MayEnd a_block x s old call asks outcome → MayLose s old call asks outcome x
-    may (inl itself) = inl itself
-    may (inr (inl released)) = inr (inl released)
-    may (inr (inr purged)) = inr (inr (purged.0, purged.1, purged.3))
+step-loses s old call asks outcome new x step block lost =
+    elim (step-keeps a_block s old call asks outcome new x step block lost) [ inl itself ↦ inl itself | inr other ↦ inr (elim other [ inl released ↦ inl released | inr purged ↦ inr (purged.0, purged.1, purged.3) ]) ]
 
 pub lost_only : (t : HandleTable) (x : ℕ) (Why : Type 0) → (has_block t x ≡ true) ⊎ Why → has_block t x ≡ false → Why
-lost_only t x Why (inl here) lost = absurd (true≢false (sym here ∙ lost))
-lost_only t x Why (inr why) lost = why
+lost_only t x Why keeps lost = elim keeps [ inl here ↦ absurd (true≢false (sym here ∙ lost)) | inr why ↦ why ]
 
 pub released-keeps : (call : ReleasingCall) (heap : Heap) (x : ℕ) → has_block heap.table x ≡ true → (has_block (heap_released call heap).table x ≡ true) ⊎ (operand_of call ≡ x)
 released-keeps call heap = by_number (λ y. has_block heap.table y ≡ true → (has_block (heap_released call heap).table y ≡ true) ⊎ (operand_of call ≡ y)) (operand_of call) (λ _. inr refl) (λ y apart block. inl (ap block_live ((released-agrees call heap).others y apart) ∙ block))

@@ -2,6 +2,7 @@
 use Rattle.std.proofs.Common.{◌≡◌, ℕ, ◌-◌, ◌<◌, ◌≤◌, Bool, true, false, not, cond, length, List, [], ◌∷◌, ◌++◌, Option, Some, None, MatchOption, refl, ap, sym, subst, ◌∙◌, inl, inr, append-nil, arith}
 use Rattle.std.specs.Prelude.{◌==◌, ◌&&◌, ◌⊎◌, IsTrue, IsFalse, MatchBool}
 use Rattle.std.specs.Option.{option_map_or}
+use Rattle.mac_base.specs.declared.error.OsErr.{OsErr}
 use Rattle.mac_base.specs.declared.releasing.ReleasingCall.{ReleasingCall}
 use Rattle.mac_base.specs.declared.request.Request.{Request}
 use Rattle.mac_base.specs.declared.request.Request.TheVariants.{NewMaster}
@@ -17,7 +18,7 @@ use Rattle.mac_calls.specs.MemoryStep.{BehindMaster, EndsRequest, RequestStep}
 use Rattle.mac_calls.specs.Outcomes.{Outcome}
 use Rattle.mac_calls.specs.RequestRun.{EndsUnserved, RequestRun}
 use Rattle.mac_calls.specs.Tests.{protected_by, refusal}
-use Rattle.heap_laws.specs.Course.{Asked, Begins, GaveUp, Tried, calls_in, is_worth_a_trial, needs_master}
+use Rattle.heap_laws.specs.Course.{Asked, Begins, GaveUp, Tried, is_worth_a_trial, needs_master}
 
 -- the calls of an answer one by one: one that isn't on a protected block is carried out or refused
 pub carried-steps : (s : Shape) (protected : List ℕ) (P : Carried → Type 0)
@@ -40,10 +41,6 @@ module _ (s : Shape) (protected : List ℕ) (r : Request) where
   Ran allowed old asks None new = (before : List Ask) × (last : List Ask) × (at : Heap) × (full : Heap) × (asks ≡ before ++ last)
       × Tried s protected r old before at × Fails s protected r at full × GaveUp s protected r full last new × (last ≡ [] → length asks ≡ allowed)
 
-  asked : (full : Heap) (ask : Ask) (after : Heap) (o : Option Answer) → ask.answer ≡ o → ask.needed ≡ size_needed s r → ask.carried ≡ (carried_out s protected (calls_in o) full).calls
-      → SameHeap after (carried_out s protected (calls_in o) full).heap → Asked s protected r full ask after
-  asked full ask after o is needed carried same = subst (λ o. let c = carried_out s protected (calls_in o) full in (ask.needed ≡ size_needed s r) × (ask.carried ≡ c.calls) × SameHeap after c.heap) (sym is) (needed, carried, same)
-
   -- one more trial failed before
   ran-more : (given : Option ℕ) (allowed : ℕ) (old full after : Heap) (ask : Ask) (asks : List Ask) (new : Heap) → 0 < allowed → Fails s protected r old full → Asked s protected r full ask after
       → IsTrue (is_worth_a_trial ask.answer) → Ran (allowed - 1) after asks given new → Ran allowed old (ask ∷ asks) given new
@@ -57,28 +54,25 @@ module _ (s : Shape) (protected : List ℕ) (r : Request) where
   ran-last (Some x) allowed old full after ask asks new fails asked worth ends = absurd (cc ends.1)
   ran-last None allowed old full after ask asks new fails asked worth ends = ([], ask ∷ [], old, full, ap (λ asks. ask ∷ asks) ends.0, refl, fails, (asked, worth), λ none. absurd (cc none))
 
-  answered-ran : (allowed : ℕ) (old full : Heap) (ask : Ask) (asks : List Ask) (given : Option ℕ) (new : Heap) → 0 < allowed → ask.needed ≡ size_needed s r → Fails s protected r old full
-      → ((heap : Heap) → RequestRun s protected r (allowed - 1) heap asks given new → Ran (allowed - 1) heap asks given new) → (o : Option Answer) → ask.answer ≡ o
-      → MatchOption o ((ask.carried ≡ []) × EndsUnserved full asks given new) (λ a.
-      (ask.carried ≡ (carried_out s protected a.calls full).calls) × MatchBool (a.value == 0) (EndsUnserved (carried_out s protected a.calls full).heap asks given new) (RequestRun s protected r (allowed - 1) (carried_out s protected a.calls full).heap asks given new))
-      → Ran allowed old (ask ∷ asks) given new
-  answered-ran allowed old full ask asks given new left needed fails later None is run =
-      ran-last given allowed old full full ask asks new fails (asked full ask new None is needed run.0 run.1.2) (ap is_worth_a_trial is) run.1
-  answered-ran allowed old full ask asks given new left needed fails later (Some a) is run = by_value (a.value == 0) refl run.1
+  answered-ran : (allowed : ℕ) (old full : Heap) (needed : ℕ) (o : Option Answer) (carried : List (ReleasingCall × Option OsErr)) (asks : List Ask) (given : Option ℕ) (new : Heap) → 0 < allowed → needed ≡ size_needed s r → Fails s protected r old full
+      → ((heap : Heap) → RequestRun s protected r (allowed - 1) heap asks given new → Ran (allowed - 1) heap asks given new)
+      → MatchOption o ((carried ≡ []) × EndsUnserved full asks given new) (λ a. let c = carried_out s protected a.calls full in
+      (carried ≡ c.calls) × MatchBool (a.value == 0) (EndsUnserved c.heap asks given new) (RequestRun s protected r (allowed - 1) c.heap asks given new))
+      → Ran allowed old (record { needed = needed; answer = o; carried = carried } ∷ asks) given new
+  answered-ran allowed old full needed None carried asks given new left size fails later run = ran-last given allowed old full full (record { needed = needed; answer = None; carried = carried }) asks new fails (size, run.0, run.1.2) refl run.1
+  answered-ran allowed old full needed (Some a) carried asks given new left size fails later run = by_value (a.value == 0) refl run.1
     where
-      by_value : (let c = carried_out s protected a.calls full in (b : Bool) → (a.value == 0) ≡ b → MatchBool b (EndsUnserved c.heap asks given new) (RequestRun s protected r (allowed - 1) c.heap asks given new) → Ran allowed old (ask ∷ asks) given new)
-      by_value true zero ends =
-          let c : Carried = carried_out s protected a.calls full in
-          ran-last given allowed old full c.heap ask asks new fails (asked full ask new (Some a) is needed run.0 ends.2) (ap is_worth_a_trial is ∙ ap not zero) ends
+      by_value : (let c = carried_out s protected a.calls full in (b : Bool) → (a.value == 0) ≡ b → MatchBool b (EndsUnserved c.heap asks given new) (RequestRun s protected r (allowed - 1) c.heap asks given new) → Ran allowed old (record { needed = needed; answer = Some a; carried = carried } ∷ asks) given new)
+      by_value true zero ends = ran-last given allowed old full (carried_out s protected a.calls full).heap (record { needed = needed; answer = Some a; carried = carried }) asks new fails (size, run.0, ends.2) (ap not zero) ends
       by_value false worth more =
-          let c : Carried = carried_out s protected a.calls full in
-          ran-more given allowed old full c.heap ask asks new left fails (asked full ask c.heap (Some a) is needed run.0 (same-refl c.heap)) (ap is_worth_a_trial is ∙ ap not worth) (later c.heap more)
+          let after = (carried_out s protected a.calls full).heap in
+          ran-more given allowed old full after (record { needed = needed; answer = Some a; carried = carried }) asks new left fails (size, run.0, same-refl after) (ap not worth) (later after more)
 
   pub run-trials : (allowed : ℕ) (old : Heap) (asks : List Ask) (given : Option ℕ) (new : Heap) → RequestRun s protected r allowed old asks given new → Ran allowed old asks given new
   run-trials allowed old [] (Some x) new run = (old, refl, run, omega arith)
   run-trials allowed old [] None new run = ([], [], old, new, refl, refl, run.1, same-refl new, λ none. sym run.0)
   run-trials allowed old (ask ∷ asks) given new run =
-      answered-ran allowed old run.2 ask asks given new run.0 run.1 run.3 (λ heap. run-trials (allowed - 1) heap asks given new) ask.answer refl run.4
+      answered-ran allowed old run.2 ask.needed ask.answer ask.carried asks given new run.0 run.1 run.3 (λ heap. run-trials (allowed - 1) heap asks given new) run.4
 
   -- one more trial failed behind others
   pub tried-more : (from : Heap) (asks : List Ask) (at full : Heap) (ask : Ask) (after : Heap) → Tried s protected r from asks at → Fails s protected r at full → Asked s protected r full ask after → IsTrue (is_worth_a_trial ask.answer)

@@ -4,7 +4,6 @@ use Rattle.std.specs.Prelude.{⊤, slice_index, slice_set}
 use Rattle.std.proofs.lemmas.Bool.{true≢false, false_from_ne_true}
 use Rattle.std.proofs.lemmas.List.{get_or_default}
 use Rattle.mac_base.specs.declared.error.OsErr.{OsErr}
-use Rattle.call_laws.proofs.RunTables.{Releases, request-asked}
 use Rattle.mac_base.specs.declared.request.Request.TheVariants.{NewBlock, Resize}
 use Rattle.mac_base.specs.HandleTable.{HandleTable, Live, EmptyHandle, FullHandle, Pointer, bytes_of, flags_of, is_locked, live_at, live_flags, live_handle, no_flags, refilled, resized, zeros}
 use Rattle.mac_base.specs.HeadKind.{Shape}
@@ -20,6 +19,7 @@ use Rattle.mac_calls.specs.RequestRun.{RequestRun}
 use Rattle.mac_calls.specs.Tests.{protected_by, refusal}
 use Rattle.zone_laws.proofs.Tables.{eqb-true-is, with_live_agrees, without_agrees}
 use Rattle.gap_laws.proofs.SuitsNil.{nil-no_handle}
+use Rattle.call_laws.proofs.RunTables.{Releases, request-asked}
 use Rattle.paint_trace.specs.declared.trace.Action.{Action}
 use Rattle.paint_trace.specs.declared.trace.Action.TheVariants as action
 use Rattle.mac_base.specs.declared.releasing.ReleasingCall.{ReleasingCall}
@@ -64,6 +64,10 @@ record Keeps (h : ℕ) (old : Heap) (outcome : Outcome) (new : Heap) : Type 0 wh
   pub same : Same h old.table new.table
   pub other : OutcomeOther h outcome
 
+-- h is as it was in a table that is the new one
+kept : (h : ℕ) (old new : Heap) {t : HandleTable} (outcome : Outcome) {o : Outcome} → new.table ≡ t → Same h old.table t → outcome ≡ o → OutcomeOther h o → Keeps h old outcome new
+kept h old new outcome table same is other = record { same = ap (λ (t : HandleTable). live_at t h) table ∙ same; other = subst (OutcomeOther h) (sym is) other }
+
 -- ---- a step
 
 kept_asking : (h : ℕ) (s : Shape) (old : Heap) (g : ℕ) (act : Action) (asks : List Ask) (outcome : Outcome) (new : Heap) → StepAsking RequestRun (request_of old.table (call_of g act)) s old (call_of g act) asks outcome new → answers_in asks ≡ [] → g ≢ h → is_locked old.table h ≡ true → Keeps h old outcome new
@@ -72,45 +76,29 @@ kept_asking h s old g (action.NewHandle n) asks outcome new step none other lock
     let a = request-asked s call ⊥ (SameLocked h) (locked_rel h (protected_by call)) (every_slot_live s old) old (NewBlock n) asks outcome new (inl none) step in
     let same = a.related locked in
     elim a.ended [
-      | inl e ↦ record { same = ap (λ (t : HandleTable). live_at t h) e.1 ∙ same; other = subst (OutcomeOther h) (sym e.0) tt }
-      | inr e ↦ (let x_other = unlocked_other a.before h e.0 (still_locked h old.table a.before same locked) (ap (λ o. (live_flags o).lock) e.2) in record {
-        same = ap (λ (t : HandleTable). live_at t h) e.3 ∙ (with_live_agrees e.0 (FullHandle no_flags (zeros n)) a.before).others h (apart h e.0 x_other) ∙ same;
-        other = subst (OutcomeOther h) (sym e.1) x_other;
-      })
+      | inl e ↦ kept h old new outcome e.1 same e.0 tt
+      | inr e ↦ (let x_other = unlocked_other a.before h e.0 (still_locked h old.table a.before same locked) (ap (λ o. (live_flags o).lock) e.2) in
+        kept h old new outcome e.3 ((with_live_agrees e.0 (FullHandle no_flags (zeros n)) a.before).others h (apart h e.0 x_other) ∙ same) e.1 x_other)
     ]
 kept_asking h s old g (action.SetHandleSize n) asks outcome new step none other locked =
     let call : MemoryCall = call_of g (action.SetHandleSize n) in
     let a = request-asked s call ⊥ (SameLocked h) (locked_rel h (protected_by call)) false old (Resize g n) asks outcome new (inl none) step in
     let same = a.related locked in
     elim a.ended [
-      | inl e ↦ record { same = ap (λ (t : HandleTable). live_at t h) e.1 ∙ same; other = subst (OutcomeOther h) (sym e.0) tt }
-      | inr e ↦ record {
-        same = ap (λ (t : HandleTable). live_at t h) e.3 ∙ (with_live_agrees g (refilled (resized n (bytes_of a.before g)) (live_at a.before g)) a.before).others h (apart h g other) ∙ same;
-        other = subst (OutcomeOther h) (sym e.1) tt;
-      }
+      | inl e ↦ kept h old new outcome e.1 same e.0 tt
+      | inr e ↦ kept h old new outcome e.3 ((with_live_agrees g (refilled (resized n (bytes_of a.before g)) (live_at a.before g)) a.before).others h (apart h g other) ∙ same) e.1 tt
     ]
-kept_asking h s old g action.HLock asks outcome new step none other locked = record {
-  same = ap (λ (t : HandleTable). live_at t h) step.1.0.table ∙ (with_live_agrees g (FullHandle (record (flags_of old.table g) { lock = true }) (bytes_of old.table g)) old.table).others h (apart h g other);
-  other = subst (OutcomeOther h) (sym step.1.1) tt;
-}
-kept_asking h s old g action.HUnlock asks outcome new step none other locked = record {
-  same = ap (λ (t : HandleTable). live_at t h) step.1.0.table ∙ (with_live_agrees g (FullHandle (record (flags_of old.table g) { lock = false }) (bytes_of old.table g)) old.table).others h (apart h g other);
-  other = subst (OutcomeOther h) (sym step.1.1) tt;
-}
-kept_asking h s old g action.HPurge asks outcome new step none other locked = record {
-  same = ap (λ (t : HandleTable). live_at t h) step.1.0.table ∙ (with_live_agrees g (FullHandle (record (flags_of old.table g) { purge = true }) (bytes_of old.table g)) old.table).others h (apart h g other);
-  other = subst (OutcomeOther h) (sym step.1.1) tt;
-}
-kept_asking h s old g action.DisposeHandle asks outcome new step none other locked = record {
-  same = ap (λ (t : HandleTable). live_at t h) step.1.0.table ∙ (without_agrees g old.table).others h (apart h g other);
-  other = subst (OutcomeOther h) (sym step.1.1) tt;
-}
+kept_asking h s old g action.HLock asks outcome new step none other locked =
+    kept h old new outcome step.1.0.table ((with_live_agrees g (FullHandle (record (flags_of old.table g) { lock = true }) (bytes_of old.table g)) old.table).others h (apart h g other)) step.1.1 tt
+kept_asking h s old g action.HUnlock asks outcome new step none other locked =
+    kept h old new outcome step.1.0.table ((with_live_agrees g (FullHandle (record (flags_of old.table g) { lock = false }) (bytes_of old.table g)) old.table).others h (apart h g other)) step.1.1 tt
+kept_asking h s old g action.HPurge asks outcome new step none other locked =
+    kept h old new outcome step.1.0.table ((with_live_agrees g (FullHandle (record (flags_of old.table g) { purge = true }) (bytes_of old.table g)) old.table).others h (apart h g other)) step.1.1 tt
+kept_asking h s old g action.DisposeHandle asks outcome new step none other locked =
+    kept h old new outcome step.1.0.table ((without_agrees g old.table).others h (apart h g other)) step.1.1 tt
 
 kept_unless : (o : Option OsErr) (h : ℕ) (s : Shape) (old : Heap) (g : ℕ) (act : Action) (asks : List Ask) (outcome : Outcome) (new : Heap) → StepUnless RequestRun o s old (call_of g act) asks outcome new → answers_in asks ≡ [] → g ≢ h → is_locked old.table h ≡ true → Keeps h old outcome new
-kept_unless (Some code) h s old g act asks outcome new step none other locked = record {
-  same = ap (λ (t : HandleTable). live_at t h) step.2.table;
-  other = subst (OutcomeOther h) (sym step.1) tt;
-}
+kept_unless (Some code) h s old g act asks outcome new step none other locked = kept h old new outcome step.2.table refl step.1 tt
 kept_unless None h s old g act asks outcome new step none other locked = kept_asking h s old g act asks outcome new step none other locked
 
 -- a step on another handle keeps a locked one, and gives no new block its number

@@ -1,3 +1,4 @@
 pub mod Acts
-pub mod Tools
 pub mod Forks
+pub mod Functional
+pub mod Tools

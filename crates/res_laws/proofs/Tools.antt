@@ -125,7 +125,7 @@ tools-show z start calls possible shape zone none is =
     record {
       acts = all.acts;
       own = all.made;
-      handles = λ first part later put set same. part-promised s (moment_of start) first part later put set (stands put set) (subst (IsRun s (moment_of start)) same all.run);
+      promised = λ first part later put set same. part-promised s (moment_of start) first part later put set (stands put set) (subst (IsRun s (moment_of start)) same all.run);
       forks = λ first later called same. update-reads (tools_after start first) called.call called.asks called.outcome called.tools (call-made start first later called (subst (IsToolRun start) same is));
       rows = λ first later same. run-reads start first later none (subst (IsToolRun start) same is);
     }

@@ -96,7 +96,7 @@ pub record Headline (start : Tools) (calls : List Called) : Type 0 where
   pub acts : List (List Done)
   pub own : AreMadeOf start calls acts
   -- From each moment to each later one every handle and pointer shows the bytes last put there, and so on.
-  pub handles : (first part later : List Done) (put : LastPut) (set : LastSet) → all_acts acts ≡ first ++ (part ++ later)
+  pub promised : (first part later : List Done) (put : LastPut) (set : LastSet) → all_acts acts ≡ first ++ (part ++ later)
       → Promised start.resources.shape (moment_after (moment_of start) first) part (put_in first put) (set_in first set)
   -- Every updated fork reads back as the resource table.
   pub forks : (first later : List Called) (called : Called) → calls ≡ first ++ (called ∷ later) → UpdateReadsBack (tools_after start first) called.call called.outcome called.tools
