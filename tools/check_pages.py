@@ -1,6 +1,6 @@
 #!/usr/bin/env python3
-"""Checks README.md and the pages of docs/: that their links lead somewhere, that README links each page, that it has at most 90
-lines, and that what a page quotes is there. A quote is a block between ``` whose first line names the file, as '```text PATH': its
+"""Checks README.md and the pages of docs/: that their links lead somewhere, that README links each page, and that what a page
+quotes is there. A quote is a block between ``` whose first line names the file, as '```text PATH': its
 lines stand in that file in this order, whatever blanks are before them.
 """
 import glob
@@ -10,7 +10,6 @@ import sys
 
 LINK = re.compile(r"\]\(([^)\s]+)\)")
 QUOTE = re.compile(r"^```\w+ (\S+)\n(.*?)^```$", re.M | re.S)
-MOST_LINES = 90
 
 
 def lacks(file, quoted):
@@ -36,8 +35,6 @@ def main():
         faults += [f"{page}: the link to {it} leads nowhere" for it in targets if it and not os.path.exists(os.path.join(around, it))]
         if page == "README.md":
             faults += [f"{page} does not link {it}" for it in pages if it not in targets]
-            if text.count("\n") > MOST_LINES:
-                faults.append(f"{page} has {text.count(chr(10))} lines, and {MOST_LINES} are enough")
         for file, quoted in QUOTE.findall(text):
             quotes += 1
             line = lacks(file, quoted) if os.path.isfile(file) else "(there is no such file)"

@@ -1,101 +1,62 @@
 #!/usr/bin/env python3
-"""Checks that the clauses and edits that docs/PROMISES.md names are there.
+"""Checks that the clauses and edits that docs/PROMISES.md names are there, and that it names each edit of the gate.
 
-Below a heading '## `CRATE`: ..', or one that names several crates, each table's second column names clauses of these, as `function: clause`,
-`Type::function: clause` or `function` (for one without a name), and its third column edits of crates/CRATE/must-fail or tools/edits/CRATE.
+The page names a clause as `CRATE: function: clause` or `CRATE: Type::function: clause`, and one without a name as `CRATE: function`;
+and an edit by its path from the top, as `crates/CRATE/must-fail/NAME.edit`. What `tools/list_promises.py` finds in the sources is there.
 """
 import os
 import re
 import sys
 
+from list_promises import crates, edits, functions
+
 PAGE = "docs/PROMISES.md"
-HEADING = re.compile(r"## (`\w+`(?:, `\w+`)*)")
-CARRIER = re.compile(r"(?:(\w+)::)?(\w+)(?:: (\w+))?")
-FUNCTION = re.compile(r"^\s*(?:pub(?:\(crate\))? )?(?:const )?(?:unsafe )?(?:extern .C. )?fn (\w+)")
+CODE = re.compile(r"`([^`\n]+)`")
+CLAUSE = re.compile(r"(\w+): (?:(\w+)::)?(\w+)(?:: (\w+))?")
 
 
-def sources(crate):
-    for at, _, names in os.walk(f"crates/{crate}/src"):
-        for name in sorted(names):
-            if name.endswith(".rt"):
-                with open(f"{at}/{name}", encoding="utf-8") as it:
-                    yield it.read().split("\n")
-
-
-def contracts(crate):
-    """The functions of a crate: name, the line of the impl around it or '', and the names of its clauses ('' for none)."""
-    found = []
-    for lines in sources(crate):
-        around = ""
-        for number, line in enumerate(lines):
-            if re.match(r"impl\b", line):
-                around = line
-            elif line == "}":
-                around = ""
-            named = FUNCTION.match(line)
-            if not named:
-                continue
-            clauses = set()
-            for below in lines[number + 1 :]:
-                if re.fullmatch(r"\s*\{", below) or FUNCTION.match(below):
-                    break
-                clause = re.match(r"\s*(?:ensures\*?|requires) (?:(\w+) )?\{", below)
-                if clause:
-                    clauses.add(clause[1] or "")
-            found.append((named[1], around, clauses))
-    return found
-
-
-def cells(line):
-    return [it.strip() for it in line.strip().strip("|").split("|")]
+def lacks(name, known):
+    """What is wrong with the name of a clause, if anything."""
+    parts = CLAUSE.fullmatch(name)
+    if not parts:
+        return f"`{name}` is no name of a clause: write `CRATE: function: clause`"
+    crate, owner, function, clause = parts[1], parts[2], parts[3], parts[4] or ""
+    if crate not in known:
+        return f"`{name}`: there is no crate {crate}"
+    of_name = [it for it in known[crate] if it.name == function and owner in (None, it.owner)]
+    if not of_name:
+        return f"`{name}`: {crate} has no such function"
+    if not any(clause in it.ensures + it.requires for it in of_name):
+        return f"`{name}`: it has no clause {clause or 'without a name'}"
+    return None
 
 
 def main():
     with open(PAGE, encoding="utf-8") as it:
         lines = it.read().split("\n")
-    faults, crates, known, named = [], [], [], 0
-
-    def fault(text):
-        faults.append(f"{PAGE}:{number}: {text}")
-
+    known = {crate: functions(crate) for crate in crates()}
+    faults, named, clauses = [], set(), 0
     for number, line in enumerate(lines, 1):
-        if line.startswith("## "):
-            heading = HEADING.match(line)
-            crates = heading[1].strip("`").split("`, `") if heading else []
-            known = []
-            for crate in crates:
-                functions = contracts(crate)
-                if not functions:
-                    fault(f"there is no crate {crate} with functions")
-                known += functions
-        if not known or not line.startswith("|") or line.startswith("|---") or cells(line)[0] == "Promise":
-            continue
-        row = cells(line)
-        if len(row) != 3:
-            fault("a row has three columns: the promise, what carries it, and a wrong body")
-            continue
-        for carrier in re.findall(r"`([^`]+)`", row[1]):
-            parts = CARRIER.fullmatch(carrier)
-            named += 1
-            if not parts:
-                fault(f"`{carrier}` is no function and no clause of one")
-                continue
-            kind, function, clause = parts[1] or "", parts[2], parts[3] or ""
-            of_name = [it for it in known if it[0] == function and re.search(rf"\b{kind}\b" if kind else "", it[1])]
-            if not of_name:
-                fault(f"{' or '.join(crates)} has no function {carrier.partition(': ')[0]}")
-            elif not any(clause in it[2] for it in of_name):
-                fault(f"{function} of {' or '.join(crates)} has no clause {clause or 'without a name'}")
-        for edit in re.findall(r"`([^`]+)`", row[2]):
-            named += 1
-            if not any(os.path.isfile(f"{folder}/{edit}.edit") for crate in crates for folder in (f"crates/{crate}/must-fail", f"tools/edits/{crate}")):
-                fault(f"there is no {edit}.edit in crates/{' or '.join(crates)}/must-fail, nor in tools/edits")
-    if not named:
+        if line.count("`") % 2:
+            faults.append(f"{PAGE}:{number}: a name between ` and ` goes on in the next line")
+        for name in CODE.findall(line):
+            if name.endswith(".edit"):
+                named.add(name)
+                if not os.path.isfile(name):
+                    faults.append(f"{PAGE}:{number}: there is no file {name}")
+            elif ": " in name:
+                clauses += 1
+                wrong = lacks(name, known)
+                if wrong:
+                    faults.append(f"{PAGE}:{number}: {wrong}")
+    for crate in crates():
+        faults += [f"{PAGE}: it does not name {it}" for it in edits(crate)[0] if it not in named]
+    if not clauses:
         faults.append(f"{PAGE}: it names no clause")
     for it in faults:
         print(it)
     if not faults:
-        print(f"promises: {named} clauses and edits found")
+        print(f"promises: {clauses} clauses and {len(named)} edits found")
     return 1 if faults else 0
 
 

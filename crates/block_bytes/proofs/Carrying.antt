@@ -24,7 +24,7 @@ use Rattle.block_bytes.proofs.Spans.{AllUnlent}
 use Rattle.block_bytes.proofs.Parts.{IsRead, front, rear, head, stale_image, image-parts, length-front, possible-with, possible-more, total-ends, length-starts}
 use Rattle.block_bytes.proofs.Settled.{counted, free-append, unlent-free, replaced}
 use Rattle.block_bytes.proofs.Counting.{IsKept, kept-first, kept-written}
-use Rattle.block_bytes.proofs.Exchanging.{moved-itself, moved-free, moved-size, moved-header, moved-mark, moved-possible, moved-free_bytes, slack-free, none-left}
+use Rattle.block_bytes.proofs.MovedBlocks.{moved-itself, moved-free, moved-size, moved-header, moved-mark, moved-possible, moved-free_bytes, slack-free, none-left}
 use Rattle.block_bytes.proofs.Rotated.{parts-turned, slid-down, slid-up, numbers-down, numbers-up}
 
 -- none of these is lent

@@ -21,7 +21,7 @@ pub mod WrittenBack
 pub mod Copied
 pub mod Loans
 pub mod NewZone
-pub mod Exchanging
+pub mod MovedBlocks
 pub mod Rotated
 pub mod Carrying
 pub mod NextFree

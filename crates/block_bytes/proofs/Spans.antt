@@ -132,10 +132,6 @@ apart-among (s ∷ ss) ts p n among apart = (listed ts apart (among s (inl refl)
 pub free-same : (ss ts : List Span) (p n : ℕ) → SameSpans ss ts → AllApart ts p n → IsFree ss p n
 free-same ss ts p n same apart = record { apart = apart-among ss ts p n (λ s is. listed-counted s ts (subst (λ (k : ℕ). 0 < k) (same s) (counted-listed s ss is))) apart }
 
--- the same ranges are listed
-pub listed-same : (ss ts : List Span) (s : Span) → SameSpans ss ts → IsListed ts s → IsListed ss s
-listed-same ss ts s same is = listed-counted s ss (subst (λ (k : ℕ). 0 < k) (sym (same s)) (counted-listed s ts is))
-
 -- no ranges are the same as none
 pub none-same : (ss : List Span) → SameSpans ss [] → ss ≡ []
 none-same [] same = refl

@@ -37,10 +37,6 @@ pub record BlockBehind (l : Layout) (at : ℕ) (p : RawBlock → Bool) : Type 0 
   pub block : BlockAt l at
   pub passed : IsTrue (list_all p block.before)
 
--- a walk begins at the first block
-pub reached-first : (l : Layout) (at : ℕ) (p : RawBlock → Bool) → at ≡ address_behind l [] → Reached l at p
-reached-first l at p place = record { before = []; rest = l.blocks; blocks = refl; place = place; passed = refl }
-
 -- where the blocks of two runs end
 ends : (l : Layout) (bs cs : List RawBlock) → l.blocks ≡ bs ++ cs → address_behind l l.blocks ≡ address_behind l bs + total_of l.heads cs
 ends l bs cs e = let total = ap (total_of l.heads) e in let sum = total_of-append l.heads bs cs in omega arith
@@ -52,14 +48,6 @@ block-reached l at p r below = from r.before r.rest r.blocks r.place r.passed
     from : (bs cs : List RawBlock) → l.blocks ≡ bs ++ cs → at ≡ address_behind l bs → IsTrue (list_all p bs) → BlockBehind l at p
     from bs [] e place passed = let end = ends l bs [] e in absurd (omega arith)
     from bs (b ∷ cs) e place passed = record { block = record { before = bs; here = b; behind = cs; blocks = e; place = place }; passed = passed }
-
--- at the end, all blocks were passed
-pub all-reached : (l : Layout) (at : ℕ) (p : RawBlock → Bool) → Reached l at p → address_behind l l.blocks ≤ at → IsTrue (list_all p l.blocks)
-all-reached l at p r behind = from r.before r.rest r.blocks r.place r.passed
-  where
-    from : (bs cs : List RawBlock) → l.blocks ≡ bs ++ cs → at ≡ address_behind l bs → IsTrue (list_all p bs) → IsTrue (list_all p l.blocks)
-    from bs [] e place passed = let all = list_all-append p bs [] in ap (list_all p) e ∙ grind (arith, nat_tests)
-    from bs (b ∷ cs) e place passed = let end = ends l bs (b ∷ cs) e in let size = size_of-pos l.heads b in absurd (omega arith)
 
 -- a block ends where the blocks do, or before
 pub block-below : (l : Layout) (at : ℕ) (b : BlockAt l at) → at + size_of l.heads b.here ≤ address_behind l l.blocks

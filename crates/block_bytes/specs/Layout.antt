@@ -253,14 +253,6 @@ pub record IsMoved (old new : RawBlock) : Type 0 where
   pub slack : new.slack ≡ old.slack
   pub lent : new.lent ≡ old.lent
 
--- two neighbours have changed places
-pub record Exchanged (old : Layout) {at : ℕ} (pair : PairAt old at) (new : Layout) : Type 0 where
-  pub first : RawBlock
-  pub second : RawBlock
-  pub blocks : new ≡ with_blocks (pair.before ++ first ∷ second ∷ pair.behind) old
-  pub first_moved : IsMoved pair.next first
-  pub second_moved : IsMoved pair.here second
-
 -- whether none of these is lent
 abbrev pub none_lent : List RawBlock → Bool
 none_lent bs = list_all (λ (b : RawBlock). not b.lent) bs

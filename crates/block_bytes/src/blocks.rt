@@ -1,11 +1,11 @@
 //! The list of a zone's blocks.
 
-ghost use Rattle.std.specs.Prelude.{◌≡◌, ℕ, ◌+◌, ◌-◌, ◌*◌, ◌/◌, nat_lt, ◌<◌, ◌≤◌, ◌^◌, ◌++◌, ◌∷◌, [], length, replicate, slice_index, IfOk, IfSome, IfNone, IsTrue, IsFalse};
+ghost use Rattle.std.specs.Prelude.{◌≡◌, ℕ, ◌+◌, ◌-◌, ◌*◌, ◌/◌, nat_lt, ◌<◌, ◌≤◌, ◌^◌, ◌++◌, ◌∷◌, [], length, slice_index, IfOk, IfSome, IfNone, IsTrue, IsFalse};
 ghost use Rattle.std.specs.Borrow.{sem};
 ghost use Rattle.std.specs.List.{list_all};
 ghost use Rattle.byteorder.specs.Endian.{big_bytes, big_number};
 ghost use Rattle.mac_base.specs.HeadKind.{zone_header, head_size};
-ghost use Rattle.raw_region.specs.Bytes.{part, written};
+ghost use Rattle.raw_region.specs.Bytes.{part};
 ghost use Rattle.raw_region.specs.Span.{IsFree};
 ghost use Rattle.raw_region.specs.State.{with_bytes};
 ghost use Rattle.block_bytes.specs.declared.header.Role.TheVariants.{Free};
@@ -144,15 +144,14 @@ fn count_free(
 }
 
 impl Blocks {
-    ghost use Rattle.std.specs.Prelude.{◌≡◌, ◌+◌, ◌-◌, ◌<◌, ◌≤◌, ◌^◌, ◌++◌, ◌∷◌, ◌↔◌, [], length, take, drop, replicate, IfOk, IfSome, IfNone, IsTrue, IsFalse};
+    ghost use Rattle.std.specs.Prelude.{◌≡◌, ◌+◌, ◌-◌, ◌<◌, ◌≤◌, ◌^◌, ◌++◌, ◌∷◌, ◌↔◌, [], length, take, drop, IfOk, IfSome, IfNone, IsTrue, IsFalse};
     ghost use Rattle.std.specs.Borrow.{sem};
     ghost use Rattle.std.specs.List.{list_all};
     ghost use Rattle.byteorder.specs.Endian.{big_bytes, big_number};
     ghost use Rattle.mac_base.specs.HeadKind.{zone_header, head_size};
-    ghost use Rattle.mac_base.specs.ZoneSizes.{shape_of};
-    ghost use Rattle.raw_region.specs.Bytes.{part, written};
+    ghost use Rattle.raw_region.specs.Bytes.{part};
     ghost use Rattle.block_bytes.specs.declared.header.Role.TheVariants.{Free};
-    ghost use Rattle.block_bytes.specs.Layout.{RawBlock, Layout, BlockAt, UnlentAt, WordAt, CanBe, CanTurn, CanResize, CanSplit, PairAt, ParcelAt, Carried, ParcelUpTo, Sunk, CanMerge, Exchanged, CanLend, IsLoanOf, NothingLent, in_role, front_of, rest_of, with_word, cleared, cleared_from, CanClear, body, raw_block, free_raw_block, size_of, header_of, is_possible, joint_body, zone_bytes, with_blocks, with_front, extended, address_behind, free_total, lent_count, most_lent, loan_of, lent_block, given_back};
+    ghost use Rattle.block_bytes.specs.Layout.{Layout, BlockAt, UnlentAt, WordAt, CanBe, CanTurn, CanResize, CanSplit, ParcelAt, Carried, ParcelUpTo, Sunk, CanMerge, CanLend, IsLoanOf, NothingLent, in_role, front_of, rest_of, with_word, cleared, cleared_from, CanClear, body, raw_block, free_raw_block, size_of, header_of, is_possible, joint_body, zone_bytes, with_blocks, with_front, extended, address_behind, free_total, lent_count, most_lent, loan_of, lent_block, given_back};
     ghost use Rattle.block_bytes.specs.Finding.{HoldsByte, LiesOutside, FreeAt, LowestFree, NoneFree, SplitAt, FirstFree, LastFree, none_free};
     ghost use Rattle.block_bytes.specs.Copying.{CanCopy, copied_over};
     ghost use Rattle.block_bytes.specs.WritingBack.{WritesBackContents};
@@ -439,24 +438,6 @@ impl Blocks {
             header.free_bytes(),
             first.free_bytes() + second.free_bytes(),
         );
-    }
-
-    /// The block at an address and the one behind it change places. The bytes of a free one aren't kept.
-    pub fn exchange(&mut self, at: u32)
-        requires { PairAt self.old at }
-        ensures { (pair : PairAt self.old at) → Exchanged self.old pair self.new }
-    {
-        let heads = self.spec.heads();
-        let base = self.spec.base();
-        let first = self.entry_at(at);
-        let second = self.entry_at(at + first.size);
-        let start = (at - base) as usize;
-        self.memory.exchange(heads, start, first, second);
-        self.index.set(start / 4 + first.size as usize / 4, 0);
-        self.index.set(start / 4, second.mark());
-        self.index
-            .set(start / 4 + second.size as usize / 4, first.mark());
-        count_free(&mut self.memory, &self.index, base, start / 4, 0, 0);
     }
 
     /// The block at an address changes places with those behind it up to an address. The bytes of a free one aren't kept: the

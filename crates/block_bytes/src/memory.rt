@@ -4,7 +4,7 @@ ghost use Rattle.std.specs.Prelude.{◌≡◌, ◌+◌, ◌-◌, ◌≤◌, ◌<
 ghost use Rattle.std.specs.Borrow.{sem};
 ghost use Rattle.byteorder.specs.Endian.{big_bytes, big_number};
 ghost use Rattle.mac_base.specs.HeadKind.{head_size, zone_header};
-ghost use Rattle.raw_region.specs.Bytes.{part, written};
+ghost use Rattle.raw_region.specs.Bytes.{part};
 ghost use Rattle.raw_region.specs.Span.{IsFree, IsListed, without};
 ghost use Rattle.raw_region.specs.State.{State, with_bytes};
 ghost use Rattle.block_bytes.specs.Head.{head_bytes, header_in, most_over};
@@ -143,35 +143,6 @@ impl Memory {
         ensures { self.new ≡ with_bytes self.old at (part self.old.bytes middle (end - middle) ++ part self.old.bytes at (middle - at)) }
     {
         self.region.rotate(at, middle, end);
-    }
-
-    /// The blocks with these headers, of which the first stands at `at`, change places. Where one of them is free only the
-    /// other moves, and the free one's header, which names no zone, is written anew.
-    pub fn exchange(&mut self, heads: HeadKind, at: usize, first: Header, second: Header)
-        requires inside { at + first.size + second.size ≤ length self.old.bytes }
-        requires free { IsFree self.old.lent at (first.size + second.size) }
-        requires first_size { (first.size < 2 ^ 24) × (head_size heads ≤ first.size) }
-        requires second_size { (second.size < 2 ^ 24) × (head_size heads ≤ second.size) }
-        requires first_correction { first.correction ≤ most_over heads }
-        requires second_correction { second.correction ≤ most_over heads }
-        ensures first_free { IsTrue (is_free first.role) → self.new ≡ with_bytes (with_bytes self.old at (part self.old.bytes (at + first.size) second.size)) (at + second.size) (head_bytes heads 0 first) }
-        ensures second_free { IsFalse (is_free first.role) → IsTrue (is_free second.role)
-            → self.new ≡ with_bytes (with_bytes self.old (at + second.size) (part self.old.bytes at first.size)) at (head_bytes heads 0 second) }
-        ensures none_free { IsFalse (is_free first.role) → IsFalse (is_free second.role)
-            → self.new ≡ with_bytes self.old at (part self.old.bytes (at + first.size) second.size ++ part self.old.bytes at first.size) }
-    {
-        let _len = self.len();
-        let middle = at + first.size as usize;
-        let last = at + second.size as usize;
-        if first.is_free() {
-            self.slide(middle, at, second.size as usize);
-            self.set_header(heads, last, 0, first);
-        } else if second.is_free() {
-            self.slide(at, last, first.size as usize);
-            self.set_header(heads, at, 0, second);
-        } else {
-            self.rotate(at, middle, middle + second.size as usize);
-        }
     }
 
     /// The block with this header, which stands at `at`, moves behind the `count` bytes behind it. Where it is free only those

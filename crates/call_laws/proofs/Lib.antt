@@ -1,20 +1,17 @@
 mod Rows
-mod FirstStep
-pub mod MoreSteps
 pub mod Prepared
 pub mod Refusals
 pub mod RunAnswers
-pub mod RunLent
 pub mod RunPermitted
 pub mod SoundCalls
 pub mod SoundCarried
 pub mod StepAnswers
-pub mod StepLent
 pub mod StepPermitted
 pub mod StepQuiet
 pub mod StepRequests
 pub mod Steps
-pub mod Unmoved
 pub mod Lengths
 pub mod LentSteps
+pub mod Locked
+pub mod RunTables
 pub mod Walk

@@ -10,15 +10,12 @@ use Rattle.mac_base.specs.declared.request.Request.{Request}
 use Rattle.mac_base.specs.Request.{fits, blocks_to_purge, candidates, is_among, purged_until}
 use Rattle.mac_base.specs.Heap.{Heap, grown, with_all_emptied}
 use Rattle.mac_base.specs.Purging.{purged}
-use Rattle.mac_base.specs.Loans.{LoansAreFixed}
 use Rattle.mac_base.specs.Sound.{Sound}
 use Rattle.mac_base.specs.Trial.{Preparation, MayPrepare, prepared_by}
 use Rattle.mac_calls.specs.ExactRequest.{prepared}
-use Rattle.zone_laws.proofs.Lent.{KeepsLent, fixed-kept}
 use Rattle.zone_laws.proofs.SlotPlaces.{Contains-here, Contains-later, Contains-none}
 use Rattle.gap_laws.proofs.Emptied.{Emptied, IsCandidate, all_emptied, candidate-is, no_candidates, purged_until-part, purged_until-none, purged_until-enough}
 use Rattle.gap_laws.proofs.FixesSame.{fits-same}
-use Rattle.gap_laws.proofs.KeepsLoans.{lent-refl, lent-then, lent-grown, lent-all_emptied}
 use Rattle.gap_laws.proofs.PurgeBlocks.{candidates-at_limit}
 use Rattle.gap_laws.proofs.SoundGrown.{sound-grown, total_size-at_limit}
 
@@ -29,7 +26,6 @@ pub record IsPrepared (s : Shape) (protected : List ℕ) (r : Request) (heap mid
   pub may : MayPrepare s protected r heap preparation
   pub sound : Sound s mid
   pub free_slots : mid.free_slots ≡ heap.free_slots
-  pub keeps : LoansAreFixed heap → KeepsLent s heap mid
   -- what is protected is as it was
   pub protects : (y : ℕ) → is_among protected y ≡ true → live_at mid.table y ≡ live_at heap.table y
   -- where the request still doesn't fit, the zone is as large as it may be, and nothing is left to be purged
@@ -55,7 +51,6 @@ as_it_is s protected r heap sound fitting = record {
   may = record { grows_at_need = λ h. absurd (cc h); purges_at_need = inl refl; purges_at_limit = inl refl; purges_candidates = λ h c. absurd (Contains-none h c) };
   sound = sound;
   free_slots = refl;
-  keeps = λ _. lent-refl s heap;
   protects = λ y _. refl;
   exhausted = λ no. absurd (true≢false (sym fitting ∙ no));
 }
@@ -104,7 +99,6 @@ module _ (s : Shape) (protected : List ℕ) (r : Request) (heap : Heap) (sound :
     };
     sound = d.sound;
     free_slots = d.free_slots;
-    keeps = λ fixed. (let grows = lent-grown s heap sound fixed in lent-then s heap g mid grows (lent-all_emptied s hs g (sound-grown s heap sound) (fixed-kept s heap g grows fixed) (λ h c. (candidate h c).may)));
     protects = λ y guarded. d.others y (false_from_ne_true (is_among hs y) (λ among. true≢false (sym guarded ∙ (candidate y (among-contains hs y among)).unprotected)));
     exhausted = λ none. (large, none_left none (purged_until-enough (fits s heap.table r) cs g));
   }

@@ -46,16 +46,16 @@ bytes bs = Ok (Bytes bs)
 abbrev blocks : List Block → Outcome
 blocks bs = Ok (Blocks bs)
 
-abbrev pub zone : Shape
+abbrev zone : Shape
 zone = record { heads = Bits24; base = 0x0010_0000; limit = 4096 }
 
-abbrev pub fresh : Heap
+abbrev fresh : Heap
 fresh = new_heap zone 4096
 
 new_zone : fresh ≡ record { table = new_table; map = block Master 264 ∷ block Free 3780 ∷ []; free_slots = slots_from slot_count 0x0010_003C }
 new_zone = refl
 
-abbrev pub h1 : ℕ
+abbrev h1 : ℕ
 h1 = 0x0010_003C
 
 abbrev h2 : ℕ

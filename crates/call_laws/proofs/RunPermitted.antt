@@ -30,7 +30,7 @@ use Rattle.gap_laws.proofs.ServedRequests.{MayAsk, front_slot-not_live, serve-Nu
 use Rattle.gap_laws.proofs.SoundServed.{MayServe, sound-serve}
 use Rattle.call_laws.proofs.Prepared.{IsPrepared, prepared-is}
 use Rattle.call_laws.proofs.SoundCarried.{sound-carried_out}
-use Rattle.call_laws.proofs.Unmoved.{same_heap}
+use Rattle.call_laws.proofs.Steps.{same_heap}
 
 -- ---- what a running call can rely on
 

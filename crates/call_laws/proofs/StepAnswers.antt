@@ -157,10 +157,6 @@ step-takes s heap call None (Some r) answers is = subst (λ o. TakesAnswers (λ 
 exact-steps : (s : Shape) (answers : List Answer) (heap : Heap) (call : MemoryCall) → TakesAnswers (λ xs. exact_step s xs heap call) answers
 exact-steps s answers heap call = step-takes s heap call (refusal s heap call) (request_of heap.table call) answers refl
 
--- a call takes the answers of its asks, and leaves the others
-pub exact-takes : (s : Shape) (answers : List Answer) (heap : Heap) (call : MemoryCall) → (let e = exact_step s answers heap call in answers ≡ answers_of e.asks ++ e.left)
-exact-takes s answers heap call = let t = exact-steps s answers heap call in t.takes
-
 -- where each ask had an answer, more answers behind them change nothing, and are left too
 pub exact-framed : (s : Shape) (answers more : List Answer) (heap : Heap) (call : MemoryCall) → (let e = exact_step s answers heap call in all_answered e.asks ≡ true → exact_step s (answers ++ more) heap call ≡ step_left (e.left ++ more) e)
 exact-framed s answers more heap call answered = let t = exact-steps s answers heap call in t.framed more answered
@@ -169,18 +165,3 @@ exact-framed s answers more heap call answered = let t = exact-steps s answers h
 pub exact-framed_all : (s : Shape) (answers more : List Answer) (heap : Heap) (call : MemoryCall)
     → (let e = exact_step s answers heap call in e.left ≡ [] → all_answered e.asks ≡ true → exact_step s (answers ++ more) heap call ≡ step_left more e)
 exact-framed_all s answers more heap call none answered = exact-framed s answers more heap call answered ∙ ap (λ left. step_left (left ++ more) (exact_step s answers heap call)) none
-
--- a call ends as it does with none but the answers that it takes
-pub exact-alone : (s : Shape) (answers : List Answer) (heap : Heap) (call : MemoryCall) → (let e = exact_step s answers heap call in exact_step s (answers_of e.asks) heap call ≡ step_left [] e)
-exact-alone s answers heap call = let t = exact-steps s answers heap call in t.alone
-
--- and, where each ask had an answer, with any others behind these
-pub exact-front : (s : Shape) (answers more : List Answer) (heap : Heap) (call : MemoryCall) → (let e = exact_step s answers heap call in all_answered e.asks ≡ true → exact_step s (answers_of e.asks ++ more) heap call ≡ step_left more e)
-exact-front s answers more heap call answered =
-    let e = exact_step s answers heap call in
-    let alone = exact-alone s answers heap call in
-    exact-framed s (answers_of e.asks) more heap call (ap (λ (e : StepEnd). all_answered e.asks) alone ∙ answered) ∙ ap (λ (e : StepEnd). step_left (e.left ++ more) e) alone
-
--- where an ask had no answer, none is left
-pub exact-unanswered : (s : Shape) (answers : List Answer) (heap : Heap) (call : MemoryCall) → (let e = exact_step s answers heap call in all_answered e.asks ≡ false → e.left ≡ [])
-exact-unanswered s answers heap call = let t = exact-steps s answers heap call in t.unanswered

@@ -26,7 +26,7 @@ use Rattle.gap_laws.proofs.RearrangingAll.{all_down-Rearranged, compacted-Rearra
 use Rattle.gap_laws.proofs.SoundGrown.{sound-grown}
 use Rattle.gap_laws.proofs.SoundPurged.{sound-all_purged}
 use Rattle.call_laws.proofs.SoundCalls.{sound-BlockMove, sound-DisposeHandle, sound-DisposePtr, sound-EmptyHandle, sound-Poke, sound-flagged}
-use Rattle.call_laws.proofs.Unmoved.{same_heap}
+use Rattle.call_laws.proofs.Steps.{same_heap}
 
 -- what is known of a step without a request
 pub record QuietFacts (s : Shape) (heap : Heap) (call : MemoryCall) (after : Heap) : Type 0 where

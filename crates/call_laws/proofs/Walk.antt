@@ -100,9 +100,6 @@ pub record HasWalked (s : Shape) (heap : Heap) (at : ℕ) (blocks : List Block) 
   pub here : at ≡ address_behind s before
   pub shown : blocks ≡ reports_from heap.table (address_behind s []) before
 
-pub HasWalked-start : (s : Shape) (heap : Heap) (at : ℕ) (blocks : List Block) → at ≡ address_behind s [] → blocks ≡ [] → HasWalked s heap at blocks
-HasWalked-start s heap at blocks here none = record { before = []; rest = heap.map; parts = refl; here = here; shown = none }
-
 sized : (s : Shape) (heap : Heap) → Sound s heap → AllPositive heap.map
 sized s heap sound = AllPositive-sizes s heap.map sound.suits.sizes
 

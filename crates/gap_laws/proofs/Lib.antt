@@ -3,7 +3,7 @@ pub mod FittingResize
 pub mod FixesSame
 pub mod FreshNumbers
 pub mod KeepsLoans
-pub mod KeepsServed
+pub mod Stays
 pub mod PurgeBlocks
 pub mod RearrangedSuits
 pub mod RearrangingAll

@@ -8,7 +8,7 @@ use Rattle.mac_base.specs.declared.block.Entry.{Entry}
 use Rattle.mac_base.specs.HeadKind.{Shape}
 use Rattle.mac_base.specs.ZoneMap.{ZoneMap, Rearranged, largest_free}
 use Rattle.mac_base.specs.HandleTable.{HandleTable}
-use Rattle.mac_base.specs.Suits.{Suits, free_apart, is_block_size}
+use Rattle.mac_base.specs.Suits.{free_apart, is_block_size}
 use Rattle.mac_base.specs.Gap.{Gap, gaps, filled, is_fixed, lowest_gap, own_gap}
 use Rattle.mac_base.specs.Arrangement.{down, high}
 use Rattle.mac_base.specs.Compaction.{all_down_behind, all_down, compacted, moved_high}
@@ -19,7 +19,7 @@ use Rattle.zone_laws.proofs.Arranging.{down-IsArrangement}
 use Rattle.zone_laws.proofs.ArrangingNamed.{high-IsArrangement}
 use Rattle.zone_laws.proofs.Rearranging.{Rearranged-refl, Rearranged-trans, fixed-used, arranged_between, gap-Rearranged}
 use Rattle.zone_laws.proofs.GapApart.{free_apart-append, sizes_possible, free_bytes-possible}
-use Rattle.gap_laws.proofs.RearrangedSuits.{Suits-rearranged, Sound-rearranged, Suits-arranged, Sound-arranged}
+use Rattle.gap_laws.proofs.RearrangedSuits.{Sound-rearranged, Sound-arranged}
 
 all_move-push : (t : HandleTable) (run : ZoneMap) (e : Entry) → all_move t run ≡ true → is_fixed t e.kind ≡ false → all_move t (run ++ e ∷ []) ≡ true
 all_move-push t run e moves moving = list_all-append _ run (e ∷ []) ∙ and_from _ _ moves (and_from _ _ (ap not moving) refl)
@@ -72,10 +72,6 @@ sizes_possible-all_down_behind s t run (e ∷ es) hr hm =
 pub sizes_possible-all_down : (s : Shape) (t : HandleTable) (m : ZoneMap) → sizes_possible s m ≡ true → sizes_possible s (all_down t m) ≡ true
 sizes_possible-all_down s t m h = sizes_possible-all_down_behind s t [] m refl h
 
--- all gaps down suits a table that the map suited; which blocks are fixed may be by another table
-pub Suits-all_down : (s : Shape) (t u : HandleTable) (m : ZoneMap) → Suits s u m → Suits s u (all_down t m)
-Suits-all_down s t u m suits = Suits-rearranged s t u m (all_down t m) (all_down-Rearranged s t m) (free_apart-all_down t m) (sizes_possible-all_down s t m suits.sizes) suits
-
 -- and leaves a sound heap
 pub Sound-all_down : (s : Shape) (t : HandleTable) (heap : Heap) → Sound s heap → Sound s (with_map (all_down t heap.map) heap)
 Sound-all_down s t heap sound = let suits = sound.suits in Sound-rearranged s t heap (all_down t heap.map) (all_down-Rearranged s t heap.map) (free_apart-all_down t heap.map) (sizes_possible-all_down s t heap.map suits.sizes) sound
@@ -102,10 +98,6 @@ moved_high-is P t h m same gap = elim (own_gap h (gaps t m)) as (λ o. own_gap h
 pub compacted-Rearranged : (s : Shape) (t : HandleTable) (n : ℕ) (m : ZoneMap) → Rearranged s (is_fixed t) m (compacted t n m)
 compacted-Rearranged s t n m = compacted-is (λ new. Rearranged s (is_fixed t) m new) t n m (Rearranged-refl s (is_fixed t) m) (λ g i. gap-Rearranged s t m g (down g.blocks) i (down-IsArrangement g.blocks)) (all_down-Rearranged s t m)
 
--- it suits a table that the map suited
-pub Suits-compacted : (s : Shape) (t u : HandleTable) (n : ℕ) (m : ZoneMap) → Suits s u m → Suits s u (compacted t n m)
-Suits-compacted s t u n m suits = compacted-is (λ new. Suits s u new) t n m suits (λ g i. Suits-arranged s t u m g (down g.blocks) i (down-IsArrangement g.blocks) suits) (Suits-all_down s t u m suits)
-
 -- and leaves a sound heap
 pub Sound-compacted : (s : Shape) (t : HandleTable) (n : ℕ) (heap : Heap) → Sound s heap → Sound s (with_map (compacted t n heap.map) heap)
 Sound-compacted s t n heap sound =
@@ -114,10 +106,6 @@ Sound-compacted s t n heap sound =
 -- moving a block high is a rearrangement
 pub moved_high-Rearranged : (s : Shape) (t : HandleTable) (h : ℕ) (m : ZoneMap) → Rearranged s (is_fixed t) m (moved_high t h m)
 moved_high-Rearranged s t h m = moved_high-is (λ new. Rearranged s (is_fixed t) m new) t h m (Rearranged-refl s (is_fixed t) m) (λ g i. gap-Rearranged s t m g (high h g.blocks) i (high-IsArrangement h g.blocks))
-
--- it suits a table that the map suited
-pub Suits-moved_high : (s : Shape) (t u : HandleTable) (h : ℕ) (m : ZoneMap) → Suits s u m → Suits s u (moved_high t h m)
-Suits-moved_high s t u h m suits = moved_high-is (λ new. Suits s u new) t h m suits (λ g i. Suits-arranged s t u m g (high h g.blocks) i (high-IsArrangement h g.blocks) suits)
 
 -- and leaves a sound heap
 pub Sound-moved_high : (s : Shape) (t : HandleTable) (h : ℕ) (heap : Heap) → Sound s heap → Sound s (with_map (moved_high t h heap.map) heap)

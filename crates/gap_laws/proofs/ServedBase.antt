@@ -20,8 +20,7 @@ use Rattle.zone_laws.proofs.ArrangingNamed.{open_at-IsArrangement}
 use Rattle.zone_laws.proofs.Rearranging.{Rearranged-refl, gap-Rearranged}
 use Rattle.gap_laws.proofs.RearrangedSuits.{Suits-arranged, Sound-arranged}
 use Rattle.zone_laws.proofs.Placing.{TakenAt}
-use Rattle.zone_laws.proofs.PlacedParts.{option_map-Some, option_and_then-Some, option_or-Some, taken-parts, taken_in_gap, cleared-is, cleared-Rearranged}
-use Rattle.gap_laws.proofs.ServedMaster.{PlacedFirst}
+use Rattle.zone_laws.proofs.PlacedParts.{option_map-Some, option_and_then-Some, option_or-Some, taken-parts, taken_in_gap, cleared-is}
 
 -- a map that was rearranged, and suits the table
 pub record Base (s : Shape) (t u : HandleTable) (m base : ZoneMap) : Type 0 where
@@ -62,22 +61,6 @@ placed_relocatable-TakenFrom s t u k kind m new suits h = by_place (option_or-So
 -- a gap that is cleared for a block or a reservation
 pub Suits-cleared : (s : Shape) (t u : HandleTable) (k : ℕ) (m : ZoneMap) (g : Gap) → Suits s u m → IsGap t m g → Suits s u (filled g (cleared k g.blocks))
 Suits-cleared s t u k m g suits i = cleared-is (λ b. Suits s u (filled g b)) k g.blocks (subst (Suits s u) i.parts suits) (Suits-arranged s t u m g (up g.blocks) i (up-IsArrangement g.blocks) suits)
-
--- a block that stays is taken from the free block at the start of a cleared gap
-pub placed_fixed-TakenFrom : (s : Shape) (t u : HandleTable) (k : ℕ) (kind : ℕ → Kind) (m : ZoneMap) (x : ℕ) (new : ZoneMap) → Suits s u m → PlacedFirst s t k kind m x new → TakenFrom s t u k (kind x) m new
-placed_fixed-TakenFrom s t u k kind m x new suits p =
-    let g : Gap = p.gap in
-    record {
-      base = filled g (cleared k g.blocks);
-      is_base = record { rearranged = cleared-Rearranged s t k m g p.is_gap; suits = Suits-cleared s t u k m g suits p.is_gap };
-      taken = record { before = g.before; size = p.size; behind = p.back; was = p.was; is = p.is; fits = p.fits };
-    }
-
--- a reservation suits a table that the map suited
-pub Suits-reserved : (s : Shape) (t u : HandleTable) (k : ℕ) (m new : ZoneMap) → Suits s u m → reserved t k m ≡ Some new → Suits s u new
-Suits-reserved s t u k m new suits h =
-    let found = option_map-Some (λ (g : Gap). filled g (cleared k g.blocks)) (lowest_gap k (gaps t m)) new h in
-    subst (Suits s u) found.2 (Suits-cleared s t u k m found.0 suits (lowest_gap-is t m k found.0 found.1).0)
 
 -- and leaves a sound heap
 pub Sound-reserved : (s : Shape) (t : HandleTable) (k : ℕ) (heap : Heap) (new : ZoneMap) → Sound s heap → reserved t k heap.map ≡ Some new → Sound s (with_map new heap)

@@ -1,6 +1,6 @@
 -- Every handle has the flags last set.
-use Rattle.std.proofs.Common.{◌≡◌, ℕ, ◌-◌, Bool, true, false, cond, eqb, length, take, List, [], ◌∷◌, ◌++◌, Option, Some, None, Ok, Err, MatchOption, refl, ap, sym, subst, ◌∙◌}
-use Rattle.std.specs.Prelude.{◌&&◌, ⊤}
+use Rattle.std.proofs.Common.{◌≡◌, ℕ, true, false, cond, eqb, take, List, [], ◌∷◌, ◌++◌, Option, Some, None, Ok, Err, MatchOption, refl, ap, sym, subst, ◌∙◌}
+use Rattle.std.specs.Prelude.{⊤}
 use Rattle.std.proofs.lemmas.Bool.{or_left}
 use Rattle.mac_base.specs.declared.block.Flags.{Flags}
 use Rattle.mac_base.specs.declared.error.OsErr.{OsErr}
@@ -11,21 +11,20 @@ use Rattle.mac_base.specs.declared.request.Request.TheVariants.{NewBlock, NewEmp
 use Rattle.mac_base.specs.FlagState.{flags_from, state_of}
 use Rattle.mac_base.specs.HandleTable.{HandleTable, Live, EmptyHandle, FullHandle, Pointer, bytes_of, flags_of, is_full, live_at, live_flags, live_full, live_pointer, no_flags, refilled, resized, with_bytes, with_flags, with_live, zeros}
 use Rattle.mac_base.specs.HeadKind.{Shape}
-use Rattle.mac_base.specs.Heap.{Heap, all_purged, every_slot_live, table_granted}
-use Rattle.mac_base.specs.Request.{candidates_in, makes_handle}
+use Rattle.mac_base.specs.Heap.{Heap, all_purged, table_granted}
+use Rattle.mac_base.specs.Request.{candidates_in}
 use Rattle.mac_calls.specs.declared.memory_call.MemoryCall.{MemoryCall}
 use Rattle.mac_calls.specs.declared.memory_call.MemoryCall.TheVariants as memory_call
 use Rattle.mac_calls.specs.declared.reply.Results.TheVariants as results
 use Rattle.mac_calls.specs.Effect.{request_of, table_copied}
-use Rattle.mac_calls.specs.GrowZone.{Ask, most_answers}
-use Rattle.mac_calls.specs.MemoryStep.{BehindMaster, EndsRequest, MemoryStep, OwnRequest, QuietStep, RequestStep, StepAsking, StepUnless}
+use Rattle.mac_calls.specs.GrowZone.{Ask}
+use Rattle.mac_calls.specs.MemoryStep.{MemoryStep, QuietStep}
 use Rattle.mac_calls.specs.Outcomes.{Outcome, given_results}
-use Rattle.mac_calls.specs.RequestRun.{RequestRun}
 use Rattle.mac_calls.specs.Tests.{Test, IsHandle, NotEmpty, NotLent, NotLocked, IsState, KeepsLent, first_refusal, protected_by, refusal}
 use Rattle.zone_laws.proofs.Tables.{by_number, eqb_same, live_at-with_live_same, with_live_agrees}
 use Rattle.call_laws.proofs.SoundCalls.{passed-full}
 use Rattle.heap_laws.specs.LastSet.{HasFlags, LastSet, TellsFlags, set, set_by, set_with}
-use Rattle.heap_laws.proofs.Fewer.{Fewer, RunLeaves, fewer-purged, fewer-refl, fewer-released, fewer-same, leaves-behind, run-leaves}
+use Rattle.heap_laws.proofs.Fewer.{Ended, Fewer, fewer-purged, fewer-released, quiet, refused, served, step-ended, unserved}
 
 -- one number is given something with these flags
 pub flags-set : (x : ℕ) (l : Live) (flags : Flags) (t new : HandleTable) (last : LastSet) → (live_full (Some l) ≡ true → live_flags (Some l) ≡ flags) → new ≡ with_live x l t → HasFlags t last → HasFlags new (set x flags last)
@@ -112,28 +111,6 @@ module _ (s : Shape) (old : Heap) (last : LastSet) (has : HasFlags old.table las
   ends : (call : MemoryCall) (outcome want : Outcome) (new : Heap) → outcome ≡ want → HasFlags new.table (set_by call want last) → Ends call outcome new
   ends call outcome want new is h = subst (λ o. HasFlags new.table (set_by call o last)) (sym is) h
 
-  ends-request : (call : MemoryCall) (r : Request) (given : Option ℕ) (mid new : Heap) (outcome : Outcome) → request_of old.table call ≡ Some r → RunLeaves (protected_by call) r given old.table mid.table → EndsRequest call old.table given mid outcome new → Ends call outcome new
-  ends-request call r (Some x) mid new outcome is leaves e =
-      let sets = subst (λ o. MatchOption o ⊤ (λ r. set_with call (given_results call x) last ≡ set_granted r x last)) is (request-sets old.table call x last) in
-      let granted = flags-same (table_granted r x leaves.before) mid.table (set_granted r x last) leaves.table (flags-granted r x leaves.before last (flags-fewer (protected_by call) old.table leaves.before last leaves.fewer has)) in
-      ends call outcome _ new e.0 (flags-same (table_copied call x old.table mid.table) new.table (set_with call (given_results call x) last) e.1
-      (flags-copied call x old.table mid.table (set_with call (given_results call x) last) (subst (HasFlags mid.table) (sym sets) granted)))
-  ends-request call r None mid new outcome is leaves e = ends call outcome _ new e.0 (flags-same mid.table new.table last e.1.table (flags-fewer (protected_by call) old.table mid.table last leaves has))
-
-  own-flags : (call : MemoryCall) (r : Request) (allowed : ℕ) (from : Heap) (asks : List Ask) (outcome : Outcome) (new : Heap) → request_of old.table call ≡ Some r → Fewer (protected_by call) old.table from.table → OwnRequest RequestRun s call old.table r allowed from asks outcome new → Ends call outcome new
-  own-flags call r allowed from asks outcome new is fewer own =
-      ends-request call r own.0 own.1 new outcome is (leaves-behind (protected_by call) r own.0 old.table from.table (own.1).table fewer (run-leaves s (protected_by call) r allowed from asks own.0 own.1 own.2)) own.3
-
-  behind-flags : (call : MemoryCall) (r : Request) (allowed : ℕ) (given : Option ℕ) (mid : Heap) (asks : List Ask) (outcome : Outcome) (new : Heap) → request_of old.table call ≡ Some r → RunLeaves (protected_by call) NewMaster given old.table mid.table
-      → BehindMaster RequestRun s call old.table r allowed given mid asks outcome new → Ends call outcome new
-  behind-flags call r allowed (Some x) mid asks outcome new is leaves own = own-flags call r allowed mid asks outcome new is (fewer-same (protected_by call) old.table leaves.before mid.table leaves.table leaves.fewer) own
-  behind-flags call r allowed None mid asks outcome new is leaves failed = ends call outcome _ new failed.1 (flags-same mid.table new.table last failed.2.table (flags-fewer (protected_by call) old.table mid.table last leaves has))
-
-  request-flags : (b : Bool) (call : MemoryCall) (r : Request) (asks : List Ask) (outcome : Outcome) (new : Heap) → request_of old.table call ≡ Some r → RequestStep RequestRun b s old call r asks outcome new → Ends call outcome new
-  request-flags false call r asks outcome new is own = own-flags call r most_answers old asks outcome new is (fewer-refl (protected_by call) old.table) own
-  request-flags true call r asks outcome new is both =
-      behind-flags call r (most_answers - length both.0) both.2 both.3 both.1 outcome new is (run-leaves s (protected_by call) NewMaster most_answers old both.0 both.2 both.3 both.5) both.6
-
   -- ---- calls that make no request
 
   flagged : (h : ℕ) (change : Flags → Flags) (new : HandleTable) (tests : List Test) → first_refusal s old (IsHandle h ∷ NotEmpty h ∷ tests) ≡ None → new ≡ with_flags h (change (flags_of old.table h)) old.table → HasFlags new (set h (change (last h)) last)
@@ -185,15 +162,20 @@ module _ (s : Shape) (old : Heap) (last : LastSet) (has : HasFlags old.table las
   refused-tells (memory_call.HGetState h) code = tt
   refused-tells call code = tt
 
-  asking-flags : (o : Option Request) (call : MemoryCall) (asks : List Ask) (outcome : Outcome) (new : Heap) → request_of old.table call ≡ o → refusal s old call ≡ None → StepAsking RequestRun o s old call asks outcome new → Ends call outcome new × TellsFlags call outcome last
-  asking-flags (Some r) call asks outcome new is passed step = (request-flags (makes_handle r && every_slot_live s old) call r asks outcome new is step, request-tells call r outcome is)
-  asking-flags None call asks outcome new is passed step = (quiet-flags call outcome new is passed step.1, quiet-tells call outcome new passed step.1)
-
-  unless-flags : (o : Option OsErr) (call : MemoryCall) (asks : List Ask) (outcome : Outcome) (new : Heap) → refusal s old call ≡ o → StepUnless RequestRun o s old call asks outcome new → Ends call outcome new × TellsFlags call outcome last
-  unless-flags (Some code) call asks outcome new is step = (ends call outcome _ new step.1 (flags-same old.table new.table last step.2.table has), tells call outcome _ step.1 (refused-tells call code))
-  unless-flags None call asks outcome new is step = asking-flags (request_of old.table call) call asks outcome new refl is step
+  ended-flags : (call : MemoryCall) (outcome : Outcome) (new : Heap) → Ended s old call outcome new → Ends call outcome new × TellsFlags call outcome last
+  ended-flags call outcome new (refused code is same) = (ends call outcome _ new is (flags-same old.table new.table last same has), tells call outcome _ is (refused-tells call code))
+  ended-flags call outcome new (unserved r makes is fewer) = (ends call outcome _ new is (flags-fewer (protected_by call) old.table new.table last fewer has), request-tells call r outcome makes)
+  ended-flags call outcome new (served r x mid makes passed leaves is copied) =
+      let sets = subst (λ o. MatchOption o ⊤ (λ r. set_with call (given_results call x) last ≡ set_granted r x last)) makes (request-sets old.table call x last) in
+      let granted = flags-same (table_granted r x leaves.before) mid (set_granted r x last) leaves.table (flags-granted r x leaves.before last (flags-fewer (protected_by call) old.table leaves.before last leaves.fewer has)) in
+      (
+        ends call outcome _ new is (flags-same (table_copied call x old.table mid) new.table (set_with call (given_results call x) last) copied
+        (flags-copied call x old.table mid (set_with call (given_results call x) last) (subst (HasFlags mid) (sym sets) granted))),
+        request-tells call r outcome makes,
+      )
+  ended-flags call outcome new (quiet makes passed q) = (quiet-flags call outcome new makes passed q, quiet-tells call outcome new passed q)
 
 -- a call sets the flags last set, and tells them
 pub step-flags : (s : Shape) (old : Heap) (call : MemoryCall) (asks : List Ask) (outcome : Outcome) (new : Heap) (last : LastSet) → MemoryStep s old call asks outcome new → HasFlags old.table last
     → HasFlags new.table (set_by call outcome last) × TellsFlags call outcome last
-step-flags s old call asks outcome new last step has = unless-flags s old last has (refusal s old call) call asks outcome new refl step
+step-flags s old call asks outcome new last step has = ended-flags s old last has call outcome new (step-ended s old call asks outcome new step)

@@ -1,8 +1,8 @@
 -- What is promised of every run from a new zone on.
-use Rattle.std.proofs.Common.{◌≡◌, ℕ, Bool, true, false, List, [], ◌∷◌, ◌++◌, Option, Some, None, refl, ap, sym, subst, ◌∙◌, inl, inr}
+use Rattle.std.proofs.Common.{◌≡◌, ℕ, Bool, true, false, eqb, List, [], ◌∷◌, ◌++◌, Option, Some, None, refl, ap, sym, subst, ◌∙◌, inl, inr}
 use Rattle.std.proofs.lemmas.Bool.{true≢false}
 use Rattle.mac_base.specs.declared.error.OsErr.{OsErr}
-use Rattle.mac_base.specs.HandleTable.{FullHandle, bytes_of, has_block, is_locked}
+use Rattle.mac_base.specs.HandleTable.{EmptyHandle, FullHandle, bytes_of, has_block, is_handle, is_locked, live_handle}
 use Rattle.mac_base.specs.HeadKind.{Shape}
 use Rattle.mac_base.specs.Heap.{Heap}
 use Rattle.mac_base.specs.Releasing.{heap_released, operand_of}
@@ -13,16 +13,23 @@ use Rattle.mac_calls.specs.declared.loan_call.LoanCall.{LoanCall}
 use Rattle.mac_calls.specs.declared.loan_call.LoanCall.TheVariants as loan_call
 use Rattle.mac_calls.specs.Loans.{LoanStepUnless, held_bytes, loan_refusal}
 use Rattle.mac_calls.specs.Outcomes.{Outcome}
+use Rattle.mac_base.specs.declared.releasing.ReleasingCall.{ReleasingCall}
+use Rattle.mac_base.specs.declared.releasing.ReleasingCall.TheVariants.{DisposesHandle, DisposesPtr, Empties}
+use Rattle.mac_calls.specs.Released.{disposed_by}
+use Rattle.zone_laws.proofs.Tables.{eqb-true-is, handle_no_pointer}
 use Rattle.gap_laws.proofs.KeepsLoans.{contents-pointer}
-use Rattle.heap_laws.specs.Act.{Act, Calls, Does, Done, IsRun, Loads, Moment, OnLoan, Unloads, moment_after, new_zone}
-use Rattle.heap_laws.specs.Headline.{ActMayLose, ActTells, FullWhereItMay, Headline, IsLockedThroughout, KeepsAddress, MayBeLost, OfNext, Promised}
+use Rattle.heap_laws.specs.Act.{Act, Calls, Does, Done, HasOperand, IsRun, Loads, Moment, OnLoan, Unloads, moment_after, new_zone}
+use Rattle.heap_laws.specs.Headline.{ActMayDispose, ActMayLose, ActTells, ByOne, FullWhereItMay, Headline, IsLockedThroughout, KeepsAddress, OfNext, Promised}
 use Rattle.heap_laws.specs.LastPut.{LastPut, put_by_act, put_in}
 use Rattle.heap_laws.specs.LastSet.{LastSet, set_by_act, set_in}
 use Rattle.heap_laws.proofs.Full.{step-full}
 use Rattle.heap_laws.proofs.Lent.{comes-back}
 use Rattle.heap_laws.proofs.Loaned.{act-tells, loan-map}
-use Rattle.heap_laws.proofs.Locked.{Stay, stay-released, stand-contents, step-locked}
-use Rattle.heap_laws.proofs.Losing.{given-keeps, lost_only, released-keeps, step-loses, written-keeps}
+use Rattle.gap_laws.proofs.Stays.{Stay, stay-released}
+use Rattle.call_laws.proofs.Locked.{stand-contents, step-locked}
+use Rattle.heap_laws.proofs.Alive.{a_handle, step-alive}
+use Rattle.heap_laws.proofs.Fewer.{released-agrees}
+use Rattle.heap_laws.proofs.Losing.{bytes-keep, given-keeps, lost_only, released-keeps, set-keeps, step-loses, written-keeps}
 use Rattle.heap_laws.proofs.Standing.{Standing, run-first, run-later, stand-act, stand-new, stand-run}
 use Rattle.heap_laws.proofs.Steps.{step-may}
 
@@ -51,6 +58,35 @@ act-loses s (Loads h flags bytes) old new x sound does block lost =
     true≢false (sym (ap (λ (heap : Heap). has_block heap.table x) does.1 ∙ given-keeps h (FullHandle flags bytes) old.heap.table x (λ _. refl) block) ∙ lost)
 act-loses s (Unloads call) old new x sound does block lost =
     lost_only (heap_released call old.heap).table x (operand_of call ≡ x) (released-keeps call old.heap x block) (ap (λ (heap : Heap). has_block heap.table x) (sym does.2) ∙ lost)
+
+-- and a handle is disposed of only where it may be
+loan-handle : (s : Shape) (old new : Moment) (call : LoanCall) (outcome : Outcome) (o : Option OsErr) → LoanStepUnless o old.loans old.heap call outcome new.loans new.heap → (h : ℕ) → is_handle old.heap.table h ≡ true → is_handle new.heap.table h ≡ true
+loan-handle s old new call outcome (Some code) step h was = ap (λ (heap : Heap). is_handle heap.table h) step.2 ∙ was
+loan-handle s old new (loan_call.Return y) outcome None step h was = ap (λ (heap : Heap). is_handle heap.table h) step.2 ∙ bytes-keep a_handle h y (held_bytes y old.loans) old.heap.table was
+loan-handle s old new call outcome None step h was = ap (λ (heap : Heap). is_handle heap.table h) step.2 ∙ was
+
+act-disposes : (s : Shape) (act : Act) (old new : Moment) (h : ℕ) → Sound s old.heap → Does s act old new → is_handle old.heap.table h ≡ true → is_handle new.heap.table h ≡ false → ActMayDispose act h
+act-disposes s (Calls call asks outcome) old new h sound does was gone = step-alive s old.heap call asks outcome new.heap h (step-may s old.heap call asks outcome new.heap sound does.0) was gone
+act-disposes s (OnLoan call outcome) old new h sound does was gone = true≢false (sym (loan-handle s old new call outcome (loan_refusal s old.heap call) does h was) ∙ gone)
+act-disposes s (Loads g flags bytes) old new h sound does was gone =
+    true≢false (sym (ap (λ (heap : Heap). is_handle heap.table h) does.1 ∙ set-keeps a_handle h g (FullHandle flags bytes) old.heap.table (λ _. refl) was) ∙ gone)
+act-disposes s (Unloads call) old new h sound does was gone = by_call call does.0 (ap (λ (heap : Heap). is_handle heap.table h) (sym does.2) ∙ gone)
+  where
+    other : (call : ReleasingCall) → eqb h (operand_of call) ≡ false → is_handle (heap_released call old.heap).table h ≡ true
+    other call apart = ap live_handle ((released-agrees call old.heap).others h apart) ∙ was
+
+    by_call : (call : ReleasingCall) → HasOperand old.heap call → is_handle (heap_released call old.heap).table h ≡ false → disposed_by (call, None) ≡ Some h
+    by_call (Empties g) has gone = absurd (true≢false (sym (set-keeps a_handle h g EmptyHandle old.heap.table (λ _. refl) was) ∙ gone))
+    by_call (DisposesHandle g) has gone = by_number (eqb h g) refl
+      where
+        by_number : (b : Bool) → eqb h g ≡ b → Some g ≡ Some h
+        by_number true is = ap (λ x. Some x) (sym (eqb-true-is h g is))
+        by_number false apart = absurd (true≢false (sym (other (DisposesHandle g) apart) ∙ gone))
+    by_call (DisposesPtr p) has gone = absurd (true≢false (by_number (eqb h p) refl))
+      where
+        by_number : (b : Bool) → eqb h p ≡ b → true ≡ false
+        by_number true is = sym has ∙ handle_no_pointer old.heap.table p (ap (is_handle old.heap.table) (sym (eqb-true-is h p is)) ∙ was)
+        by_number false apart = sym (other (DisposesPtr p) apart) ∙ gone
 
 -- and memFullErr is given only where it may be
 act-full : (s : Shape) (act : Act) (old new : Moment) → Sound s old.heap → Does s act old new → FullWhereItMay s old.heap act new.heap
@@ -82,14 +118,16 @@ module _ (s : Shape) where
       locked-run h d.left later (put_by_act d.act put) (set_by_act d.act set) next is.1 locked.1
       ∙ act-locked s d.act from d.left h stands.sound next.sound is.0 locked.0 (locked-first h d.left later locked.1)
 
-  lost-run : (x : ℕ) (from : Moment) (acts : List Done) (put : LastPut) (set : LastSet) → Standing s from put set → IsRun s from acts → has_block from.heap.table x ≡ true → has_block (moment_after from acts).heap.table x ≡ false → MayBeLost s from acts x
-  lost-run x from [] put set stands is block lost = true≢false (sym block ∙ lost)
-  lost-run x from (d ∷ later) put set stands is block lost =
-      by_next (has_block d.left.heap.table x) refl (λ next. lost-run x d.left later (put_by_act d.act put) (set_by_act d.act set) (stand-act s d.act from d.left put set stands is.0) is.1 next lost)
+  -- what holds of x at a moment, and no more at a later one, was ended by one of the acts between
+  ended-run : (holds : Moment → Bool) (Said : Moment → Act → Type 0) → ((old new : Moment) (act : Act) → Sound s old.heap → Does s act old new → holds old ≡ true → holds new ≡ false → Said old act)
+      → (from : Moment) (acts : List Done) (put : LastPut) (set : LastSet) → Standing s from put set → IsRun s from acts → holds from ≡ true → holds (moment_after from acts) ≡ false → ByOne Said from acts
+  ended-run holds Said ends from [] put set stands is was gone = true≢false (sym was ∙ gone)
+  ended-run holds Said ends from (d ∷ later) put set stands is was gone =
+      by_next (holds d.left) refl (λ next. ended-run holds Said ends d.left later (put_by_act d.act put) (set_by_act d.act set) (stand-act s d.act from d.left put set stands is.0) is.1 next gone)
     where
-      by_next : (b : Bool) → has_block d.left.heap.table x ≡ b → (has_block d.left.heap.table x ≡ true → MayBeLost s d.left later x) → MayBeLost s from (d ∷ later) x
+      by_next : (b : Bool) → holds d.left ≡ b → (holds d.left ≡ true → ByOne Said d.left later) → ByOne Said from (d ∷ later)
       by_next true next rest = inr (rest next)
-      by_next false next rest = inl (block, act-loses s d.act from d.left x stands.sound is.0 block next)
+      by_next false next rest = inl (ends from d.left d.act stands.sound is.0 was next)
 
   -- the last act leaves the last moment
   last-left : (from : Moment) (between : List Done) (back : Done) → moment_after from (between ++ back ∷ []) ≡ back.left
@@ -107,7 +145,8 @@ module _ (s : Shape) where
         replies = tells-next from acts put set stands is;
         locked = λ h locked. locked-run h from acts put set stands is locked;
         pointers = λ p live. contents-pointer s (moment_after from acts).heap.table (moment_after from acts).heap.map p sound.suits live;
-        emptied = λ x block lost. lost-run x from acts put set stands is block lost;
+        emptied = λ x. ended-run (λ at. has_block at.heap.table x) (λ at act. ActMayLose s at.heap act x) (λ old new act sound does. act-loses s act old new x sound does) from acts put set stands is;
+        handles = λ h. ended-run (λ at. is_handle at.heap.table h) (λ at act. ActMayDispose act h) (λ old new act sound does. act-disposes s act old new h sound does) from acts put set stands is;
         full = full-next from acts stands.sound is;
         lent = λ x lend back between run lends not_returned returns.
             (let back_then = comes-back s x from lend back between put set stands (subst (IsRun s from) run is) lends not_returned returns in

@@ -20,8 +20,8 @@ use Rattle.mac_calls.specs.Tests.{IsBlock, MayBeLent, NotEmpty, NotLent}
 use Rattle.zone_laws.proofs.Lent.{KeepsLent, lent-block}
 use Rattle.zone_laws.proofs.LentChanges.{keeps-released}
 use Rattle.zone_laws.proofs.Tables.{eqb-true-is, eqb_same, eqb_swap, live_at-with_live_same}
-use Rattle.call_laws.proofs.Refusals.{passed-NotLent}
-use Rattle.call_laws.proofs.StepLent.{lent-exact_step}
+use Rattle.call_laws.proofs.Refusals.{passed-NotLent, test_3}
+use Rattle.call_laws.proofs.LentSteps.{lent-exact_step}
 use Rattle.heap_laws.specs.Act.{Act, Calls, Does, Done, IsRun, Loads, Moment, OnLoan, Unloads, moment_after}
 use Rattle.heap_laws.specs.Headline.{KeepsAddress, NotReturned, left_by_holder, written_by_holder}
 use Rattle.heap_laws.specs.LastPut.{LastPut, put_by_act}
@@ -30,7 +30,6 @@ use Rattle.heap_laws.proofs.Fewer.{block_live}
 use Rattle.heap_laws.proofs.LoanLists.{held-before, held-last, held-with_other, held-with_same, held-without, is_loaned, loaned-last, loaned-with, loaned-without_other}
 use Rattle.heap_laws.proofs.Loaned.{LoansHeld, loan-map}
 use Rattle.heap_laws.proofs.Losing.{written-keeps}
-use Rattle.heap_laws.proofs.Passed.{test_3}
 use Rattle.heap_laws.proofs.Shown.{refilled-holds}
 use Rattle.heap_laws.proofs.Standing.{Standing, stand-act}
 

@@ -1,10 +1,10 @@
 pub mod Fewer
-pub mod Passed
+pub mod Trials
 pub mod Shown
 pub mod Flagged
-pub mod Locked
 pub mod Full
 pub mod Losing
+pub mod Alive
 pub mod Steps
 pub mod Spared
 pub mod LoanLists

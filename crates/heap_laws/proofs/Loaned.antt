@@ -31,9 +31,9 @@ use Rattle.zone_laws.proofs.Lent.{KeepsLent, block-owner, fixed-kept, lent-apart
 use Rattle.zone_laws.proofs.LentChanges.{lent_out-fixed, returned-bytes, returned-fixed, sound-lent, sound-returned}
 use Rattle.zone_laws.proofs.Maps.{both_true}
 use Rattle.zone_laws.proofs.Tables.{by_number, eqb_same, eqb_swap, live_at-with_live_same, with_live_agrees}
-use Rattle.call_laws.proofs.Refusals.{passed-IsWithin, passed-NotEmpty, passed-NotLent}
+use Rattle.call_laws.proofs.LentSteps.{block-here, lent-exact_step, pointer-here}
+use Rattle.call_laws.proofs.Refusals.{passed-IsWithin, passed-NotEmpty, passed-NotLent, test_2, test_3, test_4, test_5, test_6}
 use Rattle.call_laws.proofs.SoundCalls.{length-written}
-use Rattle.call_laws.proofs.StepLent.{lent-exact_step}
 use Rattle.heap_laws.specs.LastPut.{LastPut, Tells, number_in, put, put_by, put_by_act, put_with}
 use Rattle.heap_laws.specs.LastSet.{HasFlags, LastSet, set_by_act}
 use Rattle.heap_laws.specs.Act.{Act, Calls, Does, Loads, Moment, OnLoan, Unloads}
@@ -41,10 +41,9 @@ use Rattle.heap_laws.specs.Headline.{ActTells, Shows}
 use Rattle.heap_laws.proofs.Fewer.{block_live, fewer-released}
 use Rattle.heap_laws.proofs.Flagged.{flags-fewer, flags-same, flags-set, flags-written, step-flags}
 use Rattle.heap_laws.proofs.LoanLists.{held-before, held-last, held-with_other, held-with_same, held-without, is_loaned, loaned-last, loaned-with, loaned-without_other, loaned-without_same}
-use Rattle.heap_laws.proofs.Passed.{test_2, test_3, test_4, test_5, test_6}
 use Rattle.heap_laws.proofs.Steps.{released-sound, sound-filled, step-address, step-may, step-sound}
 use Rattle.heap_laws.proofs.Shown.{TableShows, refilled-holds, shows-fewer, shows-put, step-shows}
-use Rattle.heap_laws.proofs.Spared.{Spared, block-here, pointer-here, spared-fixed, spared-released}
+use Rattle.heap_laws.proofs.Spared.{Spared, spared-fixed, spared-released}
 
 -- what is known of loans: what is lent is fixed, just what is lent has a loan, and each is as long as its block
 pub record LoansHeld (held : Moment) : Type 0 where

@@ -1,32 +1,29 @@
 -- Every handle and pointer shows the bytes last put there: over one call.
-use Rattle.std.proofs.Common.{◌≡◌, ℕ, ◌+◌, ◌-◌, Bool, true, false, cond, eqb, length, take, drop, List, [], ◌∷◌, ◌++◌, Option, Some, None, Ok, Err, MatchOption, refl, ap, sym, subst, ◌∙◌}
-use Rattle.std.specs.Prelude.{◌&&◌, ◌||◌, ⊤}
+use Rattle.std.proofs.Common.{◌≡◌, ℕ, ◌+◌, true, false, cond, eqb, length, take, drop, List, [], ◌∷◌, ◌++◌, Option, Some, None, Ok, Err, MatchOption, refl, ap, sym, subst, ◌∙◌}
+use Rattle.std.specs.Prelude.{◌||◌, ⊤}
 use Rattle.std.proofs.lemmas.Bool.{true≢false}
 use Rattle.mac_base.specs.declared.block.Flags.{Flags}
 use Rattle.mac_base.specs.declared.error.OsErr.{OsErr}
 use Rattle.mac_base.specs.declared.error.OsErr.TheVariants.{MemLockedErr}
 use Rattle.mac_base.specs.declared.releasing.ReleasingCall.TheVariants.{DisposesHandle, DisposesPtr, Empties}
 use Rattle.mac_base.specs.declared.request.Request.{Request}
-use Rattle.mac_base.specs.declared.request.Request.TheVariants.{NewMaster}
 use Rattle.mac_base.specs.HandleTable.{HandleTable, Live, EmptyHandle, FullHandle, Pointer, bytes_of, flags_of, has_block, live_at, live_bytes, no_flags, refilled, resized, with_bytes, with_flags, with_live, zeros}
 use Rattle.mac_base.specs.HeadKind.{Shape}
-use Rattle.mac_base.specs.Heap.{Heap, all_purged, every_slot_live}
-use Rattle.mac_base.specs.Request.{candidates_in, is_among, makes_handle}
+use Rattle.mac_base.specs.Heap.{Heap, all_purged}
+use Rattle.mac_base.specs.Request.{candidates_in, is_among}
 use Rattle.mac_base.specs.ZoneState.{written}
 use Rattle.mac_calls.specs.declared.memory_call.MemoryCall.{MemoryCall}
 use Rattle.mac_calls.specs.declared.memory_call.MemoryCall.TheVariants as memory_call
 use Rattle.mac_calls.specs.declared.reply.Results.TheVariants as results
 use Rattle.mac_calls.specs.Effect.{request_of, table_copied}
-use Rattle.mac_calls.specs.GrowZone.{Ask, most_answers}
-use Rattle.mac_calls.specs.MemoryStep.{BehindMaster, EndsRequest, MemoryStep, OwnRequest, QuietStep, RequestStep, StepAsking, StepUnless}
+use Rattle.mac_calls.specs.GrowZone.{Ask}
+use Rattle.mac_calls.specs.MemoryStep.{MemoryStep, QuietStep}
 use Rattle.mac_calls.specs.Outcomes.{Outcome, given_results}
-use Rattle.mac_calls.specs.RequestRun.{RequestRun}
 use Rattle.mac_calls.specs.Tests.{Test, IsHandle, IsPointer, IsBlock, NotEmpty, NotLent, NotLocked, IsSize, IsState, IsWithin, KeepsLent, first_refusal, protected_by, refusal}
 use Rattle.zone_laws.proofs.Tables.{by_number, eqb_same, live_at-with_live_same, with_live_agrees}
-use Rattle.call_laws.proofs.Refusals.{passed-NotEmpty}
+use Rattle.call_laws.proofs.Refusals.{passed-NotEmpty, pointer-block, test_1, test_2, test_4, test_5}
 use Rattle.heap_laws.specs.LastPut.{LastPut, Tells, put, put_by, put_with}
-use Rattle.heap_laws.proofs.Fewer.{Fewer, Granted, RunLeaves, block_live, fewer-purged, fewer-refl, fewer-released, fewer-same, leaves-behind, run-leaves}
-use Rattle.heap_laws.proofs.Passed.{pointer-block, test_1, test_2, test_4, test_5}
+use Rattle.heap_laws.proofs.Fewer.{Ended, Fewer, Granted, block_live, fewer-purged, fewer-released, quiet, refused, served, step-ended, unserved}
 
 -- every handle that isn't empty and every pointer of a table has the bytes last put
 abbrev pub TableShows : HandleTable → LastPut → Type 0
@@ -232,35 +229,14 @@ module _ (s : Shape) (old : Heap) (last : LastPut) (shows : TableShows old.table
 
   -- ---- all calls
 
-  ends-request : (call : MemoryCall) (r : Request) (given : Option ℕ) (mid new : Heap) (outcome : Outcome) → MatchOption (Some r) ⊤ (EndsShowing old call last) → RunLeaves (protected_by call) r given old.table mid.table → EndsRequest call old.table given mid outcome new → Ends call outcome new
-  ends-request call r (Some x) mid new outcome showing leaves e = ends call outcome _ new e.0 (showing x mid.table new.table leaves e.1)
-  ends-request call r None mid new outcome showing leaves e = ends call outcome _ new e.0 (shows-same mid.table new.table last e.1.table (shows-fewer (protected_by call) old.table mid.table last leaves shows))
-
-  own-shows : (call : MemoryCall) (r : Request) (allowed : ℕ) (from : Heap) (asks : List Ask) (outcome : Outcome) (new : Heap) → EndsShowing old call last r → Fewer (protected_by call) old.table from.table → OwnRequest RequestRun s call old.table r allowed from asks outcome new → Ends call outcome new
-  own-shows call r allowed from asks outcome new showing fewer own =
-      let leaves = run-leaves s (protected_by call) r allowed from asks own.0 own.1 own.2 in
-      ends-request call r own.0 own.1 new outcome showing (leaves-behind (protected_by call) r own.0 old.table from.table (own.1).table fewer leaves) own.3
-
-  behind-shows : (call : MemoryCall) (r : Request) (allowed : ℕ) (given : Option ℕ) (mid : Heap) (asks : List Ask) (outcome : Outcome) (new : Heap) → EndsShowing old call last r → RunLeaves (protected_by call) NewMaster given old.table mid.table
-      → BehindMaster RequestRun s call old.table r allowed given mid asks outcome new → Ends call outcome new
-  behind-shows call r allowed (Some x) mid asks outcome new showing leaves own =
-      own-shows call r allowed mid asks outcome new showing (fewer-same (protected_by call) old.table leaves.before mid.table leaves.table leaves.fewer) own
-  behind-shows call r allowed None mid asks outcome new showing leaves failed = ends call outcome _ new failed.1 (shows-same mid.table new.table last failed.2.table (shows-fewer (protected_by call) old.table mid.table last leaves shows))
-
-  request_step-shows : (b : Bool) (call : MemoryCall) (r : Request) (asks : List Ask) (outcome : Outcome) (new : Heap) → EndsShowing old call last r → RequestStep RequestRun b s old call r asks outcome new → Ends call outcome new
-  request_step-shows false call r asks outcome new showing own = own-shows call r most_answers old asks outcome new showing (fewer-refl (protected_by call) old.table) own
-  request_step-shows true call r asks outcome new showing both =
-      behind-shows call r (most_answers - length both.0) both.2 both.3 both.1 outcome new showing (run-leaves s (protected_by call) NewMaster most_answers old both.0 both.2 both.3 both.5) both.6
-
-  asking-shows : (o : Option Request) (call : MemoryCall) (asks : List Ask) (outcome : Outcome) (new : Heap) → request_of old.table call ≡ o → refusal s old call ≡ None → StepAsking RequestRun o s old call asks outcome new → Ends call outcome new × Tells call outcome last
-  asking-shows (Some r) call asks outcome new is passed step =
-      (request_step-shows (makes_handle r && every_slot_live s old) call r asks outcome new (subst (λ o. MatchOption o ⊤ (EndsShowing old call last)) is (request-shows call passed)) step, request-tells call r outcome is)
-  asking-shows None call asks outcome new is passed step = (quiet-shows call outcome new is passed step.1, quiet-tells call outcome new passed step.1)
-
-  unless-shows : (o : Option OsErr) (call : MemoryCall) (asks : List Ask) (outcome : Outcome) (new : Heap) → refusal s old call ≡ o → StepUnless RequestRun o s old call asks outcome new → Ends call outcome new × Tells call outcome last
-  unless-shows (Some code) call asks outcome new is step = (ends call outcome _ new step.1 (shows-same old.table new.table last step.2.table shows), tells call outcome _ step.1 (refused-tells call code))
-  unless-shows None call asks outcome new is step = asking-shows (request_of old.table call) call asks outcome new refl is step
+  ended-shows : (call : MemoryCall) (outcome : Outcome) (new : Heap) → Ended s old call outcome new → Ends call outcome new × Tells call outcome last
+  ended-shows call outcome new (refused code is same) = (ends call outcome _ new is (shows-same old.table new.table last same shows), tells call outcome _ is (refused-tells call code))
+  ended-shows call outcome new (unserved r makes is fewer) = (ends call outcome _ new is (shows-fewer (protected_by call) old.table new.table last fewer shows), request-tells call r outcome makes)
+  ended-shows call outcome new (served r x mid makes passed granted is copied) =
+      let showing = subst (λ o. MatchOption o ⊤ (EndsShowing old call last)) makes (request-shows call passed) in
+      (ends call outcome _ new is (showing x mid new.table granted copied), request-tells call r outcome makes)
+  ended-shows call outcome new (quiet makes passed q) = (quiet-shows call outcome new makes passed q, quiet-tells call outcome new passed q)
 
 -- a call shows what was last put, and tells of it
 pub step-shows : (s : Shape) (old : Heap) (call : MemoryCall) (asks : List Ask) (outcome : Outcome) (new : Heap) (last : LastPut) → MemoryStep s old call asks outcome new → TableShows old.table last → TableShows new.table (put_by call outcome last) × Tells call outcome last
-step-shows s old call asks outcome new last step shows = unless-shows s old last shows (refusal s old call) call asks outcome new refl step
+step-shows s old call asks outcome new last step shows = ended-shows s old last shows call outcome new (step-ended s old call asks outcome new step)

@@ -1,29 +1,27 @@
 -- What a zone is once two neighbours that may move have changed places.
-use Rattle.std.proofs.Common.{◌≡◌, ℕ, ◌+◌, Bool, true, false, not, cond, List, [], ◌∷◌, ◌++◌, length, map, refl, ap, sym, ◌∙◌, arith, length-append, append_assoc, Option, Some, None}
+use Rattle.std.proofs.Common.{◌≡◌, ℕ, ◌+◌, Bool, true, false, cond, List, [], ◌∷◌, ◌++◌, length, map, refl, ap, sym, ◌∙◌, arith, length-append, Option, Some, None}
 use Rattle.std.specs.Prelude.{slice_index}
-use Rattle.std.proofs.lemmas.List.Folds.{list_all-append}
 use Rattle.mac_base.specs.declared.block.Entry.{Entry}
 use Rattle.mac_base.specs.declared.block.HeadKind.{HeadKind}
 use Rattle.mac_base.specs.declared.block.Kind.{Kind}
 use Rattle.mac_base.specs.declared.block.Kind.TheVariants.{Free, Master, Ptr, Rel}
 use Rattle.mac_base.specs.HeadKind.{head_size}
 use Rattle.mac_base.specs.ZoneMap.{ZoneMap, is_master, is_named, sizes, total_size, address_behind, addresses, contents_of}
-use Rattle.mac_base.specs.HandleTable.{Live, EmptyHandle, FullHandle, Pointer, live_at, is_full}
+use Rattle.mac_base.specs.HandleTable.{Live, EmptyHandle, FullHandle, Pointer, is_full}
 use Rattle.mac_base.specs.Suits.{is_handle_block, is_pointer_block, slots}
 use Rattle.mac_base.specs.ZoneState.{ZoneState}
 use Rattle.zone_laws.proofs.GapAppend.{sizes-append, length-addresses_from}
-use Rattle.zone_laws.proofs.Maps.{Exchanged, both_true, true_both, true_not, total_size-append, addresses_from-exchanged, addresses_from-skip}
-use Rattle.zone_laws.proofs.Owners.{none_named, no_length}
+use Rattle.zone_laws.proofs.Maps.{Exchanged, addresses_from-exchanged, addresses_from-skip}
+use Rattle.zone_laws.proofs.Owners.{no_length}
 use Rattle.zone_laws.proofs.SuitsTaken.{slots-same, contents-same}
 use Rattle.zone_laws.proofs.Tables.{eqb_same}
 use Rattle.linked_zone.specs.Changes.{exchanged}
 use Rattle.linked_zone.specs.Fit.{Fits}
 use Rattle.linked_zone.specs.Following.{moved_to}
-use Rattle.linked_zone.specs.Owned.{slot_of, slot_of_live, next_free}
+use Rattle.linked_zone.specs.Owned.{slot_of_live}
 use Rattle.linked_zone.specs.Places.{MovablePair, is_movable}
-use Rattle.linked_zone.proofs.ChangeBlock.{contents_of-first}
 use Rattle.linked_zone.proofs.ChangeParts.{Fits-kept}
-use Rattle.linked_zone.proofs.ChangeSized.{names-one, passes-some}
+use Rattle.linked_zone.proofs.ChangeSized.{passes-some}
 use Rattle.linked_zone.proofs.Lent.{loans-replaced, here-skip}
 
 -- the handle of a block is full
@@ -109,26 +107,3 @@ module _ (z : ZoneState) (at : ℕ) (pair : MovablePair z at) where
   -- where contents begin that are in neither
   pub exchanged-others : (y : ℕ) → is_named y pair.first.kind ≡ false → is_named y pair.second.kind ≡ false → contents_of z.shape y (exchanged z pair).heap.map ≡ contents_of z.shape y z.heap.map
   exchanged-others y first second = ap (λ found. slice_index (map (λ a. a + head_size z.shape.heads) found) 0) (same_passes (is_named y) first second)
-
-  module _ (fits : Fits z) (y : ℕ) where
-    -- those of the first, which is not the second's
-    pub exchanged-first : is_named y pair.first.kind ≡ true → (contents_of z.shape y (exchanged z pair).heap.map ≡ at + pair.second.size + head_size z.shape.heads) × (is_named y pair.second.kind ≡ false)
-    exchanged-first named =
-        let one = names-one z y pair.before pair.first (pair.second ∷ pair.behind) fits pair.map named in
-        let parts = both_true (not (is_named y pair.second.kind)) (none_named y pair.behind) one.none_behind in
-        let none = list_all-append (λ (e : Entry). not (is_named y e.kind)) pair.before (pair.second ∷ []) ∙ true_both (none_named y pair.before) _ one.none_before (true_both (not (is_named y pair.second.kind)) true parts.0 refl) in
-        let total = total_size-append pair.before (pair.second ∷ []) in
-        let place = pair.place in
-        let there : address_behind z.shape (pair.before ++ pair.second ∷ []) + head_size z.shape.heads ≡ at + pair.second.size + head_size z.shape.heads = omega arith in
-        (ap (contents_of z.shape y) (sym (append_assoc pair.before (pair.second ∷ []) (pair.first ∷ pair.behind))) ∙ contents_of-first z.shape y (pair.before ++ pair.second ∷ []) pair.first pair.behind none named ∙ there, true_not _ parts.0)
-
-    -- and those of the second
-    pub exchanged-second : is_named y pair.second.kind ≡ true → contents_of z.shape y (exchanged z pair).heap.map ≡ at + head_size z.shape.heads
-    exchanged-second named =
-        let one = names-one z y (pair.before ++ pair.first ∷ []) pair.second pair.behind fits (pair.map ∙ sym (append_assoc pair.before (pair.first ∷ []) (pair.second ∷ pair.behind))) named in
-        let parts = both_true (none_named y pair.before) _ (sym (list_all-append (λ (e : Entry). not (is_named y e.kind)) pair.before (pair.first ∷ [])) ∙ one.none_before) in
-        contents_of-first z.shape y pair.before pair.second (pair.first ∷ pair.behind) parts.0 named ∙ ap (λ a. a + head_size z.shape.heads) (sym pair.place)
-
-  -- each slot says where its contents begin
-  pub exchanged-slot : (y : ℕ) → slot_of (exchanged z pair) y ≡ moved_to (contents_of z.shape y (exchanged z pair).heap.map) (slot_of z y)
-  exchanged-slot y = moved-slot z.shape.heads (live_at z.heap.table y) (contents_of z.shape y z.heap.map) (contents_of z.shape y now.heap.map) (next_free z.heap.free_slots y)

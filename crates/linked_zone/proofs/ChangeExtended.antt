@@ -1,22 +1,20 @@
 -- What a zone is once it has grown to its limit.
-use Rattle.std.proofs.Common.{◌≡◌, ℕ, ◌+◌, ◌-◌, ◌<◌, ◌≤◌, Bool, true, false, cond, eqb, [], ◌∷◌, ◌++◌, map, refl, ap, sym, ◌∙◌, arith, append-nil}
-use Rattle.std.specs.Prelude.{slice_index}
+use Rattle.std.proofs.Common.{◌≡◌, ℕ, ◌+◌, ◌-◌, ◌<◌, ◌≤◌, Bool, true, false, cond, eqb, [], ◌∷◌, ◌++◌, map, refl, ap, ◌∙◌, arith, append-nil}
 use Rattle.std.specs.List.{filter, list_all}
 use Rattle.std.proofs.lemmas.Bool.Decides.{nat_tests}
 use Rattle.std.proofs.lemmas.List.Folds.{list_all-append}
 use Rattle.mac_base.specs.declared.block.Entry.{Entry}
 use Rattle.mac_base.specs.declared.block.Kind.{Kind}
 use Rattle.mac_base.specs.declared.block.Kind.TheVariants.{Free}
-use Rattle.mac_base.specs.HeadKind.{Shape, head_size, zone_header}
+use Rattle.mac_base.specs.HeadKind.{Shape, zone_header}
 use Rattle.mac_base.specs.HandleTable.{is_lent}
 use Rattle.mac_base.specs.Loans.{owners}
-use Rattle.mac_base.specs.ZoneMap.{ZoneMap, block, free_block, is_named, total_size, address_behind, addresses, addresses_from, contents_of}
+use Rattle.mac_base.specs.ZoneMap.{ZoneMap, block, free_block, total_size, address_behind, addresses, addresses_from}
 use Rattle.mac_base.specs.ZoneState.{ZoneState}
 use Rattle.zone_laws.proofs.Arranging.{total_size-free_block}
 use Rattle.zone_laws.proofs.Maps.{addresses_from-append, addresses_from-skip, total_size-append, true_both}
 use Rattle.linked_zone.specs.Changes.{extended}
 use Rattle.linked_zone.specs.Fit.{Fits}
-use Rattle.linked_zone.specs.Loans.{KeepsLoans}
 use Rattle.linked_zone.specs.Owned.{slot_of}
 use Rattle.linked_zone.proofs.ChangeCut.{free_changed-fits, free_changed-pointers}
 use Rattle.linked_zone.proofs.Lent.{owners-append, loans-kept}
@@ -41,10 +39,6 @@ addresses-behind s test m n free =
     ∙ ap (λ found. addresses s test m ++ found)
     (by_free (λ bs. addresses_from (address_behind s [] + total_size m) test bs ≡ []) n (λ is. refl) (λ some. addresses_from-skip (address_behind s [] + total_size m) test (block Free n) [] free))
     ∙ append-nil (addresses s test m)
-
--- so each number has its contents where they were
-contents-behind : (s : Shape) (x : ℕ) (m : ZoneMap) (n : ℕ) → contents_of s x (m ++ free_block n) ≡ contents_of s x m
-contents-behind s x m n = ap (λ found. slice_index (map (λ a. a + head_size s.heads) found) 0) (addresses-behind s (is_named x) m n refl)
 
 -- and the owners are the same
 owners-behind : (m : ZoneMap) (n : ℕ) → owners (m ++ free_block n) ≡ owners m
@@ -71,7 +65,3 @@ module _ (z : ZoneState) where
   -- all master pointers stay
   pub extended-pointers : (x : ℕ) → slot_of (extended z) x ≡ slot_of z x
   extended-pointers x = free_changed-pointers z (extended z).heap.map (λ test free. addresses-behind z.shape test z.heap.map left free) x
-
-  -- and so do all loans
-  pub keeps_loans-extended : KeepsLoans z (extended z)
-  keeps_loans-extended x loan is = record { lent = is.lent; memory = is.memory; contents = is.contents ∙ sym (contents-behind z.shape x z.heap.map left); long = is.long }

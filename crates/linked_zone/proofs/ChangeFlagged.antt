@@ -1,9 +1,8 @@
 -- What a zone is once a handle has other flags.
-use Rattle.std.proofs.Common.{◌≡◌, ℕ, true, Some, refl, ap, sym, ◌∙◌, Contains, ne_eqb}
+use Rattle.std.proofs.Common.{◌≡◌, ℕ, true, Some, refl, ap, sym, ◌∙◌, ne_eqb}
 use Rattle.mac_base.specs.declared.block.Flags.{Flags}
 use Rattle.mac_base.specs.ZoneMap.{contents_of}
 use Rattle.mac_base.specs.HandleTable.{HandleTable, FullHandle, Live, live_at, live_bytes, live_full, live_handle, live_pointer, bytes_of, is_full, with_live}
-use Rattle.mac_base.specs.Suits.{slots}
 use Rattle.mac_base.specs.ZoneState.{ZoneState}
 use Rattle.zone_laws.proofs.Tables.{AgreeBut, live_at-with_live_same, with_live_agrees, in_order-with_live, by_number, full_handle, handle_no_pointer}
 use Rattle.zone_records.specs.declared.slot.Slot.TheVariants as slot
@@ -14,10 +13,6 @@ use Rattle.linked_zone.proofs.ChangeParts.{same_slot, Fits-same_map}
 use Rattle.linked_zone.proofs.Lent.{loans-kept}
 
 module _ (z : ZoneState) (h : ℕ) (flags : Flags) (fits : Fits z) (full : is_full z.heap.table h ≡ true) where
-  -- the slot is one of the zone's
-  pub flagged-slot : Contains (slots z.shape z.heap.map) h
-  flagged-slot = fits.coherent.in_slots h (full_handle z.heap.table h full)
-
   abbrev l : Live
   l = FullHandle flags (bytes_of z.heap.table h)
 

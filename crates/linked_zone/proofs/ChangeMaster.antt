@@ -62,14 +62,6 @@ next_free-outside (suc n) at fs x other =
     next_free-skip at (slots_from n (at + 4) ++ fs) x (ne_eqb x at (λ same. other (subst (λ y. Contains (slots_from (suc n) at) y) (sym same) (Contains-here at (slots_from n (at + 4))))))
     ∙ next_free-outside n (at + 4) fs x (λ c. other (Contains-later at (slots_from n (at + 4)) x c))
 
--- each of n slots, by its place
-pub slots_from-at : (n at k : ℕ) → k < n → Contains (slots_from n at) (at + 4 * k)
-slots_from-at zero at k below = absurd (omega arith)
-slots_from-at (suc n) at zero below = let same : at ≡ at + 4 * 0 = omega arith in subst (λ y. Contains (slots_from (suc n) at) y) same (Contains-here at (slots_from n (at + 4)))
-slots_from-at (suc n) at (suc k) below =
-    let same : (at + 4) + 4 * k ≡ at + 4 * suc k = omega arith in
-    subst (λ y. Contains (slots_from (suc n) at) y) same (Contains-later at (slots_from n (at + 4)) ((at + 4) + 4 * k) (slots_from-at n (at + 4) k (omega arith)))
-
 -- n slots before others that have none of them are each there once
 pub slots_from-distinct : (n at : ℕ) (fs : List ℕ) → ((x : ℕ) → Contains (slots_from n at) x → Contains fs x → ⊥) → IsDistinct nat_eq fs → IsDistinct nat_eq (slots_from n at ++ fs)
 slots_from-distinct zero at fs apart once = once

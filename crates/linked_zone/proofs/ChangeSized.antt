@@ -9,7 +9,7 @@ use Rattle.mac_base.specs.declared.block.Kind.TheVariants.{Free, Master, Ptr, Re
 use Rattle.mac_base.specs.HeadKind.{head_size}
 use Rattle.mac_base.specs.declared.block.HeadKind.{HeadKind}
 use Rattle.mac_base.specs.Loans.{owner_of, owners}
-use Rattle.mac_base.specs.ZoneMap.{ZoneMap, block, free_block, is_free, is_master, is_named, total_size, free_bytes, free_size, addresses, addresses_from, address_behind, contents_addresses, contents_of}
+use Rattle.mac_base.specs.ZoneMap.{ZoneMap, block, free_block, is_free, is_master, is_named, total_size, addresses, addresses_from, address_behind, contents_addresses, contents_of}
 use Rattle.mac_base.specs.HandleTable.{HandleTable, Live, EmptyHandle, FullHandle, Pointer, live_at, live_bytes, live_full, live_handle, live_pointer, bytes_of, has_block, is_full, is_handle, is_lent, is_pointer, refilled, resized, with_live}
 use Rattle.mac_base.specs.Suits.{is_handle_block, is_pointer_block}
 use Rattle.mac_base.specs.ZoneState.{ZoneState, with_heap}
@@ -185,15 +185,6 @@ no_free_block at test n free = elim (n == 0) as (λ b. addresses_from at test (c
 -- it has no owner
 owners-over : (n : ℕ) → owners (free_block n) ≡ []
 owners-over n = elim (n == 0) as (λ b. owners (cond b [] (block Free n ∷ [])) ≡ []) [ true ↦ refl | false ↦ refl ]
-
--- the free bytes of free blocks
-all_free : (m : ZoneMap) → list_all (λ (e : Entry). is_free e.kind) m ≡ true → free_bytes m ≡ total_size m
-all_free [] h = refl
-all_free (e ∷ es) h =
-    let hs = both_true (is_free e.kind) (list_all (λ (e : Entry). is_free e.kind) es) h in
-    let here : free_size e ≡ e.size = ap (λ b. cond b e.size 0) hs.0 in
-    let rest = all_free es hs.1 in
-    omega arith
 
 -- free blocks pass only what passes a free one
 free_only : (at : ℕ) (test : Kind → Bool) (m : ZoneMap) → test Free ≡ false → list_all (λ (e : Entry). is_free e.kind) m ≡ true → addresses_from at test m ≡ []

@@ -29,7 +29,7 @@ use Rattle.linked_zone.proofs.Owning.{image, SameOf}
 use Rattle.linked_zone.proofs.Found.{of-handle}
 use Rattle.linked_zone.proofs.Located.{of-entry}
 use Rattle.linked_zone.proofs.Ends.{slot-settled}
-use Rattle.linked_zone.proofs.EndsExchange.{moved-said}
+use Rattle.linked_zone.proofs.Movable.{moved-said}
 use Rattle.linked_zone.proofs.EndsFollow.{Follows, following-can, following-image}
 use Rattle.linked_zone.proofs.EndsSaid.{flags-said, size-room}
 use Rattle.linked_zone.proofs.EndsSized.{flags-stay}

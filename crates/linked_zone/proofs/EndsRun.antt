@@ -27,7 +27,7 @@ use Rattle.linked_zone.proofs.Standing.{Stands, stands-now}
 use Rattle.linked_zone.proofs.Owning.{image, image-same, records_from-append, records-place}
 use Rattle.linked_zone.proofs.EndsFollow.{following, Follows, follows-from, following-can, following-image, following-slot, following-flags, following-bytes, following-lent}
 use Rattle.linked_zone.proofs.EndsSaid.{part-passes, contents-said, entry-room, entry-end}
-use Rattle.linked_zone.proofs.EndsExchange.{moved-said}
+use Rattle.linked_zone.proofs.Movable.{moved-said}
 use Rattle.linked_zone.proofs.ChangeExchanged.{rel-full, moved-slot}
 use Rattle.linked_zone.proofs.ChangeSized.{named-contents}
 

@@ -33,10 +33,6 @@ pub free-said : (heads : HeadKind) (x : ℕ) → x % 4 ≡ 0 → x < 0x100_0000 
 free-said Bits24 x even small = grind (arith, nat_tests)
 free-said Bits32 x even small = grind (arith, nat_tests)
 
-pub empty-said : (heads : HeadKind) → can_say heads slot.Empty ≡ true
-empty-said Bits24 = refl
-empty-said Bits32 = refl
-
 -- a handle with a block says where its contents begin, and what flags a slot says
 pub full-said : (heads : HeadKind) (flags : Flags) (x : ℕ) → x % 4 ≡ 0 → x < 0x100_0000 → 0 < x → can_say heads (slot.Full (slot_flags heads flags) x) ≡ true
 full-said Bits24 flags x even small some = grind (arith, nat_tests)

@@ -23,7 +23,7 @@ use Rattle.linked_zone.proofs.Located.{OfEntry, of-entry}
 use Rattle.linked_zone.proofs.Owning.{records_from-append, records-total}
 use Rattle.linked_zone.proofs.Ends.{lower, middle, upper, parts-before, parts-place, parts-after}
 use Rattle.linked_zone.proofs.EndsSaid.{part-passes, entry-end}
-use Rattle.linked_zone.proofs.EndsExchange.{content-moves, here-unlent}
+use Rattle.linked_zone.proofs.Movable.{content-moves, here-unlent}
 use Rattle.linked_zone.proofs.ChangeTurned.{TwoRuns, turned, runs_exchange, runs-move, turned-reordered, all-turned}
 
 -- blocks that may move and aren't lent

@@ -17,7 +17,7 @@ use Rattle.zone_laws.proofs.SlotPlaces.{Contains-none, Contains-cons_cases}
 use Rattle.zone_laws.proofs.Tables.{eqb_same, eqb-true-is, full_handle}
 use Rattle.zone_records.specs.declared.slot.Slot.{Slot}
 use Rattle.zone_records.specs.declared.slot.Slot.TheVariants as slot
-use Rattle.zone_records.specs.Records.{BlockRecord, ZoneRecords, block_record, Content, Free, Fixed, Master, Relocatable, kind_of, length_of}
+use Rattle.zone_records.specs.Records.{ZoneRecords, Free, Master, kind_of, length_of}
 use Rattle.zone_records.specs.Records as records
 use Rattle.zone_records.specs.Places.{RecordAt, SlotAt, HeldAt, HandleBlockAt, has_bytes}
 use Rattle.linked_zone.specs.Flags.{flags_there}
@@ -182,14 +182,6 @@ pub full-other : (z : ZoneState) (x : ℕ) → is_pointer z.heap.table x ≡ fal
 full-other z x other = ap (λ b. is_full z.heap.table x || b) other ∙ by_test (is_full z.heap.table x)
   where
     by_test : (b : Bool) → (b || false) ≡ b
-    by_test true = refl
-    by_test false = refl
-
--- a pointer has a block
-pub has-pointer : (z : ZoneState) (x : ℕ) → is_pointer z.heap.table x ≡ true → has_block z.heap.table x ≡ true
-has-pointer z x live = ap (λ b. is_full z.heap.table x || b) live ∙ by_test (is_full z.heap.table x)
-  where
-    by_test : (b : Bool) → (b || true) ≡ true
     by_test true = refl
     by_test false = refl
 

@@ -19,7 +19,7 @@ mod ChangeWritten
 mod Ends
 mod EndsCopied
 mod EndsCut
-mod EndsExchange
+mod Movable
 mod EndsExtended
 mod EndsFlags
 mod EndsFollow
@@ -43,7 +43,6 @@ mod ReadBlocks
 mod ReadFree
 mod ReadNumbers
 mod Reported
-pub mod RelocatedLoans
 mod RelocatedPlaces
 mod Standing
 mod TwoPlaces

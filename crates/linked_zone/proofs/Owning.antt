@@ -14,7 +14,7 @@ use Rattle.zone_laws.proofs.Owners.{none_named}
 use Rattle.zone_laws.proofs.SlotPlaces.{slots_at, has_room, slots_at-above, Contains-cons_cases, Contains-none, Contains-here, Contains-later}
 use Rattle.zone_laws.proofs.Tables.{eqb_same, eqb-true-is}
 use Rattle.zone_records.specs.declared.slot.Slot.{Slot}
-use Rattle.zone_records.specs.Records.{BlockRecord, ZoneRecords, block_record, Master, Content, total_of}
+use Rattle.zone_records.specs.Records.{BlockRecord, ZoneRecords, block_record, Master, total_of}
 use Rattle.zone_records.specs.Records as records
 use Rattle.zone_records.specs.Changes.{with_slot}
 use Rattle.zone_records.specs.Places.{SlotAt}
@@ -264,11 +264,7 @@ module _ (memory : Memory) (s : Shape) (front : ℕ) (o : Owners) (m : ZoneMap) 
     place = omega arith;
   }
 
-  -- it says what its owner has
-  pub slot-says : slot-at.here ≡ o.slot h
-  slot-says = refl
-
-  -- and to write there is to have another owner
+  -- to write at the slot is to have another owner
   pub slot-written : (w : Slot) → with_slot w (image memory s front o m) slot-at ≡ image memory s front (slot_set o h w) m
   slot-written w = ap (λ bs. record { memory = memory; shape = s; front = front; blocks = bs }) (sym (there.sets w))
 

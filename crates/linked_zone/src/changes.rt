@@ -9,8 +9,8 @@ impl LinkedZone {
     ghost use Rattle.std.specs.Prelude.{◌≡◌, ◌+◌, IsTrue, IsFalse, MatchOption, Some, ◌∷◌, [], drop};
     ghost use Rattle.mac_base.specs.HandleTable.{EmptyHandle, is_full, is_lent, is_pointer, live_at};
     ghost use Rattle.mac_base.specs.HeadKind.{master_length, head_size};
-    ghost use Rattle.linked_zone.specs.Changes.{extended, taken, given_back, pointed, without_block, fixed, unfixed, cut_in_two, joined_pair, with_master, exchanged, carried_up, sunk};
-    ghost use Rattle.linked_zone.specs.Places.{RoomFor, CanCut, FreePair, MovablePair, ParcelAt, ParcelUpTo};
+    ghost use Rattle.linked_zone.specs.Changes.{extended, taken, given_back, pointed, without_block, fixed, unfixed, cut_in_two, joined_pair, with_master, carried_up, sunk};
+    ghost use Rattle.linked_zone.specs.Places.{RoomFor, CanCut, FreePair, ParcelAt, ParcelUpTo};
 
     /// Makes the next slot to be given an empty handle. There is none exactly where no slot is free, and then nothing
     /// has changed.
@@ -64,19 +64,6 @@ impl LinkedZone {
         ensures { (pair : FreePair self.old at) → self.new ≡ joined_pair self.old pair }
     {
         self.records.merge(at);
-    }
-
-    /// Exchanges two neighbouring blocks, each of a handle or free. Every handle has the same bytes and flags.
-    pub fn exchange(&mut self, at: u32)
-        requires { MovablePair self.old at }
-        ensures { (pair : MovablePair self.old at) → self.new ≡ exchanged self.old pair }
-    {
-        let head_size = self.records.spec().heads().head_size();
-        let first = self.records.entry_at(at);
-        let second = self.records.entry_at(at + first.size);
-        self.records.exchange(at);
-        follow(&mut self.records, second.kind, at + head_size);
-        follow(&mut self.records, first.kind, at + second.size + head_size);
     }
 
     /// The block at an address changes places with those behind it up to an address, each of a handle or free. Every handle

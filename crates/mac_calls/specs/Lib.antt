@@ -8,5 +8,4 @@ pub mod Effect
 pub mod ExactStep
 pub mod RequestRun
 pub mod MemoryStep
-pub mod FirstRuns
 pub mod Loans

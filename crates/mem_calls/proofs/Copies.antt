@@ -111,7 +111,7 @@ module _ (s : Shape) (from n : ℕ) (asks : List Ask) (old mid : Heap) (result :
   -- into a new block
   pub copies-new : IsCallRun s (from ∷ []) (NewBlock n) asks old result mid → Copies mid.table from x 0 n (take n (bytes_of old.table from))
   copies-new run =
-      let served = called s (from ∷ []) (NewBlock n) asks old mid result x run given tt sound fixed tt tt in
+      let served = called s (from ∷ []) (NewBlock n) asks old mid result x run given tt sound fixed tt in
       let g = served.grants in
       let among : is_among (from ∷ []) from ≡ true = ap (λ b. b || false) (eqb_same from) in
       let apart : eqb from x ≡ false = other g.before (eqb from x) refl (ap (λ o. live_full o || live_pointer o) (g.protects from among) ∙ full-has_block old.table from full) g.number in
@@ -136,7 +136,7 @@ module _ (s : Shape) (from n : ℕ) (asks : List Ask) (old mid : Heap) (result :
   copies-behind to offset target behind run =
       let protected = from ∷ to ∷ [] in
       let among : is_among protected to ≡ true = or_right (eqb from to) (eqb to to || false) (ap (λ b. b || false) (eqb_same to)) in
-      let served = called s protected (Resize to (offset + n)) asks old mid result x run given among sound fixed (full-has_block old.table to target) (full-here old.table to target) in
+      let served = called s protected (Resize to (offset + n)) asks old mid result x run given among sound fixed (full-has_block old.table to target) in
       let g = served.grants in
       let there = keeps-resized protected (offset + n) to x old mid served among target in
       let here : Keeps (offset + n) old.table mid.table from = by_case (eqb from to) refl there (λ apart. keeps-other protected (Resize to (offset + n)) (offset + n) x to

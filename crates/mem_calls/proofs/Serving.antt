@@ -13,11 +13,10 @@ use Rattle.mac_base.specs.Request.{makes_handle}
 use Rattle.mac_calls.specs.ExactRequest.{Ending, request_run}
 use Rattle.mac_calls.specs.ExactStep.{behind_master}
 use Rattle.mac_calls.specs.GrowZone.{Answer, Ask, answers_in, most_answers}
-use Rattle.zone_laws.proofs.Lent.{fixed-kept}
-use Rattle.gap_laws.proofs.KeepsServed.{SparesLent}
 use Rattle.gap_laws.proofs.SoundServed.{MayServe}
-use Rattle.call_laws.proofs.RunLent.{NewHere, run-lent, spares-kept}
+use Rattle.call_laws.proofs.LentSteps.{LoansKept, NewHere, loans-fixed, new-here, ran-lent, run-kept}
 use Rattle.call_laws.proofs.RunPermitted.{Gives, Grants, Guards, grants-behind, run-facts}
+use Rattle.call_laws.proofs.RunTables.{Ran}
 use Rattle.call_laws.proofs.StepPermitted.{may_serve-from, operand-handle, slot-free, makes-first}
 use Rattle.call_laws.proofs.StepRequests.{HasOperand}
 use Rattle.zone_heap.specs.Attempts.{lacks_slot}
@@ -32,33 +31,32 @@ pub record Served (protected : List ℕ) (r : Request) (x : ℕ) (old new : Heap
 
 module _ (s : Shape) (protected : List ℕ) (r : Request) (guards : Guards protected r) where
   -- by one run
-  by_run : (allowed : ℕ) (answers : List Answer) (heap : Heap) → Sound s heap → LoansAreFixed heap → MayServe heap r → SparesLent heap r → (x : ℕ) → (request_run s protected r allowed answers heap).given ≡ Some x
+  by_run : (allowed : ℕ) (answers : List Answer) (heap : Heap) → Sound s heap → LoansAreFixed heap → MayServe heap r → (x : ℕ) → (request_run s protected r allowed answers heap).given ≡ Some x
       → Served protected r x heap (request_run s protected r allowed answers heap).heap
-  by_run allowed answers heap sound fixed may spares x is =
+  by_run allowed answers heap sound fixed may x is =
       let e = request_run s protected r allowed answers heap in
       let facts = run-facts s protected r allowed answers heap sound guards may in
-      let loans = run-lent s protected r allowed answers heap sound fixed guards may spares in
-      let keeps = loans.keeps in
+      let ran = subst (λ o. Ran LoansKept r o heap.table e.heap.table) is (run-kept s protected r allowed heap e.asks e.given e.heap facts.permitted) in
       record {
         grants = subst (λ o. MatchOption o ⊤ (λ x. Grants protected r x heap e.heap)) is facts.grants;
         gives = subst (λ o. MatchOption o ⊤ (λ x. Gives r x e.heap)) is facts.gives;
-        here = subst (λ o. MatchOption o ⊤ (λ x. NewHere r x e.heap)) is loans.here;
-        lent = keeps.lent;
+        here = new-here r x heap e.heap ran fixed;
+        lent = ran-lent r x heap.table e.heap.table ran;
       }
 
   -- or by one behind that for a master block
-  by_master : (answers : List Answer) (old : Heap) → Sound s old → LoansAreFixed old → SparesLent old r → makes_handle r ≡ true → (x : ℕ) → let master = request_run s protected NewMaster most_answers answers old in
+  by_master : (answers : List Answer) (old : Heap) → Sound s old → LoansAreFixed old → makes_handle r ≡ true → (x : ℕ) → let master = request_run s protected NewMaster most_answers answers old in
       (given : Option ℕ) → master.given ≡ given → (behind_master s protected r master given).given ≡ Some x → Served protected r x old (behind_master s protected r master given).heap
-  by_master answers old sound fixed spares makes x None none h = absurd (cc h)
-  by_master answers old sound fixed spares makes x (Some m) first h =
+  by_master answers old sound fixed makes x None none h = absurd (cc h)
+  by_master answers old sound fixed makes x (Some m) first h =
       let master = request_run s protected NewMaster most_answers answers old in
       let facts = run-facts s protected NewMaster most_answers answers old sound tt tt in
-      let loans = run-lent s protected NewMaster most_answers answers old sound fixed tt tt tt in
-      let keeps = loans.keeps in
+      let ran = subst (λ o. Ran LoansKept NewMaster o old.table master.heap.table) first (run-kept s protected NewMaster most_answers old master.asks master.given master.heap facts.permitted) in
+      let keeps = subst (LoansKept old.table) (sym ran.served.1) ran.related in
       let slots : 0 < length master.heap.free_slots = subst (λ o. MatchOption o ⊤ (λ m. 0 < length master.heap.free_slots)) first facts.gives in
       let grants : Grants protected NewMaster m old master.heap = subst (λ o. MatchOption o ⊤ (λ m. Grants protected NewMaster m old master.heap)) first facts.grants in
       let allowed = most_answers - length master.asks in
-      let then = by_run allowed master.left master.heap facts.sound (fixed-kept s old master.heap keeps fixed) (may_serve-from master.heap r (operand-handle master.heap r makes) (λ _. slots)) (spares-kept s r old master.heap keeps spares) x h in
+      let then = by_run allowed master.left master.heap facts.sound (loans-fixed old master.heap keeps fixed) (may_serve-from master.heap r (operand-handle master.heap r makes) (λ _. slots)) x h in
       record {
         grants = grants-behind protected r old master.heap (request_run s protected r allowed master.left master.heap).heap (Some x)
             (record { free = λ _. slots; protects = λ y among. ap (λ t. live_at t y) grants.table ∙ grants.protects y among }) then.grants;
@@ -67,18 +65,18 @@ module _ (s : Shape) (protected : List ℕ) (r : Request) (guards : Guards prote
         lent = then.lent ∙ keeps.lent;
       }
 
-  by_call : (answers : List Answer) (old : Heap) (b : Bool) → lacks_slot r old ≡ b → Sound s old → LoansAreFixed old → HasOperand old r → SparesLent old r → (x : ℕ) → (call_run s protected r answers old b).given ≡ Some x
+  by_call : (answers : List Answer) (old : Heap) (b : Bool) → lacks_slot r old ≡ b → Sound s old → LoansAreFixed old → HasOperand old r → (x : ℕ) → (call_run s protected r answers old b).given ≡ Some x
       → Served protected r x old (call_run s protected r answers old b).heap
-  by_call answers old false slot sound fixed operand spares x is = by_run most_answers answers old sound fixed (may_serve-from old r operand (slot-free (makes_handle r) old.free_slots slot)) spares x is
-  by_call answers old true slot sound fixed operand spares x is =
-      by_master answers old sound fixed spares (makes-first (makes_handle r) (has_none old.free_slots) slot) x (request_run s protected NewMaster most_answers answers old).given refl is
+  by_call answers old false slot sound fixed operand x is = by_run most_answers answers old sound fixed (may_serve-from old r operand (slot-free (makes_handle r) old.free_slots slot)) x is
+  by_call answers old true slot sound fixed operand x is =
+      by_master answers old sound fixed (makes-first (makes_handle r) (has_none old.free_slots) slot) x (request_run s protected NewMaster most_answers answers old).given refl is
 
 -- a request of a call that gave x
 pub called : (s : Shape) (protected : List ℕ) (r : Request) (asks : List Ask) (old new : Heap) (result : Result ℕ OsErr) (x : ℕ) → IsCallRun s protected r asks old result new → result ≡ Ok x
-    → Guards protected r → Sound s old → LoansAreFixed old → HasOperand old r → SparesLent old r → Served protected r x old new
-called s protected r asks old new result x run is guards sound fixed operand spares =
+    → Guards protected r → Sound s old → LoansAreFixed old → HasOperand old r → Served protected r x old new
+called s protected r asks old new result x run is guards sound fixed operand =
     subst (λ (heap : Heap). Served protected r x old heap) (ap (λ (e : Ending). e.heap) run.run)
-    (by_call s protected r guards (answers_in asks) old (lacks_slot r old) refl sound fixed operand spares x (ap (λ (e : Ending). e.given) run.run ∙ given run.given (sym run.result_is ∙ is)))
+    (by_call s protected r guards (answers_in asks) old (lacks_slot r old) refl sound fixed operand x (ap (λ (e : Ending). e.given) run.run ∙ given run.given (sym run.result_is ∙ is)))
   where
     given : (o : Option ℕ) → given_or_full o ≡ Ok x → o ≡ Some x
     given None h = absurd (cc h)

@@ -1,7 +1,6 @@
 -- A locked handle has its block.
 use Rattle.std.proofs.Common.{◌≡◌, ℕ, true, cond, ◌||◌, List, [], Option, Some, None, Ok, refl, ap, subst, sym, ◌∙◌}
 use Rattle.mac_base.specs.declared.block.Status.TheVariants.{NotLive, Empty, Full}
-use Rattle.mac_base.specs.declared.error.OsErr.{OsErr}
 use Rattle.mac_base.specs.BlockStatus.{status_of}
 use Rattle.mac_base.specs.HandleTable.{HandleTable, Live, EmptyHandle, FullHandle, Pointer, bytes_of, flags_of, is_locked, live_at, live_flags, live_full, live_handle, live_pointer, refilled, with_bytes}
 use Rattle.mac_base.specs.HeadKind.{Shape}
@@ -10,16 +9,14 @@ use Rattle.mac_calls.specs.declared.memory_call.MemoryCall.TheVariants.{HLock}
 use Rattle.mac_calls.specs.declared.reply.Results.TheVariants.{Nothing}
 use Rattle.mac_calls.specs.MemoryStep.{MemoryStep, StepUnless}
 use Rattle.mac_calls.specs.RequestRun.{RequestRun}
-use Rattle.mac_calls.specs.Tests.{refusal}
 use Rattle.zone_laws.proofs.Tables.{live_at-with_live_same}
+use Rattle.call_laws.proofs.RunTables.{passed-ok}
 
 -- an HLock that isn't refused locks
 pub locked_by : (s : Shape) (old new : Heap) (h : ℕ) → MemoryStep s old (HLock h) [] (Ok Nothing) new → is_locked new.table h ≡ true
-locked_by s old new h step = by_refusal (refusal s old (HLock h)) step
-  where
-    by_refusal : (o : Option OsErr) → StepUnless RequestRun o s old (HLock h) [] (Ok Nothing) new → is_locked new.table h ≡ true
-    by_refusal (Some code) step = let wrong = step.1 in absurd (cc)
-    by_refusal None step = ap (λ (t : HandleTable). is_locked t h) step.1.0.table ∙ ap (λ o. (live_flags o).lock) (live_at-with_live_same h (FullHandle (record (flags_of old.table h) { lock = true }) (bytes_of old.table h)) old.table)
+locked_by s old new h step =
+    let own = subst (λ o. StepUnless RequestRun o s old (HLock h) [] (Ok Nothing) new) (passed-ok s old (HLock h) [] Nothing new step) step in
+    ap (λ (t : HandleTable). is_locked t h) own.1.0.table ∙ ap (λ o. (live_flags o).lock) (live_at-with_live_same h (FullHandle (record (flags_of old.table h) { lock = true }) (bytes_of old.table h)) old.table)
 
 -- it is locked still where its bytes are others
 pub still_locked : (t : HandleTable) (h x : ℕ) (bytes : List ℕ) → x ≡ h → is_locked t h ≡ true → is_locked (with_bytes x bytes t) h ≡ true

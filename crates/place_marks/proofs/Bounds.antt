@@ -1,5 +1,5 @@
 -- What bounds say of the numbers under them.
-use Rattle.std.proofs.Common.{◌≡◌, ◌≢◌, ℕ, zero, suc, [], ◌∷◌, ◌++◌, replicate, refl, sym, ap, ◌∙◌, append_assoc, length-append, ◌+◌, ◌-◌, ◌*◌, ◌/◌, ◌<◌, ◌≤◌, inl, inr, List, length, get_or, take, drop, subst, arith, get_or-set_same, get_or-set_other, get_or-take, get_or-drop, length-set}
+use Rattle.std.proofs.Common.{◌≡◌, ◌≢◌, ℕ, zero, suc, [], ◌∷◌, ◌++◌, replicate, refl, sym, ap, ◌∙◌, append_assoc, length-append, ◌+◌, ◌-◌, ◌*◌, ◌/◌, ◌<◌, ◌≤◌, inl, inr, List, length, get_or, take, drop, arith, get_or-set_same, get_or-set_other, get_or-take, get_or-drop, length-set}
 use Rattle.std.proofs.Math.ListN.{set}
 use Rattle.std.proofs.lemmas.Bool.{cases_eq, cases_lt}
 use Rattle.std.proofs.lemmas.List.{get_or_default, get_or_past, length-replicate, replicate-append-replicate, set-append_left}
@@ -87,11 +87,6 @@ length-numbers x bounded =
     let zeros : length {A = ℕ} (replicate (x.count - length x.numbers.items) 0) ≡ x.count - length x.numbers.items = length-replicate {A = ℕ} (x.count - length x.numbers.items) 0 in
     let fits = bounded.fits in omega arith
 
--- behind those that were written all are 0
-pub beyond : (x : Inside) (k j : ℕ) → 0 < k → length x.numbers.items ≤ j → get_or (numbers_of x) j 0 < k
-beyond x k j some behind =
-    let same = padded-at x.numbers.items (x.count - length x.numbers.items) j in let none = get_or_past x.numbers.items j 0 behind in omega arith
-
 -- fewer zeros are left where some were put
 pub less-padded : (xs : List ℕ) (end count : ℕ) → end ≤ count → length xs ≤ count
     → (xs ++ replicate (end - length xs) 0) ++ replicate (count - length (xs ++ replicate (end - length xs) 0)) 0 ≡ xs ++ replicate (count - length xs) 0
@@ -116,12 +111,6 @@ module _ (x : Inside) (bounded : IsBounded x) (k at v j : ℕ) (low : v < k) whe
   -- what is below k where it is written is so where it is seen
   seen : get_or x.numbers.items j 0 < k → get_or (numbers_of x) j 0 < k
   seen below = let same = padded-at x.numbers.items (x.count - length x.numbers.items) j in omega arith
-
-  -- a number that was read is below k
-  pub read-below : at < length x.numbers.items → v ≡ get_or x.numbers.items at v → at ≡ j → get_or (numbers_of x) j 0 < k
-  read-below inside read here =
-      let same = get_or_default x.numbers.items at 0 v inside in let there : get_or x.numbers.items at 0 < k = omega arith in
-      seen (subst (λ (i : ℕ). get_or x.numbers.items i 0 < k) here there)
 
   -- no number is at least k under a bound v below k of the lowest level
   pub under-low : at < length x.low.items → v ≡ get_or x.low.items at v → j / 32 ≡ at → get_or (numbers_of x) j 0 < k

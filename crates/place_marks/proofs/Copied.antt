@@ -79,15 +79,3 @@ up-more xs from to k m up inside =
       behind = λ j past. next.behind j (omega arith) ∙ first.behind j (omega arith);
     }
     (is-copied xs from to (k + m) (omega arith) inside)
-
--- before the first number is copied all stand where they stood
-pub none-copied : (xs : List ℕ) (from to n : ℕ) → n ≡ 0 → from ≤ length xs → to ≤ length xs → xs ≡ copied from to n xs
-none-copied xs from to n none from-in to-in =
-    let it = is-copied xs from to n (omega arith) (omega arith) in
-    ext_get_or 0 xs (copied from to n xs) (sym it.len) (λ j inside. elim (cases_lt j to) [
-      | inl low ↦ sym (it.below j low)
-      | inr past ↦ sym (it.behind j (omega arith))
-    ])
-
-pub length-copied : (xs : List ℕ) (from to n : ℕ) → from + n ≤ length xs → to + n ≤ length xs → length (copied from to n xs) ≡ length xs
-length-copied xs from to n from-in to-in = (is-copied xs from to n from-in to-in).len

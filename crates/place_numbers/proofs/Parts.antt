@@ -2,7 +2,7 @@
 use Rattle.std.proofs.Common.{◌≡◌, ◌⊎◌, Option, None, Some, IfNone, ℕ, zero, suc, List, [], ◌∷◌, length, replicate, refl, sym, ap, ◌∙◌, ◌+◌, ◌-◌, ◌<◌, ◌≤◌, inl, inr, get_or, arith, get_or-set_same, get_or-set_other, length-set}
 use Rattle.std.proofs.Math.ListN.{set}
 use Rattle.std.proofs.lemmas.Bool.{cases_eq, cases_lt}
-use Rattle.std.proofs.lemmas.List.{ext_get_or, length-replicate}
+use Rattle.std.proofs.lemmas.List.{ext_get_or}
 use Rattle.place_marks.specs.Marks.{FirstAtLeast as FirstMark, LastAtLeast as LastMark}
 use Rattle.place_sizes.specs.Sizes.{FirstAtLeast as FirstSize, LastAtLeast as LastSize}
 use Rattle.place_numbers.specs.Numbers.{FirstAtLeast, LastAtLeast}
@@ -100,25 +100,6 @@ module _ (xs ys now : List ℕ) (parts : AreParts xs ys) (view : numbers_of xs y
 
   -- a number that is written at a place
   module _ (p m s : ℕ) (inside : p < length now) (rest : (m < 255) × (s ≡ 0) ⊎ (m ≡ 255) × (255 ≤ s)) where
-    pub set-parts : AreParts (set xs p m) (set ys p s)
-    set-parts = record {
-      count = rw (length-set, length-set) parts.count;
-      most = λ j. elim (cases_eq j p) [
-        | inl here ↦ let l = long in let within : p < length xs = omega arith in rw (here, get_or-set_same) (elim rest [ inl low ↦ omega arith | inr high ↦ omega arith ])
-        | inr other ↦ rw get_or-set_other (parts.most j)
-      ];
-      small = λ j. elim (cases_eq j p) [
-        | inl here ↦ let l = long in let count = parts.count in let within : p < length xs = omega arith in let within-sizes : p < length ys = omega arith in
-            rw (here, get_or-set_same, get_or-set_same) (λ few. elim rest [ inl low ↦ low.1 | inr high ↦ omega arith ])
-        | inr other ↦ rw (get_or-set_other, get_or-set_other) (parts.small j)
-      ];
-      large = λ j. elim (cases_eq j p) [
-        | inl here ↦ let l = long in let count = parts.count in let within : p < length xs = omega arith in let within-sizes : p < length ys = omega arith in
-            rw (here, get_or-set_same, get_or-set_same) (λ full. elim rest [ inl low ↦ omega arith | inr high ↦ high.1 ])
-        | inr other ↦ rw (get_or-set_other, get_or-set_other) (parts.large j)
-      ];
-    }
-
     pub set-view : numbers_of (set xs p m) (set ys p s) ≡ set now p (m + (s - 255))
     set-view =
         let l = long in let count = parts.count in

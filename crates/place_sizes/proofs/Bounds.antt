@@ -1,9 +1,9 @@
 -- What bounds say of the numbers under them.
-use Rattle.std.proofs.Common.{◌≡◌, ◌≢◌, ℕ, zero, suc, [], ◌∷◌, ◌++◌, replicate, refl, sym, ap, ◌∙◌, append_assoc, length-append, ◌+◌, ◌-◌, ◌*◌, ◌/◌, ◌<◌, ◌≤◌, inl, inr, List, length, get_or, take, drop, subst, arith, get_or-set_same, get_or-set_other, get_or-take, get_or-drop, length-set}
+use Rattle.std.proofs.Common.{◌≡◌, ◌≢◌, ℕ, zero, suc, [], ◌∷◌, ◌++◌, replicate, refl, sym, ap, ◌∙◌, append_assoc, length-append, ◌+◌, ◌-◌, ◌*◌, ◌/◌, ◌<◌, ◌≤◌, inl, inr, List, length, get_or, take, drop, arith, get_or-set_same, get_or-set_other, get_or-take, get_or-drop, length-set}
 use Rattle.std.proofs.Math.ListN.{set}
 use Rattle.std.proofs.lemmas.Bool.{cases_eq, cases_lt}
 use Rattle.std.proofs.lemmas.List.{get_or_default, get_or_past, length-replicate, replicate-append-replicate, set-append_left}
-use Rattle.place_sizes.specs.Bounds.{AreBounds, AreBoundsBut, AreBoundsOutside}
+use Rattle.place_sizes.specs.Bounds.{AreBounds, AreBoundsBut}
 use Rattle.place_sizes.specs.Levels.{numbers_of, IsBounded}
 use Rattle.place_sizes.specs.declared.Sizes.TheInside.{Inside}
 
@@ -33,42 +33,6 @@ covered bs xs p r inside others most = record {
   ];
 }
 
--- one more bound that is written anew
-pub renewed : (bs xs : List ℕ) (c end r : ℕ) → c * 32 < length xs → AreBoundsOutside bs xs (c * 32) end → ((j : ℕ) → j / 32 ≡ c → get_or xs j 0 ≤ r)
-    → AreBoundsOutside (set bs c r) xs ((c + 1) * 32) end
-renewed bs xs c end r inside others most = record {
-  count = let count = others.count in rw length-set (omega arith);
-  before = λ j low. at j (λ other. others.before j (omega arith));
-  behind = λ j past. at j (λ other. others.behind j past);
-}
-  where
-    at : (j : ℕ) → (j / 32 ≢ c → get_or xs j 0 ≤ get_or bs (j / 32) 0) → get_or xs j 0 ≤ get_or (set bs c r) (j / 32) 0
-    at j elsewhere = elim (cases_eq (j / 32) c) [
-      | inl same ↦ let count = others.count in let bound : c < length bs = omega arith in rw (same, get_or-set_same) (most j same)
-      | inr other ↦ rw get_or-set_other (elsewhere other)
-    ]
-
--- when all are
-pub all-renewed : (bs xs : List ℕ) (k : ℕ) → AreBoundsOutside bs xs k k → AreBounds bs xs
-all-renewed bs xs k outside = record {
-  count = outside.count;
-  above = λ j. elim (cases_lt j k) [
-    | inl low ↦ outside.before j low
-    | inr past ↦ outside.behind j past
-  ];
-}
-
--- bounds that stay, over numbers some of which change
-pub outside : (bs xs zs : List ℕ) (first end low high : ℕ) → AreBounds bs xs → length zs ≤ 32 * length bs
-    → ((j : ℕ) → j < first → get_or zs j 0 ≡ get_or xs j 0)
-    → ((j : ℕ) → end ≤ j → get_or zs j 0 ≡ get_or xs j 0)
-    → low ≤ first → end ≤ high → AreBoundsOutside bs zs low high
-outside bs xs zs first end low high bounds room before behind down up = record {
-  count = room;
-  before = λ j under. rw (before j (omega arith)) (bounds.above j);
-  behind = λ j past. rw (behind j (omega arith)) (bounds.above j);
-}
-
 -- zeros behind a list are what is read there anyway
 pub zeros-at : (k j : ℕ) → get_or {A = ℕ} (replicate k 0) j 0 ≡ 0
 zeros-at zero j = refl
@@ -86,11 +50,6 @@ length-numbers x bounded =
     let sum = length-append x.numbers.items (replicate (x.count - length x.numbers.items) 0) in
     let zeros : length {A = ℕ} (replicate (x.count - length x.numbers.items) 0) ≡ x.count - length x.numbers.items = length-replicate {A = ℕ} (x.count - length x.numbers.items) 0 in
     let fits = bounded.fits in omega arith
-
--- behind those that were written all are 0
-pub beyond : (x : Inside) (k j : ℕ) → 0 < k → length x.numbers.items ≤ j → get_or (numbers_of x) j 0 < k
-beyond x k j some behind =
-    let same = padded-at x.numbers.items (x.count - length x.numbers.items) j in let none = get_or_past x.numbers.items j 0 behind in omega arith
 
 -- fewer zeros are left where some were put
 pub less-padded : (xs : List ℕ) (end count : ℕ) → end ≤ count → length xs ≤ count
@@ -116,12 +75,6 @@ module _ (x : Inside) (bounded : IsBounded x) (k at v j : ℕ) (low : v < k) whe
   -- what is below k where it is written is so where it is seen
   seen : get_or x.numbers.items j 0 < k → get_or (numbers_of x) j 0 < k
   seen below = let same = padded-at x.numbers.items (x.count - length x.numbers.items) j in omega arith
-
-  -- a number that was read is below k
-  pub read-below : at < length x.numbers.items → v ≡ get_or x.numbers.items at v → at ≡ j → get_or (numbers_of x) j 0 < k
-  read-below inside read here =
-      let same = get_or_default x.numbers.items at 0 v inside in let there : get_or x.numbers.items at 0 < k = omega arith in
-      seen (subst (λ (i : ℕ). get_or x.numbers.items i 0 < k) here there)
 
   -- no number is at least k under a bound v below k of the lowest level
   pub under-low : at < length x.low.items → v ≡ get_or x.low.items at v → j / 32 ≡ at → get_or (numbers_of x) j 0 < k

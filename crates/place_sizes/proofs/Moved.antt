@@ -1,10 +1,9 @@
 -- Sizes that move to other places.
-use Rattle.std.proofs.Common.{◌≡◌, ℕ, List, ◌++◌, replicate, sym, ap, ◌∙◌, append_assoc, length-append, ◌+◌, ◌-◌, ◌*◌, ◌<◌, ◌≤◌, inl, inr, length, get_or, take, drop, arith, get_or-take, get_or-drop}
+use Rattle.std.proofs.Common.{◌≡◌, ℕ, List, ◌++◌, replicate, sym, ap, ◌∙◌, length-append, ◌+◌, ◌-◌, ◌<◌, ◌≤◌, inl, inr, length, get_or, take, drop, arith, get_or-take, get_or-drop}
 use Rattle.std.proofs.lemmas.Bool.{cases_lt}
-use Rattle.std.proofs.lemmas.List.{ext_get_or, get_or_append_left, get_or-append_right, length-replicate, length-take-le, length-drop, take-append-le, drop-append-le}
+use Rattle.std.proofs.lemmas.List.{ext_get_or, get_or_append_left, get_or-append_right, length-replicate, length-take-le, length-drop}
 use Rattle.place_sizes.specs.Shifted.{shifted_down, shifted_up}
-use Rattle.place_sizes.specs.Bounds.{AreBounds, AreBoundsOutside}
-use Rattle.place_sizes.proofs.Bounds.{zeros-at, padded-at, less-padded, outside, reached}
+use Rattle.place_sizes.proofs.Bounds.{zeros-at}
 
 -- those of xs from `to + gap` up to `place` have moved down by `gap`, and 0 stands in all other places from `to` on
 pub record MovedDown (xs ys : List ℕ) (to gap place : ℕ) : Type 0 where
@@ -103,21 +102,6 @@ only-up xs ys zs end gap place one other = ext_get_or 0 ys zs (one.len ∙ sym o
   ]
 ])
 
--- zeros behind a list stay where they are while a run in it moves
-pub padded-down : (xs : List ℕ) (from to n k : ℕ) → to ≤ from → from + n ≤ length xs → shifted_down from to n xs ++ replicate k 0 ≡ shifted_down from to n (xs ++ replicate k 0)
-padded-down xs from to n k down inside =
-    let zs = replicate {A = ℕ} k 0 in let rest = length-drop from xs in
-    append_assoc (take to xs ++ take n (drop from xs) ++ replicate (from - to) 0) (drop (from + n) xs) zs
-    ∙ (λ i. sym (take-append-le to xs zs (omega arith)) i ++ (sym (take-append-le n (drop from xs) zs (omega arith)) ∙ ap (take n) (sym (drop-append-le from xs zs (omega arith)))) i
-    ++ replicate (from - to) 0 ++ sym (drop-append-le (from + n) xs zs inside) i)
-
-pub padded-up : (xs : List ℕ) (from to n k : ℕ) → from ≤ to → to + n ≤ length xs → shifted_up from to n xs ++ replicate k 0 ≡ shifted_up from to n (xs ++ replicate k 0)
-padded-up xs from to n k up inside =
-    let zs = replicate {A = ℕ} k 0 in let rest = length-drop from xs in
-    append_assoc (take from xs ++ replicate (to - from) 0 ++ take n (drop from xs)) (drop (to + n) xs) zs
-    ∙ (λ i. sym (take-append-le from xs zs (omega arith)) i ++ replicate (to - from) 0
-    ++ (sym (take-append-le n (drop from xs) zs (omega arith)) ∙ ap (take n) (sym (drop-append-le from xs zs (omega arith)))) i ++ sym (drop-append-le (to + n) xs zs inside) i)
-
 module _ (xs ys : List ℕ) (to gap place : ℕ) (done : MovedDown xs ys to gap place) where
   -- zeros are passed over
   pub skip-down : (at : ℕ) → place ≤ at → ((j : ℕ) → place ≤ j → j < at → get_or ys j 0 < 1) → MovedDown xs ys to gap at
@@ -157,35 +141,3 @@ module _ (xs ys : List ℕ) (end gap place : ℕ) (done : MovedUp xs ys end gap 
         | inl here ↦ let no = none j from here in omega arith
         | inr past ↦ done.zeros j past early before
       ]
-
--- where a run has moved, zeros maybe put behind the numbers before, the bounds are right at the other places
-pub but-moved : (bs old xs ys zs ws : List ℕ) (k first end : ℕ) → AreBounds old xs → bs ≡ old → ys ≡ xs ++ replicate k 0 → length ys ≤ 32 * length old → ws ≡ zs → length zs ≡ length ys
-    → ((j : ℕ) → j < first → get_or zs j 0 ≡ get_or ys j 0)
-    → ((j : ℕ) → end ≤ j → get_or zs j 0 ≡ get_or ys j 0)
-    → AreBoundsOutside bs ws first end
-but-moved bs old xs ys zs ws k first end bounds same padded room now long below behind =
-    rw (same, now) (outside old xs zs first end first end bounds (omega arith) (λ j low. below j low ∙ before j) (λ j past. behind j past ∙ before j) (omega arith) (omega arith))
-  where
-    before : (j : ℕ) → get_or ys j 0 ≡ get_or xs j 0
-    before j = ap (λ (l : List ℕ). get_or l j 0) padded ∙ padded-at xs k j
-
--- bounds are what they are under any name
-pub along : {bs cs xs ys : List ℕ} → AreBounds bs xs → cs ≡ bs → ys ≡ xs → AreBounds cs ys
-along bounds here there = rw (here, there) bounds
-
--- a run that is moved among the numbers that are there then
-module _ (xs ys zs now : List ℕ) (from to n count : ℕ) (fits : length xs ≤ count) (view : xs ++ replicate (count - length xs) 0 ≡ now) where
-  all : (end : ℕ) → ys ≡ xs ++ replicate (end - length xs) 0 → end ≤ count → ys ++ replicate (count - length ys) 0 ≡ now
-  all end is inside = ap (λ (l : List ℕ). l ++ replicate (count - length l) 0) is ∙ less-padded xs end count inside fits ∙ view
-
-  pub view-down : ys ≡ xs ++ replicate (from + n - length xs) 0 → zs ≡ shifted_down from to n ys → to ≤ from → from + n ≤ count → zs ++ replicate (count - length zs) 0 ≡ shifted_down from to n now
-  view-down is moved down inside =
-      let reach = reached xs ys (from + n) is in
-      (λ i. moved i ++ replicate (count - (ap length moved ∙ (shifted-down ys from to n down reach).len) i) 0)
-      ∙ padded-down ys from to n (count - length ys) down reach ∙ ap (shifted_down from to n) (all (from + n) is inside)
-
-  pub view-up : ys ≡ xs ++ replicate (to + n - length xs) 0 → zs ≡ shifted_up from to n ys → from ≤ to → to + n ≤ count → zs ++ replicate (count - length zs) 0 ≡ shifted_up from to n now
-  view-up is moved up inside =
-      let reach = reached xs ys (to + n) is in
-      (λ i. moved i ++ replicate (count - (ap length moved ∙ (shifted-up ys from to n up reach).len) i) 0)
-      ∙ padded-up ys from to n (count - length ys) up reach ∙ ap (shifted_up from to n) (all (to + n) is inside)

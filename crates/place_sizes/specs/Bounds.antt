@@ -1,5 +1,5 @@
 -- When bounds over numbers may be trusted.
-use Rattle.std.specs.Prelude.{◌≢◌, ℕ, ◌*◌, ◌/◌, ◌≤◌, ◌<◌, List, length, slice_index}
+use Rattle.std.specs.Prelude.{◌≢◌, ℕ, ◌*◌, ◌/◌, ◌≤◌, List, length, slice_index}
 
 -- for each 32 numbers one that none of them is above, and maybe more behind
 pub record AreBounds (bs xs : List ℕ) : Type 0 where
@@ -10,9 +10,3 @@ pub record AreBounds (bs xs : List ℕ) : Type 0 where
 pub record AreBoundsBut (bs xs : List ℕ) (place : ℕ) : Type 0 where
   pub count : length xs ≤ 32 * length bs
   pub above : (j : ℕ) → j ≢ place → slice_index xs j ≤ slice_index bs (j / 32)
-
--- the same but for the numbers from one place up to another
-pub record AreBoundsOutside (bs xs : List ℕ) (first end : ℕ) : Type 0 where
-  pub count : length xs ≤ 32 * length bs
-  pub before : (j : ℕ) → j < first → slice_index xs j ≤ slice_index bs (j / 32)
-  pub behind : (j : ℕ) → end ≤ j → slice_index xs j ≤ slice_index bs (j / 32)

@@ -1,7 +1,6 @@
 -- Ranges of which no byte is lent: what a layer above shows at each call.
-use Rattle.std.proofs.Common.{ℕ, ◌+◌, ◌-◌, ◌<◌, ◌≤◌, List, [], ◌∷◌, refl, inl, inr, ⊎_elim, arith}
-use Rattle.raw_region.specs.Span.{Span, IsApart, AllApart, IsFree, IsListed}
-use Rattle.raw_region.proofs.Places.{listed_apart}
+use Rattle.std.proofs.Common.{ℕ, ◌+◌, ◌-◌, ◌<◌, ◌≤◌, List, [], ◌∷◌, inl, inr, ⊎_elim, arith}
+use Rattle.raw_region.specs.Span.{Span, IsApart, AllApart, IsFree}
 
 apart_within : (ss : List Span) (at n a m : ℕ) → AllApart ss at n → at ≤ a → a + m ≤ at + n → AllApart ss a m
 apart_within [] at n a m free p q = tt
@@ -21,15 +20,3 @@ apart_hull (s ∷ ss) a b n free free' p q = (hull_apart s a b n free.0 free'.0 
 -- two free ranges that overlap, from the start of the low one to the end of the high one
 pub free_hull : (ss : List Span) (a b n : ℕ) → IsFree ss a n → IsFree ss b n → a ≤ b → b < a + n → IsFree ss a (b - a + n)
 free_hull ss a b n free free' p q = record { apart = apart_hull ss a b n free.apart free'.apart p q }
-
-apart_by_each : (ss : List Span) (at n : ℕ) → ((s : Span) → IsListed ss s → IsApart s at n) → AllApart ss at n
-apart_by_each [] at n each = tt
-apart_by_each (s ∷ ss) at n each = (each s (inl refl), apart_by_each ss at n (λ t l. each t (inr l)))
-
--- a range is free if each lent one lies apart from it
-pub free_by_each : (ss : List Span) (at n : ℕ) → ((s : Span) → IsListed ss s → IsApart s at n) → IsFree ss at n
-free_by_each ss at n each = record { apart = apart_by_each ss at n each }
-
--- from a free range each lent one lies apart
-pub each_is_apart : {ss : List Span} {at n : ℕ} → IsFree ss at n → (s : Span) → IsListed ss s → IsApart s at n
-each_is_apart {ss = ss} {at = at} {n = n} free s listed = listed_apart ss s at n free.apart listed

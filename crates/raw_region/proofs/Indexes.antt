@@ -1,7 +1,6 @@
 -- Single bytes of what was written.
-use Rattle.std.proofs.Common.{◌≡◌, ℕ, zero, suc, ◌+◌, ◌-◌, ◌≤◌, ◌<◌, ◌⊎◌, List, [], ◌∷◌, length, drop, slice_index, refl, sym, ap, ◌∙◌, ⊎_elim, arith, le_of_suc-le-suc, not-suc-le-zero, get_or-take, get_or-drop}
+use Rattle.std.proofs.Common.{◌≡◌, ℕ, zero, suc, ◌+◌, ◌-◌, ◌≤◌, ◌<◌, ◌⊎◌, List, [], ◌∷◌, length, drop, slice_index, refl, ap, ◌∙◌, ⊎_elim, arith, le_of_suc-le-suc, not-suc-le-zero, get_or-take, get_or-drop}
 use Rattle.raw_region.specs.Bytes.{part, written}
-use Rattle.raw_region.proofs.Laws.{part-written}
 
 -- a byte of a part
 pub index-part : (xs : List ℕ) (at n k : ℕ) → at ≤ k → k < at + n → slice_index (part xs at n) (k - at) ≡ slice_index xs k
@@ -24,9 +23,3 @@ high (x ∷ xs) (suc at) ws (suc k) l = let l' : suc at + length ws ≤ suc k = 
 -- a byte outside what was written is unchanged
 pub index-written-apart : (xs : List ℕ) (at : ℕ) (ws : List ℕ) (k : ℕ) → (k < at) ⊎ (at + length ws ≤ k) → slice_index (written xs at ws) k ≡ slice_index xs k
 index-written-apart xs at ws k off = ⊎_elim (low xs at ws k) (high xs at ws k) off
-
--- a byte that was written is read
-pub index-written : (xs : List ℕ) (at : ℕ) (ws : List ℕ) (k : ℕ) → at + length ws ≤ length xs → k < length ws → slice_index (written xs at ws) (at + k) ≡ slice_index ws k
-index-written xs at ws k fits inside =
-    sym (index-part (written xs at ws) at (length ws) (at + k) (omega arith) (omega arith)) ∙ ap (slice_index (part (written xs at ws) at (length ws))) (let e : at + k - at ≡ k = omega arith in e)
-    ∙ ap (λ (l : List ℕ). slice_index l k) (part-written xs at ws fits)

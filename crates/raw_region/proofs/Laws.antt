@@ -48,10 +48,6 @@ part-written xs at ws fits =
     let long = length-take-le at xs (omega arith) in
     ap (λ (l : List ℕ). take (length ws) (drop at l)) (written_is xs at ws fits) ∙ ap (take (length ws)) (drop_at (take at xs) (ws ++ drop (length ws) (drop at xs)) at long) ∙ take_at ws (drop (length ws) (drop at xs)) (length ws) refl
 
--- a part of what was written
-pub part-written-inside : (xs : List ℕ) (at : ℕ) (ws : List ℕ) (k n : ℕ) → at + length ws ≤ length xs → k + n ≤ length ws → part (written xs at ws) (at + k) n ≡ part ws k n
-part-written-inside xs at ws k n fits inside = sym (part-part (written xs at ws) at (length ws) k n inside) ∙ ap (λ (l : List ℕ). part l k n) (part-written xs at ws fits)
-
 -- one write behind another
 pub written-append : (xs : List ℕ) (at : ℕ) (us vs : List ℕ) → written (written xs at us) (at + length us) vs ≡ written xs at (us ++ vs)
 written-append [] at us vs = refl

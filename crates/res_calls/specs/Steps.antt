@@ -1,13 +1,16 @@
 -- What a call of the Resource Manager does.
-use Rattle.std.specs.Prelude.{◌≡◌, ℕ, Bool, List, [], Option, Some, None, is_some, if◌then◌else◌, Result, Ok, Err, ⊤}
+use Rattle.std.specs.Prelude.{◌≡◌, ℕ, Bool, List, [], Option, Some, None, IfSome, is_some, if◌then◌else◌, Result, Ok, Err, OnOk, ⊤}
 use Rattle.std.specs.Option.{option_map_or}
 use Rattle.mac_base.specs.declared.error.OsErr.{OsErr}
 use Rattle.mac_base.specs.HeadKind.{Shape}
 use Rattle.mac_base.specs.Heap.{Heap}
 use Rattle.mac_calls.specs.declared.memory_call.MemoryCall.{MemoryCall}
+use Rattle.mac_calls.specs.ExactStep.{IsExactStep}
 use Rattle.mac_calls.specs.GrowZone.{Ask}
+use Rattle.mac_calls.specs.MemoryStep.{MemoryStep}
 use Rattle.mac_calls.specs.Outcomes.{Outcome}
 use Rattle.mac_calls.specs.Released.{disposed_in}
+use Rattle.fork_bytes.specs.Fork.{StandsFor}
 use Rattle.fork_bytes.specs.Written.{written}
 use Rattle.res_table.specs.declared.chain.RowPlace.{RowPlace}
 use Rattle.res_table.specs.OpenFiles.{is_open, file_opened, row_at}
@@ -54,6 +57,10 @@ opened_end k state (Err code) = refused_with code state
 abbrev pub MemoryRelation : Type 1
 MemoryRelation = Shape → Heap → MemoryCall → List Ask → Outcome → Heap → Type 0
 
+-- how a call of the Memory Manager steps: as it may, and just so
+abbrev pub Memory : MemoryRelation
+Memory shape old call asks outcome new = MemoryStep shape old call asks outcome new × IsExactStep shape old call asks outcome new
+
 -- what a replacement that failed may leave: by the new fork and the old one
 abbrev pub LeaveRelation : Type 1
 LeaveRelation = Disk → Disk → Disk → Type 0
@@ -93,3 +100,18 @@ module _ (Memory : MemoryRelation) (MayLeave : LeaveRelation) where
   -- replacement that failed may leave is this.
   abbrev pub ResourceStepBy : Device → ResState → ResourceCall → List Ask → ResourceEnd → Type 0
   ResourceStepBy device old call asks end = StepsUnless (resource_refusal old call) device old call asks end
+
+-- the update that such work makes
+abbrev pub update_in : Work → Option Update
+update_in (Updates u) = Some u
+update_in (Gets p) = None
+update_in (Opens k) = None
+update_in Quiet = None
+
+-- The file of an update stands for the table as it was saved, if there was an update: read again, it gives that table and no other.
+abbrev pub IsSaved : Option Update → ResState → Type 0
+IsSaved update state = IfSome update (λ u. StandsFor (disk_of u.file state) (saved_table u.table))
+
+-- Where a call that updates a file succeeds, the file reads back as the table that was saved.
+abbrev pub ReadsBack : ResState → ResourceCall → Outcome → ResState → Type 0
+ReadsBack old call outcome new = OnOk outcome (IsSaved (update_in (work_of old call)) new)

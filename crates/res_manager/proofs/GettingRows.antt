@@ -23,11 +23,11 @@ use Rattle.res_calls.specs.Device.{Device, Works as Working, FailsBefore}
 use Rattle.res_calls.specs.Files.{ResState, ResourceEnd, refused_with, with_heap, with_files}
 use Rattle.res_calls.specs.Loads.{loads_bytes, placing, loaded, unloaded, loaded_results, read_fails, load_end, placed_end}
 use Rattle.mac_calls.specs.Released.{disposed_in}
-use Rattle.res_calls.specs.Steps.{LeaveRelation, GetsPlace, behind_memory}
+use Rattle.res_calls.specs.Steps.{LeaveRelation, GetsPlace, behind_memory, Memory}
 use Rattle.res_files.specs.FilesOn.{FilesOn, SomeFailed}
 use Rattle.res_manager.specs.Loading.{LoadSteps, HasBytes, place_call, handle_placed}
 use Rattle.res_manager.proofs.Forgetting.{row_forgotten}
-use Rattle.res_manager.specs.Steps.{Memory, state_of}
+use Rattle.res_manager.specs.Steps.{state_of}
 
 -- the place that a row needs is made by this call
 places : (t : HandleTable) (loads : Bool) (r : FileRow) (own : Option ℕ) (size : ℕ) → own ≡ r.handle → size ≡ length r.resource.datum → IfSome own (λ h. (is_full t h || not loads) ≡ false) → placing t loads r ≡ Some (place_call own size loads)

@@ -13,7 +13,7 @@ use Rattle.mac_calls.specs.Tests.{refusal}
 use Rattle.call_laws.proofs.LentSteps.{step_keeps_lent}
 use Rattle.res_calls.specs.Updates.{disposed}
 use Rattle.res_manager.specs.Loading.{place_call}
-use Rattle.res_manager.specs.Steps.{Memory}
+use Rattle.res_calls.specs.Steps.{Memory}
 
 -- a call keeps what is lent where it does so when it isn't refused
 unless_refused : (s : Shape) (heap : Heap) (c : MemoryCall) (o : Option OsErr) → (step_unless s [] heap c None).heap.table.lent ≡ heap.table.lent → (step_unless s [] heap c o).heap.table.lent ≡ heap.table.lent

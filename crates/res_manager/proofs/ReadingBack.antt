@@ -11,7 +11,8 @@ use Rattle.res_calls.specs.Device.{Disk}
 use Rattle.res_calls.specs.Files.{ResState}
 use Rattle.res_calls.specs.Updates.{Update, update_of}
 use Rattle.res_files.specs.FilesOn.{FilesOn, fork_of}
-use Rattle.res_manager.specs.Steps.{IsSaved, ReadsBack, state_of, update_in}
+use Rattle.res_manager.specs.Steps.{state_of}
+use Rattle.res_calls.specs.Steps.{IsSaved, ReadsBack, update_in}
 use Rattle.res_manager.proofs.OpenedFiles.{disk-fork}
 use Rattle.res_manager.proofs.UpdatingCalls.{Makes}
 

@@ -11,14 +11,14 @@ use Rattle.mac_calls.specs.Tests.{unless_passed}
 use Rattle.res_calls.specs.Device.{Device, ReadsBy, device_works}
 use Rattle.res_calls.specs.Device as device
 use Rattle.res_calls.specs.Files.{ResState, ResourceEnd, disk_of, refused_with}
-use Rattle.res_calls.specs.Steps.{LeaveRelation, LeavesDisk, StepsUnless, Work, Quiet, Opens, Updates, work_of, opened_end, updating}
+use Rattle.res_calls.specs.Steps.{LeaveRelation, LeavesDisk, StepsUnless, Work, Quiet, Opens, Updates, work_of, opened_end, updating, Memory}
 use Rattle.res_calls.specs.Steps as steps
 use Rattle.res_calls.specs.Tests.{resource_refusal, first_refused_for}
 use Rattle.res_calls.specs.Updates.{Update, fits_fork, update_end}
 use Rattle.res_files.specs.FilesOn.{FilesOn, SomeFailed}
 use Rattle.res_table.specs.OpenFiles.{is_open}
 use Rattle.res_manager.specs.Ends.{EndsQuietly, OpensFile, WritesFile}
-use Rattle.res_manager.specs.Steps.{Memory, ResourceSteps, state_of}
+use Rattle.res_manager.specs.Steps.{ResourceSteps, state_of}
 use Rattle.res_manager.specs.Tests.{early_tests, late_tests}
 use Rattle.res_manager.proofs.Refusals.{refused-early}
 

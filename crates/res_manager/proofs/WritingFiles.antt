@@ -14,12 +14,12 @@ use Rattle.res_calls.specs.Changes.{FileTable, Files, saved_table}
 use Rattle.res_calls.specs.Device.{Device, Disk, device_works}
 use Rattle.res_calls.specs.Device as device
 use Rattle.res_calls.specs.Files.{ResState, disk_of, refused_with, with_disk, with_files}
-use Rattle.res_calls.specs.Steps.{LeaveRelation, LeavesDisk}
+use Rattle.res_calls.specs.Steps.{LeaveRelation, LeavesDisk, Memory}
 use Rattle.res_calls.specs.Updates.{Update, behind_update, fits_fork, update_end, update_of}
 use Rattle.res_files.specs.FilesOn.{FilesOn, SomeFailed, fork_of, forks_with}
 use Rattle.res_table.specs.OpenFiles.{file_closed, rows_changed, table_of}
 use Rattle.res_manager.specs.Ends.{WritesFile}
-use Rattle.res_manager.specs.Steps.{Memory, state_of}
+use Rattle.res_manager.specs.Steps.{state_of}
 use Rattle.res_manager.proofs.OpenedFiles.{disk-fork}
 use Rattle.res_manager.proofs.States.{same_end, same_state}
 

@@ -10,10 +10,10 @@ use Rattle.res_calls.specs.Changes.{FileTable}
 use Rattle.res_calls.specs.Device.{Device, ReadsBy, device_works}
 use Rattle.res_calls.specs.Files.{disk_of, refused_with}
 use Rattle.res_calls.specs.Quiet.{quiet_end}
-use Rattle.res_calls.specs.Steps.{LeaveRelation, LeavesDisk, opened_end}
+use Rattle.res_calls.specs.Steps.{LeaveRelation, LeavesDisk, opened_end, Memory}
 use Rattle.res_calls.specs.Updates.{Update, fits_fork, update_end}
 use Rattle.res_files.specs.FilesOn.{FilesOn, SomeFailed}
-use Rattle.res_manager.specs.Steps.{Memory, state_of}
+use Rattle.res_manager.specs.Steps.{state_of}
 
 -- the call ends so and leaves these, as calls do that need neither room in the zone nor a disk
 abbrev pub EndsQuietly : {S : Type 0} → (S → List ℕ) → ZoneState → FilesOn S → ResourceCall → Outcome → ZoneState → FilesOn S → Type 0

@@ -20,9 +20,9 @@ use Rattle.res_calls.specs.Attributes.{has_bit, res_locked, res_purgeable}
 use Rattle.res_calls.specs.Changes.{FileRow}
 use Rattle.res_calls.specs.Device.{Device, device_works}
 use Rattle.res_calls.specs.Loads.{loads_bytes, loaded_results}
-use Rattle.res_calls.specs.Steps.{LeaveRelation, GetsPlace}
+use Rattle.res_calls.specs.Steps.{LeaveRelation, GetsPlace, Memory}
 use Rattle.res_files.specs.FilesOn.{FilesOn, SomeFailed}
-use Rattle.res_manager.specs.Steps.{Memory, state_of}
+use Rattle.res_manager.specs.Steps.{state_of}
 
 -- the outcome of a call that gets or loads a row, by the row's handle or the code of its refusal
 abbrev pub loaded_outcome : ResourceCall → Result ℕ OsErr → Outcome

@@ -15,7 +15,7 @@ ghost use Rattle.res_files.specs.FilesOn.{SomeFailed};
 ghost use Rattle.res_table.specs.OpenFiles.{row_at};
 ghost use Rattle.res_table.specs.Rows.{with_handle};
 ghost use Rattle.res_manager.specs.Loading.{LoadSteps, IsPlaced, IsFilled, HasBytes, flags_for, place_call, handle_placed};
-ghost use Rattle.res_manager.specs.Steps.{Memory};
+ghost use Rattle.res_calls.specs.Steps.{Memory};
 
 use crate::watch::Watched;
 use bitflags::Flags;

@@ -4,10 +4,10 @@ ghost use Rattle.std.specs.Prelude.{◌≡◌, [], None, length, All, IsTrue, If
 ghost use Rattle.linked_zone.specs.Loans.{KeepsLoans};
 ghost use Rattle.res_calls.specs.Tests.{resource_refusal};
 ghost use Rattle.mac_calls.specs.declared.resource_call.ResourceCall.TheVariants as call;
-ghost use Rattle.res_calls.specs.Steps.{work_of};
+ghost use Rattle.res_calls.specs.Steps.{work_of, ReadsBack, update_in};
 ghost use Rattle.res_manager.specs.Crash.{CrashLeaves, IsSettled, file_settled};
 ghost use Rattle.res_manager.specs.Ends.{EndsQuietly, copies, is_calm, is_quiet};
-ghost use Rattle.res_manager.specs.Steps.{ReadsBack, ResourceSteps, state_of, takes_memory, update_in};
+ghost use Rattle.res_manager.specs.Steps.{ResourceSteps, state_of, takes_memory};
 ghost use Rattle.res_manager.specs.Tests.{AreLent, Passes, early_tests};
 
 use crate::getting::get;

@@ -4,12 +4,12 @@ ghost use Rattle.std.specs.Prelude.{◌≡◌, [], All, IfOk, OnOk, OnErr, IsTru
 ghost use Rattle.linked_zone.specs.Loans.{KeepsLoans};
 ghost use Rattle.mac_calls.specs.declared.resource_call.ResourceCall.TheVariants as call;
 ghost use Rattle.res_calls.specs.Changes.{rows_of};
-ghost use Rattle.res_calls.specs.Steps.{work_of};
+ghost use Rattle.res_calls.specs.Steps.{work_of, IsSaved, ReadsBack, update_in};
 ghost use Rattle.res_calls.specs.Tests.{resource_refusal};
 ghost use Rattle.res_calls.specs.Updates.{Update, disposed, fits_fork, handles_of, update_of};
 ghost use Rattle.res_manager.specs.Crash.{CrashLeaves, IsSettled, file_settled};
 ghost use Rattle.res_manager.specs.Ends.{WritesFile, writes};
-ghost use Rattle.res_manager.specs.Steps.{IsSaved, ReadsBack, ResourceSteps, state_of, takes_memory, update_in};
+ghost use Rattle.res_manager.specs.Steps.{ResourceSteps, state_of, takes_memory};
 ghost use Rattle.res_manager.specs.Tests.{Passes, early_tests};
 ghost use Rattle.res_table.specs.OpenFiles.{is_open};
 ghost use Rattle.res_update.specs.Selected.{updated, reads_lent};

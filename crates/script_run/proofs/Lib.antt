@@ -4,3 +4,4 @@ pub mod Left
 pub mod Opening
 pub mod Starting
 pub mod Shown
+pub mod Agreeing

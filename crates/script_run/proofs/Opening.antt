@@ -13,11 +13,10 @@ use Rattle.res_table.specs.OpenFiles.{is_open}
 use Rattle.res_calls.specs.Changes.{FileTable}
 use Rattle.res_calls.specs.Device.{Device}
 use Rattle.res_calls.specs.Files.{ResState, ResourceEnd}
-use Rattle.res_calls.specs.Steps.{LeaveRelation, MemoryRelation, Opens, Quiet, ResourceStepBy, StepsUnless, Works, opened_end, work_of}
+use Rattle.res_calls.specs.Steps.{LeaveRelation, MemoryRelation, Opens, Quiet, ResourceStepBy, StepsUnless, Works, opened_end, work_of, Memory as MayStep, update_in}
 use Rattle.res_calls.specs.Tests.{resource_refusal}
 use Rattle.res_calls.specs.Updates.{Update}
 use Rattle.res_manager.specs.Crash.{CrashLeaves}
-use Rattle.res_manager.specs.Steps.{Memory as MayStep, update_in}
 use Rattle.toolbox.specs.Steps.{Gives, Unchanged}
 use Rattle.toolbox.specs.ToolState.{ToolState, resource_state}
 use Rattle.script_run.specs.declared.machine.Machine.{Machine}

@@ -1,6 +1,6 @@
 -- The lines of a script print the replies of a run of calls.
 use Rattle.std.proofs.Common.{◌≡◌, ℕ, List, [], ◌∷◌, Ok, Err, refl, ap, sym, subst, ◌∙◌}
-use Rattle.std.specs.Prelude.{All}
+use Rattle.std.specs.Prelude.{All, map}
 use Rattle.mac_calls.specs.declared.call.Call.{Call}
 use Rattle.mac_calls.specs.declared.call.Call.TheVariants.{Memory as MemoryCalls, Loan, Resource, MemError, ResError}
 use Rattle.mac_calls.specs.declared.resource_call.ResourceCall.TheVariants.{OpenResFile}
@@ -10,7 +10,9 @@ use Rattle.mac_base.specs.ZoneSizes.{ZoneSizes}
 use Rattle.fork_disk.specs.declared.store.ForkStore.{Ghosts}
 use Rattle.res_files.specs.FilesOn.{FilesOn}
 use Rattle.toolbox.specs.Steps.{Gives}
-use Rattle.toolbox.specs.ToolState.{IsHonest, ToolState, resource_state}
+use Rattle.toolbox.specs.Headline.{tools_of}
+use Rattle.toolbox.specs.ToolState.{IsHonest}
+use Rattle.toolbox.proofs.Headline.{still-honest, tool-does}
 use Rattle.script_lines.specs.declared.line.Line.{Line}
 use Rattle.script_lines.specs.declared.line.Statement.{Statement}
 use Rattle.script_lines.specs.declared.line.Statement.TheVariants.{Call as CallStatement, Answer}
@@ -18,34 +20,13 @@ use Rattle.script_vars.specs.Variables.{call_of}
 use Rattle.script_run.specs.declared.machine.Machine.{Machine}
 use Rattle.script_run.specs.Line.{StatementDoes, start_of}
 use Rattle.script_run.specs.Run.{AreRun}
-use Rattle.res_laws.specs.Acts.{Memory}
+use Rattle.res_calls.specs.Steps.{Memory}
 use Rattle.res_laws.specs.Tools.{Called, IsToolRun, ToolDoes, Tools}
 use Rattle.res_laws.proofs.Acts.{anything-left}
 use Rattle.res_laws.proofs.Tools.{tools-show}
-use Rattle.script_run.specs.Headline.{PrintReplies, PrintsReply, RunShows, tools_of}
+use Rattle.script_run.specs.Headline.{PrintReplies, PrintsReply, RunShows}
 
 module _ {S : Type 0} (store : Ghosts S) where
-  -- a step of the toolbox is one of its zone, resource files and loans
-  tool-does : (old : ToolState S) (call : Call) (asks : List Ask) (outcome : Outcome) (new : ToolState S) → Gives store old call asks outcome new → new.shape ≡ old.shape → IsHonest store old → ToolDoes (tools_of store old) call asks outcome (tools_of store new)
-  tool-does old (MemoryCalls call) asks outcome new g shape honest = (g.1, g.2, made_of new.shape old.shape new.heap new.resources (without_handles (disposed_of call asks outcome) old.resources) shape g.3)
-  tool-does old (Loan call) asks outcome new g shape honest = (g.1, made_of new.shape old.shape new.heap new.resources old.resources shape g.2)
-  tool-does old (Resource call) asks outcome new g shape honest =
-      let r = g.0 honest in
-      (r.0, anything-left store.may_leave r.0 (resource_state store old) call asks (record { outcome = outcome; state = resource_state store new }) r.1, g.1, shape)
-  tool-does old MemError asks outcome new g shape honest = (g.2, g.3, shape)
-  tool-does old ResError asks outcome new g shape honest = (g.2, g.3, shape)
-
-  -- devices stay honest
-  same-stores : (old new : FilesOn S) → new.stores ≡ old.stores → All store.is_honest old.stores → All store.is_honest new.stores
-  same-stores old new same honest = subst (All store.is_honest) (sym same) honest
-
-  still-honest : (old : ToolState S) (call : Call) (asks : List Ask) (outcome : Outcome) (new : ToolState S) → Gives store old call asks outcome new → IsHonest store old → IsHonest store new
-  still-honest old (MemoryCalls call) asks outcome new g honest = same-stores old.resources new.resources (ap (λ (on : FilesOn S). on.stores) g.3) honest
-  still-honest old (Loan call) asks outcome new g honest = same-stores old.resources new.resources (ap (λ (on : FilesOn S). on.stores) g.2) honest
-  still-honest old (Resource call) asks outcome new g honest = g.2.0 honest
-  still-honest old MemError asks outcome new g honest = same-stores old.resources new.resources (ap (λ (on : FilesOn S). on.stores) g.4) honest
-  still-honest old ResError asks outcome new g honest = same-stores old.resources new.resources (ap (λ (on : FilesOn S). on.stores) g.4) honest
-
   -- what some lines print
   record Printed (old : Tools) (lines : List Line) (texts : List (List ℕ)) : Type 0 where
     pub calls : List Called
@@ -64,11 +45,11 @@ module _ {S : Type 0} (store : Ghosts S) where
       let call = call_of old.variables line in
       let step = does.2 in
       let outcome : Outcome = (does.0).outcome in
-      let others = rest (still-honest old.toolbox call does.1 outcome mid.toolbox step.0 honest) in
+      let others = rest (still-honest store old.toolbox call does.1 outcome mid.toolbox step.0 honest) in
       record {
         calls = record { call = call; asks = does.1; outcome = outcome; tools = tools_of store mid.toolbox } ∷ others.0;
         prints = (does.5, others.1);
-        run = (tool-does old.toolbox call does.1 outcome mid.toolbox step.0 step.1 honest, others.2);
+        run = (tool-does store old.toolbox call does.1 outcome mid.toolbox step.0 step.1 honest, others.2);
       }
   stated old mid number (Answer line) text Rest honest does rest =
       let others = rest (subst (IsHonest store) (sym does.1) honest) in
@@ -83,10 +64,10 @@ module _ {S : Type 0} (store : Ghosts S) where
   lines-print old [] (text ∷ texts) new honest run = absurd run
   lines-print old (line ∷ lines) [] new honest run = absurd run
 
--- whatever the lines of a script print shows the bytes last put
+-- whatever the lines of a script print is the replies of such calls
 pub run-shows : {S : Type 0} (store : Ghosts S) → RunShows store
-run-shows store sizes stores lines [] last put possible honest run = absurd run
-run-shows store sizes stores lines (text ∷ texts) last put possible honest run =
+run-shows store sizes stores lines [] last possible honest run = absurd run
+run-shows store sizes stores lines (text ∷ texts) last possible honest run =
     let start = start_of sizes stores in
     let opened = run.0 in
     let opens = run.1 in
@@ -95,4 +76,4 @@ run-shows store sizes stores lines (text ∷ texts) last put possible honest run
     let opening : Called = record { call = Resource (OpenResFile 1); asks = []; outcome = opens.0; tools = tools_of store opened.toolbox } in
     let calls = opening ∷ printed.calls in
     let goes : IsToolRun (tools_of store start.toolbox) calls = (tool-does store start.toolbox (Resource (OpenResFile 1)) [] opens.0 opened.toolbox opens.1 opens.2 honest, printed.run) in
-    (calls, (opens.7, printed.prints), goes, tools-show sizes (tools_of store start.toolbox) calls put possible refl refl refl goes)
+    (calls, (opens.7, printed.prints), goes, tools-show sizes (tools_of store start.toolbox) calls possible refl refl refl goes)

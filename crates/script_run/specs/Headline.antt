@@ -3,7 +3,7 @@ use Rattle.std.specs.Prelude.{◌≡◌, ℕ, List, [], ◌∷◌, All, Ok, Err,
 use Rattle.mac_base.specs.ZoneSizes.{ArePossible, ZoneSizes}
 use Rattle.mac_calls.specs.GrowZone.{answered}
 use Rattle.fork_disk.specs.declared.store.ForkStore.{Ghosts}
-use Rattle.toolbox.specs.ToolState.{ToolState, resource_state}
+use Rattle.toolbox.specs.Headline.{tools_of}
 use Rattle.script_lines.specs.declared.line.Line.{Line}
 use Rattle.script_lines.specs.declared.line.Statement.{Statement}
 use Rattle.script_lines.specs.declared.line.Statement.TheVariants.{Call as CallStatement, Answer}
@@ -11,12 +11,7 @@ use Rattle.reply_text.specs.Text.{reply_text}
 use Rattle.script_run.specs.declared.machine.Machine.{Machine}
 use Rattle.script_run.specs.Line.{opening_text, start_of}
 use Rattle.script_run.specs.Run.{IsRun}
-use Rattle.heap_laws.specs.LastPut.{LastPut}
-use Rattle.res_laws.specs.Tools.{AllShow, Called, IsToolRun, Tools}
-
--- the zone, the resource files and the loans of a toolbox
-abbrev pub tools_of : {S : Type 0} → Ghosts S → ToolState S → Tools
-tools_of store t = record { resources = resource_state store t; loans = t.loans }
+use Rattle.res_laws.specs.Tools.{Called, Headline, IsToolRun}
 
 -- a statement prints the reply of the first of these calls, with the asks that had an answer; an answer is no call, and prints nothing
 abbrev pub PrintsReply : ℕ → Statement → List ℕ → List Called → (List Called → Type 0) → Type 0
@@ -37,9 +32,9 @@ PrintAllReplies lines (text ∷ texts) (opening ∷ calls) = (text ≡ opening_t
 PrintAllReplies lines [] calls = ⊥
 PrintAllReplies lines (text ∷ texts) [] = ⊥
 
--- Whatever the lines of a script print from a new zone on is the replies of a run of calls, where the devices of the stores are honest.
--- Each reply tells of the bytes last put before it, and at the end every handle and pointer shows the bytes last put there.
+-- Whatever the lines of a script print is the replies of calls that were made, where the devices of the stores are honest; and this is
+-- what is promised of these calls.
 abbrev pub RunShows : {S : Type 0} → Ghosts S → Type 0
-RunShows {S = S} store = (sizes : ZoneSizes) (stores : List S) (lines : List Line) (texts : List (List ℕ)) (last : Machine S) (put : LastPut)
+RunShows {S = S} store = (sizes : ZoneSizes) (stores : List S) (lines : List Line) (texts : List (List ℕ)) (last : Machine S)
     → ArePossible sizes → All store.is_honest stores → IsRun store (start_of sizes stores) lines texts last
-    → (calls : List Called) × PrintAllReplies lines texts calls × IsToolRun (tools_of store (start_of sizes stores).toolbox) calls × AllShow (tools_of store (start_of sizes stores).toolbox) calls put
+    → (let start = tools_of store (start_of sizes stores).toolbox in (calls : List Called) × PrintAllReplies lines texts calls × IsToolRun start calls × Headline start calls)

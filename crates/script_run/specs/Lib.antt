@@ -3,3 +3,4 @@ pub mod End
 pub mod Line
 pub mod Run
 pub mod Headline
+pub mod Exact

@@ -3,6 +3,7 @@
 ghost use Rattle.std.specs.Prelude.{◌≡◌, ◌≢◌, ◌≤◌, ℕ, List, length, IfSome};
 ghost use Rattle.std.specs.Io.KnownBytes.{Appends};
 ghost use Rattle.script_run.specs.Counting.{Rose};
+ghost use Rattle.script_run.specs.Exact.{RunsAgree};
 ghost use Rattle.script_run.specs.Headline.{RunShows};
 ghost use Rattle.script_run.specs.Line.{start_of};
 ghost use Rattle.script_run.specs.Run.{Ends, FaultEnds, LinesEnd, NoMemoryEnds};
@@ -35,9 +36,13 @@ pub fn run<S: ForkStore, R: Read, W: Write>(
     ensures ends { (written : List ℕ) × Appends (W.contents writer.old.inner) (W.contents writer.new.inner) written
         × IfSome (R.remaining reader.old.inner) (λ input. Ends S.ForkStore (start_of spec stores.items) input result.0 written result.1.items) }
 
-    // Whatever lines print are the replies of calls over which every handle and pointer shows the bytes last put there, pointers and
+    // Whatever lines print is the replies of calls over which every handle and pointer shows the bytes last put there, pointers and
     // locked handles stay where they are, and blocks are lost and memFullErr is given only where they may.
     ensures headline { RunShows S.ForkStore }
+
+    // Two runs of the same lines, with the same sizes of the zone and the same forks, print the same and leave the same zone, loans, files
+    // and forks, where no device failed.
+    ensures exact { RunsAgree S.ForkStore }
 
     // A read that failed ends the run with ReadFault, which comes of nothing else; and so with a write.
     ensures read_fault { result.0 ≡ RunEnd.ReadFault → Rose reader.old.failures reader.new.failures }

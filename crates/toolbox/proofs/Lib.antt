@@ -2,3 +2,4 @@ pub mod Lent
 pub mod Queued
 pub mod Quiet
 pub mod Resources
+pub mod Headline

@@ -26,7 +26,7 @@ use Rattle.mac_calls.specs.GrowZone.{Answer, Ask, answered, answers_in, may_ask,
 use Rattle.toolbox.specs.declared.queue.Kept.{Kept}
 use Rattle.toolbox.specs.Queue.{HasItsCalls, IsInOrder, Queue, TookAnswers, kept_answer, left_of}
 use Rattle.fork_disk.specs.declared.store.ForkStore.{Ghosts}
-use Rattle.res_manager.specs.Steps.{Memory as MayStep}
+use Rattle.res_calls.specs.Steps.{Memory as MayStep}
 use Rattle.toolbox.specs.Steps.{LeavesAnswers, ResourceGives, Steps, StepsFrom}
 use Rattle.toolbox.specs.ToolState.{ToolState, resource_state}
 use Rattle.toolbox.proofs.Resources.{step_by}

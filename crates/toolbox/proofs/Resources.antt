@@ -20,11 +20,10 @@ use Rattle.res_calls.specs.Changes.{FileRow, Files, handles_forgotten}
 use Rattle.res_calls.specs.Device.{Device}
 use Rattle.res_calls.specs.Files.{ResState, ResourceEnd}
 use Rattle.res_calls.specs.Loads.{loads_bytes, placing}
-use Rattle.res_calls.specs.Steps.{GetsPlace, GetsRow, Gets, LeaveRelation, MemoryRelation, Opens, Quiet, ResourceStepBy, StepsUnless, Updates, Work, Works, work_of}
+use Rattle.res_calls.specs.Steps.{GetsPlace, GetsRow, Gets, LeaveRelation, MemoryRelation, Opens, Quiet, ResourceStepBy, StepsUnless, Updates, Work, Works, work_of, Memory as MayStep, ReadsBack, update_in}
 use Rattle.res_calls.specs.Tests.{resource_refusal}
 use Rattle.res_files.specs.FilesOn.{FilesOn}
 use Rattle.res_manager.specs.Crash.{CrashLeaves, IsSettled, file_settled}
-use Rattle.res_manager.specs.Steps.{Memory as MayStep, ReadsBack, update_in}
 use Rattle.fork_disk.specs.declared.store.ForkStore.{Ghosts}
 use Rattle.toolbox.specs.Steps.{Gives, ResourceGives, Unchanged}
 use Rattle.toolbox.specs.ToolState.{ToolState, IsHonest, resource_state, without_handles}

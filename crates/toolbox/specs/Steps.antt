@@ -20,11 +20,11 @@ use Rattle.mac_calls.specs.Released.{disposed_of}
 use Rattle.mac_calls.specs.Tests.{refusal}
 use Rattle.fork_disk.specs.declared.store.ForkStore.{Ghosts}
 use Rattle.res_calls.specs.Device.{Device, device_works}
-use Rattle.res_calls.specs.Steps.{MemoryRelation, ResourceStepBy, work_of}
+use Rattle.res_calls.specs.Steps.{MemoryRelation, ResourceStepBy, work_of, Memory as MayStep, ReadsBack, update_in}
 use Rattle.res_calls.specs.Tests.{resource_refusal}
 use Rattle.res_files.specs.FilesOn.{SomeFailed}
 use Rattle.res_manager.specs.Crash.{CrashLeaves, IsSettled, file_settled}
-use Rattle.res_manager.specs.Steps.{takes_memory as resource_takes_memory, Memory as MayStep, ReadsBack, update_in}
+use Rattle.res_manager.specs.Steps.{takes_memory as resource_takes_memory}
 use Rattle.toolbox.specs.ToolState.{ToolState, IsHonest, resource_state, without_handles}
 
 -- From the old zone, the call with these asks may have this outcome and leave the new zone: it is a memory step, and just that

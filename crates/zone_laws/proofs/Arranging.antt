@@ -163,11 +163,6 @@ pub used_blocks-down : (b : ZoneMap) → used_blocks (down b) ≡ used_blocks b
 used_blocks-down b = filter-append _ (used_blocks b) (free_block (free_bytes b)) ∙ ap (λ c. used_blocks (used_blocks b) ++ c) (used_blocks-free_block (free_bytes b))
     ∙ append-nil (used_blocks (used_blocks b)) ∙ used_blocks-same (used_blocks b) (used_blocks-all_used b)
 
--- up keeps the blocks in use, in order
-pub used_blocks-up : (b : ZoneMap) → used_blocks (up b) ≡ used_blocks b
-used_blocks-up b = filter-append _ (free_block (free_bytes b)) (used_blocks b) ∙ ap (λ c. c ++ used_blocks (used_blocks b)) (used_blocks-free_block (free_bytes b))
-    ∙ used_blocks-same (used_blocks b) (used_blocks-all_used b)
-
 -- down is an arrangement
 pub down-IsArrangement : (b : ZoneMap) → IsArrangement b (down b)
 down-IsArrangement b =

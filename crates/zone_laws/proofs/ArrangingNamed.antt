@@ -4,7 +4,6 @@ use Rattle.std.specs.Prelude.{◌||◌, filter, if◌then◌else◌}
 use Rattle.std.specs.List.{list_all}
 use Rattle.std.proofs.lemmas.Bool.{and_from, and_parts, eqb-true, false_from_ne_true, true≢false, false≢true}
 use Rattle.std.proofs.lemmas.List.Folds.{list_all-append}
-use Rattle.std.proofs.lemmas.List.Elements.{filter-append}
 use Rattle.mac_base.specs.declared.block.Entry.{Entry}
 use Rattle.mac_base.specs.declared.block.Kind.{Kind}
 use Rattle.mac_base.specs.declared.block.Kind.TheVariants.{Free, Master, Ptr, Rel}
@@ -13,7 +12,7 @@ use Rattle.mac_base.specs.Suits.{free_apart}
 use Rattle.mac_base.specs.Gap.{has_named}
 use Rattle.mac_base.specs.Arrangement.{used_blocks, put_behind, open_at, high}
 use Rattle.zone_laws.proofs.GapAppend.{total_size-append, free_bytes-append, sizes-append}
-use Rattle.zone_laws.proofs.Arranging.{free_is, named-used, is_kind-free, all_used, used_blocks-all_used, used_blocks-same, list_all-used, has_named-used, sizes-used, total_size-used, free_bytes-all_used, total_size-free_block, free_bytes-free_block, sizes-free_block, used_blocks-free_block, list_all-free_block, free_apart-behind_used, free_apart-around, IsArrangement}
+use Rattle.zone_laws.proofs.Arranging.{free_is, named-used, is_kind-free, all_used, used_blocks-all_used, list_all-used, has_named-used, sizes-used, total_size-used, free_bytes-all_used, total_size-free_block, free_bytes-free_block, sizes-free_block, list_all-free_block, free_apart-behind_used, free_apart-around, IsArrangement}
 
 -- what is put behind the first block that x names, where x names one
 total_size-put_behind : (x : ℕ) (f b : ZoneMap) → has_named x b ≡ true → total_size (put_behind x f b) ≡ total_size f + total_size b
@@ -45,24 +44,12 @@ list_all-put_behind p x f (e ∷ es) hf hb = let parts = and_parts _ _ hb in eli
   | false ↦ and_from _ _ parts.0 (list_all-put_behind p x f es hf parts.1)
 ]
 
-used_blocks-put_behind : (x : ℕ) (f b : ZoneMap) → used_blocks f ≡ [] → used_blocks (put_behind x f b) ≡ used_blocks b
-used_blocks-put_behind x f [] h = refl
-used_blocks-put_behind x f (e ∷ es) h =
-    elim (is_named x e.kind) as (λ b. used_blocks (cond b (e ∷ (f ++ es)) (e ∷ put_behind x f es)) ≡ cond (not (is_free e.kind)) (e ∷ used_blocks es) (used_blocks es)) [
-      | true ↦ ap (λ us. cond (not (is_free e.kind)) (e ∷ us) us) (filter-append _ f es ∙ ap (λ us. us ++ used_blocks es) h)
-      | false ↦ ap (λ us. cond (not (is_free e.kind)) (e ∷ us) us) (used_blocks-put_behind x f es h)
-    ]
-
 free_apart-put_behind : (x n : ℕ) (b : ZoneMap) → all_used b ≡ true → free_apart (put_behind x (free_block n) b) ≡ true
 free_apart-put_behind x n [] h = refl
 free_apart-put_behind x n (e ∷ es) h = let parts = and_parts _ _ h in elim (is_named x e.kind) as (λ b. free_apart (cond b (e ∷ (free_block n ++ es)) (e ∷ put_behind x (free_block n) es)) ≡ true) [
   | true ↦ free_apart-around (e ∷ []) es n (and_from _ _ parts.0 refl) parts.1
   | false ↦ free_apart-behind_used (e ∷ []) (put_behind x (free_block n) es) (and_from _ _ parts.0 refl) ∙ free_apart-put_behind x n es parts.1
 ]
-
--- open at a block keeps the blocks in use, in order
-pub used_blocks-open_at : (h : ℕ) (b : ZoneMap) → used_blocks (open_at h b) ≡ used_blocks b
-used_blocks-open_at h b = used_blocks-put_behind h (free_block (free_bytes b)) (used_blocks b) (used_blocks-free_block (free_bytes b)) ∙ used_blocks-same (used_blocks b) (used_blocks-all_used b)
 
 -- open at a block, where it is one of the blocks, is an arrangement
 pub open_at-IsArrangement : (h : ℕ) (b : ZoneMap) → has_named h b ≡ true → IsArrangement b (open_at h b)

@@ -35,12 +35,6 @@ addresses_from-append at test (e ∷ es) b = let first : List ℕ = if test e.ki
 pub same_test : {p q : Kind → Bool} → ((k : Kind) → p k ≡ q k) → p ≡ q
 same_test h = λ i k. h k i
 
--- blocks of which none passes the test
-pub sizes-none : (test : Kind → Bool) (m : ZoneMap) → IsTrue (list_all (λ (e : Entry). not (test e.kind)) m) → sizes test m ≡ []
-sizes-none test [] h = refl
-sizes-none test (e ∷ es) h = let parts = and_parts (not (test e.kind)) (list_all (λ (e : Entry). not (test e.kind)) es) h in
-    ap (λ b. cond b (e.size ∷ []) [] ++ sizes test es) (not-true (test e.kind) parts.0) ∙ sizes-none test es parts.1
-
 -- blocks of which none passes the test have no address
 pub addresses_from-none : (at : ℕ) (test : Kind → Bool) (m : ZoneMap) → IsTrue (list_all (λ (e : Entry). not (test e.kind)) m) → addresses_from at test m ≡ []
 addresses_from-none at test [] h = refl

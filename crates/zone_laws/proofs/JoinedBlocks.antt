@@ -1,7 +1,6 @@
 -- What joining neighbouring free blocks keeps, and which maps it makes one.
 use Rattle.std.proofs.Common.{◌≡◌, ℕ, ◌+◌, Bool, true, false, not, cond, [], ◌∷◌, ◌++◌, refl, ap, sym, ◌∙◌, add_assoc}
 use Rattle.std.specs.Prelude.{◌&&◌}
-use Rattle.std.specs.List.{list_all}
 use Rattle.std.proofs.lemmas.Bool.{and_from, and_parts, and_right, not-true}
 use Rattle.mac_base.specs.declared.block.Entry.{Entry}
 use Rattle.mac_base.specs.declared.block.Kind.{Kind}
@@ -71,18 +70,6 @@ joined-two a b m = by_rest (joined m)
       | true ↦ ap (λ n. block Free n ∷ es) (sym (add_assoc a b f.size))
       | false ↦ refl
     ]
-
--- what holds of each block, and of free blocks of any size, holds of each block of the joined map
-pub list_all-joined : (p : Entry → Bool) (m : ZoneMap) → ((n : ℕ) → p (block Free n) ≡ true) → list_all p m ≡ true → list_all p (joined m) ≡ true
-list_all-joined p [] free h = h
-list_all-joined p (e ∷ es) free h =
-    let parts = and_parts (p e) (list_all p es) h in
-    let rest = list_all-joined p es free parts.1 in
-    join_cases (λ j. list_all p j ≡ true) e (joined es) (λ f fs was _ _. and_from _ _ (free (e.size + f.size)) (and_parts (p f) (list_all p fs) (ap (list_all p) (sym was) ∙ rest)).1) (and_from _ _ parts.0 rest)
-
--- free blocks of a joined map are apart
-starts_free-joined_to : (e : Entry) (m : ZoneMap) → starts_free (joined_to e m) ≡ is_free e.kind
-starts_free-joined_to e m = join_cases (λ j. starts_free j ≡ is_free e.kind) e m (λ f es was free _. sym (ap is_free free)) refl
 
 -- a block joined to others among which free blocks are apart leaves them apart
 pub free_apart-joined_to : (e : Entry) (m : ZoneMap) → free_apart m ≡ true → free_apart (joined_to e m) ≡ true

@@ -1,7 +1,6 @@
 -- A map once the blocks of a number are free.
 use Rattle.std.proofs.Common.{◌≡◌, ℕ, ◌+◌, ◌-◌, ◌≤◌, Bool, true, false, cond, [], ◌∷◌, ◌++◌, refl, ap, sym, ◌∙◌, arith}
 use Rattle.std.specs.Prelude.{map, nat_lt, if◌then◌else◌}
-use Rattle.std.proofs.lemmas.Bool.{or_parts}
 use Rattle.std.proofs.lemmas.List.{map-append}
 use Rattle.mac_base.specs.declared.block.Entry.{Entry}
 use Rattle.mac_base.specs.declared.block.Kind.{Kind}
@@ -9,7 +8,6 @@ use Rattle.mac_base.specs.declared.block.Kind.TheVariants.{Free}
 use Rattle.mac_base.specs.HeadKind.{Shape, smallest_block}
 use Rattle.mac_base.specs.ZoneMap.{ZoneMap, Rearranged, block, is_free, is_named, is_kind, joined, released, total_size, address_behind, addresses_from, sizes}
 use Rattle.mac_base.specs.Suits.{free_apart}
-use Rattle.mac_base.specs.Gap.{has_named}
 use Rattle.mac_base.specs.Serve.{taken}
 use Rattle.zone_laws.proofs.Arranging.{is_kind-free}
 use Rattle.zone_laws.proofs.ArrangingNamed.{other_kind}
@@ -22,11 +20,6 @@ marked_block x e = if is_named x e.kind then block Free e.size else e
 -- the map with the blocks of x free, but not joined
 abbrev pub marked : ℕ → ZoneMap → ZoneMap
 marked x m = map (marked_block x) m
-
--- where x names no block, no size is of x
-pub sizes-named_none : (x : ℕ) (m : ZoneMap) → has_named x m ≡ false → sizes (is_named x) m ≡ []
-sizes-named_none x [] h = refl
-sizes-named_none x (e ∷ es) h = let parts = or_parts (is_named x e.kind) (has_named x es) h in ap (λ c. cond c (e.size ∷ []) [] ++ sizes (is_named x) es) parts.0 ∙ sizes-named_none x es parts.1
 
 -- blocks of which x names none stay
 pub marked-none : (x : ℕ) (m : ZoneMap) → sizes (is_named x) m ≡ [] → marked x m ≡ m

@@ -1,8 +1,7 @@
 -- A sound heap stays sound where a new pointer takes the lowest free block, and its number is where the contents begin.
-use Rattle.std.proofs.Common.{◌≡◌, ℕ, zero, suc, ◌+◌, ◌<◌, ◌-◌, ◌≤◌, ◌↔◌, true, false, cond, [], ◌∷◌, ◌++◌, length, get_or, take, Some, None, Option, MatchOption, option_map, position, refl, ap, sym, ◌∙◌, arith, IsTrue, IsFalse, Contains, subst}
+use Rattle.std.proofs.Common.{◌≡◌, ℕ, ◌+◌, ◌-◌, ◌≤◌, ◌↔◌, true, false, cond, [], ◌∷◌, ◌++◌, Some, None, Option, MatchOption, option_map, refl, ap, sym, ◌∙◌, IsTrue, IsFalse, Contains, subst}
 use Rattle.std.specs.Prelude.{⊤}
 use Rattle.std.proofs.lemmas.List.{length-replicate}
-use Rattle.std.proofs.lemmas.List.Quantifiers.{position-Some}
 use Rattle.mac_base.specs.declared.block.Entry.{Entry}
 use Rattle.mac_base.specs.declared.block.Kind.{Kind}
 use Rattle.mac_base.specs.declared.block.Kind.TheVariants.{Free, Ptr}
@@ -48,20 +47,6 @@ lowest_parts s k kind (e ∷ es) =
 -- what taking the lowest free block gives has these parts
 pub take_lowest-lowest : (s : Shape) (k : ℕ) (kind : Kind) (m new : ZoneMap) → take_lowest s k kind m ≡ Some new → TakenLowest s k kind m new
 take_lowest-lowest s k kind m new is = subst (λ o. MatchOption o ⊤ (λ x. TakenLowest s k kind m x)) is (lowest_parts s k kind m)
-
-before_place : (k : ℕ) (m : ZoneMap) (i : ℕ) (d : Entry) → i < length m → has_free k (get_or m i d) ≡ true → ((j : ℕ) → j < i → has_free k (get_or m j d) ≡ false) → lowest_before k m ≡ take i m
-before_place k [] i d within here below = absurd (omega arith)
-before_place k (e ∷ es) zero d within here below = ap (λ b. cond b [] (e ∷ lowest_before k es)) here
-before_place k (e ∷ es) (suc i) d within here below = ap (λ b. cond b [] (e ∷ lowest_before k es)) (below 0 (omega arith))
-    ∙ ap (λ m. e ∷ m) (before_place k es i d (omega arith) here (λ j lt. below (suc j) (omega arith)))
-
--- they are as many as a search passes over
-pub lowest_before-position : (k : ℕ) (m : ZoneMap) (i : ℕ) → position (has_free k) m ≡ Some i → lowest_before k m ≡ take i m
-lowest_before-position k m i found = let h = position-Some (has_free k) m i (block Free 0) found in before_place k m i (block Free 0) h.0 h.1 h.2
-
--- so the place is found from a search
-pub lowest_contents-position : (s : Shape) (k : ℕ) (m : ZoneMap) (i : ℕ) → position (has_free k) m ≡ Some i → lowest_contents s k m ≡ address_behind s (take i m) + head_size s.heads
-lowest_contents-position s k m i found = ap (λ before. address_behind s before + head_size s.heads) (lowest_before-position k m i found)
 
 module _ (s : Shape) (heap : Heap) (n p : ℕ) (m : ZoneMap) (sound : Sound s heap) (is : take_lowest s (need s.heads n) (Ptr p) heap.map ≡ Some m) (here : p ≡ lowest_contents s (need s.heads n) heap.map) where
   lowest : TakenLowest s (need s.heads n) (Ptr p) heap.map m

@@ -1,5 +1,5 @@
 -- What is known of the blocks of bytes of a zone while it is changed, and when they are those of the changed one.
-use Rattle.std.proofs.Common.{◌≡◌, ℕ, ◌+◌, ◌≤◌, true, List, [], ◌∷◌, ◌++◌, length, ap, sym, ◌∙◌, arith}
+use Rattle.std.proofs.Common.{◌≡◌, ◌+◌, ◌≤◌, true, List, [], ◌∷◌, ◌++◌, length, ap, sym, ◌∙◌, arith}
 use Rattle.std.specs.List.{All, list_all}
 use Rattle.std.proofs.lemmas.List.Elements.{All-append, All-cons, All-head, All-nil, All-same, All-tail}
 use Rattle.std.proofs.lemmas.List.Folds.{list_all-append}
@@ -8,7 +8,7 @@ use Rattle.zone_laws.proofs.Maps.{both_true, true_both}
 use Rattle.mac_base.specs.declared.block.HeadKind.{HeadKind}
 use Rattle.block_bytes.specs.declared.header.Role.TheVariants as role
 use Rattle.block_bytes.specs.Layout as raw
-use Rattle.block_bytes.specs.Layout.{RawBlock, Layout, BlockAt, size_of, with_blocks, is_possible}
+use Rattle.block_bytes.specs.Layout.{RawBlock, Layout, size_of, with_blocks}
 use Rattle.zone_records.specs.declared.records.Records.TheInside.{Inside}
 use Rattle.zone_records.specs.Records as records
 use Rattle.zone_records.specs.Records.{BlockRecord, ZoneRecords, total_of, address_behind}
@@ -125,7 +125,3 @@ module _ (l : Layout) (z : ZoneRecords) (held : Held l z) where
           high = omega arith;
         };
       }
-
--- a block of bytes by its address
-pub block-of : (l : Layout) (at : ℕ) (xs : List RawBlock) (b : RawBlock) (ys : List RawBlock) → l.blocks ≡ xs ++ b ∷ ys → at ≡ raw.address_behind l xs → BlockAt l at
-block-of l at xs b ys is place = record { before = xs; here = b; behind = ys; blocks = is; place = place }

@@ -16,7 +16,6 @@ mod Fitting
 mod Fitted
 mod Growing
 mod Turning
-mod Exchanging
 mod Carrying
 mod Flagging
 mod Lending

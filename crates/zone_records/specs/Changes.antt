@@ -9,7 +9,7 @@ use Rattle.raw_region.specs.State.{Loan}
 use Rattle.zone_records.specs.declared.slot.Slot.{Slot}
 use Rattle.zone_records.specs.declared.slot.Slot.TheVariants as slot
 use Rattle.zone_records.specs.Records.{Content, Free, Master, BlockRecord, block_record, lent_record, handle_record, ZoneRecords, with_blocks, with_bytes, bytes_of, total_of}
-use Rattle.zone_records.specs.Places.{FreeAt, HeldAt, HandleBlockAt, SlotAt, FreePair, CanHold, CanGrow, PairAt, ParcelAt, ParcelUpTo, IsLoanOf}
+use Rattle.zone_records.specs.Places.{FreeAt, HeldAt, HandleBlockAt, SlotAt, FreePair, CanHold, CanGrow, ParcelAt, ParcelUpTo, IsLoanOf}
 
 -- a new zone: one free block, and no slot
 abbrev pub new_records : Memory → ZoneSizes → ZoneRecords
@@ -70,10 +70,6 @@ held_there {size = size} {n = n} z can = let held = can.held in
 abbrev pub enlarged : {at size n : ℕ} → (z : ZoneRecords) → CanGrow z at size n → ZoneRecords
 enlarged {size = size} {n = n} z can =
     with_blocks (can.before ++ block_record (sized n can.content) size ∷ free_record (can.first + can.second - size) ++ can.behind) z
-
--- two neighbours have changed places
-abbrev pub exchanged : {at : ℕ} → (z : ZoneRecords) → PairAt z at → ZoneRecords
-exchanged z pair = with_blocks (pair.before ++ pair.second ∷ pair.first ∷ pair.behind) z
 
 -- the block stands behind the others
 abbrev pub carried : {at end : ℕ} → (z : ZoneRecords) → ParcelAt z at end → ZoneRecords

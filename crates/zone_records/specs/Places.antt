@@ -133,17 +133,6 @@ pub record CanGrow (z : ZoneRecords) (at size n : ℕ) : Type 0 where
   pub held : IsTrue (has_bytes content)
   pub fits : CanFront z.shape (first + second) size n
 
--- two neighbours that aren't lent, the first at an address
-pub record PairAt (z : ZoneRecords) (at : ℕ) : Type 0 where
-  pub before : List BlockRecord
-  pub first : BlockRecord
-  pub second : BlockRecord
-  pub behind : List BlockRecord
-  pub blocks : z.blocks ≡ before ++ first ∷ second ∷ behind
-  pub place : at ≡ address_behind z.shape before
-  pub here_first : first.lent ≡ false
-  pub here_second : second.lent ≡ false
-
 -- whether none of these is lent
 abbrev pub none_lent : List BlockRecord → Bool
 none_lent bs = list_all (λ (b : BlockRecord). not b.lent) bs

@@ -43,7 +43,7 @@ impl Drop for Records {
 }
 
 impl Records {
-    ghost use Rattle.std.specs.Prelude.{◌≡◌, ◌+◌, ◌∷◌, [], not, ◌==◌, ◌≤◌, ◌<◌, ◌^◌, ◌%◌, ◌-◌, ◌↔◌, IfOk, IfSome, IfNone, IsTrue};
+    ghost use Rattle.std.specs.Prelude.{◌≡◌, ◌+◌, [], not, ◌==◌, ◌≤◌, ◌<◌, ◌%◌, ◌-◌, ◌↔◌, IfOk, IfSome, IfNone, IsTrue};
     ghost use Rattle.std.specs.List.{list_all};
     ghost use Rattle.std.specs.Borrow.{sem};
     ghost use Rattle.mac_base.specs.HeadKind.{head_size, master_length, slot_count};
@@ -51,8 +51,8 @@ impl Records {
     ghost use Rattle.mac_base.specs.ZoneMap.{block};
     ghost use Rattle.zone_records.specs.Records.{ZoneRecords, Fixed, Master, Relocatable, sizes_of, kind_of, length_of, bytes_of, lent_count, address_behind, NothingLent};
     ghost use Rattle.mac_base.specs.Loans.{most_loans};
-    ghost use Rattle.zone_records.specs.Places.{RecordAt, FreeAt, HeldAt, HandleBlockAt, SlotAt, RoomFor, CanCut, FreePair, CanHold, CanGrow, PairAt, ParcelAt, IsLoanOf, LowestAt, has_free, can_say, can_flag, ParcelUpTo, SplitAt, FirstFree, LastFree, none_free, free_total};
-    ghost use Rattle.zone_records.specs.Changes.{new_records, with_front, extended, filled, chained, emptied, flagged, with_slot, cut_in_two, joined_pair, held_there, enlarged, exchanged, carried, sunk, lent_out, loan_of, taken_back};
+    ghost use Rattle.zone_records.specs.Places.{RecordAt, FreeAt, HeldAt, HandleBlockAt, SlotAt, RoomFor, CanCut, FreePair, CanHold, CanGrow, ParcelAt, IsLoanOf, LowestAt, has_free, can_say, can_flag, ParcelUpTo, SplitAt, FirstFree, LastFree, none_free, free_total};
+    ghost use Rattle.zone_records.specs.Changes.{new_records, with_front, extended, filled, chained, emptied, flagged, with_slot, cut_in_two, joined_pair, held_there, enlarged, carried, sunk, lent_out, loan_of, taken_back};
     ghost use Rattle.zone_records.specs.Fitting.{fitted, CanKeep};
     ghost use Rattle.zone_records.specs.Copying.{CanCopy, copied};
     ghost use Rattle.zone_records.specs.Image.{HasBytes};
@@ -320,14 +320,6 @@ impl Records {
         let whole = first + second - self.head_size();
         self.blocks.merge(at, whole);
         self.fit(at, size, length, kept);
-    }
-
-    /// Exchanges two neighbouring blocks, each with its bytes. A master pointer that names one of them stays as it is.
-    pub fn exchange(&mut self, at: u32)
-        requires { PairAt self.old at }
-        ensures { (pair : PairAt self.old at) → self.new ≡ exchanged self.old pair }
-    {
-        self.blocks.exchange(at);
     }
 
     /// The block at an address changes places with those behind it up to an address, each with its bytes. A master pointer

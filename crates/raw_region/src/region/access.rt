@@ -1,6 +1,6 @@
 //! Reads and writes.
 
-ghost use Rattle.std.specs.Prelude.{◌≡◌, ◌+◌, ◌-◌, ◌<◌, ◌≤◌, [], ◌∷◌, length, replicate, slice_index};
+ghost use Rattle.std.specs.Prelude.{◌≡◌, ◌+◌, ◌≤◌, length, replicate};
 ghost use Rattle.std.specs.Borrow.{sem};
 ghost use Rattle.byteorder.specs.Endian.{big_bytes, big_number};
 ghost use Rattle.raw_region.specs.Bytes.{part, written};
@@ -39,37 +39,6 @@ impl Region {
         ensures len { length result.now ≡ n }
     {
         self.cells.bytes_mut(at, n)
-    }
-
-    /// The byte at `at`, which is inside the region and not lent.
-    pub fn get8(&self, at: usize) -> u8
-        requires inside { at + 1 ≤ length self.now.bytes }
-        requires free { IsFree self.now.lent at 1 }
-        ensures { result ≡ slice_index self.now.bytes at }
-    {
-        self.bytes(at, 1)[0]
-    }
-
-    /// Writes the byte at `at`, which is inside the region and not lent.
-    #[tactic(auto, using(crate::proofs::Rules::upkeep))]
-    pub fn put8(&mut self, at: usize, x: u8)
-        requires inside { at + 1 ≤ length self.old.bytes }
-        requires free { IsFree self.old.lent at 1 }
-        ensures bytes { self.new.bytes ≡ written self.old.bytes at (x ∷ []) }
-        ensures len { length self.new.bytes ≡ length self.old.bytes }
-        ensures name { self.new.name ≡ self.old.name }
-        ensures lent { self.new.lent ≡ self.old.lent }
-    {
-        self.bytes_mut(at, 1)[0] = x;
-    }
-
-    /// The number whose 2 bytes lie from `at` on, the high byte first. They are inside the region, and none is lent.
-    pub fn get16(&self, at: usize) -> u16
-        requires inside { at + 2 ≤ length self.now.bytes }
-        requires free { IsFree self.now.lent at 2 }
-        ensures { result ≡ big_number 2 (part self.now.bytes at 2) }
-    {
-        BigEndian::read_u16(self.bytes(at, 2))
     }
 
     /// Writes a number as the 2 bytes from `at` on, the high byte first. They are inside the region, and none is lent.

@@ -1,8 +1,8 @@
 use Rattle.std.proofs.Common.{List, map, None, Err, refl, sym, ap, subst}
 use Rattle.mac_calls.specs.GrowZone.{Ask}
-use Rattle.res_calls.specs.Steps.{work_of}
+use Rattle.res_calls.specs.Steps.{work_of, update_in}
 use Rattle.res_files.specs.FilesOn.{FilesOn}
-use Rattle.res_manager.specs.Steps.{ResourceSteps, state_of, update_in}
+use Rattle.res_manager.specs.Steps.{ResourceSteps, state_of}
 use Rattle.res_manager.proofs.Crash.{calm_leaves}
 use Rattle.res_manager.proofs.Stepping.{refused_steps}
 use Rattle.res_manager.proofs.UpdatingCalls.{on_err}

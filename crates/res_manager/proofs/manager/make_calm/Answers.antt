@@ -1,10 +1,10 @@
 use Rattle.std.proofs.Common.{◌≡◌, List, map, None, true, rules, sym, ap, subst}
 use Rattle.std.specs.Prelude.{All, IfOk}
 use Rattle.mac_calls.specs.GrowZone.{Ask}
-use Rattle.res_calls.specs.Steps.{work_of}
+use Rattle.res_calls.specs.Steps.{work_of, update_in}
 use Rattle.res_manager.specs.Crash.{CrashLeaves}
 use Rattle.res_manager.specs.Ends.{is_quiet}
-use Rattle.res_manager.specs.Steps.{ResourceSteps, state_of, update_in}
+use Rattle.res_manager.specs.Steps.{ResourceSteps, state_of}
 use Rattle.res_manager.proofs.CalmCalls.{calm_passes, calm_reads, calm_settles, calm_work, copies_take, err_same, if_any, quiet_work}
 use Rattle.res_manager.proofs.Crash.{calm_leaves, err_anyhow}
 use Rattle.res_manager.proofs.Stepping.{if_ok, quiet_steps}

@@ -1,8 +1,8 @@
 use Rattle.std.proofs.Common.{cond, Some, None, refl, sym, ap, ◌∙◌}
 use Rattle.mac_calls.specs.declared.resource_call.ResourceCall.TheVariants.{OpenResFile}
-use Rattle.res_calls.specs.Steps.{Opens, Quiet, work_of}
+use Rattle.res_calls.specs.Steps.{Opens, Quiet, work_of, update_in}
 use Rattle.res_manager.specs.Crash.{CrashLeaves, file_settled}
-use Rattle.res_manager.specs.Steps.{state_of, update_in}
+use Rattle.res_manager.specs.Steps.{state_of}
 use Rattle.res_manager.proofs.Crash.{calm_leaves, err_anyhow, opening_saves, work_leaves, work_settles}
 use Rattle.res_manager.proofs.Refusals.{passed-early}
 use Rattle.res_manager.proofs.Stepping.{if_ok, opened_steps}

@@ -8,7 +8,8 @@ use Rattle.res_table.specs.OpenFiles.{file_closed}
 use Rattle.res_update.specs.Selected.{updated}
 use Rattle.res_update.specs.declared.selection.Selection.TheVariants.{AllChanged}
 use Rattle.res_manager.specs.Crash.{CrashLeaves, IsSettled}
-use Rattle.res_manager.specs.Steps.{IsSaved, state_of}
+use Rattle.res_manager.specs.Steps.{state_of}
+use Rattle.res_calls.specs.Steps.{IsSaved}
 use Rattle.res_manager.proofs.ClosingFiles.{closes_refused, closes_written}
 use Rattle.res_manager.proofs.Lent.{lent_disposed}
 use Rattle.res_manager.proofs.WritingFiles.{update_found}

@@ -4,7 +4,8 @@ use Rattle.mac_base.specs.ZoneState.{ZoneState}
 use Rattle.fork_disk.specs.declared.store.ReplaceFault.{ReplaceFault}
 use Rattle.mac_base.specs.declared.error.OsErr.TheVariants.{DskFulErr, IoErr}
 use Rattle.res_manager.specs.Ends.{WritesFile}
-use Rattle.res_manager.specs.Steps.{IsSaved, state_of}
+use Rattle.res_manager.specs.Steps.{state_of}
+use Rattle.res_calls.specs.Steps.{IsSaved}
 use Rattle.res_update.specs.Selected.{updated}
 use Rattle.res_update.specs.declared.fault.UpdateFault.TheVariants.{Device}
 use Rattle.mac_calls.specs.declared.reply.Results.TheVariants.{Nothing}

@@ -2,12 +2,12 @@ use Rattle.std.proofs.Common.{◌≡◌, true, false, Some, None, Ok, rules, ref
 use Rattle.mac_calls.specs.declared.reply.Results.TheVariants.{Nothing}
 use Rattle.mac_calls.specs.declared.resource_call.ResourceCall.TheVariants.{UpdateResFile, WriteResource}
 use Rattle.res_calls.specs.Changes.{FileRow}
-use Rattle.res_calls.specs.Steps.{work_of}
+use Rattle.res_calls.specs.Steps.{work_of, update_in}
 use Rattle.res_calls.specs.Updates.{row_passes, update_of}
 use Rattle.res_table.specs.Rows.{is_changed}
 use Rattle.res_update.specs.Selected.{updated}
 use Rattle.res_update.specs.declared.selection.Selection.TheVariants.{RowAt}
-use Rattle.res_manager.specs.Steps.{state_of, update_in, work_takes_memory}
+use Rattle.res_manager.specs.Steps.{state_of, work_takes_memory}
 use Rattle.res_manager.proofs.CalmCalls.{calm_reads, calm_settles, unchanged_work}
 use Rattle.res_manager.proofs.Crash.{calm_leaves, made_file, work_leaves, work_settles}
 use Rattle.res_manager.proofs.ReadingBack.{made_reads}

@@ -3,6 +3,7 @@ use Rattle.script_text.specs.Script.{IsFaultAt, IsScript}
 use Rattle.script_run.specs.Line.{start_of}
 use Rattle.script_run.proofs.Ending.{with_input, too_long, for_all, fault_ends, no_memory_ends, script_ends}
 use Rattle.script_run.proofs.Shown.{run-shows}
+use Rattle.script_run.proofs.Agreeing.{runs-agree}
 use Rattle.script_run.proofs.running.run.Goals as goal
 
 pub returns-in-Err-TooLong-clause-ends : goal.returns-in-Err-TooLong-clause-ends
@@ -75,3 +76,24 @@ returns-in_default-clause-headline g c = run-shows g.S.ForkStore
 
 pub returns-clause-headline : goal.returns-clause-headline
 returns-clause-headline g c = run-shows g.S.ForkStore
+
+pub returns-in-Err-TooLong-clause-exact : goal.returns-in-Err-TooLong-clause-exact
+returns-in-Err-TooLong-clause-exact g c = runs-agree g.S.ForkStore
+
+pub returns-in-Err-Memory-clause-exact : goal.returns-in-Err-Memory-clause-exact
+returns-in-Err-Memory-clause-exact g c = runs-agree g.S.ForkStore
+
+pub returns-in-Err-Fault-clause-exact : goal.returns-in-Err-Fault-clause-exact
+returns-in-Err-Fault-clause-exact g c = runs-agree g.S.ForkStore
+
+pub returns-in-Err-Line-clause-exact : goal.returns-in-Err-Line-clause-exact
+returns-in-Err-Line-clause-exact g c = runs-agree g.S.ForkStore
+
+pub returns-in-Err-HostFull-clause-exact : goal.returns-in-Err-HostFull-clause-exact
+returns-in-Err-HostFull-clause-exact g c = runs-agree g.S.ForkStore
+
+pub returns-in_default-clause-exact : goal.returns-in_default-clause-exact
+returns-in_default-clause-exact g c = runs-agree g.S.ForkStore
+
+pub returns-clause-exact : goal.returns-clause-exact
+returns-clause-exact g c = runs-agree g.S.ForkStore

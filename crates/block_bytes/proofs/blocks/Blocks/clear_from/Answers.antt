@@ -8,11 +8,6 @@ use Rattle.block_bytes.proofs.Here.{IsHere-from, unlent-here}
 use Rattle.block_bytes.proofs.WrittenBack.{cleared-part}
 use Rattle.block_bytes.proofs.blocks.Blocks.clear_from.Goals as goal
 
--- how many bytes of contents there are
-long : (c : goal.After-base) (can : CanClear c.args.self.now c.args.at c.args.from)
-    → c.entry_at-header.result.size ≡ head_size c.args.self.now.heads + (length can.block.here.contents + length can.block.here.slack)
-long c can = ap (λ (h : Header). h.size) (c.entry_at-header.ensures can.block)
-
 pub overflow_add-start-2 : goal.overflow_add-start-2
 overflow_add-start-2 c =
     let h = IsHere-from c.self.inside c.self.invariant c.args.self.now c.self.view_is c.args.at c.entry_at-header.result c.requires.block (c.entry_at-header.ensures c.requires.block) in

@@ -1,4 +1,4 @@
-use Rattle.std.proofs.Common.{◌≡◌, ◌+◌, ap, arith}
+use Rattle.std.proofs.Common.{◌+◌, ap, arith}
 use Rattle.mac_base.specs.HeadKind.{head_size}
 use Rattle.linked_zone.specs.Changes.{pointed}
 use Rattle.linked_zone.specs.Places.{RoomFor}
@@ -18,10 +18,6 @@ place_handle-requires-clause-above c = point-above c.self.inside.records c.args.
 
 pub set_slot-requires-clause-there : goal.set_slot-requires-clause-there
 set_slot-requires-clause-there c = point-slot c.self.inside.records c.args.self.now (stands-now c.self.inside c.args.self.now c.self.invariant c.self.view_is) c.args.handle c.args.length c.args.at c.requires.empty c.requires.room c.place_handle.new.self c.place_handle.ensures c.number.result c.number.ensures
-
--- where the contents begin
-begins : (c : goal.After-head_size) → c.args.at + c.head_size.result ≡ c.args.at + head_size c.args.self.now.shape.heads
-begins c = ap (λ n. c.args.at + n) (head-is c.self.inside.records c.args.self.now (stands-now c.self.inside c.args.self.now c.self.invariant c.self.view_is) c.spec.result c.heads.result c.head_size.result c.spec.ensures c.heads.ensures c.head_size.ensures)
 
 pub set_slot-requires-clause-sayable : goal.set_slot-requires-clause-sayable
 set_slot-requires-clause-sayable c = point-said c.self.inside.records c.args.self.now (stands-now c.self.inside c.args.self.now c.self.invariant c.self.view_is) c.args.handle c.args.length c.args.at c.requires.empty c.requires.room c.place_handle.new.self c.place_handle.ensures _

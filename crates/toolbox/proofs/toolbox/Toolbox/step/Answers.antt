@@ -1,6 +1,7 @@
 use Rattle.std.proofs.Common.{◌∙◌, ap, sym, subst}
 use Rattle.toolbox.specs.Steps.{Gives, refused_after, resource_refused_after}
 use Rattle.toolbox.specs.ToolState.{ToolState}
+use Rattle.toolbox.proofs.Headline.{toolbox-shows}
 use Rattle.toolbox.proofs.Resources.{gives_noted}
 use Rattle.toolbox.proofs.toolbox.Toolbox.step.Goals as goal
 
@@ -12,3 +13,6 @@ returns-clause-step g c = (
   c.refused_after-self-inside.ensures ∙ ap (λ code. refused_after code c.args.call.now c.in_ok-outcome.field-0) (ap (λ (t : ToolState g.row.S.Denot). t.refused) c.self.view_is ∙ c.in_ok-outcome.ensures.refused),
   c.resource_refused_after-self-inside.ensures ∙ ap (λ code. resource_refused_after code c.args.call.now c.in_ok-outcome.field-0) (ap (λ (t : ToolState g.row.S.Denot). t.resource_refused) c.self.view_is ∙ c.in_ok-outcome.ensures.resource_refused),
 )
+
+pub returns-clause-headline : goal.returns-clause-headline
+returns-clause-headline g c = toolbox-shows g.S.ForkStore

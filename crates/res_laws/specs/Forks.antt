@@ -1,0 +1,24 @@
+-- What the rows of open files have of their resource forks.
+use Rattle.std.specs.Prelude.{◌≡◌, ◌⊎◌, ℕ, true, List, [], Some}
+use Rattle.std.specs.List.{Any}
+use Rattle.res_base.specs.declared.resource.Resource.{Resource}
+use Rattle.fork_bytes.specs.declared.table.Table.{Table}
+use Rattle.fork_bytes.specs.Fork.{StandsFor}
+use Rattle.res_table.specs.OpenFiles.{row_at}
+use Rattle.res_table.specs.Rows.{is_changed}
+use Rattle.res_table.specs.declared.chain.RowPlace.{RowPlace}
+use Rattle.res_calls.specs.Changes.{FileRow}
+use Rattle.res_calls.specs.Device.{Disk}
+use Rattle.res_calls.specs.Files.{ResState, disk_of}
+
+-- a resource of a fork has the type, the ID, the name and the bytes of a row
+abbrev pub IsOfRow : FileRow → Resource (List ℕ) → Type 0
+IsOfRow r q = (q.kind ≡ r.resource.kind) × (q.id ≡ r.resource.id) × (q.name ≡ r.resource.name) × (q.datum ≡ r.resource.datum)
+
+-- The bytes of a row are those that its file's fork has for its type and ID. A resource that was added and not yet saved has none.
+abbrev pub HasBytes : Disk → FileRow → Type 0
+HasBytes fork r = ((r.resource.datum ≡ []) × (is_changed r ≡ true)) ⊎ ((table : Table) × StandsFor fork table × Any (IsOfRow r) table.rows)
+
+-- all rows of the open files have such bytes
+abbrev pub ReadOffForks : ResState → Type 0
+ReadOffForks state = (p : RowPlace) (r : FileRow) → row_at p state.files ≡ Some r → HasBytes (disk_of p.file state) r

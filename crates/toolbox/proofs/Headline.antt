@@ -1,0 +1,68 @@
+-- What is promised of the calls that are made of a toolbox.
+use Rattle.std.proofs.Common.{◌≡◌, List, [], ◌∷◌, map, refl, ap, sym, subst, ◌∙◌}
+use Rattle.std.specs.Prelude.{All}
+use Rattle.mac_base.specs.HeadKind.{Shape}
+use Rattle.mac_base.specs.Heap.{Heap}
+use Rattle.mac_calls.specs.declared.call.Call.{Call}
+use Rattle.mac_calls.specs.declared.call.Call.TheVariants.{Memory as MemoryCalls, Loan, Resource, MemError, ResError}
+use Rattle.mac_calls.specs.GrowZone.{Ask}
+use Rattle.mac_calls.specs.Loans.{Loans}
+use Rattle.mac_calls.specs.Outcomes.{Outcome}
+use Rattle.mac_calls.specs.Released.{disposed_of}
+use Rattle.fork_disk.specs.declared.store.ForkStore.{Ghosts}
+use Rattle.heap_laws.specs.Act.{Moment}
+use Rattle.res_calls.specs.Files.{ResState}
+use Rattle.res_files.specs.FilesOn.{FilesOn}
+use Rattle.res_laws.specs.Tools.{IsToolRun, ToolDoes}
+use Rattle.res_laws.proofs.Acts.{anything-left}
+use Rattle.res_laws.proofs.Tools.{tools-show}
+use Rattle.toolbox.specs.Headline.{AreSteps, Stepped, ToolboxShows, calls_of, tools_of}
+use Rattle.toolbox.specs.Steps.{Gives}
+use Rattle.toolbox.specs.ToolState.{IsHonest, ToolState, resource_state, without_handles}
+
+module _ {S : Type 0} (store : Ghosts S) where
+  -- the zone and the files of a toolbox that has these
+  state : Shape → Heap → FilesOn S → ResState
+  state shape heap on = record { shape = shape; heap = heap; files = on.files; loads = on.loads; disks = map store.fork on.stores }
+
+  states : (old new : ToolState S) (on : FilesOn S) → new.shape ≡ old.shape → new.resources ≡ on → state new.shape new.heap new.resources ≡ state old.shape new.heap on
+  states old new on shape resources = ap (λ s. state s new.heap new.resources) shape ∙ ap (state old.shape new.heap) resources
+
+  -- a step of the toolbox is one of its zone, resource files and loans
+  pub tool-does : (old : ToolState S) (call : Call) (asks : List Ask) (outcome : Outcome) (new : ToolState S) → Gives store old call asks outcome new → new.shape ≡ old.shape → IsHonest store old → ToolDoes (tools_of store old) call asks outcome (tools_of store new)
+  unfolding state
+  tool-does old (MemoryCalls call) asks outcome new g shape honest = (g.1, g.2, states old new (without_handles (disposed_of call asks outcome) old.resources) shape g.3)
+  tool-does old (Loan call) asks outcome new g shape honest = (g.1, states old new old.resources shape g.2)
+  tool-does old (Resource call) asks outcome new g shape honest =
+      let r = g.0 honest in
+      (r.0, anything-left store.may_leave r.0 (resource_state store old) call asks (record { outcome = outcome; state = resource_state store new }) r.1, g.1, shape, g.4 honest)
+  tool-does old MemError asks outcome new g shape honest = (states old new old.resources shape g.4 ∙ ap (λ h. state old.shape h old.resources) g.2, g.3)
+  tool-does old ResError asks outcome new g shape honest = (states old new old.resources shape g.4 ∙ ap (λ h. state old.shape h old.resources) g.2, g.3)
+
+  -- devices stay honest
+  same-stores : (old new : FilesOn S) → new.stores ≡ old.stores → All store.is_honest old.stores → All store.is_honest new.stores
+  same-stores old new same honest = subst (All store.is_honest) (sym same) honest
+
+  pub still-honest : (old : ToolState S) (call : Call) (asks : List Ask) (outcome : Outcome) (new : ToolState S) → Gives store old call asks outcome new → IsHonest store old → IsHonest store new
+  still-honest old (MemoryCalls call) asks outcome new g honest = same-stores old.resources new.resources (ap (λ (on : FilesOn S). on.stores) g.3) honest
+  still-honest old (Loan call) asks outcome new g honest = same-stores old.resources new.resources (ap (λ (on : FilesOn S). on.stores) g.2) honest
+  still-honest old (Resource call) asks outcome new g honest = g.2.0 honest
+  still-honest old MemError asks outcome new g honest = same-stores old.resources new.resources (ap (λ (on : FilesOn S). on.stores) g.4) honest
+  still-honest old ResError asks outcome new g honest = same-stores old.resources new.resources (ap (λ (on : FilesOn S). on.stores) g.4) honest
+
+  -- the same of a list of calls
+  are-run : (old : ToolState S) (steps : List (Stepped S)) → IsHonest store old → AreSteps store old steps → IsToolRun (tools_of store old) (calls_of store steps)
+  are-run old [] honest are = tt
+  are-run old (step ∷ later) honest are =
+      let one = are.0 in
+      (tool-does old step.call step.asks step.outcome step.left one.0 one.1 honest, are-run step.left later (still-honest old step.call step.asks step.outcome step.left one.0 honest) are.1)
+
+moment : Heap → Loans → Moment
+moment heap loans = record { heap = heap; loans = loans }
+
+-- this is promised of them
+pub toolbox-shows : {S : Type 0} (store : Ghosts S) → ToolboxShows store
+unfolding moment
+toolbox-shows store sizes start steps possible new honest are =
+    let run = are-run store start steps honest are in
+    (run, tools-show sizes (tools_of store start) (calls_of store steps) possible new.shape (ap (λ heap. moment heap start.loans) new.heap ∙ ap (moment _) new.loans) new.files run)
