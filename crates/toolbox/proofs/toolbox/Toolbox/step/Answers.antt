@@ -16,3 +16,6 @@ returns-clause-step g c = (
 
 pub returns-clause-headline : goal.returns-clause-headline
 returns-clause-headline g c = toolbox-shows g.S.ForkStore
+
+pub returns-in_err-outcome-clause-headline : goal.returns-in_err-outcome-clause-headline
+returns-in_err-outcome-clause-headline g c = toolbox-shows g.S.ForkStore
