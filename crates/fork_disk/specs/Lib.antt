@@ -3,3 +3,4 @@ pub mod Fork
 pub mod Calls
 pub mod Crash
 pub mod Faults
+pub mod Record

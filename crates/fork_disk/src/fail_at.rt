@@ -79,10 +79,10 @@ impl<D: ForkDisk> ForkDisk for FailAt<D> {
     ghost failures = { λ s. D.failures s.disk + s.failures };
 
     fn len(&mut self) -> Result<u64, DiskFault>
-        ensures value { D.is_honest self.old.disk → IfOk result (λ n. n ≡ length (D.seen self.old.disk)) }
-        ensures same { D.is_honest self.old.disk → D.seen self.new.disk ≡ D.seen self.old.disk }
-        ensures stable { D.is_honest self.old.disk → D.is_stable self.old.disk → D.is_stable self.new.disk }
-        ensures honest { D.is_honest self.old.disk ↔ D.is_honest self.new.disk }
+        ensures value { D.is_honest self.new.disk → IfOk result (λ n. n ≡ length (D.seen self.old.disk)) }
+        ensures same { D.is_honest self.new.disk → D.seen self.new.disk ≡ D.seen self.old.disk }
+        ensures stable { D.is_honest self.new.disk → D.is_stable self.old.disk → D.is_stable self.new.disk }
+        ensures honest { D.is_honest self.new.disk → D.is_honest self.old.disk }
         ensures cause { Counts (D.failures self.old.disk + self.old.failures) (D.failures self.new.disk + self.new.failures) result }
         ensures call { Takes D.failures self.old self.new result }
     {
@@ -92,10 +92,10 @@ impl<D: ForkDisk> ForkDisk for FailAt<D> {
 
     fn read_at(&mut self, at: u64, buffer: &mut [u8]) -> Result<(), DiskFault>
         requires { D.is_honest self.old.disk → at + length buffer.old ≤ length (D.seen self.old.disk) }
-        ensures read { D.is_honest self.old.disk → OnOk result (buffer.new ≡ bytes_at (length buffer.old) at (D.seen self.old.disk)) }
-        ensures same { D.is_honest self.old.disk → D.seen self.new.disk ≡ D.seen self.old.disk }
-        ensures stable { D.is_honest self.old.disk → D.is_stable self.old.disk → D.is_stable self.new.disk }
-        ensures honest { D.is_honest self.old.disk ↔ D.is_honest self.new.disk }
+        ensures read { D.is_honest self.new.disk → OnOk result (buffer.new ≡ bytes_at (length buffer.old) at (D.seen self.old.disk)) }
+        ensures same { D.is_honest self.new.disk → D.seen self.new.disk ≡ D.seen self.old.disk }
+        ensures stable { D.is_honest self.new.disk → D.is_stable self.old.disk → D.is_stable self.new.disk }
+        ensures honest { D.is_honest self.new.disk → D.is_honest self.old.disk }
         ensures cause { Counts (D.failures self.old.disk + self.old.failures) (D.failures self.new.disk + self.new.failures) result }
         ensures call { Takes D.failures self.old self.new result }
         ensures buffer { self.new.calls ≡ self.old.turn → buffer.new ≡ buffer.old }
@@ -106,9 +106,9 @@ impl<D: ForkDisk> ForkDisk for FailAt<D> {
 
     fn write_at(&mut self, at: u64, bytes: &[u8]) -> Result<(), DiskFault>
         requires { D.is_honest self.old.disk → at ≤ length (D.seen self.old.disk) }
-        ensures written { D.is_honest self.old.disk → OnOk result (D.seen self.new.disk ≡ put_at at bytes.now (D.seen self.old.disk)) }
-        ensures torn { D.is_honest self.old.disk → OnErr result (Torn at (length bytes.now) (D.seen self.old.disk) (D.seen self.new.disk)) }
-        ensures honest { D.is_honest self.old.disk ↔ D.is_honest self.new.disk }
+        ensures written { D.is_honest self.new.disk → OnOk result (D.seen self.new.disk ≡ put_at at bytes.now (D.seen self.old.disk)) }
+        ensures torn { D.is_honest self.new.disk → OnErr result (Torn at (length bytes.now) (D.seen self.old.disk) (D.seen self.new.disk)) }
+        ensures honest { D.is_honest self.new.disk → D.is_honest self.old.disk }
         ensures cause { Counts (D.failures self.old.disk + self.old.failures) (D.failures self.new.disk + self.new.failures) result }
         ensures call { Takes D.failures self.old self.new result }
     {
@@ -118,9 +118,9 @@ impl<D: ForkDisk> ForkDisk for FailAt<D> {
 
     fn cut(&mut self, len: u64) -> Result<(), DiskFault>
         requires { D.is_honest self.old.disk → len ≤ length (D.seen self.old.disk) }
-        ensures cut { D.is_honest self.old.disk → OnOk result (D.seen self.new.disk ≡ take len (D.seen self.old.disk)) }
-        ensures torn { D.is_honest self.old.disk → OnErr result (CutShort len (D.seen self.old.disk) (D.seen self.new.disk)) }
-        ensures honest { D.is_honest self.old.disk ↔ D.is_honest self.new.disk }
+        ensures cut { D.is_honest self.new.disk → OnOk result (D.seen self.new.disk ≡ take len (D.seen self.old.disk)) }
+        ensures torn { D.is_honest self.new.disk → OnErr result (CutShort len (D.seen self.old.disk) (D.seen self.new.disk)) }
+        ensures honest { D.is_honest self.new.disk → D.is_honest self.old.disk }
         ensures cause { Counts (D.failures self.old.disk + self.old.failures) (D.failures self.new.disk + self.new.failures) result }
         ensures call { Takes D.failures self.old self.new result }
     {
@@ -129,10 +129,10 @@ impl<D: ForkDisk> ForkDisk for FailAt<D> {
     }
 
     fn sync(&mut self) -> Result<(), DiskFault>
-        ensures same { D.is_honest self.old.disk → D.seen self.new.disk ≡ D.seen self.old.disk }
-        ensures synced { D.is_honest self.old.disk → OnOk result (D.is_stable self.new.disk) }
-        ensures stable { D.is_honest self.old.disk → D.is_stable self.old.disk → D.is_stable self.new.disk }
-        ensures honest { D.is_honest self.old.disk ↔ D.is_honest self.new.disk }
+        ensures same { D.is_honest self.new.disk → D.seen self.new.disk ≡ D.seen self.old.disk }
+        ensures synced { D.is_honest self.new.disk → OnOk result (D.is_stable self.new.disk) }
+        ensures stable { D.is_honest self.new.disk → D.is_stable self.old.disk → D.is_stable self.new.disk }
+        ensures honest { D.is_honest self.new.disk → D.is_honest self.old.disk }
         ensures cause { Counts (D.failures self.old.disk + self.old.failures) (D.failures self.new.disk + self.new.failures) result }
         ensures call { Takes D.failures self.old self.new result }
     {

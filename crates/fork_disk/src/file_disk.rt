@@ -1,77 +1,95 @@
 //! A disk that is a file.
 
-ghost use Rattle.std.specs.Prelude.{[]};
-ghost use Rattle.fork_disk.specs.Disk.{Counts};
+ghost use Rattle.std.specs.Prelude.{◌≡◌, []};
+ghost use Rattle.fork_disk.specs.Record.{IsHonest, IsStable};
 
 use crate::disk::{DiskFault, ForkDisk};
-use crate::failures::Failures;
-use std::fs::{File, Files, OpenOptions};
-use std::io;
-use std::os::unix::fs::FileExt;
-use std::path::AsPath;
+use crate::host_file::HostFile;
+use crate::record::Record;
+use crate::world::World;
+use std::marker::PhantomData;
 
-/// A disk that is a file. No proof can know what a file holds, so nothing is claimed of its bytes: that they read as they were
-/// written is the premise of who uses it. Each fault of the system is counted, and so is a read that ends past the end.
+const MEASURED: u64 = 0;
+
+const READ: u64 = 1;
+
+const WRITTEN: u64 = 2;
+
+const CUT: u64 = 3;
+
+const SYNCED: u64 = 4;
+
+/// A disk that is a file. Each call of the system is noted with its answer, in a record that only clauses read. The disk is honest
+/// where these answers are those of the file that its world tells of, so that nobody else wrote it. Each fault of the system is
+/// counted, and so is a read that ends past the end.
 #[derive(Drop)]
-pub struct FileDisk {
-    file: File,
-    failures: Failures,
+pub struct FileDisk<W: World> {
+    file: HostFile,
+    /// Which file of the world it is. Only clauses read it.
+    number: u64,
+    log: Record,
+    world: PhantomData<W>,
 }
 
-impl FileDisk {
-    /// Opens a file to read and to write it. A missing one is made, with length 0.
-    pub fn open<R: Files<File = File>, P: AsPath>(files: &R, path: P) -> io::Result<FileDisk> {
-        let file = OpenOptions::new()
-            .read(true)
-            .write(true)
-            .create(true)
-            .open(files, path)?;
-        Ok(FileDisk {
+impl<W: World> FileDisk<W> {
+    /// The disk of a file, of which nothing was asked so far. No other disk of this world may have its number.
+    pub fn new(file: HostFile, number: u64) -> FileDisk<W>
+        ensures file { result.file ≡ file }
+        ensures number { result.number ≡ number }
+        ensures start { result.log.events ≡ [] }
+    {
+        FileDisk {
             file,
-            failures: Failures::new(),
-        })
+            number,
+            log: Record::new(),
+            world: PhantomData,
+        }
     }
 }
 
-/// Counts a fault of the system.
-fn counted<T: Drop>(failures: &mut Failures, answer: io::Result<T>) -> Result<T, DiskFault>
-    ensures { Counts failures.old failures.new result }
-{
-    match answer {
-        Ok(value) => Ok(value),
-        Err(_) => Err(failures.count()),
-    }
-}
+impl<W: World> ForkDisk for FileDisk<W> {
+    ghost seen = { λ disk. W.held disk.number disk.log.events };
 
-impl ForkDisk for FileDisk {
-    ghost seen = { λ _. [] };
+    ghost is_honest = { λ disk. IsHonest (W.held disk.number) (W.may_leave disk.number) disk.log.events };
 
-    ghost is_honest = { λ _. ⊥ };
+    ghost is_stable = { λ disk. IsStable (W.held disk.number) (W.may_leave disk.number) disk.log.events };
 
-    ghost is_stable = { λ _. ⊥ };
-
-    ghost failures = { λ disk. disk.failures };
+    ghost failures = { λ disk. disk.file.failures };
 
     fn len(&mut self) -> Result<u64, DiskFault> {
-        match self.file.metadata() {
-            Ok(metadata) => Ok(metadata.len()),
-            Err(_) => Err(self.failures.count()),
+        let answer = self.file.len();
+        match answer {
+            Ok(len) => self.log.note(&[MEASURED, len, 1], &[]),
+            Err(_) => self.log.note(&[MEASURED, 0, 0], &[]),
         }
+        answer
     }
 
     fn read_at(&mut self, at: u64, buffer: &mut [u8]) -> Result<(), DiskFault> {
-        counted(&mut self.failures, self.file.read_exact_at(buffer, at))
+        let answer = self.file.read_at(at, buffer);
+        match answer {
+            Ok(()) => self.log.note(&[READ, at, 1], buffer),
+            Err(_) => self.log.note(&[READ, at, 0], &[]),
+        }
+        answer
     }
 
     fn write_at(&mut self, at: u64, bytes: &[u8]) -> Result<(), DiskFault> {
-        counted(&mut self.failures, self.file.write_all_at(bytes, at))
+        let answer = self.file.write_at(at, bytes);
+        self.log
+            .note(&[WRITTEN, at, u64::from(answer.is_ok())], bytes);
+        answer
     }
 
     fn cut(&mut self, len: u64) -> Result<(), DiskFault> {
-        counted(&mut self.failures, self.file.set_len(len))
+        let answer = self.file.cut(len);
+        self.log.note(&[CUT, len, u64::from(answer.is_ok())], &[]);
+        answer
     }
 
     fn sync(&mut self) -> Result<(), DiskFault> {
-        counted(&mut self.failures, self.file.sync_all())
+        let answer = self.file.sync();
+        self.log.note(&[SYNCED, 0, u64::from(answer.is_ok())], &[]);
+        answer
     }
 }

@@ -1,6 +1,6 @@
 //! Where the fork of a resource file is kept.
 
-ghost use Rattle.std.specs.Prelude.{◌≡◌, ◌+◌, ◌≤◌, ◌↔◌, ⊤, List, [], ℕ, length, IfOk, OnOk, IsErrOf};
+ghost use Rattle.std.specs.Prelude.{◌≡◌, ◌+◌, ◌≤◌, ⊤, List, [], ℕ, length, IfOk, OnOk, IsErrOf};
 ghost use Rattle.fork_disk.specs.Crash.{AlwaysFinds, Finds, FoundBeforeOr};
 ghost use Rattle.fork_disk.specs.Disk.{bytes_at, Counts};
 ghost use Rattle.fork_disk.specs.Faults.{CountsDevice};
@@ -22,7 +22,8 @@ pub enum ReplaceFault {
     Later,
 }
 
-/// A fork that is read, and replaced as a whole. What is promised of bytes holds where the device is honest.
+/// A fork that is read, and replaced as a whole. What is promised of bytes holds where the device is honest behind the call, and so
+/// was before it.
 pub trait ForkStore {
     /// The bytes of the fork, where the device is honest.
     ghost fork: { Self → List ℕ };
@@ -60,52 +61,52 @@ pub trait ForkStore {
     /// Makes the fork ready: a store with a journal finishes, or drops, what a crash or a failed replacement left. The fork is the
     /// same. Whenever a crash comes, a start finds a fork that it might have found before.
     fn recover(&mut self) -> Result<(), RecoverFault>
-        ensures same { is_honest self.old → fork self.new ≡ fork self.old }
-        ensures ready { is_honest self.old → OnOk result (is_ready self.new) }
-        ensures still { is_honest self.old → is_ready self.old → is_ready self.new }
-        ensures stable { is_honest self.old → is_stable self.old → is_stable self.new }
-        ensures honest { is_honest self.old ↔ is_honest self.new }
+        ensures same { is_honest self.new → fork self.new ≡ fork self.old }
+        ensures ready { is_honest self.new → OnOk result (is_ready self.new) }
+        ensures still { is_honest self.new → is_ready self.old → is_ready self.new }
+        ensures stable { is_honest self.new → is_stable self.old → is_stable self.new }
+        ensures honest { is_honest self.new → is_honest self.old }
         ensures cause { CountsDevice (failures self.old) (failures self.new) result }
-        ensures any_moment { is_honest self.old → AlwaysFinds may_find (may_find (history self.old)) (history self.old) (history self.new) };
+        ensures any_moment { is_honest self.new → AlwaysFinds may_find (may_find (history self.old)) (history self.old) (history self.new) };
 
     /// How many bytes the fork has.
     fn len(&mut self) -> Result<u64, DiskFault>
         requires { is_honest self.old → is_ready self.old }
-        ensures value { is_honest self.old → IfOk result (λ n. n ≡ length (fork self.old)) }
-        ensures same { is_honest self.old → fork self.new ≡ fork self.old }
-        ensures ready { is_honest self.old → is_ready self.new }
-        ensures stable { is_honest self.old → is_stable self.old → is_stable self.new }
-        ensures honest { is_honest self.old ↔ is_honest self.new }
+        ensures value { is_honest self.new → IfOk result (λ n. n ≡ length (fork self.old)) }
+        ensures same { is_honest self.new → fork self.new ≡ fork self.old }
+        ensures ready { is_honest self.new → is_ready self.new }
+        ensures stable { is_honest self.new → is_stable self.old → is_stable self.new }
+        ensures honest { is_honest self.new → is_honest self.old }
         ensures cause { Counts (failures self.old) (failures self.new) result }
-        ensures calm { is_honest self.old → history self.new ≡ history self.old };
+        ensures calm { is_honest self.new → history self.new ≡ history self.old };
 
     /// Fills the buffer with the fork's bytes at an offset. After a fault the buffer holds any bytes.
     fn read_at(&mut self, at: u64, buffer: &mut [u8]) -> Result<(), DiskFault>
         requires ready { is_honest self.old → is_ready self.old }
         requires there { is_honest self.old → at + length buffer.old ≤ length (fork self.old) }
-        ensures read { is_honest self.old → OnOk result (buffer.new ≡ bytes_at (length buffer.old) at (fork self.old)) }
-        ensures same { is_honest self.old → fork self.new ≡ fork self.old }
-        ensures ready { is_honest self.old → is_ready self.new }
-        ensures stable { is_honest self.old → is_stable self.old → is_stable self.new }
-        ensures honest { is_honest self.old ↔ is_honest self.new }
+        ensures read { is_honest self.new → OnOk result (buffer.new ≡ bytes_at (length buffer.old) at (fork self.old)) }
+        ensures same { is_honest self.new → fork self.new ≡ fork self.old }
+        ensures ready { is_honest self.new → is_ready self.new }
+        ensures stable { is_honest self.new → is_stable self.old → is_stable self.new }
+        ensures honest { is_honest self.new → is_honest self.old }
         ensures cause { Counts (failures self.old) (failures self.new) result }
-        ensures calm { is_honest self.old → history self.new ≡ history self.old };
+        ensures calm { is_honest self.new → history self.new ≡ history self.old };
 
     /// Puts another fork in the place of the one that is there. Where it succeeds, a crash leaves the new one. Whenever a crash
     /// comes, a start finds a fork that it might have found before, or the new one.
     fn replace(&mut self, new: &[u8]) -> Result<(), ReplaceFault>
         requires { is_honest self.old → is_ready self.old }
-        ensures replaced { is_honest self.old → OnOk result (fork self.new ≡ new.now) }
-        ensures before { is_honest self.old → IsErrOf result ReplaceFault.BeforeFirstWrite → fork self.new ≡ fork self.old }
-        ensures left { is_honest self.old → IsErrOf result ReplaceFault.Later → may_leave new.now (fork self.old) (fork self.new) }
-        ensures ready { is_honest self.old → OnOk result (is_ready self.new) }
-        ensures still { is_honest self.old → IsErrOf result ReplaceFault.BeforeFirstWrite → is_ready self.new }
-        ensures stable { is_honest self.old → OnOk result (is_stable self.new) }
-        ensures honest { is_honest self.old ↔ is_honest self.new }
+        ensures replaced { is_honest self.new → OnOk result (fork self.new ≡ new.now) }
+        ensures before { is_honest self.new → IsErrOf result ReplaceFault.BeforeFirstWrite → fork self.new ≡ fork self.old }
+        ensures left { is_honest self.new → IsErrOf result ReplaceFault.Later → may_leave new.now (fork self.old) (fork self.new) }
+        ensures ready { is_honest self.new → OnOk result (is_ready self.new) }
+        ensures still { is_honest self.new → IsErrOf result ReplaceFault.BeforeFirstWrite → is_ready self.new }
+        ensures stable { is_honest self.new → OnOk result (is_stable self.new) }
+        ensures honest { is_honest self.new → is_honest self.old }
         ensures cause { Counts (failures self.old) (failures self.new) result }
-        ensures any_moment { is_honest self.old
+        ensures any_moment { is_honest self.new
             → AlwaysFinds may_find (FoundBeforeOr may_find (history self.old) new.now) (history self.old) (history self.new) }
-        ensures calm { is_honest self.old → IsErrOf result ReplaceFault.BeforeFirstWrite → history self.new ≡ history self.old };
+        ensures calm { is_honest self.new → IsErrOf result ReplaceFault.BeforeFirstWrite → history self.new ≡ history self.old };
 }
 
 /// A fork on a disk of its own.

@@ -4,3 +4,4 @@ pub mod Recovery
 pub mod Record
 pub mod Outcome
 pub mod Leaving
+pub mod Files

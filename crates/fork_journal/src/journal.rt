@@ -1,6 +1,6 @@
 //! The fork of a resource file that has a journal.
 
-ghost use Rattle.std.specs.Prelude.{◌≡◌, ◌+◌, ◌≤◌, ◌<◌, ◌^◌, ◌↔◌, ◌⊎◌, ⊤, [], ◌∷◌, length, IfOk, OnOk, IsErrOf};
+ghost use Rattle.std.specs.Prelude.{◌≡◌, ◌+◌, ◌≤◌, ◌<◌, ◌^◌, ◌⊎◌, ⊤, [], ◌∷◌, length, IfOk, OnOk, IsErrOf};
 ghost use Rattle.std.proofs.Common.{◌∙◌, ap};
 ghost use Rattle.fork_disk.specs.Crash.{AlwaysFinds, FoundBeforeOr};
 ghost use Rattle.fork_disk.specs.Disk.{bytes_at, Counts, Rose};
@@ -82,33 +82,33 @@ impl<P: PairDisk> ForkStore for Journal<P> {
 
     /// Makes the fork ready. Where the host has no memory for the journal's fork, only the journal was synced.
     fn recover(&mut self) -> Result<(), RecoverFault>
-        ensures same { P.is_honest self.old.pair → settled_fork (P.contents self.new.pair) ≡ settled_fork (P.contents self.old.pair) }
-        ensures ready { P.is_honest self.old.pair → OnOk result (IsReady (P.contents self.new.pair) (P.history self.new.pair)) }
-        ensures still { P.is_honest self.old.pair → IsReady (P.contents self.old.pair) (P.history self.old.pair) → IsReady (P.contents self.new.pair) (P.history self.new.pair) }
-        ensures stable { P.is_honest self.old.pair → IsStable (P.contents self.old.pair) (P.history self.old.pair) → IsStable (P.contents self.new.pair) (P.history self.new.pair) }
-        ensures honest { P.is_honest self.old.pair ↔ P.is_honest self.new.pair }
+        ensures same { P.is_honest self.new.pair → settled_fork (P.contents self.new.pair) ≡ settled_fork (P.contents self.old.pair) }
+        ensures ready { P.is_honest self.new.pair → OnOk result (IsReady (P.contents self.new.pair) (P.history self.new.pair)) }
+        ensures still { P.is_honest self.new.pair → IsReady (P.contents self.old.pair) (P.history self.old.pair) → IsReady (P.contents self.new.pair) (P.history self.new.pair) }
+        ensures stable { P.is_honest self.new.pair → IsStable (P.contents self.old.pair) (P.history self.old.pair) → IsStable (P.contents self.new.pair) (P.history self.new.pair) }
+        ensures honest { P.is_honest self.new.pair → P.is_honest self.old.pair }
         ensures cause { CountsDevice (P.failures self.old.pair + self.old.refusals) (P.failures self.new.pair + self.new.refusals) result }
-        ensures any_moment { P.is_honest self.old.pair → AlwaysFinds MayFind (MayFind (P.history self.old.pair)) (P.history self.old.pair) (P.history self.new.pair) }
+        ensures any_moment { P.is_honest self.new.pair → AlwaysFinds MayFind (MayFind (P.history self.old.pair)) (P.history self.old.pair) (P.history self.new.pair) }
         // A crash at any moment of the call leaves a choice that was there before it.
-        ensures leaves { P.is_honest self.old.pair → AlwaysLeaves (IsSameChoice (P.history self.old.pair)) (P.history self.old.pair) (P.history self.new.pair) }
+        ensures leaves { P.is_honest self.new.pair → AlwaysLeaves (IsSameChoice (P.history self.old.pair)) (P.history self.old.pair) (P.history self.new.pair) }
         // Where each crash before the call left one fork, as behind a start, each within it leaves that one.
-        ensures one_fork { P.is_honest self.old.pair → IsStable (P.contents self.old.pair) (P.history self.old.pair)
+        ensures one_fork { P.is_honest self.new.pair → IsStable (P.contents self.old.pair) (P.history self.old.pair)
             → AlwaysLeaves (λ c. settled_fork c ≡ settled_fork (P.contents self.old.pair)) (P.history self.old.pair) (P.history self.new.pair) }
-        ensures recovered { P.is_honest self.old.pair → OnOk result (P.contents self.new.pair ≡ recovered (P.contents self.old.pair)) }
+        ensures recovered { P.is_honest self.new.pair → OnOk result (P.contents self.new.pair ≡ recovered (P.contents self.old.pair)) }
     {
         recovery::recover(self.alloc, &mut self.pair)
     }
 
     fn len(&mut self) -> Result<u64, DiskFault>
         requires { P.is_honest self.old.pair → IsReady (P.contents self.old.pair) (P.history self.old.pair) }
-        ensures value { P.is_honest self.old.pair → IfOk result (λ n. n ≡ length (settled_fork (P.contents self.old.pair))) }
-        ensures same { P.is_honest self.old.pair → settled_fork (P.contents self.new.pair) ≡ settled_fork (P.contents self.old.pair) }
-        ensures ready { P.is_honest self.old.pair → IsReady (P.contents self.new.pair) (P.history self.new.pair) }
-        ensures stable { P.is_honest self.old.pair → IsStable (P.contents self.old.pair) (P.history self.old.pair) → IsStable (P.contents self.new.pair) (P.history self.new.pair) }
-        ensures honest { P.is_honest self.old.pair ↔ P.is_honest self.new.pair }
+        ensures value { P.is_honest self.new.pair → IfOk result (λ n. n ≡ length (settled_fork (P.contents self.old.pair))) }
+        ensures same { P.is_honest self.new.pair → settled_fork (P.contents self.new.pair) ≡ settled_fork (P.contents self.old.pair) }
+        ensures ready { P.is_honest self.new.pair → IsReady (P.contents self.new.pair) (P.history self.new.pair) }
+        ensures stable { P.is_honest self.new.pair → IsStable (P.contents self.old.pair) (P.history self.old.pair) → IsStable (P.contents self.new.pair) (P.history self.new.pair) }
+        ensures honest { P.is_honest self.new.pair → P.is_honest self.old.pair }
         ensures cause { Counts (P.failures self.old.pair + self.old.refusals) (P.failures self.new.pair + self.new.refusals) result }
-        ensures contents { P.is_honest self.old.pair → P.contents self.new.pair ≡ P.contents self.old.pair }
-        ensures calm { P.is_honest self.old.pair → P.history self.new.pair ≡ P.history self.old.pair }
+        ensures contents { P.is_honest self.new.pair → P.contents self.new.pair ≡ P.contents self.old.pair }
+        ensures calm { P.is_honest self.new.pair → P.history self.new.pair ≡ P.history self.old.pair }
     {
         self.pair.len(Side::Fork)
     }
@@ -116,14 +116,14 @@ impl<P: PairDisk> ForkStore for Journal<P> {
     fn read_at(&mut self, at: u64, buffer: &mut [u8]) -> Result<(), DiskFault>
         requires ready { P.is_honest self.old.pair → IsReady (P.contents self.old.pair) (P.history self.old.pair) }
         requires there { P.is_honest self.old.pair → at + length buffer.old ≤ length (settled_fork (P.contents self.old.pair)) }
-        ensures read { P.is_honest self.old.pair → OnOk result (buffer.new ≡ bytes_at (length buffer.old) at (settled_fork (P.contents self.old.pair))) }
-        ensures same { P.is_honest self.old.pair → settled_fork (P.contents self.new.pair) ≡ settled_fork (P.contents self.old.pair) }
-        ensures ready { P.is_honest self.old.pair → IsReady (P.contents self.new.pair) (P.history self.new.pair) }
-        ensures stable { P.is_honest self.old.pair → IsStable (P.contents self.old.pair) (P.history self.old.pair) → IsStable (P.contents self.new.pair) (P.history self.new.pair) }
-        ensures honest { P.is_honest self.old.pair ↔ P.is_honest self.new.pair }
+        ensures read { P.is_honest self.new.pair → OnOk result (buffer.new ≡ bytes_at (length buffer.old) at (settled_fork (P.contents self.old.pair))) }
+        ensures same { P.is_honest self.new.pair → settled_fork (P.contents self.new.pair) ≡ settled_fork (P.contents self.old.pair) }
+        ensures ready { P.is_honest self.new.pair → IsReady (P.contents self.new.pair) (P.history self.new.pair) }
+        ensures stable { P.is_honest self.new.pair → IsStable (P.contents self.old.pair) (P.history self.old.pair) → IsStable (P.contents self.new.pair) (P.history self.new.pair) }
+        ensures honest { P.is_honest self.new.pair → P.is_honest self.old.pair }
         ensures cause { Counts (P.failures self.old.pair + self.old.refusals) (P.failures self.new.pair + self.new.refusals) result }
-        ensures contents { P.is_honest self.old.pair → P.contents self.new.pair ≡ P.contents self.old.pair }
-        ensures calm { P.is_honest self.old.pair → P.history self.new.pair ≡ P.history self.old.pair }
+        ensures contents { P.is_honest self.new.pair → P.contents self.new.pair ≡ P.contents self.old.pair }
+        ensures calm { P.is_honest self.new.pair → P.history self.new.pair ≡ P.history self.old.pair }
     {
         self.pair.read_at(Side::Fork, at, buffer)
     }
@@ -131,22 +131,22 @@ impl<P: PairDisk> ForkStore for Journal<P> {
     /// Puts another fork in the place of the one that is there. Where it succeeds, a crash leaves the new one.
     fn replace(&mut self, new: &[u8]) -> Result<(), ReplaceFault>
         requires { P.is_honest self.old.pair → IsReady (P.contents self.old.pair) (P.history self.old.pair) }
-        ensures replaced { P.is_honest self.old.pair → OnOk result (settled_fork (P.contents self.new.pair) ≡ new.now) }
-        ensures before { P.is_honest self.old.pair → IsErrOf result ReplaceFault.BeforeFirstWrite → settled_fork (P.contents self.new.pair) ≡ settled_fork (P.contents self.old.pair) }
-        ensures left { P.is_honest self.old.pair → IsErrOf result ReplaceFault.Later → IsEither new.now (settled_fork (P.contents self.old.pair)) (settled_fork (P.contents self.new.pair)) }
-        ensures ready { P.is_honest self.old.pair → OnOk result (IsReady (P.contents self.new.pair) (P.history self.new.pair)) }
-        ensures still { P.is_honest self.old.pair → IsErrOf result ReplaceFault.BeforeFirstWrite → IsReady (P.contents self.new.pair) (P.history self.new.pair) }
-        ensures stable { P.is_honest self.old.pair → OnOk result (IsStable (P.contents self.new.pair) (P.history self.new.pair)) }
-        ensures honest { P.is_honest self.old.pair ↔ P.is_honest self.new.pair }
+        ensures replaced { P.is_honest self.new.pair → OnOk result (settled_fork (P.contents self.new.pair) ≡ new.now) }
+        ensures before { P.is_honest self.new.pair → IsErrOf result ReplaceFault.BeforeFirstWrite → settled_fork (P.contents self.new.pair) ≡ settled_fork (P.contents self.old.pair) }
+        ensures left { P.is_honest self.new.pair → IsErrOf result ReplaceFault.Later → IsEither new.now (settled_fork (P.contents self.old.pair)) (settled_fork (P.contents self.new.pair)) }
+        ensures ready { P.is_honest self.new.pair → OnOk result (IsReady (P.contents self.new.pair) (P.history self.new.pair)) }
+        ensures still { P.is_honest self.new.pair → IsErrOf result ReplaceFault.BeforeFirstWrite → IsReady (P.contents self.new.pair) (P.history self.new.pair) }
+        ensures stable { P.is_honest self.new.pair → OnOk result (IsStable (P.contents self.new.pair) (P.history self.new.pair)) }
+        ensures honest { P.is_honest self.new.pair → P.is_honest self.old.pair }
         ensures cause { Counts (P.failures self.old.pair + self.old.refusals) (P.failures self.new.pair + self.new.refusals) result }
-        ensures any_moment { P.is_honest self.old.pair
+        ensures any_moment { P.is_honest self.new.pair
             → AlwaysFinds MayFind (FoundBeforeOr MayFind (P.history self.old.pair) new.now) (P.history self.old.pair) (P.history self.new.pair) }
         // A crash at any moment of the call leaves the fork from before it or the new one, and so does a fault.
-        ensures leaves { P.is_honest self.old.pair
+        ensures leaves { P.is_honest self.new.pair
             → AlwaysLeaves (IsBeforeOrAfter (settled_fork (P.contents self.old.pair)) new.now) (P.history self.old.pair) (P.history self.new.pair) }
-        ensures journal { P.is_honest self.old.pair → OnOk result ((P.contents self.new.pair).journal ≡ 0 ∷ text_of new.now) }
-        ensures same { P.is_honest self.old.pair → IsErrOf result ReplaceFault.BeforeFirstWrite → P.contents self.new.pair ≡ P.contents self.old.pair }
-        ensures calm { P.is_honest self.old.pair → IsErrOf result ReplaceFault.BeforeFirstWrite → P.history self.new.pair ≡ P.history self.old.pair }
+        ensures journal { P.is_honest self.new.pair → OnOk result ((P.contents self.new.pair).journal ≡ 0 ∷ text_of new.now) }
+        ensures same { P.is_honest self.new.pair → IsErrOf result ReplaceFault.BeforeFirstWrite → P.contents self.new.pair ≡ P.contents self.old.pair }
+        ensures calm { P.is_honest self.new.pair → IsErrOf result ReplaceFault.BeforeFirstWrite → P.history self.new.pair ≡ P.history self.old.pair }
     {
         if new.len() > u32::MAX as usize {
             self.refuse();

@@ -1,6 +1,6 @@
 //! A fork and its journal, as one device with one clock.
 
-ghost use Rattle.std.specs.Prelude.{◌≡◌, ◌+◌, ◌≤◌, ◌↔◌, ◌∷◌, List, ℕ, length, take, IfOk, OnOk, OnErr};
+ghost use Rattle.std.specs.Prelude.{◌≡◌, ◌+◌, ◌≤◌, ◌∷◌, List, ℕ, length, take, IfOk, OnOk, OnErr};
 ghost use Rattle.fork_disk.specs.Disk.{bytes_at, put_at, Torn, CutShort, Counts};
 ghost use Rattle.fork_journal.specs.Crash.{Contents, History, Wrote, Cut, Synced, side_of, OnSide, MayLeave, Follows};
 
@@ -18,7 +18,8 @@ pub enum Side {
 /// The disks of a fork and of its journal, as one device: each call names a side, there is one count of failures, and a crash
 /// stops both at the same moment.
 ///
-/// What is promised of bytes holds of an *honest* pair: one that returns what was written, and that nobody else writes.
+/// What is promised of bytes holds of an *honest* pair: one that returns what was written, and that nobody else writes. A pair that is
+/// honest behind a call was so before it, and what is promised of a call rests on the pair that it leaves.
 pub trait PairDisk {
     /// The bytes that reads give.
     ghost contents: { Self → Contents };
@@ -34,48 +35,48 @@ pub trait PairDisk {
 
     /// How many bytes a side has.
     fn len(&mut self, side: Side) -> Result<u64, DiskFault>
-        ensures value { is_honest self.old → IfOk result (λ n. n ≡ length (side_of side (contents self.old))) }
-        ensures same { is_honest self.old → contents self.new ≡ contents self.old }
-        ensures calm { is_honest self.old → history self.new ≡ history self.old }
-        ensures honest { is_honest self.old ↔ is_honest self.new }
+        ensures value { is_honest self.new → IfOk result (λ n. n ≡ length (side_of side (contents self.old))) }
+        ensures same { is_honest self.new → contents self.new ≡ contents self.old }
+        ensures calm { is_honest self.new → history self.new ≡ history self.old }
+        ensures honest { is_honest self.new → is_honest self.old }
         ensures cause { Counts (failures self.old) (failures self.new) result };
 
     /// Fills the buffer with the bytes at an offset. After a fault the buffer holds any bytes.
     fn read_at(&mut self, side: Side, at: u64, buffer: &mut [u8]) -> Result<(), DiskFault>
         requires { is_honest self.old → at + length buffer.old ≤ length (side_of side (contents self.old)) }
-        ensures read { is_honest self.old → OnOk result (buffer.new ≡ bytes_at (length buffer.old) at (side_of side (contents self.old))) }
-        ensures same { is_honest self.old → contents self.new ≡ contents self.old }
-        ensures calm { is_honest self.old → history self.new ≡ history self.old }
-        ensures honest { is_honest self.old ↔ is_honest self.new }
+        ensures read { is_honest self.new → OnOk result (buffer.new ≡ bytes_at (length buffer.old) at (side_of side (contents self.old))) }
+        ensures same { is_honest self.new → contents self.new ≡ contents self.old }
+        ensures calm { is_honest self.new → history self.new ≡ history self.old }
+        ensures honest { is_honest self.new → is_honest self.old }
         ensures cause { Counts (failures self.old) (failures self.new) result };
 
     /// Writes over what is there, and past the end. A write that failed may have been done in part, and so may, for a crash, each
     /// that no sync follows.
     fn write_at(&mut self, side: Side, at: u64, bytes: &[u8]) -> Result<(), DiskFault>
         requires { is_honest self.old → at ≤ length (side_of side (contents self.old)) }
-        ensures written { is_honest self.old → OnOk result (OnSide side (λ old new. new ≡ put_at at bytes.now old) (contents self.old) (contents self.new)) }
-        ensures torn { is_honest self.old → OnErr result (OnSide side (Torn at (length bytes.now)) (contents self.old) (contents self.new)) }
-        ensures crash { is_honest self.old → Follows (Wrote side at (length bytes.now)) (history self.old) (history self.new) }
-        ensures honest { is_honest self.old ↔ is_honest self.new }
+        ensures written { is_honest self.new → OnOk result (OnSide side (λ old new. new ≡ put_at at bytes.now old) (contents self.old) (contents self.new)) }
+        ensures torn { is_honest self.new → OnErr result (OnSide side (Torn at (length bytes.now)) (contents self.old) (contents self.new)) }
+        ensures crash { is_honest self.new → Follows (Wrote side at (length bytes.now)) (history self.old) (history self.new) }
+        ensures honest { is_honest self.new → is_honest self.old }
         ensures cause { Counts (failures self.old) (failures self.new) result };
 
     /// Cuts a side to a length that is not above its own. A cut that failed may have been done in part, and so may, for a crash,
     /// each that no sync follows.
     fn cut(&mut self, side: Side, len: u64) -> Result<(), DiskFault>
         requires { is_honest self.old → len ≤ length (side_of side (contents self.old)) }
-        ensures cut { is_honest self.old → OnOk result (OnSide side (λ old new. new ≡ take len old) (contents self.old) (contents self.new)) }
-        ensures torn { is_honest self.old → OnErr result (OnSide side (CutShort len) (contents self.old) (contents self.new)) }
-        ensures crash { is_honest self.old → Follows (Cut side len) (history self.old) (history self.new) }
-        ensures honest { is_honest self.old ↔ is_honest self.new }
+        ensures cut { is_honest self.new → OnOk result (OnSide side (λ old new. new ≡ take len old) (contents self.old) (contents self.new)) }
+        ensures torn { is_honest self.new → OnErr result (OnSide side (CutShort len) (contents self.old) (contents self.new)) }
+        ensures crash { is_honest self.new → Follows (Cut side len) (history self.old) (history self.new) }
+        ensures honest { is_honest self.new → is_honest self.old }
         ensures cause { Counts (failures self.old) (failures self.new) result };
 
     /// Makes a side stable, so that a crash leaves what it reads. A sync that failed makes nothing stable. The bytes are the same
     /// either way.
     fn sync(&mut self, side: Side) -> Result<(), DiskFault>
-        ensures durable { is_honest self.old → OnOk result (history self.new ≡ Synced side (side_of side (contents self.old)) ∷ history self.old) }
-        ensures unstable { is_honest self.old → OnErr result (history self.new ≡ history self.old) }
-        ensures same { is_honest self.old → contents self.new ≡ contents self.old }
-        ensures honest { is_honest self.old ↔ is_honest self.new }
+        ensures durable { is_honest self.new → OnOk result (history self.new ≡ Synced side (side_of side (contents self.old)) ∷ history self.old) }
+        ensures unstable { is_honest self.new → OnErr result (history self.new ≡ history self.old) }
+        ensures same { is_honest self.new → contents self.new ≡ contents self.old }
+        ensures honest { is_honest self.new → is_honest self.old }
         ensures cause { Counts (failures self.old) (failures self.new) result };
 
     /// A crash may leave the pair as it reads.

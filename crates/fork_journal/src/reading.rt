@@ -1,6 +1,6 @@
 //! What a journal says.
 
-ghost use Rattle.std.specs.Prelude.{◌≡◌, ◌+◌, ◌<◌, ◌≤◌, ◌^◌, ◌↔◌, true, false, length, drop, IfOk, MatchOption};
+ghost use Rattle.std.specs.Prelude.{◌≡◌, ◌+◌, ◌<◌, ◌≤◌, ◌^◌, true, false, length, drop, IfOk, MatchOption};
 ghost use Rattle.byteorder.specs.Endian.{big_number};
 ghost use Rattle.fork_disk.specs.Disk.{bytes_at, Counts};
 ghost use Rattle.fork_disk.specs.Faults.{CountsDevice};
@@ -14,10 +14,10 @@ use std::alloc::Global;
 
 /// Whether the gate has to be shut before a text is written.
 pub(crate) fn is_shutting_due<P: PairDisk>(pair: &mut P) -> Result<bool, DiskFault>
-    ensures value { P.is_honest pair.old → IfOk result (λ is. is ≡ must_shut (P.contents pair.old).journal) }
-    ensures same { P.is_honest pair.old → P.contents pair.new ≡ P.contents pair.old }
-    ensures calm { P.is_honest pair.old → P.history pair.new ≡ P.history pair.old }
-    ensures honest { P.is_honest pair.old ↔ P.is_honest pair.new }
+    ensures value { P.is_honest pair.new → IfOk result (λ is. is ≡ must_shut (P.contents pair.old).journal) }
+    ensures same { P.is_honest pair.new → P.contents pair.new ≡ P.contents pair.old }
+    ensures calm { P.is_honest pair.new → P.history pair.new ≡ P.history pair.old }
+    ensures honest { P.is_honest pair.new → P.is_honest pair.old }
     ensures cause { Counts (P.failures pair.old) (P.failures pair.new) result }
 {
     if pair.len(Side::Journal)? == 0 {
@@ -44,10 +44,10 @@ fn read_journal<P: PairDisk>(
     len: u64,
 ) -> Result<Vec<u8>, RecoverFault>
     requires { P.is_honest pair.old → at + len ≤ length (P.contents pair.old).journal }
-    ensures value { P.is_honest pair.old → IfOk result (λ bytes. bytes.items ≡ bytes_at len at (P.contents pair.old).journal) }
-    ensures same { P.is_honest pair.old → P.contents pair.new ≡ P.contents pair.old }
-    ensures calm { P.is_honest pair.old → P.history pair.new ≡ P.history pair.old }
-    ensures honest { P.is_honest pair.old ↔ P.is_honest pair.new }
+    ensures value { P.is_honest pair.new → IfOk result (λ bytes. bytes.items ≡ bytes_at len at (P.contents pair.old).journal) }
+    ensures same { P.is_honest pair.new → P.contents pair.new ≡ P.contents pair.old }
+    ensures calm { P.is_honest pair.new → P.history pair.new ≡ P.history pair.old }
+    ensures honest { P.is_honest pair.new → P.is_honest pair.old }
     ensures cause { CountsDevice (P.failures pair.old) (P.failures pair.new) result }
 {
     let mut bytes = vec![in alloc; 0; len as usize]?;
@@ -60,11 +60,11 @@ pub(crate) fn usable_fork<P: PairDisk>(
     alloc: Global,
     pair: &mut P,
 ) -> Result<Option<Vec<u8>>, RecoverFault>
-    ensures value { P.is_honest pair.old → IfOk result (λ found. MatchOption found (is_usable (P.contents pair.old).journal ≡ false)
+    ensures value { P.is_honest pair.new → IfOk result (λ found. MatchOption found (is_usable (P.contents pair.old).journal ≡ false)
         (λ fork. (is_usable (P.contents pair.old).journal ≡ true) × (fork.items ≡ fork_in (drop 1 (P.contents pair.old).journal)))) }
-    ensures same { P.is_honest pair.old → P.contents pair.new ≡ P.contents pair.old }
-    ensures calm { P.is_honest pair.old → P.history pair.new ≡ P.history pair.old }
-    ensures honest { P.is_honest pair.old ↔ P.is_honest pair.new }
+    ensures same { P.is_honest pair.new → P.contents pair.new ≡ P.contents pair.old }
+    ensures calm { P.is_honest pair.new → P.history pair.new ≡ P.history pair.old }
+    ensures honest { P.is_honest pair.new → P.is_honest pair.old }
     ensures cause { CountsDevice (P.failures pair.old) (P.failures pair.new) result }
 {
     let len = pair.len(Side::Journal)?;

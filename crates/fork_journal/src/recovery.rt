@@ -1,6 +1,6 @@
 //! A fork and its journal are made whole again behind a crash or a fault.
 
-ghost use Rattle.std.specs.Prelude.{◌≡◌, ◌↔◌, ◌∷◌, true, drop, OnOk};
+ghost use Rattle.std.specs.Prelude.{◌≡◌, ◌∷◌, true, drop, OnOk};
 ghost use Rattle.fork_disk.specs.Disk.{Counts};
 ghost use Rattle.fork_disk.specs.Faults.{CountsDevice};
 ghost use Rattle.fork_journal.specs.Crash.{AlwaysLeaves, Leaves};
@@ -19,12 +19,12 @@ pub(crate) fn finish<P: PairDisk>(pair: &mut P, fork: &[u8]) -> Result<(), DiskF
     requires stable { P.is_honest pair.old → Leaves (λ c. c.journal ≡ (P.contents pair.old).journal) (P.history pair.old) }
     requires usable { P.is_honest pair.old → is_usable (P.contents pair.old).journal ≡ true }
     requires fork { P.is_honest pair.old → fork.now ≡ fork_in (drop 1 (P.contents pair.old).journal) }
-    ensures any_moment { P.is_honest pair.old → AlwaysLeaves (λ c. settled_fork c ≡ fork.now) (P.history pair.old) (P.history pair.new) }
-    ensures recoverable { P.is_honest pair.old → IsRecoverable (P.contents pair.new) (P.history pair.new) }
-    ensures put { P.is_honest pair.old → OnOk result ((P.contents pair.new).fork ≡ fork.now) }
-    ensures journal { P.is_honest pair.old → OnOk result ((P.contents pair.new).journal ≡ 0 ∷ drop 1 (P.contents pair.old).journal) }
-    ensures ready { P.is_honest pair.old → OnOk result (IsReady (P.contents pair.new) (P.history pair.new)) }
-    ensures honest { P.is_honest pair.old ↔ P.is_honest pair.new }
+    ensures any_moment { P.is_honest pair.new → AlwaysLeaves (λ c. settled_fork c ≡ fork.now) (P.history pair.old) (P.history pair.new) }
+    ensures recoverable { P.is_honest pair.new → IsRecoverable (P.contents pair.new) (P.history pair.new) }
+    ensures put { P.is_honest pair.new → OnOk result ((P.contents pair.new).fork ≡ fork.now) }
+    ensures journal { P.is_honest pair.new → OnOk result ((P.contents pair.new).journal ≡ 0 ∷ drop 1 (P.contents pair.old).journal) }
+    ensures ready { P.is_honest pair.new → OnOk result (IsReady (P.contents pair.new) (P.history pair.new)) }
+    ensures honest { P.is_honest pair.new → P.is_honest pair.old }
     ensures cause { Counts (P.failures pair.old) (P.failures pair.new) result }
 {
     put_fork(pair, fork)?;
@@ -37,16 +37,16 @@ pub(crate) fn finish<P: PairDisk>(pair: &mut P, fork: &[u8]) -> Result<(), DiskF
 pub fn recover<P: PairDisk>(alloc: Global, pair: &mut P) -> Result<(), RecoverFault>
     requires { P.is_honest pair.old → IsRecoverable (P.contents pair.old) (P.history pair.old) }
     // A crash at any moment of the call leaves a choice that was there before it.
-    ensures any_moment { P.is_honest pair.old → AlwaysLeaves (IsSameChoice (P.history pair.old)) (P.history pair.old) (P.history pair.new) }
+    ensures any_moment { P.is_honest pair.new → AlwaysLeaves (IsSameChoice (P.history pair.old)) (P.history pair.old) (P.history pair.new) }
     // Where each crash before the call left one fork, as behind a start, each within it leaves that one.
-    ensures one_fork { P.is_honest pair.old → IsStable (P.contents pair.old) (P.history pair.old)
+    ensures one_fork { P.is_honest pair.new → IsStable (P.contents pair.old) (P.history pair.old)
         → AlwaysLeaves (λ c. settled_fork c ≡ settled_fork (P.contents pair.old)) (P.history pair.old) (P.history pair.new) }
-    ensures recovered { P.is_honest pair.old → OnOk result (P.contents pair.new ≡ recovered (P.contents pair.old)) }
-    ensures same { P.is_honest pair.old → settled_fork (P.contents pair.new) ≡ settled_fork (P.contents pair.old) }
-    ensures ready { P.is_honest pair.old → OnOk result (IsReady (P.contents pair.new) (P.history pair.new)) }
-    ensures still { P.is_honest pair.old → IsReady (P.contents pair.old) (P.history pair.old) → IsReady (P.contents pair.new) (P.history pair.new) }
-    ensures recoverable { P.is_honest pair.old → IsRecoverable (P.contents pair.new) (P.history pair.new) }
-    ensures honest { P.is_honest pair.old ↔ P.is_honest pair.new }
+    ensures recovered { P.is_honest pair.new → OnOk result (P.contents pair.new ≡ recovered (P.contents pair.old)) }
+    ensures same { P.is_honest pair.new → settled_fork (P.contents pair.new) ≡ settled_fork (P.contents pair.old) }
+    ensures ready { P.is_honest pair.new → OnOk result (IsReady (P.contents pair.new) (P.history pair.new)) }
+    ensures still { P.is_honest pair.new → IsReady (P.contents pair.old) (P.history pair.old) → IsReady (P.contents pair.new) (P.history pair.new) }
+    ensures recoverable { P.is_honest pair.new → IsRecoverable (P.contents pair.new) (P.history pair.new) }
+    ensures honest { P.is_honest pair.new → P.is_honest pair.old }
     ensures cause { CountsDevice (P.failures pair.old) (P.failures pair.new) result }
 {
     pair.sync(Side::Journal)?;

@@ -1,6 +1,6 @@
 //! Parts of a fork, read from its disk.
 
-ghost use Rattle.std.specs.Prelude.{◌≡◌, ◌<◌, ◌≤◌, ◌+◌, ◌↔◌, ◌⊎◌, length, map, IfOk, IfErr};
+ghost use Rattle.std.specs.Prelude.{◌≡◌, ◌<◌, ◌≤◌, ◌+◌, ◌⊎◌, length, map, IfOk, IfErr};
 ghost use Rattle.fork_bytes.specs.Fork.{bytes_at, header_of, data_of, extra_of, max_fork, HasParts, HasData};
 ghost use Rattle.std.specs.List.{AllByRecursion};
 ghost use Rattle.fork_reader.specs.Reading.{placed_row, HasDatum};
@@ -34,14 +34,14 @@ pub(crate) fn read_part<S: ForkStore>(
 ) -> Result<Vec<u8>, OpenFault>
     requires ready { S.is_honest store.old → S.is_ready store.old }
     requires there { S.is_honest store.old → at + count ≤ length (S.fork store.old) }
-    ensures part { S.is_honest store.old → IfOk result (λ part. part.items ≡ bytes_at count at (S.fork store.old)) }
+    ensures part { S.is_honest store.new → IfOk result (λ part. part.items ≡ bytes_at count at (S.fork store.old)) }
     ensures long { IfOk result (λ part. length part.items ≡ count) }
     ensures fault { IfErr result (λ fault. (fault ≡ OpenFault.Fork ForkFault.HostFull) ⊎ (fault ≡ OpenFault.Device)) }
-    ensures same { S.is_honest store.old → S.fork store.new ≡ S.fork store.old }
-    ensures ready { S.is_honest store.old → S.is_ready store.new }
-    ensures stable { S.is_honest store.old → S.is_stable store.old → S.is_stable store.new }
-    ensures calm { S.is_honest store.old → S.history store.new ≡ S.history store.old }
-    ensures honest { S.is_honest store.old ↔ S.is_honest store.new }
+    ensures same { S.is_honest store.new → S.fork store.new ≡ S.fork store.old }
+    ensures ready { S.is_honest store.new → S.is_ready store.new }
+    ensures stable { S.is_honest store.new → S.is_stable store.old → S.is_stable store.new }
+    ensures calm { S.is_honest store.new → S.history store.new ≡ S.history store.old }
+    ensures honest { S.is_honest store.new → S.is_honest store.old }
     ensures cause { CountsDevice (S.failures store.old) (S.failures store.new) result }
 {
     let Ok(mut part) = vec![in alloc; 0; count as usize] else {
@@ -60,14 +60,14 @@ pub(crate) fn read_front<S: ForkStore>(
     requires ready { S.is_honest store.old → S.is_ready store.old }
     requires whole { 16 ≤ fork_length }
     requires long { S.is_honest store.old → fork_length ≡ length (S.fork store.old) }
-    ensures header { S.is_honest store.old → IfOk result (λ front. front.header ≡ header_of (S.fork store.old)) }
-    ensures extra { S.is_honest store.old → IfOk result (λ front. front.extra ≡ extra_of (S.fork store.old)) }
+    ensures header { S.is_honest store.new → IfOk result (λ front. front.header ≡ header_of (S.fork store.old)) }
+    ensures extra { S.is_honest store.new → IfOk result (λ front. front.extra ≡ extra_of (S.fork store.old)) }
     ensures fault { IfErr result (λ fault. (fault ≡ OpenFault.Fork ForkFault.HostFull) ⊎ (fault ≡ OpenFault.Device)) }
-    ensures same { S.is_honest store.old → S.fork store.new ≡ S.fork store.old }
-    ensures ready { S.is_honest store.old → S.is_ready store.new }
-    ensures stable { S.is_honest store.old → S.is_stable store.old → S.is_stable store.new }
-    ensures calm { S.is_honest store.old → S.history store.new ≡ S.history store.old }
-    ensures honest { S.is_honest store.old ↔ S.is_honest store.new }
+    ensures same { S.is_honest store.new → S.fork store.new ≡ S.fork store.old }
+    ensures ready { S.is_honest store.new → S.is_ready store.new }
+    ensures stable { S.is_honest store.new → S.is_stable store.old → S.is_stable store.new }
+    ensures calm { S.is_honest store.new → S.history store.new ≡ S.history store.old }
+    ensures honest { S.is_honest store.new → S.is_honest store.old }
     ensures cause { CountsDevice (S.failures store.old) (S.failures store.new) result }
 {
     let count = fork_length.min(FRONT_LENGTH);
@@ -88,16 +88,16 @@ fn read_row<S: ForkStore>(
     requires small { header.data_offset + header.data_length ≤ max_fork }
     requires header { S.is_honest store.old → header ≡ header_of (S.fork store.old) }
     requires parts { S.is_honest store.old → HasParts (length (S.fork store.old)) header }
-    ensures row { S.is_honest store.old → IfOk result (λ found. found ≡ placed_row (S.fork store.old) row) }
-    ensures has { S.is_honest store.old → IfOk result (λ _. HasDatum (data_of (S.fork store.old)) row) }
+    ensures row { S.is_honest store.new → IfOk result (λ found. found ≡ placed_row (S.fork store.old) row) }
+    ensures has { S.is_honest store.new → IfOk result (λ _. HasDatum (data_of (S.fork store.old)) row) }
     ensures kind { IfOk result (λ found. found.kind ≡ row.kind) }
     ensures inside { IfOk result FitsInFork }
-    ensures refuses { S.is_honest store.old → IfErr result (FaultsIn Condition.Places (¬ HasDatum (data_of (S.fork store.old)) row)) }
-    ensures same { S.is_honest store.old → S.fork store.new ≡ S.fork store.old }
-    ensures ready { S.is_honest store.old → S.is_ready store.new }
-    ensures stable { S.is_honest store.old → S.is_stable store.old → S.is_stable store.new }
-    ensures calm { S.is_honest store.old → S.history store.new ≡ S.history store.old }
-    ensures honest { S.is_honest store.old ↔ S.is_honest store.new }
+    ensures refuses { S.is_honest store.new → IfErr result (FaultsIn Condition.Places (¬ HasDatum (data_of (S.fork store.old)) row)) }
+    ensures same { S.is_honest store.new → S.fork store.new ≡ S.fork store.old }
+    ensures ready { S.is_honest store.new → S.is_ready store.new }
+    ensures stable { S.is_honest store.new → S.is_stable store.old → S.is_stable store.new }
+    ensures calm { S.is_honest store.new → S.history store.new ≡ S.history store.old }
+    ensures honest { S.is_honest store.new → S.is_honest store.old }
     ensures cause { CountsDevice (S.failures store.old) (S.failures store.new) result }
 {
     let at = length_place(header, &row)?;
@@ -117,17 +117,17 @@ pub(crate) fn find_rows<S: ForkStore>(
     requires small { header.data_offset + header.data_length ≤ max_fork }
     requires header { S.is_honest store.old → header ≡ header_of (S.fork store.old) }
     requires parts { S.is_honest store.old → HasParts (length (S.fork store.old)) header }
-    ensures rows { S.is_honest store.old → IfOk result (λ found. found.items ≡ map (placed_row (S.fork store.old)) rows.items) }
-    ensures has { S.is_honest store.old → IfOk result (λ _. HasData (data_of (S.fork store.old)) rows.items) }
+    ensures rows { S.is_honest store.new → IfOk result (λ found. found.items ≡ map (placed_row (S.fork store.old)) rows.items) }
+    ensures has { S.is_honest store.new → IfOk result (λ _. HasData (data_of (S.fork store.old)) rows.items) }
     ensures count { IfOk result (λ found. length found.items ≡ length rows.items) }
     ensures kinds { IfOk result (λ found. kinds_in found.items ≡ kinds_in rows.items) }
     ensures inside { IfOk result (λ found. AllByRecursion FitsInFork found.items) }
-    ensures refuses { S.is_honest store.old → IfErr result (FaultsIn Condition.Places (¬ HasData (data_of (S.fork store.old)) rows.items)) }
-    ensures same { S.is_honest store.old → S.fork store.new ≡ S.fork store.old }
-    ensures ready { S.is_honest store.old → S.is_ready store.new }
-    ensures stable { S.is_honest store.old → S.is_stable store.old → S.is_stable store.new }
-    ensures calm { S.is_honest store.old → S.history store.new ≡ S.history store.old }
-    ensures honest { S.is_honest store.old ↔ S.is_honest store.new }
+    ensures refuses { S.is_honest store.new → IfErr result (FaultsIn Condition.Places (¬ HasData (data_of (S.fork store.old)) rows.items)) }
+    ensures same { S.is_honest store.new → S.fork store.new ≡ S.fork store.old }
+    ensures ready { S.is_honest store.new → S.is_ready store.new }
+    ensures stable { S.is_honest store.new → S.is_stable store.old → S.is_stable store.new }
+    ensures calm { S.is_honest store.new → S.history store.new ≡ S.history store.old }
+    ensures honest { S.is_honest store.new → S.is_honest store.old }
     ensures cause { CountsDevice (S.failures store.old) (S.failures store.new) result }
 {
     let mut placed = Vec::new(alloc);

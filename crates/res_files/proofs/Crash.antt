@@ -46,7 +46,7 @@ module _ {S Event : Type 0} (fork : S → List ℕ) (is_honest : S → Type 0) (
   stores_are : now.stores ≡ stores
   stores_are = ap (λ (v : FilesOn S). v.stores) (sym view_is)
 
-  honest_here : All is_honest now.stores → is_honest old
+  honest_here : All is_honest (set stores (k - 1) new) → is_honest new
   honest_here = mine fork is_honest chain loads stores now view_is (k - 1) within old new value
 
   before : history_of history k now.stores ≡ history old
@@ -56,8 +56,8 @@ module _ {S Event : Type 0} (fork : S → List ℕ) (is_honest : S → Type 0) (
   after = ap (λ (found : Option S). option_map_or history found []) (get_set stores (k - 1) new within)
 
   -- what a start finds, whenever a crash came
-  pub found_always : (may_find : List Event → List ℕ → Type 0) (P : List Event → List ℕ → Type 0) → (is_honest old → AlwaysFinds may_find (P (history old)) (history old) (history new))
-      → All is_honest now.stores → AlwaysFinds may_find (P (history_of history k now.stores)) (history_of history k now.stores) (history_of history k (set stores (k - 1) new))
+  pub found_always : (may_find : List Event → List ℕ → Type 0) (P : List Event → List ℕ → Type 0) → (is_honest new → AlwaysFinds may_find (P (history old)) (history old) (history new))
+      → All is_honest (set stores (k - 1) new) → AlwaysFinds may_find (P (history_of history k now.stores)) (history_of history k now.stores) (history_of history k (set stores (k - 1) new))
   found_always may_find P finds honest =
       subst (λ (h : List Event). AlwaysFinds may_find (P h) h (history_of history k (set stores (k - 1) new))) (sym before)
       (subst (λ (h : List Event). AlwaysFinds may_find (P (history old)) (history old) h) (sym after) (finds (honest_here honest)))
@@ -68,19 +68,19 @@ module _ {S Event : Type 0} (fork : S → List ℕ) (is_honest : S → Type 0) (
       other_set history [] stores (k - 1) (other - 1) new (λ same. apart (omega (arith, low, from, same))) ∙ ap (λ (xs : List S). history_of history other xs) (sym stores_are)
 
   -- nor to this one
-  pub this_calm : (is_honest old → history new ≡ history old) → All is_honest now.stores → history_of history k (set stores (k - 1) new) ≡ history_of history k now.stores
+  pub this_calm : (is_honest new → history new ≡ history old) → All is_honest (set stores (k - 1) new) → history_of history k (set stores (k - 1) new) ≡ history_of history k now.stores
   this_calm same honest = after ∙ same (honest_here honest) ∙ sym before
 
   -- a start finds the fork that is read
-  pub found_there : (may_find : List Event → List ℕ → Type 0) → (is_honest old → Finds may_find (λ found. found ≡ fork new) (history new))
-      → All is_honest now.stores → Finds may_find (λ found. found ≡ fork_of fork k (set stores (k - 1) new)) (history_of history k (set stores (k - 1) new))
+  pub found_there : (may_find : List Event → List ℕ → Type 0) → (is_honest new → Finds may_find (λ found. found ≡ fork new) (history new))
+      → All is_honest (set stores (k - 1) new) → Finds may_find (λ found. found ≡ fork_of fork k (set stores (k - 1) new)) (history_of history k (set stores (k - 1) new))
   found_there may_find finds honest found may =
       finds (honest_here honest) found (subst (λ (h : List Event). may_find h found) after may) ∙ sym (ap (λ (s : Option S). option_map_or fork s []) (get_set stores (k - 1) new within))
 
 -- nothing happened to any store
 pub all_calm : {S Event : Type 0} (fork : S → List ℕ) (is_honest : S → Type 0) (history : S → List Event) (chain : OpenFiles Place) (loads : Bool) (stores : List S) (now : FilesOn S) (view_is : seen fork chain loads stores ≡ now)
-    (at : ℕ) (within : at < length stores) (old new : S) (value : old ≡ get_or stores at old) → (is_honest old → history new ≡ history old)
-    → All is_honest now.stores → map history (set stores at new) ≡ map history now.stores
+    (at : ℕ) (within : at < length stores) (old new : S) (value : old ≡ get_or stores at old) → (is_honest new → history new ≡ history old)
+    → All is_honest (set stores at new) → map history (set stores at new) ≡ map history now.stores
 all_calm {S} fork is_honest history chain loads stores now view_is at within old new value same honest =
     map-set_same history stores at new old (same (mine fork is_honest chain loads stores now view_is at within old new value honest) ∙ ap history value)
     ∙ ap (λ (v : FilesOn S). map history v.stores) view_is

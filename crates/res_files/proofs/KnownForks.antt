@@ -118,15 +118,15 @@ refusal_small Device = tt
 
 -- what is known of a fork by the fault in opening its file
 pub refused_known : {S : Type 0} (fork : S → List ℕ) (is_honest : S → Type 0) (stores : List S) (known : List Known) (i : ℕ) (old new : S) (fault : OpenFault) (now : Known) → now ≡ known_by fault
-    → (is_honest new → is_honest old) → (is_honest old → fork new ≡ fork old) → (is_honest old → RefusesFile (fork old) fault)
+    → (is_honest new → fork new ≡ fork old) → (is_honest new → RefusesFile (fork old) fault)
     → AreKnown fork is_honest stores known → AreKnown fork is_honest (set stores i new) (set (set known i Nothing) i now)
-refused_known {S} fork is_honest stores known i old new fault now is honest same refuses all =
+refused_known {S} fork is_honest stores known i old new fault now is same refuses all =
     known_put fork is_honest (set stores i new) (set known i Nothing) i now (new_set (λ (store : S). IsKnown fork is_honest store now) stores i new mine)
     (known_set fork is_honest stores known i new Nothing (nothing_of fork is_honest new) all)
   where
     mine : IsKnown fork is_honest new now
     mine = subst (IsKnown fork is_honest new) (sym is)
-        (refusal_small fault, λ h. refusal_known (fork new) fault (subst (λ (bytes : List ℕ). RefusesFile bytes fault) (sym (same (honest h))) (refuses (honest h))))
+        (refusal_small fault, λ h. refusal_known (fork new) fault (subst (λ (bytes : List ℕ). RefusesFile bytes fault) (sym (same h)) (refuses h)))
 
 -- rows as they are read once they were written: their places are the same
 all_reopened : (P : Place → Type 0) (rows : List (Row Place)) → All (λ (r : Row Place). P r.resource.datum) rows → All (λ (r : Row Place). P r.resource.datum) (map reopened_row rows)

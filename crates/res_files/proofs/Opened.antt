@@ -1,6 +1,6 @@
 -- A file is opened on its store: how the files stand then, and how they are seen.
 use Rattle.std.proofs.Common.{◌≡◌, ◌≢◌, refl, sym, ap, ◌∙◌, subst, arith, ℕ, ◌-◌, ◌<◌, ◌≤◌, List, [], length, map, set, get_or, slice_get, unwrap_or, Bool, false, Option, Some, Result, Ok, Err, OnErr, All, ◌⊎◌, inl, inr}
-use Rattle.std.specs.Prelude.{◌↔◌, IsFalse}
+use Rattle.std.specs.Prelude.{IsFalse}
 use Rattle.std.specs.Option.{option_map, option_map_or}
 use Rattle.std.proofs.Math.Seq.{map-set_same}
 use Rattle.std.proofs.lemmas.List.{length-set}
@@ -28,7 +28,7 @@ use Rattle.res_files.proofs.Using.{mine, same_forks, same_files, same_honest, no
 
 module _ {S : Type 0} (fork : S → List ℕ) (is_ready is_honest : S → Type 0) (chain : OpenFiles Place) (loads : Bool) (stores : List S) (now : FilesOn S) (view_is : seen fork chain loads stores ≡ now)
     (k : ℕ) (low : 1 ≤ k) (high : k ≤ length now.stores) (old new : S) (value : old ≡ get_or stores (k - 1) old)
-    (same : is_honest old ↔ is_honest new) (forks : is_honest old → fork new ≡ fork old) where
+    (same : is_honest new → is_honest old) (forks : is_honest new → fork new ≡ fork old) where
   stores_are : now.stores ≡ stores
   stores_are = ap (λ (v : FilesOn S). v.stores) (sym view_is)
 
@@ -42,15 +42,15 @@ module _ {S : Type 0} (fork : S → List ℕ) (is_ready is_honest : S → Type 0
   here = slice_get_read stores (length stores) (k - 1) old refl within value
 
   -- the files stand on the stores still
-  pub stand_kept : (is_honest old → is_ready old → is_ready new) → StandOn fork is_ready is_honest stores chain → StandOn fork is_ready is_honest (set stores (k - 1) new) chain
+  pub stand_kept : (is_honest new → is_ready old → is_ready new) → StandOn fork is_ready is_honest stores chain → StandOn fork is_ready is_honest (set stores (k - 1) new) chain
   stand_kept still stand = stand_set fork is_ready is_honest stores (k - 1) new old
-      (λ h. let was = same.1 h in (subst is_honest value was, forks was ∙ ap fork value, λ ready. still was (subst is_ready (sym value) ready))) chain stand
+      (λ h. (subst is_honest value (same h), forks h ∙ ap fork value, λ ready. still h (subst is_ready (sym value) ready))) chain stand
 
   -- so does the one that is opened
-  pub stand_more : (table : ResourceTable Place) → is_open k chain ≡ false → AreSmall table.rows → (is_honest old → AreInside (fork old) table.rows) → (is_honest old → is_ready new)
+  pub stand_more : (table : ResourceTable Place) → is_open k chain ≡ false → AreSmall table.rows → (is_honest new → AreInside (fork old) table.rows) → (is_honest new → is_ready new)
       → StandOn fork is_ready is_honest stores chain → StandOn fork is_ready is_honest (set stores (k - 1) new) (file_opened k table chain)
   stand_more table closed small inside ready stand =
-      let held : Holds fork is_ready is_honest table.rows new = λ h. let was = same.1 h in (ready was, subst (λ (bytes : List ℕ). AreInside bytes table.rows) (sym (forks was)) (inside was)) in
+      let held : Holds fork is_ready is_honest table.rows new = λ h. (ready h, subst (λ (bytes : List ℕ). AreInside bytes table.rows) (sym (forks h)) (inside h)) in
       stand_opened fork is_ready is_honest (set stores (k - 1) new) k table chain closed low (subst (λ (n : ℕ). k ≤ n) (sym (length-set stores (k - 1) new)) there) small
       (new_set (Holds fork is_ready is_honest table.rows) stores (k - 1) new held)
       (stand_kept (λ h _. ready h) stand)
@@ -60,13 +60,13 @@ module _ {S : Type 0} (fork : S → List ℕ) (is_ready is_honest : S → Type 0
   closed_there closed = asked fork chain loads stores now view_is (is_open k) (is_open k chain) (sym (open-mapped (bytes_in (map fork stores)) k chain)) ∙ closed
 
   -- the files that are open are seen as before
-  pub files_kept : All is_honest now.stores → files_on (map fork (set stores (k - 1) new)) chain ≡ now.files
+  pub files_kept : All is_honest (set stores (k - 1) new) → files_on (map fork (set stores (k - 1) new)) chain ≡ now.files
   files_kept = same_files fork is_honest chain loads stores now view_is (k - 1) within old new value forks
 
-  pub forks_kept : All is_honest now.stores → map fork (set stores (k - 1) new) ≡ map fork now.stores
+  pub forks_kept : All is_honest (set stores (k - 1) new) → map fork (set stores (k - 1) new) ≡ map fork now.stores
   forks_kept = same_forks fork is_honest chain loads stores now view_is (k - 1) within old new value forks
 
-  pub honest_kept : All is_honest now.stores ↔ All is_honest (set stores (k - 1) new)
+  pub honest_kept : All is_honest (set stores (k - 1) new) → All is_honest now.stores
   honest_kept = same_honest fork is_honest chain loads stores now view_is (k - 1) within old new value same
 
   fork_is : fork_of fork k now.stores ≡ fork old
@@ -76,7 +76,7 @@ module _ {S : Type 0} (fork : S → List ℕ) (is_ready is_honest : S → Type 0
   fork_there = ap (λ (o : Option (List ℕ)). unwrap_or o []) (slice_get-map fork stores (k - 1) ∙ ap (option_map fork) here)
 
   -- what is seen of the one that is opened
-  pub seen_more : (table : ResourceTable Place) (more : OpenFiles Place) → more ≡ file_opened k table chain → (is_honest old → Reads (fork old) (Ok (table_on (fork old) table))) → All is_honest now.stores
+  pub seen_more : (table : ResourceTable Place) (more : OpenFiles Place) → more ≡ file_opened k table chain → (is_honest new → Reads (fork old) (Ok (table_on (fork old) table))) → All is_honest (set stores (k - 1) new)
       → (t : FileTable) × Reads (fork_of fork k now.stores) (Ok t) × (files_on (map fork (set stores (k - 1) new)) more ≡ file_opened k t now.files)
   seen_more table more is reads honest =
       let was = mine fork is_honest chain loads stores now view_is (k - 1) within old new value honest in
@@ -91,8 +91,8 @@ module _ {S : Type 0} (fork : S → List ℕ) (is_ready is_honest : S → Type 0
       )
 
   -- what the code of a fault says
-  pub seen_refused : (failures : S → ℕ) (fault : OpenFault) (c : OsErr) → Ok c ≡ code_of fault → (is_honest old → RefusesFile (fork old) fault) → CountsFault (failures old) (failures new) fault
-      → All is_honest now.stores → Reads (fork_of fork k now.stores) (Err c) ⊎ ((c ≡ IoErr) × SomeFailed failures now.stores (set stores (k - 1) new))
+  pub seen_refused : (failures : S → ℕ) (fault : OpenFault) (c : OsErr) → Ok c ≡ code_of fault → (is_honest new → RefusesFile (fork old) fault) → CountsFault (failures old) (failures new) fault
+      → All is_honest (set stores (k - 1) new) → Reads (fork_of fork k now.stores) (Err c) ⊎ ((c ≡ IoErr) × SomeFailed failures now.stores (set stores (k - 1) new))
   seen_refused failures fault c is told counts honest =
       let was = mine fork is_honest chain loads stores now view_is (k - 1) within old new value honest in
       by (told_by_code (fork old) (failures old) (failures new) fault c is (told was) counts)

@@ -156,22 +156,22 @@ module _ {S : Type 0} (fork : S → List ℕ) (is_ready is_honest : S → Type 0
     pub of_table : (P : FileTable → Type 0) → P (table_on (fork old) table) → IfSome (table_of k now.files) P
     of_table P is = subst (λ (found : Option FileTable). IfSome found P) (sym seen_table) is
 
-    honest_here : All is_honest now.stores → is_honest old
-    honest_here = mine fork is_honest chain loads stores now view_is (k - 1) within old old value
-
-    -- when no fork holds the table
-    pub fits_ok : {A B : Type 0} (a : A) (b : B) (P : FileTable → Type 0) → (is_honest old → IsErrOf {T = A} {E = UpdateFault} (Ok a) TooBig ↔ P (table_on (fork old) table))
-        → All is_honest now.stores → IfSome (table_of k now.files) (λ shown. IsErrOf {T = B} {E = UpdateFault} (Ok b) TooBig ↔ P shown)
-    fits_ok {A} {B} a b P is honest =
-        of_table (λ shown. IsErrOf {T = B} {E = UpdateFault} (Ok b) TooBig ↔ P shown) ((λ e. absurd (cc e)), (λ p. absurd (cc ((is (honest_here honest)).1 p))))
-
-    pub fits_err : (A B : Type 0) (fault : UpdateFault) (P : FileTable → Type 0) → (is_honest old → IsErrOf {T = A} {E = UpdateFault} (Err fault) TooBig ↔ P (table_on (fork old) table))
-        → All is_honest now.stores → IfSome (table_of k now.files) (λ shown. IsErrOf {T = B} {E = UpdateFault} (Err fault) TooBig ↔ P shown)
-    fits_err A B fault P is honest =
-        let same = is (honest_here honest) in
-        of_table (λ shown. IsErrOf {T = B} {E = UpdateFault} (Err fault) TooBig ↔ P shown) ((λ e. same.0 (fault_as {A = B} {B = A} fault TooBig e)), (λ p. fault_as {A = A} {B = B} fault TooBig (same.1 p)))
-
     module _ (new : S) where
+      honest_here : All is_honest (set stores (k - 1) new) → is_honest new
+      honest_here = mine fork is_honest chain loads stores now view_is (k - 1) within old new value
+
+      -- when no fork holds the table
+      pub fits_ok : {A B : Type 0} (a : A) (b : B) (P : FileTable → Type 0) → (is_honest new → IsErrOf {T = A} {E = UpdateFault} (Ok a) TooBig ↔ P (table_on (fork old) table))
+          → All is_honest (set stores (k - 1) new) → IfSome (table_of k now.files) (λ shown. IsErrOf {T = B} {E = UpdateFault} (Ok b) TooBig ↔ P shown)
+      fits_ok {A} {B} a b P is honest =
+          of_table (λ shown. IsErrOf {T = B} {E = UpdateFault} (Ok b) TooBig ↔ P shown) ((λ e. absurd (cc e)), (λ p. absurd (cc ((is (honest_here honest)).1 p))))
+
+      pub fits_err : (A B : Type 0) (fault : UpdateFault) (P : FileTable → Type 0) → (is_honest new → IsErrOf {T = A} {E = UpdateFault} (Err fault) TooBig ↔ P (table_on (fork old) table))
+          → All is_honest (set stores (k - 1) new) → IfSome (table_of k now.files) (λ shown. IsErrOf {T = B} {E = UpdateFault} (Err fault) TooBig ↔ P shown)
+      fits_err A B fault P is honest =
+          let same = is (honest_here honest) in
+          of_table (λ shown. IsErrOf {T = B} {E = UpdateFault} (Err fault) TooBig ↔ P shown) ((λ e. same.0 (fault_as {A = B} {B = A} fault TooBig e)), (λ p. fault_as {A = A} {B = B} fault TooBig (same.1 p)))
+
       abbrev forks' : List (List ℕ)
       forks' = set (map fork stores) (k - 1) (fork new)
 
@@ -185,16 +185,16 @@ module _ {S : Type 0} (fork : S → List ℕ) (is_ready is_honest : S → Type 0
       forks_seen = forks_set ∙ ap (λ (xs : List S). set (map fork xs) (k - 1) (fork new)) (sym stores_are)
 
       -- the forks, once it is written
-      pub written_seen : (t : HandleTable) (selection : Selection) → (is_honest old → fork new ≡ written (saved_table (updated t selection (table_on (fork old) table))))
-          → All is_honest now.stores → IfSome (table_of k now.files) (λ shown. map fork (set stores (k - 1) new) ≡ forks_with fork k (written (saved_table (updated t selection shown))) now.stores)
+      pub written_seen : (t : HandleTable) (selection : Selection) → (is_honest new → fork new ≡ written (saved_table (updated t selection (table_on (fork old) table))))
+          → All is_honest (set stores (k - 1) new) → IfSome (table_of k now.files) (λ shown. map fork (set stores (k - 1) new) ≡ forks_with fork k (written (saved_table (updated t selection shown))) now.stores)
       written_seen t selection is honest =
           of_table (λ shown. map fork (set stores (k - 1) new) ≡ forks_with fork k (written (saved_table (updated t selection shown))) now.stores)
           (forks_seen ∙ ap (λ (bytes : List ℕ). forks_with fork k bytes now.stores) (is (honest_here honest)))
 
       -- and what it stands for
       pub stands_seen : (t : HandleTable) (selection : Selection)
-          → (is_honest old → IsGrouped (saved_table (updated t selection (table_on (fork old) table))).rows → StandsFor (fork new) (saved_table (updated t selection (table_on (fork old) table))))
-          → All is_honest now.stores → IfSome (table_of k now.files) (λ shown. StandsFor (fork_of fork k (set stores (k - 1) new)) (saved_table (updated t selection shown)))
+          → (is_honest new → IsGrouped (saved_table (updated t selection (table_on (fork old) table))).rows → StandsFor (fork new) (saved_table (updated t selection (table_on (fork old) table))))
+          → All is_honest (set stores (k - 1) new) → IfSome (table_of k now.files) (λ shown. StandsFor (fork_of fork k (set stores (k - 1) new)) (saved_table (updated t selection shown)))
       stands_seen t selection is honest =
           let saved = saved_table (updated t selection (table_on (fork old) table)) in
           let new_is : fork_of fork k (set stores (k - 1) new) ≡ fork new = ap (λ (found : Option S). option_map_or fork found []) (get_set stores (k - 1) new within) in
@@ -210,8 +210,8 @@ module _ {S : Type 0} (fork : S → List ℕ) (is_ready is_honest : S → Type 0
           ap (λ (i : ℕ). rows_on (fork new) (rows_placed (RowAt i) 0 table.rows places)) same ∙ one_placed t (fork old) (fork new) index 0 table.rows places is
 
       pub rows_seen : (t : HandleTable) (selection : Selection) (places : List Place) (more : OpenFiles Place) → more ≡ rows_changed k (λ rows. rows_placed selection 0 rows places) chain
-          → (is_honest old → map (bytes_on (fork new)) places ≡ map (λ (r : FileRow). r.resource.datum) (updated t selection (table_on (fork old) table)).rows)
-          → All is_honest now.stores → IfSome (table_of k now.files) (λ shown. files_on (map fork (set stores (k - 1) new)) more ≡ rows_changed k (λ _. (updated t selection shown).rows) now.files)
+          → (is_honest new → map (bytes_on (fork new)) places ≡ map (λ (r : FileRow). r.resource.datum) (updated t selection (table_on (fork old) table)).rows)
+          → All is_honest (set stores (k - 1) new) → IfSome (table_of k now.files) (λ shown. files_on (map fork (set stores (k - 1) new)) more ≡ rows_changed k (λ _. (updated t selection shown).rows) now.files)
       rows_seen t selection places more more_is is honest =
           let own : List (Row Place) → List (Row Place) = λ rows. rows_placed selection 0 rows places in
           let rows = (updated t selection (table_on (fork old) table)).rows in
@@ -229,9 +229,9 @@ module _ {S : Type 0} (fork : S → List ℕ) (is_ready is_honest : S → Type 0
       updated_is t AllChanged shown = refl
       updated_is t (RowAt index) shown = refl
 
-      pub saved_written : (same : is_honest old ↔ is_honest new) (t : HandleTable) (selection : Selection) (places : List Place) (more : OpenFiles Place) → more ≡ rows_changed k (λ rows. rows_placed selection 0 rows places) chain
-          → (is_honest old → map (bytes_on (fork new)) places ≡ map (λ (r : FileRow). r.resource.datum) (updated t selection (table_on (fork old) table)).rows)
-          → (is_honest old → IsGrouped (saved_table (updated t selection (table_on (fork old) table))).rows → StandsFor (fork new) (saved_table (updated t selection (table_on (fork old) table))))
+      pub saved_written : (same : is_honest new → is_honest old) (t : HandleTable) (selection : Selection) (places : List Place) (more : OpenFiles Place) → more ≡ rows_changed k (λ rows. rows_placed selection 0 rows places) chain
+          → (is_honest new → map (bytes_on (fork new)) places ≡ map (λ (r : FileRow). r.resource.datum) (updated t selection (table_on (fork old) table)).rows)
+          → (is_honest new → IsGrouped (saved_table (updated t selection (table_on (fork old) table))).rows → StandsFor (fork new) (saved_table (updated t selection (table_on (fork old) table))))
           → IsSaved fork is_honest (set stores (k - 1) new) more (Some k)
       saved_written same t selection places more more_is bytes stands =
           subst (λ (now : OpenFiles Place). IsSaved fork is_honest (set stores (k - 1) new) now (Some k)) (sym more_is)
@@ -256,7 +256,7 @@ module _ {S : Type 0} (fork : S → List ℕ) (is_ready is_honest : S → Type 0
           table_with : List FileRow → FileTable
           table_with rows = record { rows = rows; extra = table.extra; map_attributes = table.map_attributes }
 
-          shown_is : is_honest old → opened_table (saved_table (updated t selection (table_on (fork old) table))) ≡ table_on (fork new) (reopened_table placed)
+          shown_is : is_honest new → opened_table (saved_table (updated t selection (table_on (fork old) table))) ≡ table_on (fork new) (reopened_table placed)
           shown_is was =
               ap (λ (shown : FileTable). opened_table (saved_table shown)) (updated_is t selection (table_on (fork old) table))
               ∙ ap (λ (rows : List FileRow). table_with (map opened_row (saved_rows itself rows))) (sym (placed_seen t selection places (bytes was)))
@@ -264,7 +264,7 @@ module _ {S : Type 0} (fork : S → List ℕ) (is_ready is_honest : S → Type 0
 
           reads_new : ReadsAs placed new
           reads_new honest =
-              let was = same.1 honest in
+              let was = honest in
               subst (λ (shown : FileTable). Reads (fork new) (Ok shown)) (shown_is was)
               (device.fork (saved_table (updated t selection (table_on (fork old) table))) (stands was (updated_grouped t selection (fork old) table small.grouped)))
 
@@ -285,8 +285,8 @@ module _ {S : Type 0} (fork : S → List ℕ) (is_ready is_honest : S → Type 0
           by false none = ap (λ (files : List (OpenFile (List ℕ))). let all : Files = record { files = files; current = chain.current } in all) (others_seen k low (map fork stores) (fork new) chain.files from none)
 
       pub left_seen : (may_leave : List ℕ → List ℕ → List ℕ → Type 0) (t : HandleTable) (selection : Selection) (more : OpenFiles Place) → more ≡ file_closed k chain
-          → (is_honest old → may_leave (written (saved_table (updated t selection (table_on (fork old) table)))) (fork old) (fork new))
-          → All is_honest now.stores → IfSome (table_of k now.files) (λ shown. (left : List ℕ) × may_leave (written (saved_table (updated t selection shown))) (fork_of fork k now.stores) left
+          → (is_honest new → may_leave (written (saved_table (updated t selection (table_on (fork old) table)))) (fork old) (fork new))
+          → All is_honest (set stores (k - 1) new) → IfSome (table_of k now.files) (λ shown. (left : List ℕ) × may_leave (written (saved_table (updated t selection shown))) (fork_of fork k now.stores) left
           × (map fork (set stores (k - 1) new) ≡ forks_with fork k left now.stores) × (files_on (map fork (set stores (k - 1) new)) more ≡ file_closed k now.files))
       left_seen may_leave t selection more more_is is honest =
           let new_bytes = written (saved_table (updated t selection (table_on (fork old) table))) in
@@ -303,8 +303,8 @@ module _ {S : Type 0} (fork : S → List ℕ) (is_ready is_honest : S → Type 0
           )
 
       -- the files stand, once it is written
-      pub stand_written : (same : is_honest old ↔ is_honest new) (selection : Selection) (places : List Place) (more : OpenFiles Place) → more ≡ rows_changed k (λ rows. rows_placed selection 0 rows places) chain
-          → length places ≡ length table.rows → All IsNear places → (is_honest old → All (IsInside (fork new)) places) → (is_honest old → is_ready new)
+      pub stand_written : (same : is_honest new → is_honest old) (selection : Selection) (places : List Place) (more : OpenFiles Place) → more ≡ rows_changed k (λ rows. rows_placed selection 0 rows places) chain
+          → length places ≡ length table.rows → All IsNear places → (is_honest new → All (IsInside (fork new)) places) → (is_honest new → is_ready new)
           → StandOn fork is_ready is_honest (set stores (k - 1) new) more
       stand_written same selection places more more_is long near inside ready = subst (StandOn fork is_ready is_honest (set stores (k - 1) new)) (sym more_is) whole
         where
@@ -315,7 +315,7 @@ module _ {S : Type 0} (fork : S → List ℕ) (is_ready is_honest : S → Type 0
           small_now = record { few = subst (λ (n : ℕ). n ≤ max_rows) (sym (long_placed selection 0 table.rows places)) small.few; grouped = placed_grouped selection 0 table.rows places small.grouped; near = all_at_places IsNear selection 0 table.rows places long near }
 
           holds_now : Holds fork is_ready is_honest (own table.rows) new
-          holds_now honest = let was = same.1 honest in (ready was, all_at_places (IsInside (fork new)) selection 0 table.rows places long (inside was))
+          holds_now honest = (ready honest, all_at_places (IsInside (fork new)) selection 0 table.rows places long (inside honest))
 
           still : (current : Option ℕ) → IfSome current (λ n. IsTrue (is_open n chain)) → IfSome current (λ n. IsTrue (is_open n (rows_changed k own chain)))
           still None open_now = open_now
@@ -353,24 +353,24 @@ module _ {S : Type 0} (fork : S → List ℕ) (is_ready is_honest : S → Type 0
           }
 
       -- and where nothing was written
-      pub stand_unwritten : {A : Type 0} (same : is_honest old ↔ is_honest new) (fault : UpdateFault) → (fault ≡ Device Later → ⊥)
+      pub stand_unwritten : {A : Type 0} (same : is_honest new → is_honest old) (fault : UpdateFault) → (fault ≡ Device Later → ⊥)
           → (IsErrOf {T = A} {E = UpdateFault} (Err fault) TooBig → new ≡ old) → (IsErrOf {T = A} {E = UpdateFault} (Err fault) HostFull → new ≡ old)
-          → (is_honest old → IsErrOf {T = A} {E = UpdateFault} (Err fault) (Device BeforeFirstWrite) → fork new ≡ fork old)
-          → (is_honest old → IsErrOf {T = A} {E = UpdateFault} (Err fault) (Device BeforeFirstWrite) → is_ready new)
+          → (is_honest new → IsErrOf {T = A} {E = UpdateFault} (Err fault) (Device BeforeFirstWrite) → fork new ≡ fork old)
+          → (is_honest new → IsErrOf {T = A} {E = UpdateFault} (Err fault) (Device BeforeFirstWrite) → is_ready new)
           → StandOn fork is_ready is_honest (set stores (k - 1) new) chain
       stand_unwritten {A} same fault other untouched unasked before ready = by fault other untouched unasked before ready
         where
-          kept : (is_honest old → (fork new ≡ fork old) × (is_ready old → is_ready new)) → StandOn fork is_ready is_honest (set stores (k - 1) new) chain
+          kept : (is_honest new → (fork new ≡ fork old) × (is_ready old → is_ready new)) → StandOn fork is_ready is_honest (set stores (k - 1) new) chain
           kept is = stand_set fork is_ready is_honest stores (k - 1) new old
-              (λ h. let was = same.1 h in (subst is_honest value was, (is was).0 ∙ ap fork value, λ then_ready. (is was).1 (subst is_ready (sym value) then_ready))) chain stand
+              (λ h. (subst is_honest value (same h), (is h).0 ∙ ap fork value, λ then_ready. (is h).1 (subst is_ready (sym value) then_ready))) chain stand
 
           the_same : new ≡ old → StandOn fork is_ready is_honest (set stores (k - 1) new) chain
           the_same is = kept (λ h. (ap fork is, subst is_ready (sym is)))
 
           by : (fault : UpdateFault) → (fault ≡ Device Later → ⊥)
               → (IsErrOf {T = A} {E = UpdateFault} (Err fault) TooBig → new ≡ old) → (IsErrOf {T = A} {E = UpdateFault} (Err fault) HostFull → new ≡ old)
-              → (is_honest old → IsErrOf {T = A} {E = UpdateFault} (Err fault) (Device BeforeFirstWrite) → fork new ≡ fork old)
-              → (is_honest old → IsErrOf {T = A} {E = UpdateFault} (Err fault) (Device BeforeFirstWrite) → is_ready new)
+              → (is_honest new → IsErrOf {T = A} {E = UpdateFault} (Err fault) (Device BeforeFirstWrite) → fork new ≡ fork old)
+              → (is_honest new → IsErrOf {T = A} {E = UpdateFault} (Err fault) (Device BeforeFirstWrite) → is_ready new)
               → StandOn fork is_ready is_honest (set stores (k - 1) new) chain
           by TooBig other untouched unasked before ready = the_same (untouched refl)
           by HostFull other untouched unasked before ready = the_same (unasked refl)

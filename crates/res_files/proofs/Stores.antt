@@ -1,6 +1,5 @@
 -- One of the stores is another: what stays the same of all.
 use Rattle.std.proofs.Common.{◌≡◌, sym, subst, arith, ℕ, zero, suc, ◌-◌, ◌<◌, ◌≤◌, List, [], ◌∷◌, length, set, get_or, slice_get, IfSome, All}
-use Rattle.std.specs.Prelude.{◌↔◌}
 use Rattle.std.specs.List.{AllByRecursion}
 use Rattle.std.specs.Option.{option_map_or}
 use Rattle.std.proofs.lemmas.List.{length-set}
@@ -33,20 +32,12 @@ all_back P [] i y d within step all = all
 all_back P (x ∷ xs) zero y d within step all = (step all.0, all.1)
 all_back P (x ∷ xs) (suc i) y d within step all = (all.0, all_back P xs i y d (omega arith) step all.1)
 
-all_on : {S : Type 0} (P : S → Type 0) (xs : List S) (i : ℕ) (y d : S) → i < length xs → (P (get_or xs i d) → P y) → AllByRecursion P xs → AllByRecursion P (set xs i y)
-all_on P [] i y d within step all = all
-all_on P (x ∷ xs) zero y d within step all = (step all.0, all.1)
-all_on P (x ∷ xs) (suc i) y d within step all = (all.0, all_on P xs i y d (omega arith) step all.1)
-
 by_recursion : {S : Type 0} (P : S → Type 0) (xs : List S) → All P xs → AllByRecursion P xs
 by_recursion P [] all = tt
 by_recursion P (x ∷ xs) all = (All-head P x xs all, by_recursion P xs (All-tail P x xs all))
 
-pub all_same : {S : Type 0} (P : S → Type 0) (xs : List S) (i : ℕ) (y d : S) → i < length xs → (P (get_or xs i d) ↔ P y) → All P xs ↔ All P (set xs i y)
-all_same P xs i y d within same = (
-  λ all. All-from_recursion P (set xs i y) (all_on P xs i y d within same.0 (by_recursion P xs all)),
-  λ all. All-from_recursion P xs (all_back P xs i y d within same.1 (by_recursion P (set xs i y) all)),
-)
+pub all_same : {S : Type 0} (P : S → Type 0) (xs : List S) (i : ℕ) (y d : S) → i < length xs → (P y → P (get_or xs i d)) → All P (set xs i y) → All P xs
+all_same P xs i y d within same = λ all. All-from_recursion P xs (all_back P xs i y d within same (by_recursion P (set xs i y) all))
 
 -- a count of failures that rose
 pub one_failed : {S : Type 0} (failures : S → ℕ) (xs : List S) (i : ℕ) (y d : S) → i < length xs → Rose (failures (get_or xs i d)) (failures y) → SomeFailed failures xs (set xs i y)

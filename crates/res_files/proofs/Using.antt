@@ -1,6 +1,6 @@
 -- A call of the store on which a row stands, that leaves the fork as it is: what follows of all files.
 use Rattle.std.proofs.Common.{◌≡◌, sym, ap, ◌∙◌, subst, ℕ, ◌<◌, List, length, map, set, get_or, Bool, Result, Ok, Err, MatchResult, All}
-use Rattle.std.specs.Prelude.{◌↔◌}
+use Rattle.std.proofs.lemmas.List.{length-set, get_or-set_same}
 use Rattle.std.proofs.Math.Seq.{map-set_same}
 use Rattle.fork_disk.specs.Disk.{Rose}
 use Rattle.fork_reader.specs.declared.place.Place.{Place}
@@ -19,31 +19,28 @@ module _ {S : Type 0} (fork : S → List ℕ) (is_honest : S → Type 0) (chain 
   stores_are : now.stores ≡ stores
   stores_are = ap (λ (v : FilesOn S). v.stores) (sym view_is)
 
-  -- the store is honest where all are
-  pub mine : All is_honest now.stores → is_honest old
-  mine honest = let all = subst (λ (xs : List S). All is_honest xs) stores_are honest in subst is_honest (sym value) (all at old within)
+  -- the store is honest behind the call where all are
+  pub mine : All is_honest (set stores at new) → is_honest new
+  mine honest = subst is_honest (get_or-set_same stores at new old within) (honest at old (subst (λ (n : ℕ). at < n) (sym (length-set stores at new)) within))
 
   -- the forks are the same
-  pub same_forks : (is_honest old → fork new ≡ fork old) → All is_honest now.stores → map fork (set stores at new) ≡ map fork now.stores
+  pub same_forks : (is_honest new → fork new ≡ fork old) → All is_honest (set stores at new) → map fork (set stores at new) ≡ map fork now.stores
   same_forks same honest = map-set_same fork stores at new old (same (mine honest) ∙ ap fork value) ∙ ap (map fork) (sym stores_are)
 
   -- so are the files
-  pub same_files : (is_honest old → fork new ≡ fork old) → All is_honest now.stores → files_on (map fork (set stores at new)) chain ≡ now.files
+  pub same_files : (is_honest new → fork new ≡ fork old) → All is_honest (set stores at new) → files_on (map fork (set stores at new)) chain ≡ now.files
   same_files same honest =
       ap (λ (forks : List (List ℕ)). files_on forks chain) (map-set_same fork stores at new old (same (mine honest) ∙ ap fork value)) ∙ ap (λ (v : FilesOn S). v.files) view_is
 
-  -- all are honest where all were
-  pub same_honest : (is_honest old ↔ is_honest new) → All is_honest now.stores ↔ All is_honest (set stores at new)
-  same_honest same =
-      let here : is_honest (get_or stores at old) ↔ is_honest new = (λ h. same.0 (subst is_honest (sym value) h), λ h. subst is_honest value (same.1 h)) in
-      let all = all_same is_honest stores at new old within here in
-      (λ h. all.0 (subst (λ (xs : List S). All is_honest xs) stores_are h), λ h. subst (λ (xs : List S). All is_honest xs) (sym stores_are) (all.1 h))
+  -- all were honest where all are
+  pub same_honest : (is_honest new → is_honest old) → All is_honest (set stores at new) → All is_honest now.stores
+  same_honest same honest = subst (λ (xs : List S). All is_honest xs) (sym stores_are) (all_same is_honest stores at new old within (λ h. subst is_honest value (same h)) honest)
 
   -- the files stand still
-  pub stand_still : (is_ready : S → Type 0) → (is_honest old ↔ is_honest new) → (is_honest old → fork new ≡ fork old) → (is_honest old → is_ready new)
+  pub stand_still : (is_ready : S → Type 0) → (is_honest new → is_honest old) → (is_honest new → fork new ≡ fork old) → (is_honest new → is_ready new)
       → StandOn fork is_ready is_honest stores chain → StandOn fork is_ready is_honest (set stores at new) chain
   stand_still is_ready same forks ready stand =
-      stand_set fork is_ready is_honest stores at new old (λ h. let was = same.1 h in (subst is_honest value was, forks was ∙ ap fork value, λ _. ready was)) chain stand
+      stand_set fork is_ready is_honest stores at new old (λ h. (subst is_honest value (same h), forks h ∙ ap fork value, λ _. ready h)) chain stand
 
   -- what failed
   pub none_failed : (failures : S → ℕ) → failures new ≡ failures old → NoneFailed failures now.stores (set stores at new)

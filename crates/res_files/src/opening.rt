@@ -1,6 +1,6 @@
 //! A resource file is opened.
 
-ghost use Rattle.std.specs.Prelude.{◌≡◌, ◌≢◌, ◌≤◌, ◌⊎◌, ◌↔◌, length, map, All, IsFalse, IfOk, IfErr, OnOk, OnErr, Ok, Err, MatchResult};
+ghost use Rattle.std.specs.Prelude.{◌≡◌, ◌≢◌, ◌≤◌, ◌⊎◌, length, map, All, IsFalse, IfOk, IfErr, OnOk, OnErr, Ok, Err, MatchResult};
 ghost use Rattle.res_table.specs.OpenFiles.{is_open, file_opened};
 ghost use Rattle.res_calls.specs.Changes.{FileTable};
 ghost use Rattle.res_calls.specs.Device.{Reads};
@@ -21,24 +21,24 @@ impl<S: ForkStore> ResourceFiles<S> {
     pub fn open(&mut self, number: u8) -> Result<Result<(), OsErr>, HostFull>
         requires there { (1 ≤ number) × (number ≤ length self.old.stores) }
         requires closed { IsFalse (is_open number self.old.files) }
-        ensures opened { All S.is_honest self.old.stores → IfOk result (λ done. OnOk done ((table : FileTable)
+        ensures opened { All S.is_honest self.new.stores → IfOk result (λ done. OnOk done ((table : FileTable)
             × Reads (fork_of S.fork number self.old.stores) (Ok table) × (self.new.files ≡ file_opened number table self.old.files))) }
-        ensures refused { All S.is_honest self.old.stores → IfOk result (λ done. IfErr done (λ code.
+        ensures refused { All S.is_honest self.new.stores → IfOk result (λ done. IfErr done (λ code.
             Reads (fork_of S.fork number self.old.stores) (Err code) ⊎ ((code ≡ OsErr.IoErr) × SomeFailed S.failures self.old.stores self.new.stores))) }
         // For any stores: a device failed exactly where the code is ioErr.
         ensures cause { IfOk result (λ done. MatchResult done (λ _. NoneFailed S.failures self.old.stores self.new.stores) (λ code.
             ((code ≡ OsErr.IoErr) × SomeFailed S.failures self.old.stores self.new.stores) ⊎ ((code ≢ OsErr.IoErr) × NoneFailed S.failures self.old.stores self.new.stores))) }
-        ensures same { All S.is_honest self.old.stores → IfOk result (λ done. OnErr done (self.new.files ≡ self.old.files)) }
-        ensures full { All S.is_honest self.old.stores → OnErr result (self.new.files ≡ self.old.files) }
-        ensures forks { All S.is_honest self.old.stores → map S.fork self.new.stores ≡ map S.fork self.old.stores }
+        ensures same { All S.is_honest self.new.stores → IfOk result (λ done. OnErr done (self.new.files ≡ self.old.files)) }
+        ensures full { All S.is_honest self.new.stores → OnErr result (self.new.files ≡ self.old.files) }
+        ensures forks { All S.is_honest self.new.stores → map S.fork self.new.stores ≡ map S.fork self.old.stores }
         ensures loads { self.new.loads ≡ self.old.loads }
-        ensures honest { All S.is_honest self.old.stores ↔ All S.is_honest self.new.stores }
+        ensures honest { All S.is_honest self.new.stores → All S.is_honest self.old.stores }
         ensures count { length self.new.stores ≡ length self.old.stores }
         // Whenever a crash comes, a start finds a fork that it might have found before; once the file is open, it finds what is read.
-        ensures any_moment { All S.is_honest self.old.stores → AlwaysFinds S.may_find (S.may_find (history_of S.history number self.old.stores))
+        ensures any_moment { All S.is_honest self.new.stores → AlwaysFinds S.may_find (S.may_find (history_of S.history number self.old.stores))
             (history_of S.history number self.old.stores) (history_of S.history number self.new.stores) }
-        ensures others { All S.is_honest self.old.stores → OthersAreCalm S.history number self.old.stores self.new.stores }
-        ensures settled { All S.is_honest self.old.stores → S.has_journal → IfOk result (λ done. OnOk done
+        ensures others { All S.is_honest self.new.stores → OthersAreCalm S.history number self.old.stores self.new.stores }
+        ensures settled { All S.is_honest self.new.stores → S.has_journal → IfOk result (λ done. OnOk done
             (Finds S.may_find (λ found. found ≡ fork_of S.fork number self.new.stores) (history_of S.history number self.new.stores))) }
     {
         let at = number as usize - 1;

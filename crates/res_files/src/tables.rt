@@ -1,6 +1,6 @@
 //! The table of a file, read from its disk.
 
-ghost use Rattle.std.specs.Prelude.{◌≡◌, ◌↔◌, IfOk, IfErr, OnOk, Ok};
+ghost use Rattle.std.specs.Prelude.{◌≡◌, IfOk, IfErr, OnOk, Ok};
 ghost use Rattle.fork_disk.specs.Crash.{AlwaysFinds};
 ghost use Rattle.fork_rows.specs.Opening.{CountsDevice};
 ghost use Rattle.res_calls.specs.Device.{Reads};
@@ -35,15 +35,15 @@ pub(crate) fn code_of(fault: OpenFault) -> Result<OsErr, HostFull>
 /// Reads the table of the file on a store that is ready: without bytes it has no resources.
 fn read_anew<S: ForkStore>(alloc: Global, store: &mut S) -> Result<ResourceTable<Place>, OpenFault>
     requires { S.is_honest store.old → S.is_ready store.old }
-    ensures reads { S.is_honest store.old → IfOk result (λ table. Reads (S.fork store.old) (Ok (table_on (S.fork store.old) table))) }
-    ensures inside { S.is_honest store.old → IfOk result (λ table. AreInside (S.fork store.old) table.rows) }
+    ensures reads { S.is_honest store.new → IfOk result (λ table. Reads (S.fork store.old) (Ok (table_on (S.fork store.old) table))) }
+    ensures inside { S.is_honest store.new → IfOk result (λ table. AreInside (S.fork store.old) table.rows) }
     ensures small { IfOk result (λ table. AreSmall table.rows) }
-    ensures refuses { S.is_honest store.old → IfErr result (RefusesFile (S.fork store.old)) }
-    ensures same { S.is_honest store.old → S.fork store.new ≡ S.fork store.old }
-    ensures ready { S.is_honest store.old → S.is_ready store.new }
-    ensures honest { S.is_honest store.old ↔ S.is_honest store.new }
+    ensures refuses { S.is_honest store.new → IfErr result (RefusesFile (S.fork store.old)) }
+    ensures same { S.is_honest store.new → S.fork store.new ≡ S.fork store.old }
+    ensures ready { S.is_honest store.new → S.is_ready store.new }
+    ensures honest { S.is_honest store.new → S.is_honest store.old }
     ensures cause { CountsDevice (S.failures store.old) (S.failures store.new) result }
-    ensures calm { S.is_honest store.old → S.history store.new ≡ S.history store.old }
+    ensures calm { S.is_honest store.new → S.history store.new ≡ S.history store.old }
 {
     if store.len()? == 0 {
         return Ok(ResourceTable {
@@ -70,16 +70,16 @@ pub(crate) fn read_table<S: ForkStore>(
     known: Known,
 ) -> Result<ResourceTable<Place>, OpenFault>
     requires { IsKnown S.fork S.is_honest store.old known }
-    ensures reads { S.is_honest store.old → IfOk result (λ table. Reads (S.fork store.old) (Ok (table_on (S.fork store.old) table))) }
-    ensures inside { S.is_honest store.old → IfOk result (λ table. AreInside (S.fork store.old) table.rows) }
+    ensures reads { S.is_honest store.new → IfOk result (λ table. Reads (S.fork store.old) (Ok (table_on (S.fork store.old) table))) }
+    ensures inside { S.is_honest store.new → IfOk result (λ table. AreInside (S.fork store.old) table.rows) }
     ensures small { IfOk result (λ table. AreSmall table.rows) }
-    ensures refuses { S.is_honest store.old → IfErr result (RefusesFile (S.fork store.old)) }
-    ensures same { S.is_honest store.old → S.fork store.new ≡ S.fork store.old }
-    ensures ready { S.is_honest store.old → OnOk result (S.is_ready store.new) }
-    ensures still { S.is_honest store.old → S.is_ready store.old → S.is_ready store.new }
-    ensures honest { S.is_honest store.old ↔ S.is_honest store.new }
+    ensures refuses { S.is_honest store.new → IfErr result (RefusesFile (S.fork store.old)) }
+    ensures same { S.is_honest store.new → S.fork store.new ≡ S.fork store.old }
+    ensures ready { S.is_honest store.new → OnOk result (S.is_ready store.new) }
+    ensures still { S.is_honest store.new → S.is_ready store.old → S.is_ready store.new }
+    ensures honest { S.is_honest store.new → S.is_honest store.old }
     ensures cause { CountsDevice (S.failures store.old) (S.failures store.new) result }
-    ensures any_moment { S.is_honest store.old → AlwaysFinds S.may_find (S.may_find (S.history store.old)) (S.history store.old) (S.history store.new) }
+    ensures any_moment { S.is_honest store.new → AlwaysFinds S.may_find (S.may_find (S.history store.old)) (S.history store.old) (S.history store.new) }
 {
     store.recover()?;
     match known {

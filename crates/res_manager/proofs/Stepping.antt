@@ -1,6 +1,6 @@
 -- Steps of calls that ask nothing.
 use Rattle.std.proofs.Common.{◌≡◌, ℕ, Bool, true, false, List, [], Option, Some, None, Result, Ok, Err, refl, sym, subst, ◌∙◌}
-use Rattle.std.specs.Prelude.{◌↔◌, IfOk, OnErr, IsFalse, MatchBool, MatchResult, is_ok, if◌then◌else◌}
+use Rattle.std.specs.Prelude.{IfOk, OnErr, IsFalse, MatchBool, MatchResult, is_ok, if◌then◌else◌}
 use Rattle.mac_base.specs.declared.error.OsErr.{OsErr}
 use Rattle.mac_base.specs.declared.error.OsErr.TheVariants.{DskFulErr}
 use Rattle.mac_base.specs.ZoneState.{ZoneState}
@@ -75,13 +75,6 @@ written_steps fork failures may_leave old new on after c u outcome late test wor
     by_case false refused ends =
         let P : Option OsErr → Type 0 = λ o. StepsUnless Memory may_leave o device.Works (state_of fork old on) c [] (record { outcome = outcome; state = state_of fork new after }) in
         (device.Works, subst P (sym refused) (refl, sym ends), λ h. absurd (cc h))
-
--- what holds of one holds of the other
-pub iff_same : {X : Type 0} (P : X → Type 0) (a b : X) → b ≡ a → P a ↔ P b
-iff_same P a b is = (subst P (sym is), subst P is)
-
-pub iff_then : {A B C : Type 0} → (A ↔ B) → (B ↔ C) → (A ↔ C)
-iff_then one other = (λ a. other.0 (one.0 a), λ c. one.1 (other.1 c))
 
 -- what a fault comes with, it comes with as it is told
 pub told_err : {X E F : Type 0} (P Q : Type 0) (result : Result X E) (told : Result X F) → is_ok told ≡ is_ok result → MatchResult result (λ done. Q) (λ fault. P) → OnErr told P

@@ -1,6 +1,6 @@
 //! The calls that get or load a resource.
 
-ghost use Rattle.std.specs.Prelude.{◌≡◌, ◌↔◌, [], All, IsSome, IfSome, IsTrue, length, map};
+ghost use Rattle.std.specs.Prelude.{◌≡◌, [], All, IsSome, IfSome, IsTrue, length, map};
 ghost use Rattle.linked_zone.specs.Loans.{KeepsLoans};
 ghost use Rattle.res_calls.specs.Files.{ResState};
 ghost use Rattle.res_calls.specs.Loads.{loaded_results, loads_bytes, row_wanted};
@@ -28,14 +28,14 @@ pub(crate) fn get<S: ForkStore, G: GrowZone>(
     requires gets { IsTrue (gets call.now) }
     requires passed { Passes (state_of S.fork memory.old files.old) (early_tests call.now) }
     requires unasked { G.asks procedure.old ≡ [] }
-    ensures step { All S.is_honest files.old.stores →
+    ensures step { All S.is_honest files.new.stores →
         ResourceSteps S.fork S.failures S.may_leave memory.old files.old call.now (G.asks procedure.new) result memory.new files.new }
-    ensures calm { All S.is_honest files.old.stores → map S.history files.new.stores ≡ map S.history files.old.stores }
+    ensures calm { All S.is_honest files.new.stores → map S.history files.new.stores ≡ map S.history files.old.stores }
     ensures source { G.source procedure.new ≡ G.source procedure.old }
     ensures loans { KeepsLoans memory.old memory.new }
     ensures lent { memory.new.heap.table.lent ≡ memory.old.heap.table.lent }
     ensures shape { memory.new.shape ≡ memory.old.shape }
-    ensures honest { All S.is_honest files.old.stores ↔ All S.is_honest files.new.stores }
+    ensures honest { All S.is_honest files.new.stores → All S.is_honest files.old.stores }
     ensures count { length files.new.stores ≡ length files.old.stores }
 {
     let Some(place) = place_wanted(files, call) else {

@@ -1,6 +1,6 @@
 //! Loads of resources: a row's bytes come into a block of the zone.
 
-ghost use Rattle.std.specs.Prelude.{◌≡◌, ◌↔◌, [], Some, true, false, not, ◌||◌, length, map, All, IsTrue, IsFalse, IsSome, IfOk, IfSome, OnOk, OnErr, IfErr, ◌≤◌, ◌<◌, ℕ, List, if◌then◌else◌};
+ghost use Rattle.std.specs.Prelude.{◌≡◌, [], Some, true, false, not, ◌||◌, length, map, All, IsTrue, IsFalse, IsSome, IfOk, IfSome, OnOk, OnErr, IfErr, ◌≤◌, ◌<◌, ℕ, List, if◌then◌else◌};
 ghost use Rattle.linked_zone.specs.Loans.{KeepsLoans};
 ghost use Rattle.mac_base.specs.declared.releasing.ReleasingCall.TheVariants.{DisposesHandle};
 ghost use Rattle.mac_base.specs.HandleTable.{is_full, with_flags};
@@ -40,13 +40,13 @@ pub(crate) fn get_row<S: ForkStore, G: GrowZone>(
 ) -> Result<Handle, OsErr>
     requires unasked { G.asks procedure.old ≡ [] }
     requires there { IsSome (row_at place files.old.files) }
-    ensures step { All S.is_honest files.old.stores → LoadSteps S.fork S.failures S.may_leave memory.old files.old place loads (G.asks procedure.new) result memory.new files.new }
-    ensures calm { All S.is_honest files.old.stores → map S.history files.new.stores ≡ map S.history files.old.stores }
+    ensures step { All S.is_honest files.new.stores → LoadSteps S.fork S.failures S.may_leave memory.old files.old place loads (G.asks procedure.new) result memory.new files.new }
+    ensures calm { All S.is_honest files.new.stores → map S.history files.new.stores ≡ map S.history files.old.stores }
     ensures source { G.source procedure.new ≡ G.source procedure.old }
     ensures loans { KeepsLoans memory.old memory.new }
     ensures lent { memory.new.heap.table.lent ≡ memory.old.heap.table.lent }
     ensures shape { memory.new.shape ≡ memory.old.shape }
-    ensures honest { All S.is_honest files.old.stores ↔ All S.is_honest files.new.stores }
+    ensures honest { All S.is_honest files.new.stores → All S.is_honest files.old.stores }
     ensures count { length files.new.stores ≡ length files.old.stores }
 {
     let row = files.row(place).unwrap();
@@ -176,18 +176,18 @@ fn load_bytes<S: ForkStore>(
 ) -> Result<(), OsErr>
     requires placed { IsPlaced memory.old.heap handle size }
     requires long { All S.is_honest files.old.stores → HasBytes size (row_at place files.old.files) }
-    ensures loaded { All S.is_honest files.old.stores → OnOk result (IfSome (row_at place files.old.files) (λ r. r.resource.attributes ≡ attributes → memory.new.heap ≡ loaded handle r memory.old.heap)) }
+    ensures loaded { All S.is_honest files.new.stores → OnOk result (IfSome (row_at place files.old.files) (λ r. r.resource.attributes ≡ attributes → memory.new.heap ≡ loaded handle r memory.old.heap)) }
     ensures undone { OnErr result (memory.new.heap ≡ (if is_own then with_emptied memory.old.heap handle else heap_released (DisposesHandle handle) memory.old.heap)) }
     ensures code { IfErr result (λ code. code ≡ OsErr.IoErr) }
     ensures some { OnErr result (0 < size) }
     ensures loans { KeepsLoans memory.old memory.new }
     ensures lent { memory.new.heap.table.lent ≡ memory.old.heap.table.lent }
     ensures shape { memory.new.shape ≡ memory.old.shape }
-    ensures files { All S.is_honest files.old.stores → files.new.files ≡ files.old.files }
-    ensures forks { All S.is_honest files.old.stores → map S.fork files.new.stores ≡ map S.fork files.old.stores }
-    ensures calm { All S.is_honest files.old.stores → map S.history files.new.stores ≡ map S.history files.old.stores }
+    ensures files { All S.is_honest files.new.stores → files.new.files ≡ files.old.files }
+    ensures forks { All S.is_honest files.new.stores → map S.fork files.new.stores ≡ map S.fork files.old.stores }
+    ensures calm { All S.is_honest files.new.stores → map S.history files.new.stores ≡ map S.history files.old.stores }
     ensures loads { files.new.loads ≡ files.old.loads }
-    ensures honest { All S.is_honest files.old.stores ↔ All S.is_honest files.new.stores }
+    ensures honest { All S.is_honest files.new.stores → All S.is_honest files.old.stores }
     ensures count { length files.new.stores ≡ length files.old.stores }
     ensures cause { OnErr result (SomeFailed S.failures files.old.stores files.new.stores) }
 {
@@ -210,16 +210,16 @@ fn read_bytes<S: ForkStore>(
     requires placed { IsPlaced memory.old.heap handle size }
     requires long { All S.is_honest files.old.stores → HasBytes size (row_at place files.old.files) }
     ensures filled { (bytes : List ℕ) × IsFilled handle bytes memory.old.heap memory.new.heap }
-    ensures read { All S.is_honest files.old.stores → OnOk result (IfSome (row_at place files.old.files) (λ r. IsFilled handle r.resource.datum memory.old.heap memory.new.heap)) }
+    ensures read { All S.is_honest files.new.stores → OnOk result (IfSome (row_at place files.old.files) (λ r. IsFilled handle r.resource.datum memory.old.heap memory.new.heap)) }
     ensures code { IfErr result (λ code. code ≡ OsErr.IoErr) }
     ensures some { OnErr result (0 < size) }
     ensures loans { KeepsLoans memory.old memory.new }
     ensures shape { memory.new.shape ≡ memory.old.shape }
-    ensures files { All S.is_honest files.old.stores → files.new.files ≡ files.old.files }
-    ensures forks { All S.is_honest files.old.stores → map S.fork files.new.stores ≡ map S.fork files.old.stores }
-    ensures calm { All S.is_honest files.old.stores → map S.history files.new.stores ≡ map S.history files.old.stores }
+    ensures files { All S.is_honest files.new.stores → files.new.files ≡ files.old.files }
+    ensures forks { All S.is_honest files.new.stores → map S.fork files.new.stores ≡ map S.fork files.old.stores }
+    ensures calm { All S.is_honest files.new.stores → map S.history files.new.stores ≡ map S.history files.old.stores }
     ensures loads { files.new.loads ≡ files.old.loads }
-    ensures honest { All S.is_honest files.old.stores ↔ All S.is_honest files.new.stores }
+    ensures honest { All S.is_honest files.new.stores → All S.is_honest files.old.stores }
     ensures count { length files.new.stores ≡ length files.old.stores }
     ensures cause { OnErr result (SomeFailed S.failures files.old.stores files.new.stores) }
 {

@@ -1,6 +1,6 @@
 //! One call of the Resource Manager.
 
-ghost use Rattle.std.specs.Prelude.{◌≡◌, ◌↔◌, [], None, length, All, IsTrue, IfOk, OnOk, OnErr};
+ghost use Rattle.std.specs.Prelude.{◌≡◌, [], None, length, All, IsTrue, IfOk, OnOk, OnErr};
 ghost use Rattle.linked_zone.specs.Loans.{KeepsLoans};
 ghost use Rattle.res_calls.specs.Tests.{resource_refusal};
 ghost use Rattle.mac_calls.specs.declared.resource_call.ResourceCall.TheVariants as call;
@@ -39,26 +39,26 @@ pub fn make<S: ForkStore, G: GrowZone>(
 ) -> Result<Outcome, HostFull>
     requires lent { AreLent memory.old.heap.table lent.now }
     requires unasked { G.asks procedure.old ≡ [] }
-    ensures step { All S.is_honest files.old.stores → IfOk result (λ outcome.
+    ensures step { All S.is_honest files.new.stores → IfOk result (λ outcome.
         ResourceSteps S.fork S.failures S.may_leave memory.old files.old call.now (G.asks procedure.new) outcome memory.new files.new) }
-    ensures reads_back { All S.is_honest files.old.stores → IfOk result (λ outcome. ReadsBack (state_of S.fork memory.old files.old) call.now outcome (state_of S.fork memory.new files.new)) }
+    ensures reads_back { All S.is_honest files.new.stores → IfOk result (λ outcome. ReadsBack (state_of S.fork memory.old files.old) call.now outcome (state_of S.fork memory.new files.new)) }
     // Whenever a crash comes, each file is found as before the call, or as the call saves it; once an update or an opening succeeded, as it is read.
-    ensures any_moment { All S.is_honest files.old.stores → IfOk result (λ outcome.
+    ensures any_moment { All S.is_honest files.new.stores → IfOk result (λ outcome.
         CrashLeaves S.ForkStore (update_in (work_of (state_of S.fork memory.old files.old) call.now)) files.old.stores files.new.stores) }
-    ensures settled { All S.is_honest files.old.stores → IfOk result (λ outcome. OnOk outcome
+    ensures settled { All S.is_honest files.new.stores → IfOk result (λ outcome. OnOk outcome
         (IsSettled S.ForkStore (file_settled (work_of (state_of S.fork memory.old files.old) call.now)) files.new.stores)) }
-    ensures crash_full { All S.is_honest files.old.stores → OnErr result (CrashLeaves S.ForkStore None files.old.stores files.new.stores) }
+    ensures crash_full { All S.is_honest files.new.stores → OnErr result (CrashLeaves S.ForkStore None files.old.stores files.new.stores) }
     ensures source { G.source procedure.new ≡ G.source procedure.old }
     ensures loans { KeepsLoans memory.old memory.new }
     ensures lent { memory.new.heap.table.lent ≡ memory.old.heap.table.lent }
     ensures shape { memory.new.shape ≡ memory.old.shape }
-    ensures honest { All S.is_honest files.old.stores ↔ All S.is_honest files.new.stores }
+    ensures honest { All S.is_honest files.new.stores → All S.is_honest files.old.stores }
     ensures count { length files.new.stores ≡ length files.old.stores }
     ensures unchanged { OnErr result (memory.new ≡ memory.old) }
     ensures unasked { OnErr result (G.asks procedure.new ≡ []) }
-    ensures same { All S.is_honest files.old.stores → OnErr result (state_of S.fork memory.new files.new ≡ state_of S.fork memory.old files.old) }
-    ensures full { All S.is_honest files.old.stores → OnErr result (IsTrue (takes_memory (state_of S.fork memory.old files.old) call.now)) }
-    ensures late { All S.is_honest files.old.stores → OnErr result (resource_refusal (state_of S.fork memory.old files.old) call.now ≡ None) }
+    ensures same { All S.is_honest files.new.stores → OnErr result (state_of S.fork memory.new files.new ≡ state_of S.fork memory.old files.old) }
+    ensures full { All S.is_honest files.new.stores → OnErr result (IsTrue (takes_memory (state_of S.fork memory.old files.old) call.now)) }
+    ensures late { All S.is_honest files.new.stores → OnErr result (resource_refusal (state_of S.fork memory.old files.old) call.now ≡ None) }
 {
     if let Err(code) = test_call(files, memory, lent, call) {
         return Ok(Err(code));
@@ -83,25 +83,25 @@ fn make_calm<S: ForkStore, G: GrowZone>(
     requires calm { IsTrue (is_calm call.now) }
     requires passed { Passes (state_of S.fork memory.old files.old) (early_tests call.now) }
     requires unasked { G.asks procedure.old ≡ [] }
-    ensures step { All S.is_honest files.old.stores → IfOk result (λ outcome.
+    ensures step { All S.is_honest files.new.stores → IfOk result (λ outcome.
         ResourceSteps S.fork S.failures S.may_leave memory.old files.old call.now (G.asks procedure.new) outcome memory.new files.new) }
-    ensures reads_back { All S.is_honest files.old.stores → IfOk result (λ outcome. ReadsBack (state_of S.fork memory.old files.old) call.now outcome (state_of S.fork memory.new files.new)) }
-    ensures any_moment { All S.is_honest files.old.stores → IfOk result (λ outcome.
+    ensures reads_back { All S.is_honest files.new.stores → IfOk result (λ outcome. ReadsBack (state_of S.fork memory.old files.old) call.now outcome (state_of S.fork memory.new files.new)) }
+    ensures any_moment { All S.is_honest files.new.stores → IfOk result (λ outcome.
         CrashLeaves S.ForkStore (update_in (work_of (state_of S.fork memory.old files.old) call.now)) files.old.stores files.new.stores) }
-    ensures settled { All S.is_honest files.old.stores → IfOk result (λ outcome. OnOk outcome
+    ensures settled { All S.is_honest files.new.stores → IfOk result (λ outcome. OnOk outcome
         (IsSettled S.ForkStore (file_settled (work_of (state_of S.fork memory.old files.old) call.now)) files.new.stores)) }
-    ensures crash_full { All S.is_honest files.old.stores → OnErr result (CrashLeaves S.ForkStore None files.old.stores files.new.stores) }
+    ensures crash_full { All S.is_honest files.new.stores → OnErr result (CrashLeaves S.ForkStore None files.old.stores files.new.stores) }
     ensures source { G.source procedure.new ≡ G.source procedure.old }
     ensures loans { KeepsLoans memory.old memory.new }
     ensures lent { memory.new.heap.table.lent ≡ memory.old.heap.table.lent }
     ensures shape { memory.new.shape ≡ memory.old.shape }
-    ensures honest { All S.is_honest files.old.stores ↔ All S.is_honest files.new.stores }
+    ensures honest { All S.is_honest files.new.stores → All S.is_honest files.old.stores }
     ensures count { length files.new.stores ≡ length files.old.stores }
     ensures unchanged { OnErr result (memory.new ≡ memory.old) }
     ensures unasked { OnErr result (G.asks procedure.new ≡ []) }
-    ensures same { All S.is_honest files.old.stores → OnErr result (state_of S.fork memory.new files.new ≡ state_of S.fork memory.old files.old) }
-    ensures full { All S.is_honest files.old.stores → OnErr result (IsTrue (takes_memory (state_of S.fork memory.old files.old) call.now)) }
-    ensures late { All S.is_honest files.old.stores → OnErr result (resource_refusal (state_of S.fork memory.old files.old) call.now ≡ None) }
+    ensures same { All S.is_honest files.new.stores → OnErr result (state_of S.fork memory.new files.new ≡ state_of S.fork memory.old files.old) }
+    ensures full { All S.is_honest files.new.stores → OnErr result (IsTrue (takes_memory (state_of S.fork memory.old files.old) call.now)) }
+    ensures late { All S.is_honest files.new.stores → OnErr result (resource_refusal (state_of S.fork memory.old files.old) call.now ≡ None) }
 {
     match *call {
         ResourceCall::GetResource { .. }
@@ -121,7 +121,7 @@ fn make_quiet<S: ForkStore>(
 ) -> Result<Outcome, HostFull>
     requires quiet { IsTrue (is_quiet call.now) }
     requires passed { Passes (state_of S.fork memory.old files.old) (early_tests call.now) }
-    ensures quiet { All S.is_honest files.old.stores → IfOk result (λ outcome. EndsQuietly S.fork memory.old files.old call.now outcome memory.new files.new) }
+    ensures quiet { All S.is_honest files.new.stores → IfOk result (λ outcome. EndsQuietly S.fork memory.old files.old call.now outcome memory.new files.new) }
     ensures loans { KeepsLoans memory.old memory.new }
     ensures lent { memory.new.heap.table.lent ≡ memory.old.heap.table.lent }
     ensures shape { memory.new.shape ≡ memory.old.shape }
@@ -160,16 +160,16 @@ fn open_file<S: ForkStore>(
     number: u32,
 ) -> Result<Outcome, HostFull>
     requires { Passes (state_of S.fork memory.now files.old) (early_tests (call.OpenResFile number)) }
-    ensures step { All S.is_honest files.old.stores → IfOk result (λ outcome.
+    ensures step { All S.is_honest files.new.stores → IfOk result (λ outcome.
         ResourceSteps S.fork S.failures S.may_leave memory.now files.old (call.OpenResFile number) [] outcome memory.now files.new) }
-    ensures any_moment { All S.is_honest files.old.stores → IfOk result (λ outcome.
+    ensures any_moment { All S.is_honest files.new.stores → IfOk result (λ outcome.
         CrashLeaves S.ForkStore (update_in (work_of (state_of S.fork memory.now files.old) (call.OpenResFile number))) files.old.stores files.new.stores) }
-    ensures settled { All S.is_honest files.old.stores → IfOk result (λ outcome. OnOk outcome
+    ensures settled { All S.is_honest files.new.stores → IfOk result (λ outcome. OnOk outcome
         (IsSettled S.ForkStore (file_settled (work_of (state_of S.fork memory.now files.old) (call.OpenResFile number))) files.new.stores)) }
-    ensures crash_full { All S.is_honest files.old.stores → OnErr result (CrashLeaves S.ForkStore None files.old.stores files.new.stores) }
-    ensures same { All S.is_honest files.old.stores → OnErr result (state_of S.fork memory.now files.new ≡ state_of S.fork memory.now files.old) }
+    ensures crash_full { All S.is_honest files.new.stores → OnErr result (CrashLeaves S.ForkStore None files.old.stores files.new.stores) }
+    ensures same { All S.is_honest files.new.stores → OnErr result (state_of S.fork memory.now files.new ≡ state_of S.fork memory.now files.old) }
     ensures full { OnErr result (IsTrue (takes_memory (state_of S.fork memory.now files.old) (call.OpenResFile number))) }
-    ensures honest { All S.is_honest files.old.stores ↔ All S.is_honest files.new.stores }
+    ensures honest { All S.is_honest files.new.stores → All S.is_honest files.old.stores }
     ensures count { length files.new.stores ≡ length files.old.stores }
 {
     prove!(files.count() <= MOST_FILES);

@@ -1,6 +1,6 @@
 //! The call that opens a file.
 
-ghost use Rattle.std.specs.Prelude.{◌≡◌, ◌≤◌, ◌↔◌, [], All, IfOk, OnOk, OnErr, IsFalse, Some, None, length, map};
+ghost use Rattle.std.specs.Prelude.{◌≡◌, ◌≤◌, [], All, IfOk, OnOk, OnErr, IsFalse, Some, None, length, map};
 ghost use Rattle.mac_base.specs.ZoneState.{ZoneState};
 ghost use Rattle.res_manager.specs.Crash.{CrashLeaves, IsSettled};
 ghost use Rattle.res_manager.specs.Ends.{OpensFile};
@@ -18,14 +18,14 @@ pub(crate) fn open<S: ForkStore>(
 ) -> Result<Outcome, HostFull>
     requires there { (1 ≤ number) × (number ≤ length files.old.stores) }
     requires closed { IsFalse (is_open number files.old.files) }
-    ensures opened { All S.is_honest files.old.stores → IfOk result (λ outcome.
+    ensures opened { All S.is_honest files.new.stores → IfOk result (λ outcome.
         (zone : ZoneState) → OpensFile S.fork S.failures zone files.old number outcome files.new) }
-    ensures full { All S.is_honest files.old.stores → OnErr result (files.new.files ≡ files.old.files) }
-    ensures forks { All S.is_honest files.old.stores → map S.fork files.new.stores ≡ map S.fork files.old.stores }
-    ensures any_moment { All S.is_honest files.old.stores → CrashLeaves S.ForkStore None files.old.stores files.new.stores }
-    ensures settled { All S.is_honest files.old.stores → IfOk result (λ outcome. OnOk outcome (IsSettled S.ForkStore (Some number) files.new.stores)) }
+    ensures full { All S.is_honest files.new.stores → OnErr result (files.new.files ≡ files.old.files) }
+    ensures forks { All S.is_honest files.new.stores → map S.fork files.new.stores ≡ map S.fork files.old.stores }
+    ensures any_moment { All S.is_honest files.new.stores → CrashLeaves S.ForkStore None files.old.stores files.new.stores }
+    ensures settled { All S.is_honest files.new.stores → IfOk result (λ outcome. OnOk outcome (IsSettled S.ForkStore (Some number) files.new.stores)) }
     ensures loads { files.new.loads ≡ files.old.loads }
-    ensures honest { All S.is_honest files.old.stores ↔ All S.is_honest files.new.stores }
+    ensures honest { All S.is_honest files.new.stores → All S.is_honest files.old.stores }
     ensures count { length files.new.stores ≡ length files.old.stores }
 {
     match files.open(number)? {

@@ -86,32 +86,32 @@ pub fn write_table<S: ForkStore, C: Contents>(
     requires near { AreNear table.now.rows }
     requires few { length table.now.rows ≤ max_rows }
     requires unlent { IsFalse (reads_lent (C.table contents.now) selection table.now.rows) }
-    ensures written { S.is_honest store.old → OnOk result
+    ensures written { S.is_honest store.new → OnOk result
         (S.fork store.new ≡ written (saved_table (updated (C.table contents.now) selection (table_on (S.fork store.old) table.now)))) }
-    ensures stands { S.is_honest store.old → OnOk result
+    ensures stands { S.is_honest store.new → OnOk result
         (IsGrouped (saved_table (updated (C.table contents.now) selection (table_on (S.fork store.old) table.now))).rows
         → StandsFor (S.fork store.new) (saved_table (updated (C.table contents.now) selection (table_on (S.fork store.old) table.now)))) }
-    ensures places { S.is_honest store.old → IfOk result (λ places. map (bytes_on (S.fork store.new)) places.items
+    ensures places { S.is_honest store.new → IfOk result (λ places. map (bytes_on (S.fork store.new)) places.items
         ≡ map (λ r. r.resource.datum) (updated (C.table contents.now) selection (table_on (S.fork store.old) table.now)).rows) }
-    ensures inside { S.is_honest store.old → IfOk result (λ places. All (IsInside (S.fork store.new)) places.items) }
+    ensures inside { S.is_honest store.new → IfOk result (λ places. All (IsInside (S.fork store.new)) places.items) }
     ensures near { IfOk result (λ places. All IsNear places.items) }
     ensures each { IfOk result (λ places. length places.items ≡ length table.now.rows) }
-    ensures too_big { S.is_honest store.old → (IsErrOf result UpdateFault.TooBig
+    ensures too_big { S.is_honest store.new → (IsErrOf result UpdateFault.TooBig
         ↔ IsFalse (fits_fork (updated (C.table contents.now) selection (table_on (S.fork store.old) table.now)))) }
     ensures untouched { IsErrOf result UpdateFault.TooBig → store.new ≡ store.old }
     ensures unasked { IsErrOf result UpdateFault.HostFull → store.new ≡ store.old }
-    ensures before { S.is_honest store.old → IsErrOf result (UpdateFault.Device ReplaceFault.BeforeFirstWrite) → S.fork store.new ≡ S.fork store.old }
-    ensures left { S.is_honest store.old → IsErrOf result (UpdateFault.Device ReplaceFault.Later)
+    ensures before { S.is_honest store.new → IsErrOf result (UpdateFault.Device ReplaceFault.BeforeFirstWrite) → S.fork store.new ≡ S.fork store.old }
+    ensures left { S.is_honest store.new → IsErrOf result (UpdateFault.Device ReplaceFault.Later)
         → S.may_leave (written (saved_table (updated (C.table contents.now) selection (table_on (S.fork store.old) table.now)))) (S.fork store.old) (S.fork store.new) }
-    ensures ready { S.is_honest store.old → OnOk result (S.is_ready store.new) }
-    ensures still { S.is_honest store.old → IsErrOf result (UpdateFault.Device ReplaceFault.BeforeFirstWrite) → S.is_ready store.new }
-    ensures stable { S.is_honest store.old → OnOk result (S.is_stable store.new) }
-    ensures honest { S.is_honest store.old ↔ S.is_honest store.new }
+    ensures ready { S.is_honest store.new → OnOk result (S.is_ready store.new) }
+    ensures still { S.is_honest store.new → IsErrOf result (UpdateFault.Device ReplaceFault.BeforeFirstWrite) → S.is_ready store.new }
+    ensures stable { S.is_honest store.new → OnOk result (S.is_stable store.new) }
+    ensures honest { S.is_honest store.new → S.is_honest store.old }
     ensures cause { CountsUpdate (S.failures store.old) (S.failures store.new) result }
-    ensures any_moment { S.is_honest store.old → AlwaysFinds S.may_find
+    ensures any_moment { S.is_honest store.new → AlwaysFinds S.may_find
         (FoundBeforeOr S.may_find (S.history store.old) (written (saved_table (updated (C.table contents.now) selection (table_on (S.fork store.old) table.now)))))
         (S.history store.old) (S.history store.new) }
-    ensures calm { S.is_honest store.old → IsErrOf result (UpdateFault.Device ReplaceFault.BeforeFirstWrite) → S.history store.new ≡ S.history store.old }
+    ensures calm { S.is_honest store.new → IsErrOf result (UpdateFault.Device ReplaceFault.BeforeFirstWrite) → S.history store.new ≡ S.history store.old }
 {
     if !fits(table, selection, contents) {
         return Err(UpdateFault::TooBig);

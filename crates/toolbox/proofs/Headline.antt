@@ -16,7 +16,7 @@ use Rattle.res_files.specs.FilesOn.{FilesOn}
 use Rattle.res_laws.specs.Tools.{IsToolRun, ToolDoes}
 use Rattle.res_laws.proofs.Acts.{anything-left}
 use Rattle.res_laws.proofs.Tools.{tools-show}
-use Rattle.toolbox.specs.Headline.{AreSteps, Stepped, ToolboxShows, calls_of, tools_of}
+use Rattle.toolbox.specs.Headline.{AreSteps, Stepped, ToolboxShows, calls_of, left_by, tools_of}
 use Rattle.toolbox.specs.Steps.{Gives}
 use Rattle.toolbox.specs.ToolState.{IsHonest, ToolState, resource_state, without_handles}
 
@@ -29,7 +29,7 @@ module _ {S : Type 0} (store : Ghosts S) where
   states old new on shape resources = ap (λ s. state s new.heap new.resources) shape ∙ ap (state old.shape new.heap) resources
 
   -- a step of the toolbox is one of its zone, resource files and loans
-  pub tool-does : (old : ToolState S) (call : Call) (asks : List Ask) (outcome : Outcome) (new : ToolState S) → Gives store old call asks outcome new → new.shape ≡ old.shape → IsHonest store old → ToolDoes (tools_of store old) call asks outcome (tools_of store new)
+  pub tool-does : (old : ToolState S) (call : Call) (asks : List Ask) (outcome : Outcome) (new : ToolState S) → Gives store old call asks outcome new → new.shape ≡ old.shape → IsHonest store new → ToolDoes (tools_of store old) call asks outcome (tools_of store new)
   unfolding state
   tool-does old (MemoryCalls call) asks outcome new g shape honest = (g.1, g.2, states old new (without_handles (disposed_of call asks outcome) old.resources) shape g.3)
   tool-does old (Loan call) asks outcome new g shape honest = (g.1, states old new old.resources shape g.2)
@@ -39,23 +39,28 @@ module _ {S : Type 0} (store : Ghosts S) where
   tool-does old MemError asks outcome new g shape honest = (states old new old.resources shape g.4 ∙ ap (λ h. state old.shape h old.resources) g.2, g.3)
   tool-does old ResError asks outcome new g shape honest = (states old new old.resources shape g.4 ∙ ap (λ h. state old.shape h old.resources) g.2, g.3)
 
-  -- devices stay honest
-  same-stores : (old new : FilesOn S) → new.stores ≡ old.stores → All store.is_honest old.stores → All store.is_honest new.stores
-  same-stores old new same honest = subst (All store.is_honest) (sym same) honest
+  -- devices that are honest behind a call were so before it
+  same-stores : (old new : FilesOn S) → new.stores ≡ old.stores → All store.is_honest new.stores → All store.is_honest old.stores
+  same-stores old new same honest = subst (All store.is_honest) same honest
 
-  pub still-honest : (old : ToolState S) (call : Call) (asks : List Ask) (outcome : Outcome) (new : ToolState S) → Gives store old call asks outcome new → IsHonest store old → IsHonest store new
-  still-honest old (MemoryCalls call) asks outcome new g honest = same-stores old.resources new.resources (ap (λ (on : FilesOn S). on.stores) g.3) honest
-  still-honest old (Loan call) asks outcome new g honest = same-stores old.resources new.resources (ap (λ (on : FilesOn S). on.stores) g.2) honest
-  still-honest old (Resource call) asks outcome new g honest = g.2.0 honest
-  still-honest old MemError asks outcome new g honest = same-stores old.resources new.resources (ap (λ (on : FilesOn S). on.stores) g.4) honest
-  still-honest old ResError asks outcome new g honest = same-stores old.resources new.resources (ap (λ (on : FilesOn S). on.stores) g.4) honest
+  pub was-honest : (old : ToolState S) (call : Call) (asks : List Ask) (outcome : Outcome) (new : ToolState S) → Gives store old call asks outcome new → IsHonest store new → IsHonest store old
+  was-honest old (MemoryCalls call) asks outcome new g honest = same-stores old.resources new.resources (ap (λ (on : FilesOn S). on.stores) g.3) honest
+  was-honest old (Loan call) asks outcome new g honest = same-stores old.resources new.resources (ap (λ (on : FilesOn S). on.stores) g.2) honest
+  was-honest old (Resource call) asks outcome new g honest = g.2 honest
+  was-honest old MemError asks outcome new g honest = same-stores old.resources new.resources (ap (λ (on : FilesOn S). on.stores) g.4) honest
+  was-honest old ResError asks outcome new g honest = same-stores old.resources new.resources (ap (λ (on : FilesOn S). on.stores) g.4) honest
+
+  -- and so before many
+  were-honest : (old : ToolState S) (steps : List (Stepped S)) → AreSteps store old steps → IsHonest store (left_by old steps) → IsHonest store old
+  were-honest old [] are honest = honest
+  were-honest old (step ∷ later) are honest = let one = are.0 in was-honest old step.call step.asks step.outcome step.left one.0 (were-honest step.left later are.1 honest)
 
   -- the same of a list of calls
-  are-run : (old : ToolState S) (steps : List (Stepped S)) → IsHonest store old → AreSteps store old steps → IsToolRun (tools_of store old) (calls_of store steps)
+  are-run : (old : ToolState S) (steps : List (Stepped S)) → IsHonest store (left_by old steps) → AreSteps store old steps → IsToolRun (tools_of store old) (calls_of store steps)
   are-run old [] honest are = tt
   are-run old (step ∷ later) honest are =
       let one = are.0 in
-      (tool-does old step.call step.asks step.outcome step.left one.0 one.1 honest, are-run step.left later (still-honest old step.call step.asks step.outcome step.left one.0 honest) are.1)
+      (tool-does old step.call step.asks step.outcome step.left one.0 one.1 (were-honest step.left later are.1 honest), are-run step.left later honest are.1)
 
 moment : Heap → Loans → Moment
 moment heap loans = record { heap = heap; loans = loans }

@@ -1,6 +1,6 @@
 -- Steps of the Resource Manager over those of the Memory Manager.
 use Rattle.std.proofs.Common.{◌≡◌, ℕ, List, [], ◌∷◌, ◌++◌, length, Option, Some, None, Result, Ok, Err, Bool, true, false, refl, sym, ap, subst}
-use Rattle.std.specs.Prelude.{◌↔◌, IfOk, OnOk, OnErr, if◌then◌else◌}
+use Rattle.std.specs.Prelude.{IfOk, OnOk, OnErr, if◌then◌else◌}
 use Rattle.mac_base.specs.declared.error.HostFull.{HostFull}
 use Rattle.mac_base.specs.declared.error.OsErr.{OsErr}
 use Rattle.mac_base.specs.HeadKind.{Shape}
@@ -58,20 +58,20 @@ tool zone loans refused on resource_refused = record { shape = zone.shape; heap 
 
 -- what a call of the Resource Manager gives, where it had its host memory
 pub resource_gives : {S : Type 0} (store : Ghosts S) (old new : ZoneState) (loans : Loans) (refused : Option OsErr) (on new_on : FilesOn S) (resource_refused : Option OsErr) (call : ResourceCall) (asks : List Ask) (result : Result Outcome HostFull)
-    → (IsHonest store (tool old loans refused on resource_refused) → IfOk result (λ outcome. ResourceGives store MayStep (tool old loans refused on resource_refused) call asks outcome (tool new loans refused new_on resource_refused)))
-    → (IsHonest store (tool old loans refused on resource_refused) → IfOk result (λ outcome. ReadsBack (resource_state store (tool old loans refused on resource_refused)) call outcome (resource_state store (tool new loans refused new_on resource_refused))))
-    → (IsHonest store (tool old loans refused on resource_refused) → IfOk result (λ outcome. CrashLeaves store (update_in (work_of (resource_state store (tool old loans refused on resource_refused)) call)) on.stores new_on.stores))
-    → (IsHonest store (tool old loans refused on resource_refused) → IfOk result (λ outcome. OnOk outcome (IsSettled store (file_settled (work_of (resource_state store (tool old loans refused on resource_refused)) call)) new_on.stores)))
-    → (IsHonest store (tool old loans refused on resource_refused) ↔ IsHonest store (tool new loans refused new_on resource_refused)) → length new_on.stores ≡ length on.stores
+    → (IsHonest store (tool new loans refused new_on resource_refused) → IfOk result (λ outcome. ResourceGives store MayStep (tool old loans refused on resource_refused) call asks outcome (tool new loans refused new_on resource_refused)))
+    → (IsHonest store (tool new loans refused new_on resource_refused) → IfOk result (λ outcome. ReadsBack (resource_state store (tool old loans refused on resource_refused)) call outcome (resource_state store (tool new loans refused new_on resource_refused))))
+    → (IsHonest store (tool new loans refused new_on resource_refused) → IfOk result (λ outcome. CrashLeaves store (update_in (work_of (resource_state store (tool old loans refused on resource_refused)) call)) on.stores new_on.stores))
+    → (IsHonest store (tool new loans refused new_on resource_refused) → IfOk result (λ outcome. OnOk outcome (IsSettled store (file_settled (work_of (resource_state store (tool old loans refused on resource_refused)) call)) new_on.stores)))
+    → (IsHonest store (tool new loans refused new_on resource_refused) → IsHonest store (tool old loans refused on resource_refused)) → length new_on.stores ≡ length on.stores
     → IfOk result (λ outcome. Gives store (tool old loans refused on resource_refused) (Resource call) asks outcome (tool new loans refused new_on resource_refused))
 resource_gives store old new loans refused on new_on resource_refused call asks (Ok outcome) step reads crash settled honest count = (step, refl, honest, count, reads, crash, settled)
 resource_gives store old new loans refused on new_on resource_refused call asks (Err full) step reads crash settled honest count = tt
 
 -- a call of the Resource Manager that has no host memory changes nothing
 pub resource_unchanged : {S : Type 0} (store : Ghosts S) (old new : ZoneState) (loans : Loans) (refused : Option OsErr) (on new_on : FilesOn S) (resource_refused : Option OsErr) (call : ResourceCall) (result : Result Outcome HostFull) → OnErr result (new ≡ old)
-    → (IsHonest store (tool old loans refused on resource_refused) → OnErr result (resource_state store (tool new loans refused new_on resource_refused) ≡ resource_state store (tool old loans refused on resource_refused)))
-    → (IsHonest store (tool old loans refused on resource_refused) → OnErr result (CrashLeaves store None on.stores new_on.stores))
-    → (IsHonest store (tool old loans refused on resource_refused) ↔ IsHonest store (tool new loans refused new_on resource_refused)) → length new_on.stores ≡ length on.stores
+    → (IsHonest store (tool new loans refused new_on resource_refused) → OnErr result (resource_state store (tool new loans refused new_on resource_refused) ≡ resource_state store (tool old loans refused on resource_refused)))
+    → (IsHonest store (tool new loans refused new_on resource_refused) → OnErr result (CrashLeaves store None on.stores new_on.stores))
+    → (IsHonest store (tool new loans refused new_on resource_refused) → IsHonest store (tool old loans refused on resource_refused)) → length new_on.stores ≡ length on.stores
     → OnErr result (Unchanged store (tool old loans refused on resource_refused) (Resource call) (tool new loans refused new_on resource_refused))
 resource_unchanged store old new loans refused on new_on resource_refused call (Ok outcome) same state crash honest count = tt
 resource_unchanged store old new loans refused on new_on resource_refused call (Err full) same state crash honest count = (ap (λ (z : ZoneState). tool z loans refused new_on resource_refused) same, state, honest, count, crash)

@@ -31,6 +31,11 @@ AreSteps store old (step ∷ later) = Steps store old step.call step.asks step.o
 abbrev pub calls_of : {S : Type 0} → Ghosts S → List (Stepped S) → List Called
 calls_of {S = S} store steps = map (λ (step : Stepped S). record { call = step.call; asks = step.asks; outcome = step.outcome; tools = tools_of store step.left }) steps
 
+-- what the last of these calls left, or the old toolbox where there are none
+abbrev pub left_by : {S : Type 0} → ToolState S → List (Stepped S) → ToolState S
+left_by old [] = old
+left_by old (step ∷ later) = left_by step.left later
+
 -- nothing was done in the zone, and no file is open
 pub record IsNew {S : Type 0} (sizes : ZoneSizes) (t : ToolState S) : Type 0 where
   pub shape : t.shape ≡ shape_of sizes
@@ -38,7 +43,7 @@ pub record IsNew {S : Type 0} (sizes : ZoneSizes) (t : ToolState S) : Type 0 whe
   pub loans : t.loans ≡ []
   pub files : t.resources.files ≡ no_files
 
--- This is promised of the calls that are made of a toolbox over a new zone, where the devices of its stores are honest.
+-- This is promised of the calls that are made of a toolbox over a new zone, where the devices of the stores that they leave are honest.
 abbrev pub ToolboxShows : {S : Type 0} → Ghosts S → Type 0
-ToolboxShows {S = S} store = (sizes : ZoneSizes) (start : ToolState S) (steps : List (Stepped S)) → ArePossible sizes → IsNew sizes start → IsHonest store start → AreSteps store start steps
+ToolboxShows {S = S} store = (sizes : ZoneSizes) (start : ToolState S) (steps : List (Stepped S)) → ArePossible sizes → IsNew sizes start → IsHonest store (left_by start steps) → AreSteps store start steps
     → IsToolRun (tools_of store start) (calls_of store steps) × Headline (tools_of store start) (calls_of store steps)

@@ -1,5 +1,5 @@
 -- What a call of the toolbox does.
-use Rattle.std.specs.Prelude.{◌≡◌, ◌↔◌, Bool, true, false, not, IsFalse, ℕ, List, [], ◌++◌, length, Option, Some, None, Ok, OnOk}
+use Rattle.std.specs.Prelude.{◌≡◌, Bool, true, false, not, IsFalse, ℕ, List, [], ◌++◌, length, Option, Some, None, Ok, OnOk}
 use Rattle.std.specs.Result.{result_err}
 use Rattle.mac_base.specs.declared.error.OsErr.{OsErr}
 use Rattle.mac_base.specs.ZoneState.{ZoneState}
@@ -39,7 +39,8 @@ ResourceGives store Inner old call asks outcome new = (device : Device)
     × ResourceStepBy Inner store.may_leave device (resource_state store old) call asks (record { outcome = outcome; state = resource_state store new })
     × (IsFalse (device_works device) → SomeFailed store.failures old.resources.stores new.resources.stores)
 
--- What a call gives and does to the heap, the loans and the resource files. MemError gives the code of the last call of the Memory
+-- What a call gives and does to the heap, the loans and the resource files. What is said of files rests on devices that are honest behind
+-- the call: then they were so before it. MemError gives the code of the last call of the Memory
 -- Manager, ResError that of the last one of the Resource Manager, and both do nothing. A file that was updated with success reads back
 -- as the table that was saved. Whenever a crash comes, each file is found as before the call, or as the call saves it; once an update or
 -- an opening succeeded, as it is read.
@@ -47,11 +48,11 @@ abbrev pub Gives : {S : Type 0} → Ghosts S → ToolState S → Call → List A
 Gives store old (Memory call) asks outcome new = MemoryStep old.shape old.heap call asks outcome new.heap × IsExactStep old.shape old.heap call asks outcome new.heap × (new.loans ≡ old.loans)
     × (new.resources ≡ without_handles (disposed_of call asks outcome) old.resources)
 Gives store old (Loan call) asks outcome new = (asks ≡ []) × LoanStep old.shape old.loans old.heap call outcome new.loans new.heap × (new.resources ≡ old.resources)
-Gives store old (Resource call) asks outcome new = (IsHonest store old → ResourceGives store MayStep old call asks outcome new) × (new.loans ≡ old.loans)
-    × (IsHonest store old ↔ IsHonest store new) × (length new.resources.stores ≡ length old.resources.stores)
-    × (IsHonest store old → ReadsBack (resource_state store old) call outcome (resource_state store new))
-    × (IsHonest store old → CrashLeaves store (update_in (work_of (resource_state store old) call)) old.resources.stores new.resources.stores)
-    × (IsHonest store old → OnOk outcome (IsSettled store (file_settled (work_of (resource_state store old) call)) new.resources.stores))
+Gives store old (Resource call) asks outcome new = (IsHonest store new → ResourceGives store MayStep old call asks outcome new) × (new.loans ≡ old.loans)
+    × (IsHonest store new → IsHonest store old) × (length new.resources.stores ≡ length old.resources.stores)
+    × (IsHonest store new → ReadsBack (resource_state store old) call outcome (resource_state store new))
+    × (IsHonest store new → CrashLeaves store (update_in (work_of (resource_state store old) call)) old.resources.stores new.resources.stores)
+    × (IsHonest store new → OnOk outcome (IsSettled store (file_settled (work_of (resource_state store old) call)) new.resources.stores))
 Gives store old MemError asks outcome new = (asks ≡ []) × (outcome ≡ Ok (Code old.refused)) × (new.heap ≡ old.heap) × (new.loans ≡ old.loans) × (new.resources ≡ old.resources)
 Gives store old ResError asks outcome new = (asks ≡ []) × (outcome ≡ Ok (Code old.resource_refused)) × (new.heap ≡ old.heap) × (new.loans ≡ old.loans) × (new.resources ≡ old.resources)
 
@@ -86,21 +87,21 @@ StepsFrom answers left shape old call asks outcome new = exact_step shape answer
 -- the Resource Manager by the call of the Memory Manager that it makes, if it makes one.
 abbrev pub LeavesAnswers : {S : Type 0} → Ghosts S → ToolState S → List Answer → Call → List Ask → Outcome → ToolState S → List Answer → Type 0
 LeavesAnswers store old answers (Memory call) asks outcome new left = StepsFrom answers left old.shape old.heap call asks outcome new.heap
-LeavesAnswers store old answers (Resource call) asks outcome new left = (answers ≡ answers_in asks ++ left) × (IsHonest store old → ResourceGives store (StepsFrom answers left) old call asks outcome new)
+LeavesAnswers store old answers (Resource call) asks outcome new left = (answers ≡ answers_in asks ++ left) × (IsHonest store new → ResourceGives store (StepsFrom answers left) old call asks outcome new)
 LeavesAnswers store old answers call asks outcome new left = left ≡ answers
 
 -- A call that has no host memory has changed nothing. For a call of the Resource Manager, that is said of the forks, as they are read
--- and as they are found behind a crash, and not of the stores, and rests on honest devices.
+-- and as they are found behind a crash, and not of the stores, and rests on devices that are honest behind the call.
 abbrev pub Unchanged : {S : Type 0} → Ghosts S → ToolState S → Call → ToolState S → Type 0
-Unchanged store old (Resource call) new = (new ≡ record old { resources = new.resources }) × (IsHonest store old → resource_state store new ≡ resource_state store old)
-    × (IsHonest store old ↔ IsHonest store new) × (length new.resources.stores ≡ length old.resources.stores)
-    × (IsHonest store old → CrashLeaves store None old.resources.stores new.resources.stores)
+Unchanged store old (Resource call) new = (new ≡ record old { resources = new.resources }) × (IsHonest store new → resource_state store new ≡ resource_state store old)
+    × (IsHonest store new → IsHonest store old) × (length new.resources.stores ≡ length old.resources.stores)
+    × (IsHonest store new → CrashLeaves store None old.resources.stores new.resources.stores)
 Unchanged store old call new = new ≡ old
 
--- what is said of a call, where it rests on honest devices for a call of the Resource Manager
+-- what is said of a call that left this state, where it rests on honest devices for a call of the Resource Manager
 abbrev pub WhereHonest : {S : Type 0} → Ghosts S → ToolState S → Call → Type 0 → Type 0
-WhereHonest store old (Resource call) Said = IsHonest store old → Said
-WhereHonest store old call Said = Said
+WhereHonest store new (Resource call) Said = IsHonest store new → Said
+WhereHonest store new call Said = Said
 
 -- whether a call gives a copy of what the zone has
 abbrev pub copies : MemoryCall → Bool

@@ -11,27 +11,31 @@ returns-in_err-sync-clause-any_moment g c honest = chooses _ _ (c.in_err-sync.en
 
 pub returns-in_err-fork-clause-any_moment : goal.returns-in_err-fork-clause-any_moment
 returns-in_err-fork-clause-any_moment g c honest =
-    syncs _ _ _ _ _ (c.in_ok-sync.ensures.durable honest) (c.usable_fork.ensures.calm (c.sync.ensures.honest.0 honest))
+    let h1 = c.usable_fork.ensures.honest honest in
+    syncs _ _ _ _ _ (c.in_ok-sync.ensures.durable h1) (c.usable_fork.ensures.calm honest)
 
 pub returns-in_default-clause-any_moment : goal.returns-in_default-clause-any_moment
 returns-in_default-clause-any_moment g c honest =
-    syncs _ _ _ _ _ (c.in_ok-sync.ensures.durable honest) (c.usable_fork.ensures.calm (c.sync.ensures.honest.0 honest))
+    let h1 = c.usable_fork.ensures.honest honest in
+    syncs _ _ _ _ _ (c.in_ok-sync.ensures.durable h1) (c.usable_fork.ensures.calm honest)
 
 pub returns-in_err-finish-clause-any_moment : goal.returns-in_err-finish-clause-any_moment
 returns-in_err-finish-clause-any_moment g c honest =
-    let then = c.sync.ensures.honest.0 honest in
-    let later = c.usable_fork.ensures.honest.0 then in
-    let found = rw c.in-Some.is at (c.in_ok-fork.ensures.value then) in
-    let gives = settled_read (g.P.PairDisk.contents c.args.pair.now) (g.P.PairDisk.contents c.sync.new.self) c.deref.result.now (c.sync.ensures.same honest) found.0 (c.deref.ensures.value ∙ found.1) in
-    recovers (g.P.PairDisk.contents c.args.pair.now) c.deref.result.now _ _ _ _ _ _ (g.met.P.PairDisk.reads_is_outcome c.args.pair.now honest) gives (c.in_ok-sync.ensures.durable honest) (c.usable_fork.ensures.calm then) (c.finish.ensures.any_moment later)
+    let h2 = c.finish.ensures.honest honest in
+    let h1 = c.usable_fork.ensures.honest h2 in
+    let h0 = c.sync.ensures.honest h1 in
+    let found = rw c.in-Some.is at (c.in_ok-fork.ensures.value h2) in
+    let gives = settled_read (g.P.PairDisk.contents c.args.pair.now) (g.P.PairDisk.contents c.sync.new.self) c.deref.result.now (c.sync.ensures.same h1) found.0 (c.deref.ensures.value ∙ found.1) in
+    recovers (g.P.PairDisk.contents c.args.pair.now) c.deref.result.now _ _ _ _ _ _ (g.met.P.PairDisk.reads_is_outcome c.args.pair.now h0) gives (c.in_ok-sync.ensures.durable h1) (c.usable_fork.ensures.calm h2) (c.finish.ensures.any_moment honest)
 
 pub returns-clause-any_moment : goal.returns-clause-any_moment
 returns-clause-any_moment g c honest =
-    let then = c.sync.ensures.honest.0 honest in
-    let later = c.usable_fork.ensures.honest.0 then in
-    let found = rw c.in-Some.is at (c.in_ok-fork.ensures.value then) in
-    let gives = settled_read (g.P.PairDisk.contents c.args.pair.now) (g.P.PairDisk.contents c.sync.new.self) c.deref.result.now (c.sync.ensures.same honest) found.0 (c.deref.ensures.value ∙ found.1) in
-    recovers (g.P.PairDisk.contents c.args.pair.now) c.deref.result.now _ _ _ _ _ _ (g.met.P.PairDisk.reads_is_outcome c.args.pair.now honest) gives (c.in_ok-sync.ensures.durable honest) (c.usable_fork.ensures.calm then) (c.finish.ensures.any_moment later)
+    let h2 = c.finish.ensures.honest honest in
+    let h1 = c.usable_fork.ensures.honest h2 in
+    let h0 = c.sync.ensures.honest h1 in
+    let found = rw c.in-Some.is at (c.in_ok-fork.ensures.value h2) in
+    let gives = settled_read (g.P.PairDisk.contents c.args.pair.now) (g.P.PairDisk.contents c.sync.new.self) c.deref.result.now (c.sync.ensures.same h1) found.0 (c.deref.ensures.value ∙ found.1) in
+    recovers (g.P.PairDisk.contents c.args.pair.now) c.deref.result.now _ _ _ _ _ _ (g.met.P.PairDisk.reads_is_outcome c.args.pair.now h0) gives (c.in_ok-sync.ensures.durable h1) (c.usable_fork.ensures.calm h2) (c.finish.ensures.any_moment honest)
 
 pub returns-in_err-sync-clause-one_fork : goal.returns-in_err-sync-clause-one_fork
 returns-in_err-sync-clause-one_fork g c honest stable = one_fork (g.P.PairDisk.contents c.args.pair.now) _ _ stable (returns-in_err-sync-clause-any_moment g c honest)
@@ -50,22 +54,22 @@ returns-clause-one_fork g c honest stable = one_fork (g.P.PairDisk.contents c.ar
 
 pub returns-in_err-finish-clause-same : goal.returns-in_err-finish-clause-same
 returns-in_err-finish-clause-same g c honest =
-    let then = c.sync.ensures.honest.0 honest in
-    let later = c.usable_fork.ensures.honest.0 then in
-    let found = rw c.in-Some.is at (c.in_ok-fork.ensures.value then) in
-    let gives = settled_read (g.P.PairDisk.contents c.args.pair.now) (g.P.PairDisk.contents c.sync.new.self) c.deref.result.now (c.sync.ensures.same honest) found.0 (c.deref.ensures.value ∙ found.1) in
-    leaves_now _ _ _ (c.finish.ensures.any_moment later) _ (g.met.P.PairDisk.reads_is_outcome c.finish.new.pair (c.finish.ensures.honest.0 later)) ∙ sym gives
+    let h2 = c.finish.ensures.honest honest in
+    let h1 = c.usable_fork.ensures.honest h2 in
+    let found = rw c.in-Some.is at (c.in_ok-fork.ensures.value h2) in
+    let gives = settled_read (g.P.PairDisk.contents c.args.pair.now) (g.P.PairDisk.contents c.sync.new.self) c.deref.result.now (c.sync.ensures.same h1) found.0 (c.deref.ensures.value ∙ found.1) in
+    leaves_now _ _ _ (c.finish.ensures.any_moment honest) _ (g.met.P.PairDisk.reads_is_outcome c.finish.new.pair honest) ∙ sym gives
 
 pub finish-requires-clause-stable : goal.finish-requires-clause-stable
-finish-requires-clause-stable g c later =
-    let then = c.usable_fork.ensures.honest.1 later in
-    let honest = c.sync.ensures.honest.1 then in
+finish-requires-clause-stable g c honest =
+    let h1 = c.usable_fork.ensures.honest honest in
     leaves_journal (g.P.PairDisk.contents c.args.pair.now) (g.P.PairDisk.contents c.usable_fork.new.pair) _ _
-    (c.usable_fork.ensures.calm then ∙ c.in_ok-sync.ensures.durable honest) (c.usable_fork.ensures.same then ∙ c.sync.ensures.same honest)
+    (c.usable_fork.ensures.calm honest ∙ c.in_ok-sync.ensures.durable h1) (c.usable_fork.ensures.same honest ∙ c.sync.ensures.same h1)
 
 pub returns-in_default-clause-ready : goal.returns-in_default-clause-ready
 returns-in_default-clause-ready g c honest =
-    let then = c.sync.ensures.honest.0 honest in
+    let h1 = c.usable_fork.ensures.honest honest in
+    let h0 = c.sync.ensures.honest h1 in
     readies (g.P.PairDisk.contents c.args.pair.now) (g.P.PairDisk.contents c.usable_fork.new.pair) _ _
-    (c.usable_fork.ensures.calm then ∙ c.in_ok-sync.ensures.durable honest) (c.usable_fork.ensures.same then ∙ c.sync.ensures.same honest) (c.requires honest)
-    (ap (λ (d : Contents). is_usable d.journal) (c.usable_fork.ensures.same then) ∙ rw c.in_default.is at (c.in_ok-fork.ensures.value then))
+    (c.usable_fork.ensures.calm honest ∙ c.in_ok-sync.ensures.durable h1) (c.usable_fork.ensures.same honest ∙ c.sync.ensures.same h1) (c.requires h0)
+    (ap (λ (d : Contents). is_usable d.journal) (c.usable_fork.ensures.same honest) ∙ rw c.in_default.is at (c.in_ok-fork.ensures.value honest))

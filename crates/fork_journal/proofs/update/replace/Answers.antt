@@ -7,17 +7,18 @@ returns-in_err-shut-clause-any_moment g c honest = stays _ _ _ _ (c.shut.ensures
 
 pub returns-in-Ok-clause-any_moment : goal.returns-in-Ok-clause-any_moment
 returns-in-Ok-clause-any_moment g c honest =
-    replaces _ _ _ _ _ _ (c.in_ok-shut.ensures.kept honest) (c.shut.ensures.any_moment honest) (c.put_both.ensures.any_moment (c.shut.ensures.honest.0 honest))
+    let h1 = c.put_both.ensures.honest honest in
+    replaces _ _ _ _ _ _ (c.in_ok-shut.ensures.kept h1) (c.shut.ensures.any_moment h1) (c.put_both.ensures.any_moment honest)
 
 pub returns-in-Err-clause-any_moment : goal.returns-in-Err-clause-any_moment
 returns-in-Err-clause-any_moment g c honest =
-    replaces _ _ _ _ _ _ (c.in_ok-shut.ensures.kept honest) (c.shut.ensures.any_moment honest) (c.put_both.ensures.any_moment (c.shut.ensures.honest.0 honest))
+    let h1 = c.put_both.ensures.honest honest in
+    replaces _ _ _ _ _ _ (c.in_ok-shut.ensures.kept h1) (c.shut.ensures.any_moment h1) (c.put_both.ensures.any_moment honest)
 
 pub returns-in-Err-clause-left : goal.returns-in-Err-clause-left
 returns-in-Err-clause-left g c honest =
-    let then = c.put_both.ensures.honest.0 (c.shut.ensures.honest.0 honest) in
-    leaves_now _ _ _ (returns-in-Err-clause-any_moment g c honest) (g.P.PairDisk.contents c.put_both.new.pair) (g.met.P.PairDisk.reads_is_outcome c.put_both.new.pair then)
+    leaves_now _ _ _ (returns-in-Err-clause-any_moment g c honest) (g.P.PairDisk.contents c.put_both.new.pair) (g.met.P.PairDisk.reads_is_outcome c.put_both.new.pair honest)
 
 pub returns-in_err-shut-clause-left : goal.returns-in_err-shut-clause-left
 returns-in_err-shut-clause-left g c honest =
-    leaves_now _ _ _ (returns-in_err-shut-clause-any_moment g c honest) (g.P.PairDisk.contents c.shut.new.pair) (g.met.P.PairDisk.reads_is_outcome c.shut.new.pair (c.shut.ensures.honest.0 honest))
+    leaves_now _ _ _ (returns-in_err-shut-clause-any_moment g c honest) (g.P.PairDisk.contents c.shut.new.pair) (g.met.P.PairDisk.reads_is_outcome c.shut.new.pair honest)

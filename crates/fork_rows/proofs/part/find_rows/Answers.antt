@@ -14,10 +14,9 @@ pub returns-in_err-found-clause-refuses : goal.returns-in_err-found-clause-refus
 returns-in_err-found-clause-refuses g c = λ honest. (
     let fork = g.S.ForkStore.fork c.args.store.now in
     let rows = c.args.rows.items in
-    let now = c.loop-row.invariant.2.0 honest in
-    let same = c.loop-row.invariant.6 honest in
+    let same = c.loop-row.invariant.6 (c.read_row.ensures.honest honest) in
     let turn = YieldsList-turn (YieldsList-from_vec rows (search rules) (search rules)) c.loop-row.yielded _ c.loop-row.yielded_by _ c.next.new.self c.in-Some.row c.in-Some.is c.next.ensures.steps in
     let P : List ℕ → Type 0 = λ f. FaultsIn Places (HasDatum (data_of f) c.in-Some.row → ⊥) c.in_err-found.field-0.0 in
-    let told = subst P same (c.in_err-found.ensures.refuses now) in
+    let told = subst P same (c.in_err-found.ensures.refuses honest) in
     let p = err_from_is_err_and c.from_residual.result c.from_residual.ensures.1 in
     rw (p.1, p.2) (fault_less Places _ _ (λ fails. data_fails (data_of fork) rows _ c.in-Some.row turn fails) _ told))

@@ -14,7 +14,7 @@ returns-clause-header g c = λ honest. (
 pub returns-clause-extra : goal.returns-clause-extra
 returns-clause-extra g c = λ honest. (
     let fork = g.S.ForkStore.fork c.args.store.now in
-    let known = c.requires.long honest in
+    let known = c.requires.long (c.read_part.ensures.honest honest) in
     let count : c.min-count.result ≡ min (length fork) 256 = omega arith in
     let same = c.deref-2.ensures.value ∙ c.in_ok-front.ensures.part honest in
     let behind = take_rest c.deref-2.result.now 16 ∙ ap (drop 16) same in

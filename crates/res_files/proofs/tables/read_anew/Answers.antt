@@ -23,25 +23,25 @@ returns-then-branch-eq0-clause-reads g c = λ honest.
 pub returns-in_err-table-clause-refuses : goal.returns-in_err-table-clause-refuses
 returns-in_err-table-clause-refuses g c = λ honest. (
     let S = g.S.ForkStore in let fork = S.fork c.args.store.now in
-    let e2 : S.fork c.len.new.self ≡ fork = c.len.ensures.same honest in
-    let long : c.in_ok-len.field-0 ≡ length fork = c.in_ok-len.ensures.value honest in
+    let e2 : S.fork c.len.new.self ≡ fork = c.len.ensures.same (c.read_rows.ensures.honest honest) in
+    let long : c.in_ok-len.field-0 ≡ length fork = c.in_ok-len.ensures.value (c.read_rows.ensures.honest honest) in
     let more : 1 ≤ c.in_ok-len.field-0 = omega arith in
     let fault = c.in_err-table.field-0.0 in
     let P : List ℕ → Type 0 = λ f. RefusesToOpen f fault in
     let p = err_from_is_err_and c.from_residual-in_err-table.result c.from_residual-in_err-table.ensures.1 in
-    rw (p.1, p.2) (refused fork fault (λ none. omega (arith, long, more, none)) (subst P e2 (c.in_err-table.ensures.refuses (c.len.ensures.honest.0 honest)))))
+    rw (p.1, p.2) (refused fork fault (λ none. omega (arith, long, more, none)) (subst P e2 (c.in_err-table.ensures.refuses honest))))
 
 pub returns-clause-reads : goal.returns-clause-reads
 returns-clause-reads g c = λ honest.
     let S = g.S.ForkStore in let fork = S.fork c.args.store.now in
     let P : List ℕ → Type 0 = λ f. StandsFor f (filled f c.in_ok-table.table) in
-    reads_fork fork c.in_ok-table.table c.in-Ok.rows (c.in-Ok.ensures ∙ ap (map opened_row) c.into_vec.ensures) (subst P (c.len.ensures.same honest) (c.in_ok-table.ensures.table (c.len.ensures.honest.0 honest)))
+    reads_fork fork c.in_ok-table.table c.in-Ok.rows (c.in-Ok.ensures ∙ ap (map opened_row) c.into_vec.ensures) (subst P (c.len.ensures.same (c.read_rows.ensures.honest honest)) (c.in_ok-table.ensures.table honest))
 
 pub returns-clause-inside : goal.returns-clause-inside
 returns-clause-inside g c = λ honest.
     let S = g.S.ForkStore in let fork = S.fork c.args.store.now in
     let P : List ℕ → Type 0 = λ f. AllByRecursion (IsWithin f) c.in_ok-table.table.rows in
-    inside_opened fork c.in_ok-table.table.rows c.in-Ok.rows (c.in-Ok.ensures ∙ ap (map opened_row) c.into_vec.ensures) (subst P (c.len.ensures.same honest) (c.in_ok-table.ensures.within (c.len.ensures.honest.0 honest)))
+    inside_opened fork c.in_ok-table.table.rows c.in-Ok.rows (c.in-Ok.ensures ∙ ap (map opened_row) c.into_vec.ensures) (subst P (c.len.ensures.same (c.read_rows.ensures.honest honest)) (c.in_ok-table.ensures.within honest))
 
 pub returns-clause-small : goal.returns-clause-small
 returns-clause-small g c =

@@ -1,13 +1,12 @@
 use Rattle.std.proofs.Common.{◌≡◌, ◌∙◌, List, length, sym, refl, ap, subst, map, All}
 use Rattle.std.proofs.lemmas.Result.{err_from_is_err_and}
-use Rattle.std.specs.Prelude.{◌↔◌, if◌then◌else◌}
+use Rattle.std.specs.Prelude.{if◌then◌else◌}
 use Rattle.mac_base.specs.Heap.{with_emptied}
 use Rattle.mac_base.specs.Releasing.{heap_released}
 use Rattle.mac_base.specs.declared.releasing.ReleasingCall.TheVariants.{DisposesHandle}
 use Rattle.res_files.specs.FilesOn.{FilesOn}
 use Rattle.res_manager.proofs.GettingRows.{IsGot, some-holds, long_then, loaded_then, refuses, faults, attaches}
 use Rattle.res_manager.proofs.Lent.{lent_placed}
-use Rattle.res_manager.proofs.Stepping.{iff_same, iff_then}
 use Rattle.res_manager.proofs.load.get_row.Goals as goal
 use Rattle.res_manager.proofs.load.get_row.Goals.{in-Some+else-serves, in_default, then-loads+in_ok-load_bytes, else-loads}
 
@@ -15,10 +14,11 @@ pub returns-in_err-handle-clause-step : goal.returns-in_err-handle-clause-step
 returns-in_err-handle-clause-step g c honest =
     let shown = some-holds _ _ _ c.unwrap-row.ensures c.row.ensures.some in
     let row = shown.2 in
+    let before = subst (λ (f : FilesOn g.row.S.Denot). All g.S.ForkStore.is_honest f.stores) c.make_place.ensures.forgotten honest in
     let got : IsGot c.args.memory.now c.args.files.now c.args.place c.args.loads c.match-own.own c.unwrap-row.result.now.resource.datum.length shown.0 = record {
       here = shown.1;
       same = (elim c.match-own.branch [ in-Some+else-serves w ↦ w.own-is ∙ sym w.in-Some.is | in_default w ↦ w.own-is ]) ∙ row.handle;
-      long = row.size honest;
+      long = row.size before;
       needs = elim c.match-own.branch [ in-Some+else-serves w ↦ rw w.own-is (sym w.serves.ensures ∙ w.if-serves.false) | in_default w ↦ rw (w.own-is ∙ w.in_default.is) tt ];
     } in
     let ends = err_from_is_err_and c.from_residual.result c.from_residual.ensures.1 in
@@ -42,17 +42,17 @@ pub returns-in_err-load_bytes-clause-step : goal.returns-in_err-load_bytes-claus
 returns-in_err-load_bytes-clause-step g c honest =
     let shown = some-holds _ _ _ c.unwrap-row.ensures c.row.ensures.some in
     let row = shown.2 in
+    let before = subst (λ (f : FilesOn g.row.S.Denot). All g.S.ForkStore.is_honest f.stores) c.make_place.ensures.forgotten (c.load_bytes.ensures.honest honest) in
     let got : IsGot c.args.memory.now c.args.files.now c.args.place c.args.loads c.match-own.own c.unwrap-row.result.now.resource.datum.length shown.0 = record {
       here = shown.1;
       same = (elim c.match-own.branch [ in-Some+else-serves w ↦ w.own-is ∙ sym w.in-Some.is | in_default w ↦ w.own-is ]) ∙ row.handle;
-      long = row.size honest;
+      long = row.size before;
       needs = elim c.match-own.branch [ in-Some+else-serves w ↦ rw w.own-is (sym w.serves.ensures ∙ w.if-serves.false) | in_default w ↦ rw (w.own-is ∙ w.in_default.is) tt ];
     } in
     let step = c.make_place.ensures.step in
-    let after = subst (λ (f : FilesOn g.row.S.Denot). All g.S.ForkStore.is_honest f.stores) (sym c.make_place.ensures.forgotten) honest in
     let ends = err_from_is_err_and c.from_residual-in_err-load_bytes.result c.from_residual-in_err-load_bytes.ensures.1 in
     let load = c.in_err-load_bytes.ensures in
-    rw (ends.1, ends.2, load.code) (faults got g.S.ForkStore.fork g.S.ForkStore.failures g.S.ForkStore.may_leave (g.G.GrowZone.asks c.make_place.new.procedure) c.make_place.new.memory c.make_place.new.files c.make_place.ensures.forgotten c.make_place.ensures.shape step.0 step.1 c.in_ok-handle.handle (sym c.in_ok-handle.was ∙ step.2) c.load_bytes.new.memory c.load_bytes.new.files load.shape (load.forks after) load.loads c.if-loads.true load.some (load.undone ∙ ap (λ b. if b then with_emptied c.make_place.new.memory.heap c.in_ok-handle.handle else heap_released (DisposesHandle c.in_ok-handle.handle) c.make_place.new.memory.heap) c.is_some.ensures) (load.files after) load.cause)
+    rw (ends.1, ends.2, load.code) (faults got g.S.ForkStore.fork g.S.ForkStore.failures g.S.ForkStore.may_leave (g.G.GrowZone.asks c.make_place.new.procedure) c.make_place.new.memory c.make_place.new.files c.make_place.ensures.forgotten c.make_place.ensures.shape step.0 step.1 c.in_ok-handle.handle (sym c.in_ok-handle.was ∙ step.2) c.load_bytes.new.memory c.load_bytes.new.files load.shape (load.forks honest) load.loads c.if-loads.true load.some (load.undone ∙ ap (λ b. if b then with_emptied c.make_place.new.memory.heap c.in_ok-handle.handle else heap_released (DisposesHandle c.in_ok-handle.handle) c.make_place.new.memory.heap) c.is_some.ensures) (load.files honest) load.cause)
 
 pub returns-in_err-load_bytes-clause-loans : goal.returns-in_err-load_bytes-clause-loans
 returns-in_err-load_bytes-clause-loans g c = λ x loan held. c.load_bytes.ensures.loans x loan (c.make_place.ensures.loans x loan held)
@@ -61,18 +61,25 @@ pub returns-clause-step : goal.returns-clause-step
 returns-clause-step g c honest =
     let shown = some-holds _ _ _ c.unwrap-row.ensures c.row.ensures.some in
     let row = shown.2 in
+    let kept = subst (All g.S.ForkStore.is_honest) c.attach.ensures.stores honest in
+    let before : All g.S.ForkStore.is_honest c.args.files.now.stores =
+    elim c.if-loads.branch [
+      | then-loads+in_ok-load_bytes w ↦ subst (λ (f : FilesOn g.row.S.Denot). All g.S.ForkStore.is_honest f.stores) c.make_place.ensures.forgotten (w.load_bytes.ensures.honest (subst (λ (f : FilesOn g.row.S.Denot). All g.S.ForkStore.is_honest f.stores) w.files-is kept))
+      | else-loads w ↦ subst (λ (f : FilesOn g.row.S.Denot). All g.S.ForkStore.is_honest f.stores) c.make_place.ensures.forgotten (subst (λ (f : FilesOn g.row.S.Denot). All g.S.ForkStore.is_honest f.stores) w.files-is kept)
+    ]
+    in
     let got : IsGot c.args.memory.now c.args.files.now c.args.place c.args.loads c.match-own.own c.unwrap-row.result.now.resource.datum.length shown.0 = record {
       here = shown.1;
       same = (elim c.match-own.branch [ in-Some+else-serves w ↦ w.own-is ∙ sym w.in-Some.is | in_default w ↦ w.own-is ]) ∙ row.handle;
-      long = row.size honest;
+      long = row.size before;
       needs = elim c.match-own.branch [ in-Some+else-serves w ↦ rw w.own-is (sym w.serves.ensures ∙ w.if-serves.false) | in_default w ↦ rw (w.own-is ∙ w.in_default.is) tt ];
     } in
     let step = c.make_place.ensures.step in
-    let after = subst (λ (f : FilesOn g.row.S.Denot). All g.S.ForkStore.is_honest f.stores) (sym c.make_place.ensures.forgotten) honest in
     elim c.if-loads.branch [
       | else-loads w ↦ rw w.memory-is (attaches got g.S.ForkStore.fork g.S.ForkStore.failures g.S.ForkStore.may_leave (g.G.GrowZone.asks c.make_place.new.procedure) c.make_place.new.memory c.make_place.new.files c.make_place.ensures.forgotten c.make_place.ensures.shape step.0 step.1 c.in_ok-handle.handle (sym c.in_ok-handle.was ∙ step.2) c.make_place.new.memory c.if-loads.files c.attach.new.files refl (rw w.if-loads.false refl) (ap (λ (f : FilesOn g.row.S.Denot). f.files) w.files-is) (ap (λ (f : FilesOn g.row.S.Denot). map g.S.ForkStore.fork f.stores) w.files-is) (ap (λ (f : FilesOn g.row.S.Denot). f.loads) w.files-is) c.attach.ensures.attached)
       | then-loads+in_ok-load_bytes w ↦
           let load = w.in_ok-load_bytes.ensures in
+          let after = subst (λ (f : FilesOn g.row.S.Denot). All g.S.ForkStore.is_honest f.stores) w.files-is kept in
           rw w.memory-is (attaches got g.S.ForkStore.fork g.S.ForkStore.failures g.S.ForkStore.may_leave (g.G.GrowZone.asks c.make_place.new.procedure) c.make_place.new.memory c.make_place.new.files c.make_place.ensures.forgotten c.make_place.ensures.shape step.0 step.1 c.in_ok-handle.handle (sym c.in_ok-handle.was ∙ step.2) w.load_bytes.new.memory c.if-loads.files c.attach.new.files load.shape
           (rw w.if-loads.true (loaded_then got g.S.ForkStore.fork g.S.ForkStore.failures g.S.ForkStore.may_leave (g.G.GrowZone.asks c.make_place.new.procedure) c.make_place.new.memory c.make_place.new.files c.make_place.ensures.forgotten c.in_ok-handle.handle c.unwrap-row.result.now.resource.attributes w.load_bytes.new.memory.heap row.attributes (load.loaded after)))
           (ap (λ (f : FilesOn g.row.S.Denot). f.files) w.files-is ∙ load.files after) (ap (λ (f : FilesOn g.row.S.Denot). map g.S.ForkStore.fork f.stores) w.files-is ∙ load.forks after) (ap (λ (f : FilesOn g.row.S.Denot). f.loads) w.files-is ∙ load.loads) c.attach.ensures.attached)
@@ -103,21 +110,18 @@ returns-clause-shape g c = elim c.if-loads.branch [
 ]
 
 pub returns-in_err-handle-clause-honest : goal.returns-in_err-handle-clause-honest
-returns-in_err-handle-clause-honest g c = iff_same (λ (f : FilesOn g.row.S.Denot). All g.S.ForkStore.is_honest f.stores) _ _ c.make_place.ensures.forgotten
+returns-in_err-handle-clause-honest g c = λ honest. subst (λ (f : FilesOn g.row.S.Denot). All g.S.ForkStore.is_honest f.stores) c.make_place.ensures.forgotten honest
 
 pub returns-in_err-load_bytes-clause-honest : goal.returns-in_err-load_bytes-clause-honest
-returns-in_err-load_bytes-clause-honest g c = iff_then (iff_same (λ (f : FilesOn g.row.S.Denot). All g.S.ForkStore.is_honest f.stores) _ _ c.make_place.ensures.forgotten) c.load_bytes.ensures.honest
+returns-in_err-load_bytes-clause-honest g c = λ honest. subst (λ (f : FilesOn g.row.S.Denot). All g.S.ForkStore.is_honest f.stores) c.make_place.ensures.forgotten (c.load_bytes.ensures.honest honest)
 
 pub returns-clause-honest : goal.returns-clause-honest
-returns-clause-honest g c =
-    let placed = iff_same (λ (f : FilesOn g.row.S.Denot). All g.S.ForkStore.is_honest f.stores) _ _ c.make_place.ensures.forgotten in
-    let loaded : All g.S.ForkStore.is_honest c.args.files.now.stores ↔ All g.S.ForkStore.is_honest c.if-loads.files.stores =
+returns-clause-honest g c = λ honest.
+    let kept = subst (All g.S.ForkStore.is_honest) c.attach.ensures.stores honest in
     elim c.if-loads.branch [
-      | then-loads+in_ok-load_bytes w ↦ iff_then placed (iff_then w.load_bytes.ensures.honest (iff_same (λ (f : FilesOn g.row.S.Denot). All g.S.ForkStore.is_honest f.stores) _ _ w.files-is))
-      | else-loads w ↦ iff_then placed (iff_same (λ (f : FilesOn g.row.S.Denot). All g.S.ForkStore.is_honest f.stores) _ _ w.files-is)
+      | then-loads+in_ok-load_bytes w ↦ subst (λ (f : FilesOn g.row.S.Denot). All g.S.ForkStore.is_honest f.stores) c.make_place.ensures.forgotten (w.load_bytes.ensures.honest (subst (λ (f : FilesOn g.row.S.Denot). All g.S.ForkStore.is_honest f.stores) w.files-is kept))
+      | else-loads w ↦ subst (λ (f : FilesOn g.row.S.Denot). All g.S.ForkStore.is_honest f.stores) c.make_place.ensures.forgotten (subst (λ (f : FilesOn g.row.S.Denot). All g.S.ForkStore.is_honest f.stores) w.files-is kept)
     ]
-    in
-    iff_then loaded (iff_same (λ (stores : List g.row.S.Denot). All g.S.ForkStore.is_honest stores) _ _ c.attach.ensures.stores)
 
 pub returns-clause-count : goal.returns-clause-count
 returns-clause-count g c =
@@ -133,10 +137,10 @@ returns-clause-count g c =
 pub returns-clause-calm : goal.returns-clause-calm
 returns-clause-calm g c = λ honest.
     let placed = ap (λ (f : FilesOn g.row.S.Denot). map g.S.ForkStore.history f.stores) c.make_place.ensures.forgotten in
-    let after = subst (λ (f : FilesOn g.row.S.Denot). All g.S.ForkStore.is_honest f.stores) (sym c.make_place.ensures.forgotten) honest in
+    let kept = subst (All g.S.ForkStore.is_honest) c.attach.ensures.stores honest in
     let loaded : map g.S.ForkStore.history c.if-loads.files.stores ≡ map g.S.ForkStore.history c.args.files.now.stores =
     elim c.if-loads.branch [
-      | then-loads+in_ok-load_bytes w ↦ ap (λ (f : FilesOn g.row.S.Denot). map g.S.ForkStore.history f.stores) w.files-is ∙ (w.load_bytes.ensures.calm after ∙ placed)
+      | then-loads+in_ok-load_bytes w ↦ ap (λ (f : FilesOn g.row.S.Denot). map g.S.ForkStore.history f.stores) w.files-is ∙ (w.load_bytes.ensures.calm (subst (λ (f : FilesOn g.row.S.Denot). All g.S.ForkStore.is_honest f.stores) w.files-is kept) ∙ placed)
       | else-loads w ↦ ap (λ (f : FilesOn g.row.S.Denot). map g.S.ForkStore.history f.stores) w.files-is ∙ placed
     ]
     in

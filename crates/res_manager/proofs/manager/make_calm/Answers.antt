@@ -1,5 +1,5 @@
 use Rattle.std.proofs.Common.{◌≡◌, List, map, None, true, rules, sym, ap, subst}
-use Rattle.std.specs.Prelude.{◌↔◌, All, IfOk}
+use Rattle.std.specs.Prelude.{All, IfOk}
 use Rattle.mac_calls.specs.GrowZone.{Ask}
 use Rattle.res_calls.specs.Steps.{work_of, update_in}
 use Rattle.res_manager.specs.Crash.{CrashLeaves}
@@ -58,9 +58,7 @@ returns-in_default-clause-crash_full g c = λ honest.
     (calm_leaves g.S.ForkStore c.args.files.now.stores c.make_quiet.new.files.stores None (ap (map g.S.ForkStore.history) c.make_quiet.ensures.stores))
 
 pub returns-in_default-clause-honest : goal.returns-in_default-clause-honest
-returns-in_default-clause-honest g c =
-    let P : List _ → Type 0 = λ stores. All g.S.ForkStore.is_honest c.args.files.now.stores ↔ All g.S.ForkStore.is_honest stores in
-    subst P (sym c.make_quiet.ensures.stores) (λ h. h, λ h. h)
+returns-in_default-clause-honest g c = λ honest. subst (All g.S.ForkStore.is_honest) c.make_quiet.ensures.stores honest
 
 pub returns-in_default-clause-unasked : goal.returns-in_default-clause-unasked
 returns-in_default-clause-unasked g c = err_anyhow _ c.make_quiet.result c.requires.unasked

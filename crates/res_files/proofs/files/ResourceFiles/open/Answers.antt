@@ -24,7 +24,7 @@ learn-requires g c =
     omega (arith, c.requires.there.0, c.requires.there.1, stores_are, c.self.invariant.stand.few)
 
 pub read_table-requires : goal.read_table-requires
-read_table-requires g c = recalled g.S.ForkStore.fork g.S.ForkStore.is_honest c.self.inside.stores.items c.self.inside.known (c.args.number - 1) c.index_mut-store.result.now c.recall-known.result c.self.invariant.tells (here g.S.ForkStore.fork g.S.ForkStore.is_ready g.S.ForkStore.is_honest c.self.inside.chain c.self.inside.loads c.self.inside.stores.items c.args.self.now c.self.view_is c.args.number c.requires.there.0 c.requires.there.1 c.index_mut-store.result.now c.index_mut-store.result.now c.index_mut-store.ensures.value ((λ h. h), (λ h. h)) (λ _. refl)) c.recall-known.ensures.told
+read_table-requires g c = recalled g.S.ForkStore.fork g.S.ForkStore.is_honest c.self.inside.stores.items c.self.inside.known (c.args.number - 1) c.index_mut-store.result.now c.recall-known.result c.self.invariant.tells (here g.S.ForkStore.fork g.S.ForkStore.is_ready g.S.ForkStore.is_honest c.self.inside.chain c.self.inside.loads c.self.inside.stores.items c.args.self.now c.self.view_is c.args.number c.requires.there.0 c.requires.there.1 c.index_mut-store.result.now c.index_mut-store.result.now c.index_mut-store.ensures.value (λ h. h) (λ _. refl)) c.recall-known.ensures.told
 
 pub invariant_of-self : goal.invariant_of-self
 invariant_of-self g c = record {
@@ -32,7 +32,7 @@ invariant_of-self g c = record {
       stand_kept g.S.ForkStore.fork g.S.ForkStore.is_ready g.S.ForkStore.is_honest c.self.inside.chain c.self.inside.loads c.self.inside.stores.items c.args.self.now c.self.view_is c.args.number c.requires.there.0 c.requires.there.1 c.index_mut-store.result.now c.read_table.new.store c.index_mut-store.ensures.value c.read_table.ensures.honest c.read_table.ensures.same c.read_table.ensures.still c.self.invariant.stand;
   tells =
       subst (AreKnown g.S.ForkStore.fork g.S.ForkStore.is_honest (set c.self.inside.stores.items (c.args.number - 1) c.read_table.new.store)) (sym (c.learn.ensures ∙ ap (λ (known : List Known). set known (c.args.number - 1) c.known_by.result) c.recall-known.ensures.forgotten))
-      (refused_known g.S.ForkStore.fork g.S.ForkStore.is_honest c.self.inside.stores.items c.self.inside.known (c.args.number - 1) c.index_mut-store.result.now c.read_table.new.store c.in-Err.fault c.known_by.result c.known_by.ensures c.read_table.ensures.honest.1 c.read_table.ensures.same c.in-Err.ensures.refuses c.self.invariant.tells);
+      (refused_known g.S.ForkStore.fork g.S.ForkStore.is_honest c.self.inside.stores.items c.self.inside.known (c.args.number - 1) c.index_mut-store.result.now c.read_table.new.store c.in-Err.fault c.known_by.result c.known_by.ensures c.read_table.ensures.same c.in-Err.ensures.refuses c.self.invariant.tells);
   reads_back = tt;
 }
 
@@ -54,7 +54,7 @@ invariant_of-self-in-Err g c = record {
       stand_kept g.S.ForkStore.fork g.S.ForkStore.is_ready g.S.ForkStore.is_honest c.self.inside.chain c.self.inside.loads c.self.inside.stores.items c.args.self.now c.self.view_is c.args.number c.requires.there.0 c.requires.there.1 c.index_mut-store.result.now c.read_table.new.store c.index_mut-store.ensures.value c.read_table.ensures.honest c.read_table.ensures.same c.read_table.ensures.still c.self.invariant.stand;
   tells =
       subst (AreKnown g.S.ForkStore.fork g.S.ForkStore.is_honest (set c.self.inside.stores.items (c.args.number - 1) c.read_table.new.store)) (sym (c.learn.ensures ∙ ap (λ (known : List Known). set known (c.args.number - 1) c.known_by.result) c.recall-known.ensures.forgotten))
-      (refused_known g.S.ForkStore.fork g.S.ForkStore.is_honest c.self.inside.stores.items c.self.inside.known (c.args.number - 1) c.index_mut-store.result.now c.read_table.new.store c.in-Err.fault c.known_by.result c.known_by.ensures c.read_table.ensures.honest.1 c.read_table.ensures.same c.in-Err.ensures.refuses c.self.invariant.tells);
+      (refused_known g.S.ForkStore.fork g.S.ForkStore.is_honest c.self.inside.stores.items c.self.inside.known (c.args.number - 1) c.index_mut-store.result.now c.read_table.new.store c.in-Err.fault c.known_by.result c.known_by.ensures c.read_table.ensures.same c.in-Err.ensures.refuses c.self.invariant.tells);
   reads_back = tt;
 }
 
@@ -144,7 +144,7 @@ returns-clause-others g c = λ honest. others_calm g.S.ForkStore.fork g.S.ForkSt
 pub returns-clause-settled : goal.returns-clause-settled
 returns-clause-settled g c = λ honest journalled.
     found_there g.S.ForkStore.fork g.S.ForkStore.is_honest g.S.ForkStore.history c.self.inside.chain c.self.inside.loads c.self.inside.stores.items c.args.self.now c.self.view_is c.args.number (within g.S.ForkStore.fork g.S.ForkStore.is_ready g.S.ForkStore.is_honest c.self.inside.chain c.self.inside.loads c.self.inside.stores.items c.args.self.now c.self.view_is c.args.number c.requires.there.0 c.requires.there.1 c.index_mut-store.result.now c.read_table.new.store c.index_mut-store.ensures.value c.read_table.ensures.honest c.read_table.ensures.same) c.index_mut-store.result.now c.read_table.new.store c.index_mut-store.ensures.value g.S.ForkStore.may_find
-    (λ here. g.S.ForkStore.ready_finds c.read_table.new.store journalled (c.read_table.ensures.honest.0 here) (c.in-Ok.ensures.ready here)) honest
+    (λ here. g.S.ForkStore.ready_finds c.read_table.new.store journalled here (c.in-Ok.ensures.ready here)) honest
 
 pub returns-in_err-open-clause-count : goal.returns-in_err-open-clause-count
 returns-in_err-open-clause-count g c = length-set c.self.inside.stores.items (c.args.number - 1) c.read_table.new.store ∙ ap (λ (on : FilesOn _). length on.stores) c.self.view_is

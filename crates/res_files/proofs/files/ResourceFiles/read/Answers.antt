@@ -34,8 +34,8 @@ invariant_of-self g c = record {
       let stands = row_stands g.S.ForkStore.fork g.S.ForkStore.is_ready g.S.ForkStore.is_honest c.self.inside.stores.items c.args.place c.self.inside.chain c.in-Some.row.now c.self.invariant.stand c.in-Some.ensures.some in
       let within : c.args.place.file - 1 < length c.self.inside.stores.items = omega (arith, stands.0, stands.1) in
       stand_still g.S.ForkStore.fork g.S.ForkStore.is_honest c.self.inside.chain c.self.inside.loads c.self.inside.stores.items c.args.self.now c.self.view_is (c.args.place.file - 1) within c.index_mut-store.result.now c.read_at.new.self c.index_mut-store.ensures.value g.S.ForkStore.is_ready c.read_at.ensures.honest c.read_at.ensures.same c.read_at.ensures.ready c.self.invariant.stand;
-  tells = known_kept g.S.ForkStore.fork g.S.ForkStore.is_honest c.self.inside.stores.items (c.args.place.file - 1) c.read_at.new.self c.index_mut-store.result.now (λ here. let was = c.read_at.ensures.honest.1 here in (subst g.S.ForkStore.is_honest c.index_mut-store.ensures.value was, c.read_at.ensures.same was ∙ ap g.S.ForkStore.fork c.index_mut-store.ensures.value)) c.self.inside.known c.self.invariant.tells;
-  reads_back = saved_kept g.S.ForkStore.fork g.S.ForkStore.is_honest c.self.inside.stores.items (c.args.place.file - 1) c.read_at.new.self c.index_mut-store.result.now (λ here. let was = c.read_at.ensures.honest.1 here in (subst g.S.ForkStore.is_honest c.index_mut-store.ensures.value was, c.read_at.ensures.same was ∙ ap g.S.ForkStore.fork c.index_mut-store.ensures.value)) c.self.inside.chain c.self.inside.saved c.self.invariant.reads_back;
+  tells = known_kept g.S.ForkStore.fork g.S.ForkStore.is_honest c.self.inside.stores.items (c.args.place.file - 1) c.read_at.new.self c.index_mut-store.result.now (λ here. (subst g.S.ForkStore.is_honest c.index_mut-store.ensures.value (c.read_at.ensures.honest here), c.read_at.ensures.same here ∙ ap g.S.ForkStore.fork c.index_mut-store.ensures.value)) c.self.inside.known c.self.invariant.tells;
+  reads_back = saved_kept g.S.ForkStore.fork g.S.ForkStore.is_honest c.self.inside.stores.items (c.args.place.file - 1) c.read_at.new.self c.index_mut-store.result.now (λ here. (subst g.S.ForkStore.is_honest c.index_mut-store.ensures.value (c.read_at.ensures.honest here), c.read_at.ensures.same here ∙ ap g.S.ForkStore.fork c.index_mut-store.ensures.value)) c.self.inside.chain c.self.inside.saved c.self.invariant.reads_back;
 }
 
 pub returns-clause-files : goal.returns-clause-files

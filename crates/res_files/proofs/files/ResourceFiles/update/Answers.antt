@@ -91,7 +91,7 @@ pub returns-in-Ok-clause-stands : goal.returns-in-Ok-clause-stands
 returns-in-Ok-clause-stands g c = stands_seen g.S.ForkStore.fork g.S.ForkStore.is_ready g.S.ForkStore.is_honest c.self.inside.chain c.self.inside.loads c.self.inside.stores.items c.args.self.now c.self.view_is c.self.invariant.stand c.args.number c.in-Some.table.now c.in-Some.ensures.some c.index_mut-store.result.now c.index_mut-store.ensures.value c.write_table.new.store (g.C.Contents.table c.args.contents.now) c.args.selection c.in-Ok.ensures.stands
 
 pub returns-in-Ok-clause-too_big : goal.returns-in-Ok-clause-too_big
-returns-in-Ok-clause-too_big g c = fits_ok g.S.ForkStore.fork g.S.ForkStore.is_ready g.S.ForkStore.is_honest c.self.inside.chain c.self.inside.loads c.self.inside.stores.items c.args.self.now c.self.view_is c.self.invariant.stand c.args.number c.in-Some.table.now c.in-Some.ensures.some c.index_mut-store.result.now c.index_mut-store.ensures.value c.in-Ok.places tt (λ shown. IsFalse (fits_fork (updated (g.C.Contents.table c.args.contents.now) c.args.selection shown))) c.in-Ok.ensures.too_big
+returns-in-Ok-clause-too_big g c = fits_ok g.S.ForkStore.fork g.S.ForkStore.is_ready g.S.ForkStore.is_honest c.self.inside.chain c.self.inside.loads c.self.inside.stores.items c.args.self.now c.self.view_is c.self.invariant.stand c.args.number c.in-Some.table.now c.in-Some.ensures.some c.index_mut-store.result.now c.index_mut-store.ensures.value c.write_table.new.store c.in-Ok.places tt (λ shown. IsFalse (fits_fork (updated (g.C.Contents.table c.args.contents.now) c.args.selection shown))) c.in-Ok.ensures.too_big
 
 pub returns-in-Ok-clause-honest : goal.returns-in-Ok-clause-honest
 returns-in-Ok-clause-honest g c = same_honest g.S.ForkStore.fork g.S.ForkStore.is_honest c.self.inside.chain c.self.inside.loads c.self.inside.stores.items c.args.self.now c.self.view_is (c.args.number - 1) (within g.S.ForkStore.fork g.S.ForkStore.is_ready g.S.ForkStore.is_honest c.self.inside.chain c.self.inside.loads c.self.inside.stores.items c.args.self.now c.self.view_is c.self.invariant.stand c.args.number c.in-Some.table.now c.in-Some.ensures.some) c.index_mut-store.result.now c.write_table.new.store c.index_mut-store.ensures.value c.in-Ok.ensures.honest
@@ -117,13 +117,13 @@ invariant_of-self-else-later g c = record {
 }
 
 pub returns-then-later-clause-too_big : goal.returns-then-later-clause-too_big
-returns-then-later-clause-too_big g c = fits_err g.S.ForkStore.fork g.S.ForkStore.is_ready g.S.ForkStore.is_honest c.self.inside.chain c.self.inside.loads c.self.inside.stores.items c.args.self.now c.self.view_is c.self.invariant.stand c.args.number c.in-Some.table.now c.in-Some.ensures.some c.index_mut-store.result.now c.index_mut-store.ensures.value _ _ c.in-Err.fault (λ shown. IsFalse (fits_fork (updated (g.C.Contents.table c.args.contents.now) c.args.selection shown))) c.in-Err.ensures.too_big
+returns-then-later-clause-too_big g c = fits_err g.S.ForkStore.fork g.S.ForkStore.is_ready g.S.ForkStore.is_honest c.self.inside.chain c.self.inside.loads c.self.inside.stores.items c.args.self.now c.self.view_is c.self.invariant.stand c.args.number c.in-Some.table.now c.in-Some.ensures.some c.index_mut-store.result.now c.index_mut-store.ensures.value c.write_table.new.store _ _ c.in-Err.fault (λ shown. IsFalse (fits_fork (updated (g.C.Contents.table c.args.contents.now) c.args.selection shown))) c.in-Err.ensures.too_big
 
 pub returns-then-later-clause-honest : goal.returns-then-later-clause-honest
 returns-then-later-clause-honest g c = same_honest g.S.ForkStore.fork g.S.ForkStore.is_honest c.self.inside.chain c.self.inside.loads c.self.inside.stores.items c.args.self.now c.self.view_is (c.args.number - 1) (within g.S.ForkStore.fork g.S.ForkStore.is_ready g.S.ForkStore.is_honest c.self.inside.chain c.self.inside.loads c.self.inside.stores.items c.args.self.now c.self.view_is c.self.invariant.stand c.args.number c.in-Some.table.now c.in-Some.ensures.some) c.index_mut-store.result.now c.write_table.new.store c.index_mut-store.ensures.value c.in-Err.ensures.honest
 
 pub returns-else-later-clause-too_big : goal.returns-else-later-clause-too_big
-returns-else-later-clause-too_big g c = fits_err g.S.ForkStore.fork g.S.ForkStore.is_ready g.S.ForkStore.is_honest c.self.inside.chain c.self.inside.loads c.self.inside.stores.items c.args.self.now c.self.view_is c.self.invariant.stand c.args.number c.in-Some.table.now c.in-Some.ensures.some c.index_mut-store.result.now c.index_mut-store.ensures.value _ _ c.in-Err.fault (λ shown. IsFalse (fits_fork (updated (g.C.Contents.table c.args.contents.now) c.args.selection shown))) c.in-Err.ensures.too_big
+returns-else-later-clause-too_big g c = fits_err g.S.ForkStore.fork g.S.ForkStore.is_ready g.S.ForkStore.is_honest c.self.inside.chain c.self.inside.loads c.self.inside.stores.items c.args.self.now c.self.view_is c.self.invariant.stand c.args.number c.in-Some.table.now c.in-Some.ensures.some c.index_mut-store.result.now c.index_mut-store.ensures.value c.write_table.new.store _ _ c.in-Err.fault (λ shown. IsFalse (fits_fork (updated (g.C.Contents.table c.args.contents.now) c.args.selection shown))) c.in-Err.ensures.too_big
 
 pub returns-else-later-clause-honest : goal.returns-else-later-clause-honest
 returns-else-later-clause-honest g c = same_honest g.S.ForkStore.fork g.S.ForkStore.is_honest c.self.inside.chain c.self.inside.loads c.self.inside.stores.items c.args.self.now c.self.view_is (c.args.number - 1) (within g.S.ForkStore.fork g.S.ForkStore.is_ready g.S.ForkStore.is_honest c.self.inside.chain c.self.inside.loads c.self.inside.stores.items c.args.self.now c.self.view_is c.self.invariant.stand c.args.number c.in-Some.table.now c.in-Some.ensures.some) c.index_mut-store.result.now c.write_table.new.store c.index_mut-store.ensures.value c.in-Err.ensures.honest
@@ -164,7 +164,7 @@ returns-in-Ok-clause-others g c = λ honest. others_calm g.S.ForkStore.fork g.S.
 pub returns-in-Ok-clause-settled : goal.returns-in-Ok-clause-settled
 returns-in-Ok-clause-settled g c = λ honest journalled.
     found_there g.S.ForkStore.fork g.S.ForkStore.is_honest g.S.ForkStore.history c.self.inside.chain c.self.inside.loads c.self.inside.stores.items c.args.self.now c.self.view_is c.args.number (within g.S.ForkStore.fork g.S.ForkStore.is_ready g.S.ForkStore.is_honest c.self.inside.chain c.self.inside.loads c.self.inside.stores.items c.args.self.now c.self.view_is c.self.invariant.stand c.args.number c.in-Some.table.now c.in-Some.ensures.some) c.index_mut-store.result.now c.write_table.new.store c.index_mut-store.ensures.value g.S.ForkStore.may_find
-    (λ here. g.S.ForkStore.ready_finds c.write_table.new.store journalled (c.in-Ok.ensures.honest.0 here) (c.in-Ok.ensures.ready here)) honest
+    (λ here. g.S.ForkStore.ready_finds c.write_table.new.store journalled here (c.in-Ok.ensures.ready here)) honest
 
 pub returns-then-later-clause-any_moment : goal.returns-then-later-clause-any_moment
 returns-then-later-clause-any_moment g c = λ honest.

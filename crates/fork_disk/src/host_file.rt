@@ -1,0 +1,82 @@
+//! A file of the system, and how often it has failed.
+
+ghost use Rattle.std.specs.Prelude.{◌≡◌, length};
+ghost use Rattle.fork_disk.specs.Disk.{Counts};
+
+use crate::disk::DiskFault;
+use crate::failures::Failures;
+use std::fs::{File, Files, OpenOptions};
+use std::io;
+use std::os::unix::fs::FileExt;
+use std::path::AsPath;
+
+/// A file of the system. Nothing is claimed of its bytes. Each fault is counted, and so is a read that ends past the end.
+#[derive(Drop)]
+pub struct HostFile {
+    file: File,
+    pub(crate) failures: Failures,
+}
+
+/// Counts a fault of the system.
+fn counted<T: Drop>(failures: &mut Failures, answer: io::Result<T>) -> Result<T, DiskFault>
+    ensures { Counts failures.old failures.new result }
+{
+    match answer {
+        Ok(value) => Ok(value),
+        Err(_) => Err(failures.count()),
+    }
+}
+
+impl HostFile {
+    /// Opens a file to read and to write it. A missing one is made, with length 0.
+    pub fn open<R: Files<File = File>, P: AsPath>(files: &R, path: P) -> io::Result<HostFile> {
+        let file = OpenOptions::new()
+            .read(true)
+            .write(true)
+            .create(true)
+            .open(files, path)?;
+        Ok(HostFile {
+            file,
+            failures: Failures::new(),
+        })
+    }
+
+    /// How many bytes there are.
+    pub fn len(&mut self) -> Result<u64, DiskFault>
+        ensures { Counts self.old.failures self.new.failures result }
+    {
+        match self.file.metadata() {
+            Ok(metadata) => Ok(metadata.len()),
+            Err(_) => Err(self.failures.count()),
+        }
+    }
+
+    /// Fills the buffer with the bytes at an offset.
+    pub fn read_at(&mut self, at: u64, buffer: &mut [u8]) -> Result<(), DiskFault>
+        ensures cause { Counts self.old.failures self.new.failures result }
+        ensures long { length buffer.new ≡ length buffer.old }
+    {
+        counted(&mut self.failures, self.file.read_exact_at(buffer, at))
+    }
+
+    /// Writes over what is there, and past the end.
+    pub fn write_at(&mut self, at: u64, bytes: &[u8]) -> Result<(), DiskFault>
+        ensures { Counts self.old.failures self.new.failures result }
+    {
+        counted(&mut self.failures, self.file.write_all_at(bytes, at))
+    }
+
+    /// Cuts the bytes to a length, or grows them to it.
+    pub fn cut(&mut self, len: u64) -> Result<(), DiskFault>
+        ensures { Counts self.old.failures self.new.failures result }
+    {
+        counted(&mut self.failures, self.file.set_len(len))
+    }
+
+    /// Makes what was written stable.
+    pub fn sync(&mut self) -> Result<(), DiskFault>
+        ensures { Counts self.old.failures self.new.failures result }
+    {
+        counted(&mut self.failures, self.file.sync_all())
+    }
+}
