@@ -54,9 +54,6 @@ pub record LoansHeld (held : Moment) : Type 0 where
 -- ---- acts on the heap
 
 module _ (s : Shape) (held : Moment) (last : LastPut) (inv : LoansHeld held) (shows : Shows held last) where
-  t : HandleTable
-  t = held.heap.table
-
   -- the same where nothing is lent, and what the table has where it is
   seen : LastPut
   seen x = cond (is_lent held.heap.table x) (bytes_of held.heap.table x) (last x)
