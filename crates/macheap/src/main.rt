@@ -7,6 +7,8 @@ mod files;
 mod program;
 mod stores;
 
+use fork_disk::Unknown;
+use fork_journal::UnknownPair;
 use program::{BAD_WORDS, program};
 use script_run::{Counted, status, tell_no_memory};
 use std::io::ErrorKind;
@@ -27,7 +29,7 @@ fn main(rt: HostRuntime) -> ExitCode {
     let mut output = Counted::new(rt.stdout());
     let mut messages = rt.stderr();
     let words = words.as_slice();
-    let opener = HostDisks { runtime: &rt };
+    let opener: HostDisks<'_, Unknown, UnknownPair> = HostDisks::new(&rt);
     ExitCode::from(program(
         alloc,
         words,
