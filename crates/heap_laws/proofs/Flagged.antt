@@ -167,10 +167,9 @@ module _ (s : Shape) (old : Heap) (last : LastSet) (has : HasFlags old.table las
   ended-flags call outcome new (unserved r makes is fewer) = (ends call outcome _ new is (flags-fewer (protected_by call) old.table new.table last fewer has), request-tells call r outcome makes)
   ended-flags call outcome new (served r x mid makes passed leaves is copied) =
       let sets = subst (λ o. MatchOption o ⊤ (λ r. set_with call (given_results call x) last ≡ set_granted r x last)) makes (request-sets old.table call x last) in
-      let granted = flags-same (table_granted r x leaves.before) mid (set_granted r x last) leaves.table (flags-granted r x leaves.before last (flags-fewer (protected_by call) old.table leaves.before last leaves.fewer has)) in
-      (
+      let granted = flags-same (table_granted r x leaves.before) mid (set_granted r x last) leaves.table (flags-granted r x leaves.before last (flags-fewer (protected_by call) old.table leaves.before last leaves.fewer has)) in (
         ends call outcome _ new is (flags-same (table_copied call x old.table mid) new.table (set_with call (given_results call x) last) copied
-        (flags-copied call x old.table mid (set_with call (given_results call x) last) (subst (HasFlags mid) (sym sets) granted))),
+            (flags-copied call x old.table mid (set_with call (given_results call x) last) (subst (HasFlags mid) (sym sets) granted))),
         request-tells call r outcome makes,
       )
   ended-flags call outcome new (quiet makes passed q) = (quiet-flags call outcome new makes passed q, quiet-tells call outcome new passed q)

@@ -85,14 +85,20 @@ module _ (s : Shape) (old : Heap) where
     where
       by_given : (given : Option ℕ) → Ran s (protected_by call) last.request (most_answers - length last.first) last.from last.rest given last.mid → EndsRequest call old.table given last.mid outcome new → (r : Request) × HadNoRoom s old call asks r new
       by_given (Some x) ran ends = absurd (cc (ends.0, full))
-      by_given None ran ends = (last.request, (
-        last.first ++ ran.0, ran.1, ran.2, ran.3,
-        last.parts ∙ ap (λ rest. last.first ++ rest) ran.4 ∙ sym (append_assoc last.first ran.0 ran.1),
-        (last.first, ran.0, last.from, refl, last.begins, ran.5),
-        ran.6,
-        gave_up-same s (protected_by call) last.request ran.3 ran.1 last.mid new ends.1 ran.7,
-        λ none. ap length last.parts ∙ length-append last.first last.rest ∙ ap (λ n. length last.first + n) (ran.8 none) ∙ omega (arith, last.few),
-      ))
+      by_given None ran ends = (
+        last.request,
+        (
+          last.first ++ ran.0,
+          ran.1,
+          ran.2,
+          ran.3,
+          last.parts ∙ ap (λ rest. last.first ++ rest) ran.4 ∙ sym (append_assoc last.first ran.0 ran.1),
+          (last.first, ran.0, last.from, refl, last.begins, ran.5),
+          ran.6,
+          gave_up-same s (protected_by call) last.request ran.3 ran.1 last.mid new ends.1 ran.7,
+          λ none. ap length last.parts ∙ length-append last.first last.rest ∙ ap (λ n. length last.first + n) (ran.8 none) ∙ omega (arith, last.few),
+        ),
+      )
 
   -- PurgeMem
   purge-full : (n : ℕ) (outcome : Outcome) (new : Heap) (b : Bool) → nat_le n (largest_free new.map) ≡ b → outcome ≡ Err MemFullErr → MatchBool b (outcome ≡ Ok results.Nothing) ((outcome ≡ Err MemFullErr) × (candidates_in new.table [] new.map ≡ []))

@@ -212,7 +212,7 @@ module _ (s : Shape) (held : Moment) (last : LastPut) (inv : LoansHeld held) (sh
       let may = step-may s held.heap call asks outcome new.heap sound does in
       let step = step-shows s held.heap call asks outcome new.heap seen may seen-shows in (
         heap-leaves new (put_by call outcome seen) (put_by call outcome last) (step-sound s held.heap call asks outcome new.heap sound does) (call-keeps call asks outcome new.heap sound does)
-        (agree-outcome call asks outcome new.heap may) step.0 same,
+            (agree-outcome call asks outcome new.heap may) step.0 same,
         tells-outcome call asks outcome new.heap may step.1,
       )
 

@@ -196,7 +196,7 @@ module _ (k : Trait) (x : ℕ) where
           elim (carried-keeps (protected_by call) (calls_in ask.answer) full holds) [
             | inl here ↦ inl (same (carried_out s (protected_by call) (calls_in ask.answer) full).heap.table after.table asked.2.table here)
             | inr ended ↦ inr (inl (subst (λ xs. Contains xs x) (sym (ap (λ asks. ended_in asks) parts ∙ flat_map-append (λ (ask : Ask). filter_map k.by ask.carried) before (ask ∷ later)))
-              (Contains-append_right (ended_in before) (ended_in (ask ∷ later)) x (Contains-append_left (filter_map k.by ask.carried) (ended_in later) x (subst (λ calls. Ended calls) (sym asked.1) ended)))))
+                (Contains-append_right (ended_in before) (ended_in (ask ∷ later)) x (Contains-append_left (filter_map k.by ask.carried) (ended_in later) x (subst (λ calls. Ended calls) (sym asked.1) ended)))))
           ]
 
       module _ (r : Request) (first : List Ask) (from : Heap) (begins : Begins s old call r first from) where

@@ -44,4 +44,3 @@ stand-new z put set possible = record {
   shows = λ x block. absurd (cc block);
   flags = λ h full. absurd (cc full);
 }
-

@@ -101,18 +101,48 @@ module _ (s : Shape) (old : Heap) (call : MemoryCall) (asks : List Ask) (outcome
   behind-last : (r : Request) (given : Option ℕ) (first rest : List Ask) (mid : Heap) → needs_master s old call ≡ true → request_of old.table call ≡ Some r → asks ≡ first ++ rest
       → Ran s (protected_by call) NewMaster most_answers old first given mid → BehindMaster RequestRun s call old.table r (most_answers - length first) given mid rest outcome new → LastRequest s old call asks outcome new
   behind-last r (Some x) first rest mid needs makes parts ran own = record {
-    request = r; first = first; rest = rest; from = mid; given = own.0; mid = own.1; own = inr makes; parts = parts; few = ran.3; begins = inr (needs, makes, (ran.0, x, ran.1, ran.2));
-    ran = run-trials s (protected_by call) r (most_answers - length first) mid rest own.0 own.1 own.2; ends = own.3;
+    request = r;
+    first = first;
+    rest = rest;
+    from = mid;
+    given = own.0;
+    mid = own.1;
+    own = inr makes;
+    parts = parts;
+    few = ran.3;
+    begins = inr (needs, makes, (ran.0, x, ran.1, ran.2));
+    ran = run-trials s (protected_by call) r (most_answers - length first) mid rest own.0 own.1 own.2;
+    ends = own.3;
   }
   behind-last r None first rest mid needs makes parts ran failed = record {
-    request = NewMaster; first = []; rest = first; from = old; given = None; mid = mid; own = inl refl; parts = parts ∙ ap (λ rest. first ++ rest) failed.0 ∙ append-nil first; few = omega arith;
-    begins = inl (ap (λ b. cond b (Some NewMaster) (request_of old.table call)) needs, refl, refl); ran = ran; ends = (failed.1, failed.2);
+    request = NewMaster;
+    first = [];
+    rest = first;
+    from = old;
+    given = None;
+    mid = mid;
+    own = inl refl;
+    parts = parts ∙ ap (λ rest. first ++ rest) failed.0 ∙ append-nil first;
+    few = omega arith;
+    begins = inl (ap (λ b. cond b (Some NewMaster) (request_of old.table call)) needs, refl, refl);
+    ran = ran;
+    ends = (failed.1, failed.2);
   }
 
   request-last : (b : Bool) (r : Request) → needs_master s old call ≡ b → request_of old.table call ≡ Some r → RequestStep RequestRun b s old call r asks outcome new → LastRequest s old call asks outcome new
   request-last false r needs makes own = record {
-    request = r; first = []; rest = asks; from = old; given = own.0; mid = own.1; own = inr makes; parts = refl; few = omega arith;
-    begins = inl (ap (λ b. cond b (Some NewMaster) (request_of old.table call)) needs ∙ makes, refl, refl); ran = run-trials s (protected_by call) r most_answers old asks own.0 own.1 own.2; ends = own.3;
+    request = r;
+    first = [];
+    rest = asks;
+    from = old;
+    given = own.0;
+    mid = own.1;
+    own = inr makes;
+    parts = refl;
+    few = omega arith;
+    begins = inl (ap (λ b. cond b (Some NewMaster) (request_of old.table call)) needs ∙ makes, refl, refl);
+    ran = run-trials s (protected_by call) r most_answers old asks own.0 own.1 own.2;
+    ends = own.3;
   }
   request-last true r needs makes both = behind-last r both.2 both.0 both.1 both.3 needs makes both.4 (run-trials s (protected_by call) NewMaster most_answers old both.0 both.2 both.3 both.5) both.6
 

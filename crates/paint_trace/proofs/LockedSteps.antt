@@ -78,7 +78,7 @@ kept_asking h s old g (action.NewHandle n) asks outcome new step none other lock
     elim a.ended [
       | inl e ↦ kept h old new outcome e.1 same e.0 tt
       | inr e ↦ (let x_other = unlocked_other a.before h e.0 (still_locked h old.table a.before same locked) (ap (λ o. (live_flags o).lock) e.2) in
-        kept h old new outcome e.3 ((with_live_agrees e.0 (FullHandle no_flags (zeros n)) a.before).others h (apart h e.0 x_other) ∙ same) e.1 x_other)
+          kept h old new outcome e.3 ((with_live_agrees e.0 (FullHandle no_flags (zeros n)) a.before).others h (apart h e.0 x_other) ∙ same) e.1 x_other)
     ]
 kept_asking h s old g (action.SetHandleSize n) asks outcome new step none other locked =
     let call : MemoryCall = call_of g (action.SetHandleSize n) in

@@ -32,8 +32,8 @@ PrintAllReplies lines (text ∷ texts) (opening ∷ calls) = (text ≡ opening_t
 PrintAllReplies lines [] calls = ⊥
 PrintAllReplies lines (text ∷ texts) [] = ⊥
 
--- Whatever the lines of a script print is the replies of calls that were made, where the devices of the stores that they leave are honest; and this is
--- what is promised of these calls.
+-- Whatever the lines of a script print is the replies of calls that were made, and this is what is promised of these calls, where the
+-- devices of the stores that they leave are honest.
 abbrev pub RunShows : {S : Type 0} → Ghosts S → Type 0
 RunShows {S = S} store = (sizes : ZoneSizes) (stores : List S) (lines : List Line) (texts : List (List ℕ)) (last : Machine S)
     → ArePossible sizes → All store.is_honest last.toolbox.resources.stores → IsRun store (start_of sizes stores) lines texts last
