@@ -1,9 +1,9 @@
 -- Calls of the Resource Manager are runs of acts.
 use Rattle.std.proofs.Common.{◌≡◌, ℕ, Bool, true, false, not, cond, length, List, [], ◌∷◌, Option, Some, None, Ok, Err, Result, refl, ap, sym, subst, ◌∙◌}
-use Rattle.std.specs.Prelude.{◌||◌, ◌&&◌, ◌==◌, All, is_some, unwrap_or}
+use Rattle.std.specs.Prelude.{◌||◌, ◌&&◌, ◌==◌, All, is_some, map, unwrap_or}
 use Rattle.std.specs.Option.{option_map_or}
 use Rattle.mac_base.specs.declared.error.OsErr.{OsErr}
-use Rattle.std.specs.List.{list_any}
+use Rattle.std.specs.List.{AllByRecursion, list_any}
 use Rattle.mac_base.specs.Loans.{LoansAreFixed}
 use Rattle.mac_base.specs.declared.error.OsErr.TheVariants.{IoErr, MemPurErr}
 use Rattle.call_laws.proofs.LentSteps.{block-here, step_keeps_lent}
@@ -47,7 +47,8 @@ use Rattle.res_calls.specs.Updates.{Update, behind_update, disposed, file_update
 use Rattle.zone_laws.proofs.Tables.{live_at-with_live_same}
 use Rattle.heap_laws.specs.Act.{Act, Calls, Does, Done, IsRun, Loads, Moment, Unloads, moment_after}
 use Rattle.heap_laws.proofs.Fewer.{Ended, quiet, refused, served, step-ended, unserved}
-use Rattle.res_laws.specs.Acts.{Anything, IsActOf}
+use Rattle.res_laws.specs.Acts.{Anything, IsActOf, IsInner}
+use Rattle.res_laws.specs.Tools.{act_of}
 
 module _ (loans : Loans) where
   -- the zone with this heap
@@ -59,15 +60,15 @@ module _ (loans : Loans) where
     pub run : List Done
     pub is : IsRun s (at old) run
     pub ends : moment_after (at old) run ≡ at new
-    pub acts : All (λ done. May done.act) run
+    pub acts : All May (map act_of run)
 
   -- ---- no act, and acts one after another
 
   none-done : (s : Shape) (May : Act → Type 0) (old new : Heap) → new ≡ old → MadeOf s May old new
-  none-done s May old new same = record { run = []; is = tt; ends = ap at (sym same); acts = All-nil (λ done. May done.act) }
+  none-done s May old new same = record { run = []; is = tt; ends = ap at (sym same); acts = All-nil May }
 
   one-first : (s : Shape) (May : Act → Type 0) (act : Act) (old mid new : Heap) → Does s act (at old) (at mid) → May act → MadeOf s May mid new → MadeOf s May old new
-  one-first s May act old mid new does may rest = record { run = record { act = act; left = at mid } ∷ rest.run; is = (does, rest.is); ends = rest.ends; acts = All-cons (λ done. May done.act) (record { act = act; left = at mid }) rest.run may rest.acts }
+  one-first s May act old mid new does may rest = record { run = record { act = act; left = at mid } ∷ rest.run; is = (does, rest.is); ends = rest.ends; acts = All-cons May act (map act_of rest.run) may rest.acts }
 
   -- ---- calls of the Memory Manager that make no request
 
@@ -79,19 +80,25 @@ module _ (loans : Loans) where
   quiet-unless s heap call (Some code) none = refl
   quiet-unless s heap call None none = quiet-asking s heap call (request_of heap.table call) none
 
-  called : (s : Shape) (old : ResState) (rc : ResourceCall) (heap : Heap) (call : MemoryCall) (new : Heap) → request_of heap.table call ≡ None → MadeOf s (IsActOf old rc) (exact_step s [] heap call).heap new → MadeOf s (IsActOf old rc) heap new
-  called s old rc heap call new none rest =
+  called : (s : Shape) (old : ResState) (rc : ResourceCall) (heap : Heap) (call : MemoryCall) (new : Heap) → IsInner old rc call → request_of heap.table call ≡ None → MadeOf s (IsActOf old rc) (exact_step s [] heap call).heap new
+      → MadeOf s (IsActOf old rc) heap new
+  called s old rc heap call new inner none rest =
       let e = exact_step s [] heap call in
-      one-first s (IsActOf old rc) (Calls call [] e.outcome) heap e.heap new (quiet-unless s heap call (refusal s heap call) none, refl) tt rest
+      one-first s (IsActOf old rc) (Calls call [] e.outcome) heap e.heap new (quiet-unless s heap call (refusal s heap call) none, refl) inner rest
 
-  disposed-done : (s : Shape) (old : ResState) (rc : ResourceCall) (hs : List ℕ) (heap : Heap) → MadeOf s (IsActOf old rc) heap (disposed s hs heap)
-  disposed-done s old rc [] heap = none-done s (IsActOf old rc) heap heap refl
-  disposed-done s old rc (h ∷ hs) heap =
+  disposed-done : (s : Shape) (old : ResState) (rc : ResourceCall) (hs : List ℕ) (heap : Heap) → AllByRecursion (λ h. IsInner old rc (memory_call.DisposeHandle h)) hs → MadeOf s (IsActOf old rc) heap (disposed s hs heap)
+  disposed-done s old rc [] heap inner = none-done s (IsActOf old rc) heap heap refl
+  disposed-done s old rc (h ∷ hs) heap inner =
       let next : Heap = (exact_step s [] heap (memory_call.DisposeHandle h)).heap in
-      called s old rc heap (memory_call.DisposeHandle h) (disposed s hs next) refl (disposed-done s old rc hs next)
+      called s old rc heap (memory_call.DisposeHandle h) (disposed s hs next) inner.0 refl (disposed-done s old rc hs next inner.1)
 
-  once-done : (s : Shape) (old : ResState) (rc : ResourceCall) (call : MemoryCall) (heap : Heap) → request_of heap.table call ≡ None → MadeOf s (IsActOf old rc) heap (heap_after s heap (call ∷ []))
-  once-done s old rc call heap none = called s old rc heap call (exact_step s [] heap call).heap none (none-done s (IsActOf old rc) (exact_step s [] heap call).heap (exact_step s [] heap call).heap refl)
+  -- those of a file that is closed
+  closed-inner : (old : ResState) (named : Option ℕ) (hs : List ℕ) → AllByRecursion (λ h. IsInner old (call.CloseResFile named) (memory_call.DisposeHandle h)) hs
+  closed-inner old named [] = tt
+  closed-inner old named (h ∷ hs) = ((h, refl), closed-inner old named hs)
+
+  once-done : (s : Shape) (old : ResState) (rc : ResourceCall) (call : MemoryCall) (heap : Heap) → IsInner old rc call → request_of heap.table call ≡ None → MadeOf s (IsActOf old rc) heap (heap_after s heap (call ∷ []))
+  once-done s old rc call heap inner none = called s old rc heap call (exact_step s [] heap call).heap inner none (none-done s (IsActOf old rc) (exact_step s [] heap call).heap (exact_step s [] heap call).heap refl)
 
   -- ---- what a served request gives
 
@@ -200,13 +207,22 @@ module _ (loans : Loans) where
     placed-done device loads inner asks (Ok res) heap is step =
         load-done device loads (handle_made r (Ok res)) (behind_memory asks heap old) (λ loading. place-made old.heap fixed r.handle loads inner asks res heap refl loading is step.0)
 
+    -- its place is made by the call that it needs
+    wanted-inner : (rc' : ResourceCall) (inner : MemoryCall) → row_wanted old rc' ≡ Some p → placing old.heap.table (loads_bytes old rc') r ≡ Some inner → IsInner old rc' inner
+    wanted-inner (call.ReleaseResource h) inner wanted is = absurd (cc wanted)
+    wanted-inner (call.DetachResource h) inner wanted is = absurd (cc wanted)
+    wanted-inner (call.RemoveResource h) inner wanted is = absurd (cc wanted)
+    wanted-inner (call.AddResource h kind id name) inner wanted is = absurd (cc wanted)
+    wanted-inner (call.CloseResFile named) inner wanted is = absurd (cc wanted)
+    wanted-inner rc' inner wanted is = (p, r, wanted, stands, is)
+
     gets-done : (device : Device) (asks : List Ask) (end : ResourceEnd) (MayLeave : LeaveRelation) (o : Option MemoryCall) → old.shape ≡ s → placing old.heap.table (loads_bytes old rc) r ≡ o → GetsRow Memory MayLeave device old rc asks end p r o → MadeOf s (IsActOf old rc) old.heap end.state.heap
     gets-done device asks end MayLeave None shape is gets = none-done s (IsActOf old rc) old.heap end.state.heap (ap (λ (e : ResourceEnd). e.state.heap) gets.1)
     gets-done device asks end MayLeave (Some inner) shape is gets =
         let step : Memory s old.heap inner asks gets.0 gets.1 = subst (λ s. Memory s old.heap inner asks gets.0 gets.1) shape gets.2 in
         let rest = placed-done device (loads_bytes old rc) inner asks gets.0 gets.1 is step in
         subst (λ (e : ResourceEnd). MadeOf s (IsActOf old rc) old.heap e.state.heap) (sym gets.3)
-        (one-first s (IsActOf old rc) (Calls inner asks gets.0) old.heap gets.1 (placed_end device (loads_bytes old rc) rc p r gets.0 (behind_memory asks gets.1 old)).state.heap (step.1, refl) tt rest)
+        (one-first s (IsActOf old rc) (Calls inner asks gets.0) old.heap gets.1 (placed_end device (loads_bytes old rc) rc p r gets.0 (behind_memory asks gets.1 old)).state.heap (step.1, refl) (wanted-inner rc inner wanted is) rest)
 
   -- ---- all work
 
@@ -233,11 +249,13 @@ module _ (loans : Loans) where
     same-done new same = none-done old.shape (IsActOf old rc) old.heap new same
 
     -- the heap behind an update that succeeded
-    update-done : (rc' : ResourceCall) (k : ℕ) (state : ResState) → state.shape ≡ old.shape → state.heap ≡ old.heap → Made (behind_update rc' k state).heap
+    update-done : (rc' : ResourceCall) (k : ℕ) (state : ResState) → state.shape ≡ old.shape → state.heap ≡ old.heap → MadeOf old.shape (IsActOf old rc') old.heap (behind_update rc' k state).heap
     update-done (call.CloseResFile named) k state shape heap =
         let hs = handles_of (rows_of k state.files) in
-        subst (λ heap. MadeOf old.shape (IsActOf old rc) old.heap (disposed state.shape hs heap)) (sym heap) (subst (λ s. MadeOf old.shape (IsActOf old rc) old.heap (disposed s hs old.heap)) (sym shape) (disposed-done old.shape old rc hs old.heap))
-    update-done rc' k state shape heap = same-done state.heap heap
+        let May = IsActOf old (call.CloseResFile named) in
+        subst (λ heap. MadeOf old.shape May old.heap (disposed state.shape hs heap)) (sym heap)
+        (subst (λ s. MadeOf old.shape May old.heap (disposed s hs old.heap)) (sym shape) (disposed-done old.shape old (call.CloseResFile named) hs old.heap (closed-inner old named hs)))
+    update-done rc' k state shape heap = none-done old.shape (IsActOf old rc') old.heap state.heap heap
 
     updates-done : (device : Device) (u : Update) → Made (update_end device rc u old).state.heap
     updates-done DeviceWorks u = update-done rc u.file (with_disk u.file (written (saved_table u.table)) (with_files (rows_changed u.file (λ _. u.table.rows) old.files) old)) refl refl
@@ -248,15 +266,17 @@ module _ (loans : Loans) where
     opened-done k (Ok table) = same-done old.heap refl
     opened-done k (Err code) = same-done old.heap refl
 
-    quiet-done : (rc' : ResourceCall) → Made (quiet_state rc' old).heap
-    quiet-done (call.ReleaseResource h) = elim (row_passes is_changed h old.files) as (λ b. Made (cond b old (with_heap (disposed old.shape (h ∷ []) old.heap) (with_files (handle_forgotten h old.files) old))).heap) [
-      | true ↦ same-done old.heap refl
-      | false ↦ disposed-done old.shape old rc (h ∷ []) old.heap
-    ]
-    quiet-done (call.DetachResource h) = once-done old.shape old rc (memory_call.HClrRBit h) old.heap refl
-    quiet-done (call.RemoveResource h) = once-done old.shape old rc (memory_call.HClrRBit h) old.heap refl
-    quiet-done (call.AddResource h kind id name) = once-done old.shape old rc (memory_call.HSetRBit h) old.heap refl
-    quiet-done rc' = same-done old.heap refl
+    quiet-done : (rc' : ResourceCall) → MadeOf old.shape (IsActOf old rc') old.heap (quiet_state rc' old).heap
+    quiet-done (call.ReleaseResource h) =
+        let May = IsActOf old (call.ReleaseResource h) in
+        elim (row_passes is_changed h old.files) as (λ b. MadeOf old.shape May old.heap (cond b old (with_heap (disposed old.shape (h ∷ []) old.heap) (with_files (handle_forgotten h old.files) old))).heap) [
+          | true ↦ none-done old.shape May old.heap old.heap refl
+          | false ↦ disposed-done old.shape old (call.ReleaseResource h) (h ∷ []) old.heap (refl, tt)
+        ]
+    quiet-done (call.DetachResource h) = once-done old.shape old (call.DetachResource h) (memory_call.HClrRBit h) old.heap refl refl
+    quiet-done (call.RemoveResource h) = once-done old.shape old (call.RemoveResource h) (memory_call.HClrRBit h) old.heap refl refl
+    quiet-done (call.AddResource h kind id name) = once-done old.shape old (call.AddResource h kind id name) (memory_call.HSetRBit h) old.heap refl refl
+    quiet-done rc' = none-done old.shape (IsActOf old rc') old.heap old.heap refl
 
     -- the row that is gotten is the one that is wanted
     gets-wanted : (rc' : ResourceCall) (p : RowPlace) → work_of old rc' ≡ Gets p → row_wanted old rc' ≡ Some p

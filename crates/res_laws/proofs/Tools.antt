@@ -1,6 +1,5 @@
 -- What is promised of runs of calls of both managers and on lent blocks.
 use Rattle.std.proofs.Common.{◌≡◌, List, [], ◌∷◌, ◌++◌, refl, ap, sym, subst, ◌∙◌}
-use Rattle.std.proofs.lemmas.List.Elements.{All-cons, All-nil}
 use Rattle.mac_base.specs.HeadKind.{Shape}
 use Rattle.mac_base.specs.Heap.{Heap}
 use Rattle.mac_base.specs.ZoneSizes.{shape_of}
@@ -19,7 +18,7 @@ use Rattle.heap_laws.proofs.Headline.{promised}
 use Rattle.heap_laws.proofs.Loaned.{LoansHeld}
 use Rattle.heap_laws.proofs.Standing.{Standing, run-first, run-later, stand-new, stand-run}
 use Rattle.res_laws.specs.Acts.{Anything}
-use Rattle.res_laws.specs.Tools.{AreMadeOf, Called, IsActOfCall, IsMadeOf, IsToolRun, ToolDoes, Tools, ToolsShow, UpdateReadsBack, all_acts, moment_of, tools_after}
+use Rattle.res_laws.specs.Tools.{AreActsOf, AreMadeOf, Called, IsMadeOf, IsToolRun, ToolDoes, Tools, ToolsShow, UpdateReadsBack, all_acts, moment_of, tools_after}
 use Rattle.res_laws.proofs.Acts.{made-of-acts}
 use Rattle.res_laws.proofs.Forks.{run-reads}
 
@@ -35,17 +34,16 @@ none-changed old new resources loans = ap (λ (st : ResState). moment st.heap ol
 called : Call → List Ask → Outcome → Tools → Called
 called call asks outcome new = record { call = call; asks = asks; outcome = outcome; tools = new }
 
--- an act of its own
-one-act : (old : Tools) (call : Call) (asks : List Ask) (outcome : Outcome) (new : Tools) (act : Act) → Does old.resources.shape act (moment_of old) (moment_of new) → IsActOfCall old call asks outcome act → (acts : List Done) × IsMadeOf old (called call asks outcome new) acts
+-- a call that is one act
+one-act : (old : Tools) (call : Call) (asks : List Ask) (outcome : Outcome) (new : Tools) (act : Act) → Does old.resources.shape act (moment_of old) (moment_of new) → AreActsOf old call asks outcome (act ∷ [])
+    → (acts : List Done) × IsMadeOf old (called call asks outcome new) acts
 unfolding called
-one-act old call asks outcome new act does own = (
-  record { act = act; left = moment_of new } ∷ [],
-  record { run = (does, tt); ends = refl; own = All-cons (λ done. IsActOfCall old call asks outcome done.act) (record { act = act; left = moment_of new }) [] own (All-nil (λ done. IsActOfCall old call asks outcome done.act)) },
-)
+one-act old call asks outcome new act does own = (record { act = act; left = moment_of new } ∷ [], record { run = (does, tt); ends = refl; own = own })
 
-no-act : (old : Tools) (call : Call) (asks : List Ask) (outcome : Outcome) (new : Tools) → new.resources ≡ old.resources → new.loans ≡ old.loans → (acts : List Done) × IsMadeOf old (called call asks outcome new) acts
+no-act : (old : Tools) (call : Call) (asks : List Ask) (outcome : Outcome) (new : Tools) → new.resources ≡ old.resources → new.loans ≡ old.loans → AreActsOf old call asks outcome []
+    → (acts : List Done) × IsMadeOf old (called call asks outcome new) acts
 unfolding called
-no-act old call asks outcome new resources loans = ([], record { run = tt; ends = none-changed old new resources loans; own = All-nil (λ done. IsActOfCall old call asks outcome done.act) })
+no-act old call asks outcome new resources loans own = ([], record { run = tt; ends = none-changed old new resources loans; own = own })
 
 -- a call that was made is made of acts of its own
 call-acts : (old : Tools) (call : Call) (asks : List Ask) (outcome : Outcome) (new : Tools) → LoansHeld (moment_of old) → ToolDoes old call asks outcome new → (acts : List Done) × IsMadeOf old (called call asks outcome new) acts
@@ -55,8 +53,8 @@ call-acts old (Loan call) asks outcome new held does = one-act old (Loan call) a
 call-acts old (Resource rc) asks outcome new held does =
     let made = made-of-acts old.loans Anything does.0 old.resources rc asks (record { outcome = outcome; state = new.resources }) held.fixed does.1 in
     (made.run, record { run = made.is; ends = made.ends ∙ ap (moment new.resources.heap) (sym does.2); own = made.acts })
-call-acts old MemError asks outcome new held does = no-act old MemError asks outcome new does.0 does.1
-call-acts old ResError asks outcome new held does = no-act old ResError asks outcome new does.0 does.1
+call-acts old MemError asks outcome new held does = no-act old MemError asks outcome new does.0 does.1 refl
+call-acts old ResError asks outcome new held does = no-act old ResError asks outcome new does.0 does.1 refl
 
 shape-kept : (old : Tools) (call : Call) (asks : List Ask) (outcome : Outcome) (new : Tools) → ToolDoes old call asks outcome new → new.resources.shape ≡ old.resources.shape
 shape-kept old (MemoryCalls call) asks outcome new does = ap (λ (st : ResState). st.shape) does.2

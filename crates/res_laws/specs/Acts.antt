@@ -1,18 +1,32 @@
 -- What a call of the Resource Manager does to the zone, as acts.
-use Rattle.std.specs.Prelude.{◌≡◌, Some, ⊤}
+use Rattle.std.specs.Prelude.{◌≡◌, ℕ, Some, ⊤}
+use Rattle.mac_calls.specs.declared.memory_call.MemoryCall.{MemoryCall}
+use Rattle.mac_calls.specs.declared.memory_call.MemoryCall.TheVariants as memory_call
 use Rattle.mac_calls.specs.declared.resource_call.ResourceCall.{ResourceCall}
+use Rattle.mac_calls.specs.declared.resource_call.ResourceCall.TheVariants as call
 use Rattle.res_table.specs.OpenFiles.{row_at}
 use Rattle.res_table.specs.declared.chain.RowPlace.{RowPlace}
 use Rattle.res_calls.specs.Changes.{FileRow}
 use Rattle.res_calls.specs.Files.{ResState}
-use Rattle.res_calls.specs.Loads.{loaded_flags, row_wanted}
+use Rattle.res_calls.specs.Loads.{loaded_flags, loads_bytes, placing, row_wanted}
 use Rattle.res_calls.specs.Steps.{LeaveRelation}
 use Rattle.heap_laws.specs.Act.{Act, Calls, Loads, OnLoan, Unloads}
+
+-- The call of the Memory Manager that a call of the Resource Manager makes: for a handle that it lets go of or takes up, for those of a
+-- file's rows, or for the place of the row that it gets.
+abbrev pub IsInner : ResState → ResourceCall → MemoryCall → Type 0
+IsInner old (call.ReleaseResource h) inner = inner ≡ memory_call.DisposeHandle h
+IsInner old (call.DetachResource h) inner = inner ≡ memory_call.HClrRBit h
+IsInner old (call.RemoveResource h) inner = inner ≡ memory_call.HClrRBit h
+IsInner old (call.AddResource h kind id name) inner = inner ≡ memory_call.HSetRBit h
+IsInner old (call.CloseResFile named) inner = (h : ℕ) × (inner ≡ memory_call.DisposeHandle h)
+IsInner old call inner = (p : RowPlace) × (r : FileRow) × (row_wanted old call ≡ Some p) × (row_at p old.files ≡ Some r)
+    × (placing old.heap.table (loads_bytes old call) r ≡ Some inner)
 
 -- What a call may do to the zone: it calls the Memory Manager, puts the bytes of the row that it gets into a handle's block, with the
 -- row's flags, or releases a block into which they can't be read.
 abbrev pub IsActOf : ResState → ResourceCall → Act → Type 0
-IsActOf old call (Calls inner asks outcome) = ⊤
+IsActOf old call (Calls inner asks outcome) = IsInner old call inner
 IsActOf old call (OnLoan inner outcome) = ⊥
 IsActOf old call (Loads h flags bytes) = (p : RowPlace) × (r : FileRow) × (row_wanted old call ≡ Some p) × (row_at p old.files ≡ Some r) × (flags ≡ loaded_flags r) × (bytes ≡ r.resource.datum)
 IsActOf old call (Unloads released) = ⊤

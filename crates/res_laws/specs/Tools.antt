@@ -1,5 +1,5 @@
 -- Runs of calls of the Memory Manager, of the Resource Manager and on loans.
-use Rattle.std.specs.Prelude.{◌≡◌, ℕ, All, List, [], ◌∷◌, ◌++◌, flat_map, ⊤}
+use Rattle.std.specs.Prelude.{◌≡◌, ℕ, All, List, [], ◌∷◌, ◌++◌, flat_map, map, ⊤}
 use Rattle.mac_base.specs.Heap.{Heap}
 use Rattle.mac_base.specs.ZoneSizes.{ArePossible, ZoneSizes, shape_of}
 use Rattle.mac_calls.specs.declared.call.Call.{Call}
@@ -67,18 +67,22 @@ abbrev pub UpdateReadsBack : Tools → Call → Outcome → Tools → Type 0
 UpdateReadsBack old (Resource call) outcome new = ReadsBack old.resources call outcome new.resources
 UpdateReadsBack old _ outcome new = ⊤
 
--- the act is one of this call: itself, where it is one of the Memory Manager or on a lent block
-abbrev pub IsActOfCall : Tools → Call → List Ask → Outcome → Act → Type 0
-IsActOfCall old (MemoryCalls call) asks outcome act = act ≡ Calls call asks outcome
-IsActOfCall old (Loan call) asks outcome act = act ≡ OnLoan call outcome
-IsActOfCall old (Resource call) asks outcome act = IsActOf old.resources call act
-IsActOfCall old _ asks outcome act = ⊥
+-- These acts are the call's own: one of the Memory Manager, or on a lent block, is one act, and MemError and ResError are none.
+abbrev pub AreActsOf : Tools → Call → List Ask → Outcome → List Act → Type 0
+AreActsOf old (MemoryCalls call) asks outcome acts = acts ≡ Calls call asks outcome ∷ []
+AreActsOf old (Loan call) asks outcome acts = acts ≡ OnLoan call outcome ∷ []
+AreActsOf old (Resource call) asks outcome acts = All (IsActOf old.resources call) acts
+AreActsOf old _ asks outcome acts = acts ≡ []
+
+-- the act that was done
+abbrev pub act_of : Done → Act
+act_of done = done.act
 
 -- the call takes the zone from its old moment to its new one by these acts of its own
 pub record IsMadeOf (old : Tools) (called : Called) (acts : List Done) : Type 0 where
   pub run : IsRun old.resources.shape (moment_of old) acts
   pub ends : moment_after (moment_of old) acts ≡ moment_of called.tools
-  pub own : All (λ done. IsActOfCall old called.call called.asks called.outcome done.act) acts
+  pub own : AreActsOf old called.call called.asks called.outcome (map act_of acts)
 
 -- each of these calls is made of the acts beside it
 abbrev pub AreMadeOf : Tools → List Called → List (List Done) → Type 0
