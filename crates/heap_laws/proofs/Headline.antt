@@ -2,7 +2,7 @@
 use Rattle.std.proofs.Common.{◌≡◌, ℕ, Bool, true, false, eqb, List, [], ◌∷◌, ◌++◌, Option, Some, None, refl, ap, sym, subst, ◌∙◌, inl, inr}
 use Rattle.std.proofs.lemmas.Bool.{true≢false}
 use Rattle.mac_base.specs.declared.error.OsErr.{OsErr}
-use Rattle.mac_base.specs.HandleTable.{EmptyHandle, FullHandle, bytes_of, has_block, is_handle, is_locked, live_handle}
+use Rattle.mac_base.specs.HandleTable.{EmptyHandle, FullHandle, bytes_of, has_block, is_handle, is_lent, is_locked, live_handle}
 use Rattle.mac_base.specs.HeadKind.{Shape}
 use Rattle.mac_base.specs.Heap.{Heap}
 use Rattle.mac_base.specs.Releasing.{heap_released, operand_of}
@@ -18,12 +18,12 @@ use Rattle.mac_base.specs.declared.releasing.ReleasingCall.TheVariants.{Disposes
 use Rattle.mac_calls.specs.Released.{disposed_by}
 use Rattle.zone_laws.proofs.Tables.{eqb-true-is, handle_no_pointer}
 use Rattle.gap_laws.proofs.KeepsLoans.{contents-pointer}
-use Rattle.heap_laws.specs.Act.{Act, Calls, Does, Done, HasOperand, IsRun, Loads, Moment, OnLoan, Unloads, moment_after, new_zone}
-use Rattle.heap_laws.specs.Headline.{ActMayDispose, ActMayLose, ActTells, ByOne, FullWhereItMay, Headline, IsLockedThroughout, KeepsAddress, OfNext, Promised}
+use Rattle.heap_laws.specs.Act.{Act, Calls, Does, Done, HasOperand, AreDone, Loads, Moment, OnLoan, Unloads, moment_after, new_zone}
+use Rattle.heap_laws.specs.Headline.{ActMayDispose, ActMayLose, ActTells, AllPromised, ByOne, FullWhereItMay, IsLockedThroughout, KeepsAddress, OfNext, Promised}
 use Rattle.heap_laws.specs.LastPut.{LastPut, put_by_act, put_in}
 use Rattle.heap_laws.specs.LastSet.{LastSet, set_by_act, set_in}
 use Rattle.heap_laws.proofs.Full.{step-full}
-use Rattle.heap_laws.proofs.Lent.{comes-back}
+use Rattle.heap_laws.proofs.Lent.{comes-back, lent-since}
 use Rattle.heap_laws.proofs.Loaned.{act-tells, loan-map}
 use Rattle.gap_laws.proofs.Stays.{Stay, stay-released}
 use Rattle.call_laws.proofs.Locked.{stand-contents, step-locked}
@@ -98,11 +98,11 @@ act-full s (Unloads call) old new sound does = tt
 -- ---- runs
 
 module _ (s : Shape) where
-  tells-next : (from : Moment) (acts : List Done) (put : LastPut) (set : LastSet) → Standing s from put set → IsRun s from acts → OfNext acts (λ done. ActTells s from done.act put set)
+  tells-next : (from : Moment) (acts : List Done) (put : LastPut) (set : LastSet) → Standing s from put set → AreDone s from acts → OfNext acts (λ done. ActTells s from done.act put set)
   tells-next from [] put set stands is = tt
   tells-next from (d ∷ later) put set stands is = act-tells s from d.left put stands.sound stands.held stands.shows set stands.flags d.act is.0
 
-  full-next : (from : Moment) (acts : List Done) → Sound s from.heap → IsRun s from acts → OfNext acts (λ done. FullWhereItMay s from.heap done.act done.left.heap)
+  full-next : (from : Moment) (acts : List Done) → Sound s from.heap → AreDone s from acts → OfNext acts (λ done. FullWhereItMay s from.heap done.act done.left.heap)
   full-next from [] sound is = tt
   full-next from (d ∷ later) sound is = act-full s d.act from d.left sound is.0
 
@@ -111,7 +111,7 @@ module _ (s : Shape) where
   locked-first h from [] locked = locked
   locked-first h from (d ∷ later) locked = locked.0
 
-  locked-run : (h : ℕ) (from : Moment) (acts : List Done) (put : LastPut) (set : LastSet) → Standing s from put set → IsRun s from acts → IsLockedThroughout h from acts → KeepsAddress s h from (moment_after from acts)
+  locked-run : (h : ℕ) (from : Moment) (acts : List Done) (put : LastPut) (set : LastSet) → Standing s from put set → AreDone s from acts → IsLockedThroughout h from acts → KeepsAddress s h from (moment_after from acts)
   locked-run h from [] put set stands is locked = refl
   locked-run h from (d ∷ later) put set stands is locked =
       let next = stand-act s d.act from d.left put set stands is.0 in
@@ -120,7 +120,7 @@ module _ (s : Shape) where
 
   -- what holds of x at a moment, and no more at a later one, was ended by one of the acts between
   ended-run : (holds : Moment → Bool) (Said : Moment → Act → Type 0) → ((old new : Moment) (act : Act) → Sound s old.heap → Does s act old new → holds old ≡ true → holds new ≡ false → Said old act)
-      → (from : Moment) (acts : List Done) (put : LastPut) (set : LastSet) → Standing s from put set → IsRun s from acts → holds from ≡ true → holds (moment_after from acts) ≡ false → ByOne Said from acts
+      → (from : Moment) (acts : List Done) (put : LastPut) (set : LastSet) → Standing s from put set → AreDone s from acts → holds from ≡ true → holds (moment_after from acts) ≡ false → ByOne Said from acts
   ended-run holds Said ends from [] put set stands is was gone = true≢false (sym was ∙ gone)
   ended-run holds Said ends from (d ∷ later) put set stands is was gone =
       by_next (holds d.left) refl (λ next. ended-run holds Said ends d.left later (put_by_act d.act put) (set_by_act d.act set) (stand-act s d.act from d.left put set stands is.0) is.1 next gone)
@@ -135,7 +135,7 @@ module _ (s : Shape) where
   last-left from (d ∷ later) back = last-left d.left later back
 
   -- so all is promised of a run from a moment of which this is known
-  pub promised : (from : Moment) (acts : List Done) (put : LastPut) (set : LastSet) → Standing s from put set → IsRun s from acts → Promised s from acts put set
+  pub promised : (from : Moment) (acts : List Done) (put : LastPut) (set : LastSet) → Standing s from put set → AreDone s from acts → Promised s from acts put set
   promised from acts put set stands is =
       let to = stand-run s from acts put set stands is in
       let sound = to.sound in
@@ -148,8 +148,14 @@ module _ (s : Shape) where
         emptied = λ x. ended-run (λ at. has_block at.heap.table x) (λ at act. ActMayLose s at.heap act x) (λ old new act sound does. act-loses s act old new x sound does) from acts put set stands is;
         handles = λ h. ended-run (λ at. is_handle at.heap.table h) (λ at act. ActMayDispose act h) (λ old new act sound does. act-disposes s act old new h sound does) from acts put set stands is;
         full = full-next from acts stands.sound is;
-        lent = λ x lend back between run lends not_returned returns.
-            (let back_then = comes-back s x from lend back between put set stands (subst (IsRun s from) run is) lends not_returned returns in
+        lent = λ x lend between run lends not_returned.
+            (let held = lent-since s x from lend between put set stands (subst (AreDone s from) run is) lends not_returned in
+            let same = ap (moment_after from) run in (
+              ap (λ (at : Moment). is_lent at.heap.table x) same ∙ held.0,
+              ap (λ (at : Moment). contents_of s x at.heap.map) same ∙ held.2,
+            ));
+        returned = λ x lend back between run lends not_returned returns.
+            (let back_then = comes-back s x from lend back between put set stands (subst (AreDone s from) run is) lends not_returned returns in
             let last = ap (moment_after from) run ∙ last-left lend.left between back in (
               ap (λ (at : Moment). contents_of s x at.heap.map) last ∙ back_then.0,
               ap (λ (at : Moment). bytes_of at.heap.table x) last ∙ back_then.1,
@@ -157,7 +163,7 @@ module _ (s : Shape) where
       }
 
 -- so it is promised of every run from a new zone on
-pub headline : Headline
+pub headline : AllPromised
 headline z first acts put set possible is =
     let s = shape_of z in
     promised s (moment_after (new_zone z) first) acts (put_in first put) (set_in first set)

@@ -22,7 +22,7 @@ use Rattle.zone_laws.proofs.LentChanges.{keeps-released}
 use Rattle.zone_laws.proofs.Tables.{eqb-true-is, eqb_same, eqb_swap, live_at-with_live_same}
 use Rattle.call_laws.proofs.Refusals.{passed-NotLent, test_3}
 use Rattle.call_laws.proofs.LentSteps.{lent-exact_step}
-use Rattle.heap_laws.specs.Act.{Act, Calls, Does, Done, IsRun, Loads, Moment, OnLoan, Unloads, moment_after}
+use Rattle.heap_laws.specs.Act.{Act, Calls, Does, Done, AreDone, Loads, Moment, OnLoan, Unloads, moment_after}
 use Rattle.heap_laws.specs.Headline.{KeepsAddress, NotReturned, left_by_holder, written_by_holder}
 use Rattle.heap_laws.specs.LastPut.{LastPut, put_by_act}
 use Rattle.heap_laws.specs.LastSet.{LastSet, set_by_act}
@@ -31,7 +31,7 @@ use Rattle.heap_laws.proofs.LoanLists.{held-before, held-last, held-with_other, 
 use Rattle.heap_laws.proofs.Loaned.{LoansHeld, loan-map}
 use Rattle.heap_laws.proofs.Losing.{written-keeps}
 use Rattle.heap_laws.proofs.Shown.{refilled-holds}
-use Rattle.heap_laws.proofs.Standing.{Standing, stand-act}
+use Rattle.heap_laws.proofs.Standing.{Standing, run-first, run-later, stand-act}
 
 module _ (s : Shape) (x : ℕ) where
   -- x stays lent in an act, and its holder has what it made of its bytes
@@ -105,23 +105,19 @@ module _ (s : Shape) (x : ℕ) where
     pub address : KeepsAddress s x from to
     pub bytes : held_bytes x to.loans ≡ left_by_holder x between (held_bytes x from.loans)
 
-  -- its holder has what it made of its bytes, until it is returned
-  held-until : (back : Done) (from : Moment) (between : List Done) (put : LastPut) (set : LastSet) → Standing s from put set → IsRun s from (between ++ back ∷ []) → is_lent from.heap.table x ≡ true → NotReturned x between
-      → Held from (moment_after from between) between × Does s back.act (moment_after from between) back.left
-  held-until back from [] put set stands is lent not_returned = (record { lent = lent; loans = stands.held; address = refl; bytes = refl }, is.0)
-  held-until back from (d ∷ later) put set stands is lent not_returned =
+  -- its holder has what it made of its bytes, as long as it isn't returned
+  held-run : (from : Moment) (between : List Done) (put : LastPut) (set : LastSet) → Standing s from put set → AreDone s from between → is_lent from.heap.table x ≡ true → NotReturned x between → Held from (moment_after from between) between
+  held-run from [] put set stands is lent not_returned = record { lent = lent; loans = stands.held; address = refl; bytes = refl }
+  held-run from (d ∷ later) put set stands is lent not_returned =
       let next = stand-act s d.act from d.left put set stands is.0 in
       let one = act-stays from d.left stands.held next.held lent d.act stands.sound is.0 not_returned.0 in
-      let rest = held-until back d.left later (put_by_act d.act put) (set_by_act d.act set) next is.1 one.lent not_returned.1 in
-      let others = rest.0 in (
-        record {
-          lent = others.lent;
-          loans = others.loans;
-          address = others.address ∙ one.address;
-          bytes = others.bytes ∙ ap (left_by_holder x later) one.bytes;
-        },
-        rest.1,
-      )
+      let others = held-run d.left later (put_by_act d.act put) (set_by_act d.act set) next is.1 one.lent not_returned.1 in
+      record {
+        lent = others.lent;
+        loans = others.loans;
+        address = others.address ∙ one.address;
+        bytes = others.bytes ∙ ap (left_by_holder x later) one.bytes;
+      }
 
   -- the block is lent, with its bytes
   record LentNow (from to : Moment) : Type 0 where
@@ -151,20 +147,28 @@ module _ (s : Shape) (x : ℕ) where
       ap (λ (heap : Heap). bytes_of heap.table x) step.2 ∙ ap live_bytes has
       ∙ refilled-holds (held_bytes x from.loans) (live_at from.heap.table x) (sym (ap block_live has) ∙ written-keeps x (held_bytes x from.loans) from.heap.table x block)
 
-  -- from Lend to Return
-  pub comes-back : (from : Moment) (lend back : Done) (between : List Done) (put : LastPut) (set : LastSet) → Standing s from put set → IsRun s from (lend ∷ between ++ back ∷ [])
-      → (let lends : Act = OnLoan (loan_call.Lend x) (Ok Nothing) in lend.act ≡ lends) → NotReturned x between → (let returns : Act = OnLoan (loan_call.Return x) (Ok Nothing) in back.act ≡ returns)
-      → KeepsAddress s x from back.left × (bytes_of back.left.heap.table x ≡ left_by_holder x between (bytes_of from.heap.table x))
-  comes-back from lend back between put set stands is lends not_returned returns =
+  -- from Lend on
+  pub lent-since : (from : Moment) (lend : Done) (between : List Done) (put : LastPut) (set : LastSet) → Standing s from put set → AreDone s from (lend ∷ between)
+      → (let lends : Act = OnLoan (loan_call.Lend x) (Ok Nothing) in lend.act ≡ lends) → NotReturned x between
+      → let at = moment_after lend.left between in (is_lent at.heap.table x ≡ true) × LoansHeld at × KeepsAddress s x from at × (held_bytes x at.loans ≡ left_by_holder x between (bytes_of from.heap.table x))
+  lent-since from lend between put set stands is lends not_returned =
       let next = stand-act s lend.act from lend.left put set stands is.0 in
       let lending = subst (λ act. Does s act from lend.left) lends is.0 in
       let map = loan-map s from lend.left (loan_call.Lend x) (Ok Nothing) (loan_refusal s from.heap (loan_call.Lend x)) lending in
       let first = lend-unless from lend.left (loan_refusal s from.heap (loan_call.Lend x)) stands.held next.held map refl lending in
-      let until = held-until back lend.left between (put_by_act lend.act put) (set_by_act lend.act set) next is.1 first.lent not_returned in
+      let held = held-run lend.left between (put_by_act lend.act put) (set_by_act lend.act set) next is.1 first.lent not_returned in
+      (held.lent, held.loans, held.address ∙ first.address, held.bytes ∙ ap (left_by_holder x between) first.bytes)
+
+  -- to Return
+  pub comes-back : (from : Moment) (lend back : Done) (between : List Done) (put : LastPut) (set : LastSet) → Standing s from put set → AreDone s from (lend ∷ between ++ back ∷ [])
+      → (let lends : Act = OnLoan (loan_call.Lend x) (Ok Nothing) in lend.act ≡ lends) → NotReturned x between → (let returns : Act = OnLoan (loan_call.Return x) (Ok Nothing) in back.act ≡ returns)
+      → KeepsAddress s x from back.left × (bytes_of back.left.heap.table x ≡ left_by_holder x between (bytes_of from.heap.table x))
+  comes-back from lend back between put set stands is lends not_returned returns =
+      let held = lent-since from lend between put set stands (is.0, run-first s lend.left between (back ∷ []) is.1) lends not_returned in
       let at = moment_after lend.left between in
-      let held = until.0 in
-      let loans = held.loans in
-      let returning = subst (λ act. Does s act at back.left) returns until.1 in (
-        ap (contents_of s x) (loan-map s at back.left (loan_call.Return x) (Ok Nothing) (loan_refusal s at.heap (loan_call.Return x)) returning) ∙ held.address ∙ first.address,
-        return-unless at back.left (loan_refusal s at.heap (loan_call.Return x)) (lent-block at.heap x loans.fixed held.lent) returning ∙ held.bytes ∙ ap (left_by_holder x between) first.bytes,
+      let loans = held.1 in
+      let last = run-later s lend.left between (back ∷ []) is.1 in
+      let returning = subst (λ act. Does s act at back.left) returns last.0 in (
+        ap (contents_of s x) (loan-map s at back.left (loan_call.Return x) (Ok Nothing) (loan_refusal s at.heap (loan_call.Return x)) returning) ∙ held.2,
+        return-unless at back.left (loan_refusal s at.heap (loan_call.Return x)) (lent-block at.heap x loans.fixed held.0) returning ∙ held.3,
       )

@@ -5,7 +5,7 @@ use Rattle.std.specs.List.{list_any}
 use Rattle.std.proofs.lemmas.Bool.{true≢false}
 use Rattle.mac_base.specs.declared.error.OsErr.{OsErr}
 use Rattle.mac_base.specs.declared.error.OsErr.TheVariants.{MemPurErr, ParamErr}
-use Rattle.mac_base.specs.HandleTable.{HandleTable, FullHandle, bytes_of, has_block, is_lent, is_locked, is_pointer, live_at, live_bytes, refilled, resized, with_live, zeros}
+use Rattle.mac_base.specs.HandleTable.{FullHandle, bytes_of, has_block, is_lent, is_locked, is_pointer, live_at, live_bytes, refilled, resized, with_live, zeros}
 use Rattle.mac_base.specs.HeadKind.{Shape}
 use Rattle.mac_base.specs.Heap.{Heap, with_table}
 use Rattle.mac_base.specs.Loans.{LoansAreFixed, lent_out, may_be_lent, most_loans, owners, returned}

@@ -74,8 +74,7 @@ PurgesFor s old memory_call.MaxMem asks x = ⊤
 PurgesFor s old (memory_call.PurgeMem n) asks x = IsFalse (nat_le n (largest_free old.map))
 PurgesFor s old call asks x = (r : Request) × CameShort s old call asks x r
 
--- Why x has no block any more: the call or an answer disposed of it or emptied it, or it was purged. Then it was an unlocked purgeable
--- handle and no operand, and there was need; and now it is empty, since a handle that nobody disposed of stays one (`handles` of `Promised`).
+-- Why x lost its block: it was released by the call or an answer, or it was purged: unlocked, purgeable, no operand, and at need.
 abbrev pub MayLose : Shape → Heap → MemoryCall → List Ask → Outcome → ℕ → Type 0
 MayLose s old call asks outcome x = (released_itself call outcome ≡ Some x) ⊎ (Contains (released_in asks) x
     ⊎ (IsTrue (is_purgeable old.table x) × IsFalse (is_among (protected_by call) x) × PurgesFor s old call asks x))

@@ -45,7 +45,7 @@ use Rattle.res_calls.specs.Steps.{GetsPlace, GetsRow, LeaveRelation, LeavesDisk,
 use Rattle.res_calls.specs.Tests.{resource_refusal}
 use Rattle.res_calls.specs.Updates.{Update, behind_update, disposed, file_update, handles_of, row_passes, row_update, update_end}
 use Rattle.zone_laws.proofs.Tables.{live_at-with_live_same}
-use Rattle.heap_laws.specs.Act.{Act, Calls, Does, Done, IsRun, Loads, Moment, Unloads, moment_after}
+use Rattle.heap_laws.specs.Act.{Act, Calls, Does, Done, AreDone, Loads, Moment, Unloads, moment_after}
 use Rattle.heap_laws.proofs.Fewer.{Ended, quiet, refused, served, step-ended, unserved}
 use Rattle.res_laws.specs.Acts.{Anything, IsActOf, IsInner}
 use Rattle.res_laws.specs.Tools.{act_of}
@@ -58,7 +58,7 @@ module _ (loans : Loans) where
   -- a run of such acts takes one heap to the other, and leaves the loans
   pub record MadeOf (s : Shape) (May : Act → Type 0) (old new : Heap) : Type 0 where
     pub run : List Done
-    pub is : IsRun s (at old) run
+    pub is : AreDone s (at old) run
     pub ends : moment_after (at old) run ≡ at new
     pub acts : All May (map act_of run)
 

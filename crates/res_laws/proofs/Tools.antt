@@ -10,7 +10,7 @@ use Rattle.mac_calls.specs.Loans.{Loans}
 use Rattle.mac_calls.specs.Outcomes.{Outcome}
 use Rattle.res_calls.specs.Files.{ResState}
 use Rattle.mac_base.specs.HandleTable.{no_flags}
-use Rattle.heap_laws.specs.Act.{Act, Calls, Does, Done, IsRun, Moment, OnLoan, moment_after}
+use Rattle.heap_laws.specs.Act.{Act, Calls, Does, Done, AreDone, Moment, OnLoan, moment_after}
 use Rattle.heap_laws.specs.LastPut.{LastPut, put_in}
 use Rattle.heap_laws.specs.LastSet.{LastSet, set_in}
 use Rattle.heap_laws.specs.Headline.{Promised}
@@ -69,7 +69,7 @@ shape-kept old ResError asks outcome new does = ap (λ (st : ResState). st.shape
 record AllMade (old : Tools) (calls : List Called) : Type 0 where
   pub acts : List (List Done)
   pub made : AreMadeOf old calls acts
-  pub run : IsRun old.resources.shape (moment_of old) (all_acts acts)
+  pub run : AreDone old.resources.shape (moment_of old) (all_acts acts)
 
 any-put : LastPut
 any-put x = []
@@ -77,7 +77,7 @@ any-put x = []
 any-set : LastSet
 any-set x = no_flags
 
-run-append : (s : Shape) (from : Moment) (first acts : List Done) → IsRun s from first → IsRun s (moment_after from first) acts → IsRun s from (first ++ acts)
+run-append : (s : Shape) (from : Moment) (first acts : List Done) → AreDone s from first → AreDone s (moment_after from first) acts → AreDone s from (first ++ acts)
 run-append s from [] acts first is = is
 run-append s from (d ∷ later) acts first is = (first.0, run-append s d.left later acts first.1 is)
 
@@ -94,11 +94,11 @@ all-made old (c ∷ later) put set stands is =
     record {
       acts = own.0 ∷ rest.acts;
       made = (made, rest.made);
-      run = run-append s (moment_of old) own.0 (all_acts rest.acts) made.run (subst (λ at. IsRun s at (all_acts rest.acts)) (sym made.ends) (subst (λ s. IsRun s (moment_of c.tools) (all_acts rest.acts)) same rest.run));
+      run = run-append s (moment_of old) own.0 (all_acts rest.acts) made.run (subst (λ at. AreDone s at (all_acts rest.acts)) (sym made.ends) (subst (λ s. AreDone s (moment_of c.tools) (all_acts rest.acts)) same rest.run));
     }
 
 -- what is promised of a part of a run
-part-promised : (s : Shape) (from : Moment) (first part later : List Done) (put : LastPut) (set : LastSet) → Standing s from put set → IsRun s from (first ++ (part ++ later))
+part-promised : (s : Shape) (from : Moment) (first part later : List Done) (put : LastPut) (set : LastSet) → Standing s from put set → AreDone s from (first ++ (part ++ later))
     → Promised s (moment_after from first) part (put_in first put) (set_in first set)
 part-promised s from first part later put set stands is =
     let behind = run-later s from first (part ++ later) is in
@@ -123,7 +123,7 @@ tools-show z start calls possible shape zone none is =
     record {
       acts = all.acts;
       own = all.made;
-      promised = λ first part later put set same. part-promised s (moment_of start) first part later put set (stands put set) (subst (IsRun s (moment_of start)) same all.run);
+      promised = λ first part later put set same. part-promised s (moment_of start) first part later put set (stands put set) (subst (AreDone s (moment_of start)) same all.run);
       forks = λ first later called same. update-reads (tools_after start first) called.call called.asks called.outcome called.tools (call-made start first later called (subst (IsToolRun start) same is));
       rows = λ first later same. run-reads start first later none (subst (IsToolRun start) same is);
     }

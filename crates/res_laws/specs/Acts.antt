@@ -23,8 +23,7 @@ IsInner old (call.CloseResFile named) inner = (h : ℕ) × (inner ≡ memory_cal
 IsInner old call inner = (p : RowPlace) × (r : FileRow) × (row_wanted old call ≡ Some p) × (row_at p old.files ≡ Some r)
     × (placing old.heap.table (loads_bytes old call) r ≡ Some inner)
 
--- What a call may do to the zone: it calls the Memory Manager, puts the bytes of the row that it gets into a handle's block, with the
--- row's flags, or releases a block into which they can't be read.
+-- The acts of a call of the Resource Manager: its calls of the Memory Manager, the load of the row that it gets, or that load undone.
 abbrev pub IsActOf : ResState → ResourceCall → Act → Type 0
 IsActOf old call (Calls inner asks outcome) = IsInner old call inner
 IsActOf old call (OnLoan inner outcome) = ⊥

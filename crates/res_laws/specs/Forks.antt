@@ -15,7 +15,7 @@ use Rattle.res_calls.specs.Files.{ResState, disk_of}
 abbrev pub IsOfRow : FileRow → Resource (List ℕ) → Type 0
 IsOfRow r q = (q.kind ≡ r.resource.kind) × (q.id ≡ r.resource.id) × (q.name ≡ r.resource.name) × (q.datum ≡ r.resource.datum)
 
--- The bytes of a row are those that its file's fork has for its type and ID. A resource that was added and not yet saved has none.
+-- A row has the type, ID, name and bytes of a resource of its file's fork; or it is changed and has no bytes there, as an added one.
 abbrev pub HasBytes : Disk → FileRow → Type 0
 HasBytes fork r = ((r.resource.datum ≡ []) × (is_changed r ≡ true)) ⊎ ((table : Table) × StandsFor fork table × Any (IsOfRow r) table.rows)
 

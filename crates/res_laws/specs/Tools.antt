@@ -16,7 +16,7 @@ use Rattle.res_calls.specs.Files.{ResState, with_files, with_heap}
 use Rattle.res_calls.specs.Steps.{Memory, ReadsBack, ResourceStepBy}
 use Rattle.heap_laws.specs.LastPut.{LastPut, put_in}
 use Rattle.heap_laws.specs.LastSet.{LastSet, set_in}
-use Rattle.heap_laws.specs.Act.{Act, Calls, Done, IsRun, Moment, OnLoan, moment_after, new_zone}
+use Rattle.heap_laws.specs.Act.{Act, Calls, Done, AreDone, Moment, OnLoan, moment_after, new_zone}
 use Rattle.heap_laws.specs.Headline.{Promised}
 use Rattle.res_laws.specs.Acts.{Anything, IsActOf}
 use Rattle.res_laws.specs.Forks.{ReadOffForks}
@@ -34,8 +34,7 @@ moment_of tools = record { heap = tools.resources.heap; loans = tools.loans }
 abbrev pub with_rows_forgotten : List ℕ → Heap → ResState → ResState
 with_rows_forgotten handles heap state = with_heap heap (with_files (handles_forgotten handles state.files) state)
 
--- From the old state, a call with these asks may have this outcome and leave the new state. The device of a resource call may go in any
--- way; a fork that is updated with success reads back as the table that was saved.
+-- What a call may do: the zone and the files step as its definition says; a device may fail in any way; an updated fork reads back.
 abbrev pub ToolDoes : Tools → Call → List Ask → Outcome → Tools → Type 0
 ToolDoes old (MemoryCalls call) asks outcome new = IsExactStep old.resources.shape old.resources.heap call asks outcome new.resources.heap × (new.loans ≡ old.loans)
     × (new.resources ≡ with_rows_forgotten (disposed_of call asks outcome) new.resources.heap old.resources)
@@ -80,7 +79,7 @@ act_of done = done.act
 
 -- the call takes the zone from its old moment to its new one by these acts of its own
 pub record IsMadeOf (old : Tools) (called : Called) (acts : List Done) : Type 0 where
-  pub run : IsRun old.resources.shape (moment_of old) acts
+  pub run : AreDone old.resources.shape (moment_of old) acts
   pub ends : moment_after (moment_of old) acts ≡ moment_of called.tools
   pub own : AreActsOf old called.call called.asks called.outcome (map act_of acts)
 
@@ -104,7 +103,7 @@ pub record Headline (start : Tools) (calls : List Called) : Type 0 where
       → Promised start.resources.shape (moment_after (moment_of start) first) part (put_in first put) (set_in first set)
   -- Every updated fork reads back as the resource table.
   pub forks : (first later : List Called) (called : Called) → calls ≡ first ++ (called ∷ later) → UpdateReadsBack (tools_after start first) called.call called.outcome called.tools
-  -- Each row of an open file has the bytes that its fork has, and so has each block into which it is loaded.
+  -- Each row of an open file has the bytes that its fork has, and a load puts these (`IsActOf`).
   pub rows : (first later : List Called) → calls ≡ first ++ later → ReadOffForks (tools_after start first).resources
 
 -- So it is for each list of calls from a new zone on, whatever stands on the disks, where no file is open.

@@ -1,6 +1,8 @@
 -- What the lines of a script print, told of the calls that were made.
 use Rattle.std.specs.Prelude.{◌≡◌, ℕ, List, [], ◌∷◌, All, Ok, Err, ⊤}
 use Rattle.mac_base.specs.ZoneSizes.{ArePossible, ZoneSizes}
+use Rattle.mac_calls.specs.declared.call.Call.TheVariants.{Resource}
+use Rattle.mac_calls.specs.declared.resource_call.ResourceCall.TheVariants.{OpenResFile}
 use Rattle.mac_calls.specs.GrowZone.{answered}
 use Rattle.fork_disk.specs.declared.store.ForkStore.{Ghosts}
 use Rattle.toolbox.specs.Headline.{tools_of}
@@ -9,26 +11,31 @@ use Rattle.script_lines.specs.declared.line.Statement.{Statement}
 use Rattle.script_lines.specs.declared.line.Statement.TheVariants.{Call as CallStatement, Answer}
 use Rattle.reply_text.specs.Text.{reply_text}
 use Rattle.script_run.specs.declared.machine.Machine.{Machine}
-use Rattle.script_run.specs.Line.{opening_text, start_of}
+use Rattle.script_vars.specs.Taken.{first_number}
+use Rattle.script_vars.specs.Variables.{Variables, call_of}
+use Rattle.script_run.specs.Line.{assigned, opening_text, start_of}
 use Rattle.script_run.specs.Run.{IsRun}
 use Rattle.res_laws.specs.Tools.{Called, Headline, IsToolRun}
 
--- a statement prints the reply of the first of these calls, with the asks that had an answer; an answer is no call, and prints nothing
-abbrev pub PrintsReply : ℕ → Statement → List ℕ → List Called → (List Called → Type 0) → Type 0
-PrintsReply number (CallStatement line) text (called ∷ later) Rest = (text ≡ reply_text number line.call (record { outcome = called.outcome }) (answered called.asks)) × Rest later
-PrintsReply number (CallStatement line) text [] Rest = ⊥
-PrintsReply number (Answer line) text calls Rest = (text ≡ []) × Rest calls
+-- With these variables, a statement makes the first of these calls and prints its reply, with the asks that had an answer; then the rest goes
+-- on with the others, where the reply's first number is assigned. An answer is no call, and prints nothing.
+abbrev pub PrintsReply : Variables → ℕ → Statement → List ℕ → List Called → (Variables → List Called → Type 0) → Type 0
+PrintsReply variables number (CallStatement line) text (called ∷ later) Rest = (called.call ≡ call_of variables line)
+    × (text ≡ reply_text number line.call (record { outcome = called.outcome }) (answered called.asks))
+    × Rest (assigned line.assigned (first_number called.outcome) variables) later
+PrintsReply variables number (CallStatement line) text [] Rest = ⊥
+PrintsReply variables number (Answer line) text calls Rest = (text ≡ []) × Rest variables calls
 
--- these lines print the replies of these calls
-abbrev pub PrintReplies : List Line → List (List ℕ) → List Called → Type 0
-PrintReplies [] [] calls = calls ≡ []
-PrintReplies (line ∷ lines) (text ∷ texts) calls = PrintsReply line.number line.statement text calls (λ rest. PrintReplies lines texts rest)
-PrintReplies [] (text ∷ texts) calls = ⊥
-PrintReplies (line ∷ lines) [] calls = ⊥
+-- these lines make these calls, and print their replies
+abbrev pub PrintReplies : Variables → List Line → List (List ℕ) → List Called → Type 0
+PrintReplies variables [] [] calls = calls ≡ []
+PrintReplies variables (line ∷ lines) (text ∷ texts) calls = PrintsReply variables line.number line.statement text calls (λ now rest. PrintReplies now lines texts rest)
+PrintReplies variables [] (text ∷ texts) calls = ⊥
+PrintReplies variables (line ∷ lines) [] calls = ⊥
 
--- the first text is that of the opening of file 1, and the others are printed by the lines
+-- the first call opens file 1, and the others are made by the lines
 abbrev pub PrintAllReplies : List Line → List (List ℕ) → List Called → Type 0
-PrintAllReplies lines (text ∷ texts) (opening ∷ calls) = (text ≡ opening_text opening.outcome) × PrintReplies lines texts calls
+PrintAllReplies lines (text ∷ texts) (opening ∷ calls) = (opening.call ≡ Resource (OpenResFile 1)) × (text ≡ opening_text opening.outcome) × PrintReplies [] lines texts calls
 PrintAllReplies lines [] calls = ⊥
 PrintAllReplies lines (text ∷ texts) [] = ⊥
 
