@@ -5,3 +5,4 @@ pub mod Opening
 pub mod Starting
 pub mod Shown
 pub mod Agreeing
+pub mod Honest

@@ -45,7 +45,7 @@ opening_updates_none old k = elim (is_open k old.files) as (λ (b : Bool). updat
 -- whatever it gives
 pub opening_keeps_forks : {S : Type 0} (store : Ghosts S) (old new : ToolState S) (k : ℕ) (asks : List Ask) (outcome : Outcome) → Gives store old (Resource (call.OpenResFile k)) asks outcome new → SameForks store old.resources.stores new.resources.stores
 opening_keeps_forks store old new k asks outcome gives = λ honest. (
-  gives.2.0 honest,
+  gives.2 honest,
   (let given = gives.0 honest in opening_keeps_disks MayStep store.may_leave given.0 (resource_state store old) k asks (record { outcome = outcome; state = resource_state store new }) given.1),
   subst (λ (update : Option Update). CrashLeaves store update old.resources.stores new.resources.stores) (opening_updates_none (resource_state store old) k) (gives.5 honest),
 )
@@ -59,7 +59,7 @@ untouched {S = S} store old new same = same_forks store old.resources.stores new
 
 -- a call that has no host memory
 pub unchanged_keeps_forks : {S : Type 0} (store : Ghosts S) (old new : ToolState S) (one : Call) → Unchanged store old one new → SameForks store old.resources.stores new.resources.stores
-unchanged_keeps_forks store old new (Resource made) same = λ honest. (same.2.0 honest, ap (λ (s : ResState). s.disks) (same.1 honest), same.4 honest)
+unchanged_keeps_forks store old new (Resource made) same = λ honest. (same.2 honest, ap (λ (s : ResState). s.disks) (same.1 honest), same.4 honest)
 unchanged_keeps_forks store old new (Memory made) same = untouched store old new same
 unchanged_keeps_forks store old new (Loan made) same = untouched store old new same
 unchanged_keeps_forks store old new MemError same = untouched store old new same

@@ -86,9 +86,9 @@ StatementDoes store old number (Answer line) text new = AnswerDoes old line text
 abbrev pub LineDoes : {S : Type 0} → Ghosts S → Machine S → Line → List ℕ → Machine S → Type 0
 LineDoes store old line text new = StatementDoes store old line.number line.statement text new
 
--- the forks are those of these stores, where their devices are honest, also as a start finds them behind a crash, and their devices are honest still
+-- where the devices of the new stores are honest, so were those of the old ones, and the forks are the same, also as a start finds them behind a crash
 abbrev pub SameForks : {S : Type 0} → Ghosts S → List S → List S → Type 0
-SameForks store old new = All store.is_honest old → All store.is_honest new × (map store.fork new ≡ map store.fork old) × CrashLeaves store None old new
+SameForks store old new = All store.is_honest new → All store.is_honest old × (map store.fork new ≡ map store.fork old) × CrashLeaves store None old new
 
 -- From old, the call of a statement is made, and leaves new.
 abbrev pub IsMade : {S : Type 0} → Ghosts S → Machine S → Statement → Machine S → Type 0
