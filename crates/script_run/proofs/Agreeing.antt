@@ -15,7 +15,7 @@ use Rattle.res_files.specs.FilesOn.{SomeFailed}
 use Rattle.toolbox.specs.Headline.{tools_of}
 use Rattle.toolbox.specs.Steps.{Gives, LeavesAnswers, StepsFrom, refused_after, resource_refused_after}
 use Rattle.toolbox.specs.ToolState.{IsHonest, ToolState, resource_state}
-use Rattle.toolbox.proofs.Headline.{still-honest, tool-does}
+use Rattle.toolbox.proofs.Headline.{tool-does}
 use Rattle.script_lines.specs.declared.line.CallLine.{CallLine}
 use Rattle.script_lines.specs.declared.line.Line.{Line}
 use Rattle.script_lines.specs.declared.line.Statement.{Statement}
@@ -28,6 +28,7 @@ use Rattle.script_run.specs.declared.machine.Machine.{Machine}
 use Rattle.script_run.specs.Exact.{DevicesWorked, LinesWorked, RunsAgree}
 use Rattle.script_run.specs.Line.{OpensFirst, StatementDoes, assigned, opening_text, start_of}
 use Rattle.script_run.specs.Run.{AreRun}
+use Rattle.script_run.proofs.Honest.{before-lines}
 use Rattle.res_laws.proofs.Functional.{Before, Ended, EndsSo, GoesSo, any-memory, ends-agree}
 
 -- what a run goes on with
@@ -87,7 +88,7 @@ module _ {S : Type 0} (store : Ghosts S) where
 
   -- so a call goes just so
   goes : (old : ToolState S) (answers : List GivenAnswer) (call : Call) (asks : List Ask) (outcome : Outcome) (new : ToolState S) (left : List GivenAnswer)
-      → IsHonest store old → Worked old new → Gives store old call asks outcome new → LeavesAnswers store old answers call asks outcome new left
+      → IsHonest store new → Worked old new → Gives store old call asks outcome new → LeavesAnswers store old answers call asks outcome new left
       → GoesSo store.may_leave (before old answers) call (record { asks = asks; outcome = outcome; tools = tools_of store new; left = left })
   goes old answers (MemoryCalls call) asks outcome new left honest worked gives leaves = leaves
   goes old answers (Loan call) asks outcome new left honest worked gives leaves = (gives.0, leaves)
@@ -111,7 +112,7 @@ module _ {S : Type 0} (store : Ghosts S) where
   abbrev OpeningGoes : Seen → List ℕ → Seen → Type 0
   OpeningGoes x text y = Goes x (Resource (OpenResFile 1)) (λ e. opening_text e.outcome) (behind_opening x) text y
 
-  opening-goes : (old : Machine S) (text : List ℕ) (new : Machine S) → IsHonest store old.toolbox → DevicesWorked store old new
+  opening-goes : (old : Machine S) (text : List ℕ) (new : Machine S) → IsHonest store new.toolbox → DevicesWorked store old new
       → OpensFirst store old text new → OpeningGoes (seen old) text (seen new)
   opening-goes old text new honest worked does =
       let r = does.1.0 honest in
@@ -140,31 +141,28 @@ module _ {S : Type 0} (store : Ghosts S) where
   one-stated x number (CallStatement line) text text' y y' a b = one-goes x (call_of x.variables line) (printed number line) (behind x line) text text' y y' a b
   one-stated x number (Answer line) text text' y y' a b = (a.0 ∙ sym b.0, a.1 ∙ sym b.1)
 
-  statement-goes : (old : Machine S) (number : ℕ) (statement : Statement) (text : List ℕ) (new : Machine S) → IsHonest store old.toolbox → DevicesWorked store old new
-      → StatementDoes store old number statement text new → StatementGoes (seen old) number statement text (seen new) × IsHonest store new.toolbox
+  statement-goes : (old : Machine S) (number : ℕ) (statement : Statement) (text : List ℕ) (new : Machine S) → IsHonest store new.toolbox → DevicesWorked store old new
+      → StatementDoes store old number statement text new → StatementGoes (seen old) number statement text (seen new)
   unfolding StatementGoes
   statement-goes old number (CallStatement line) text new honest worked does =
       let call = call_of old.variables line in
       let outcome : Outcome = (does.0).outcome in
       let step = does.2 in let refused = step.2 in let resource_refused = step.3 in let variables = does.4 in (
+        record { asks = does.1; outcome = outcome; tools = tools_of store new.toolbox; left = new.answers.left },
         (
-          record { asks = does.1; outcome = outcome; tools = tools_of store new.toolbox; left = new.answers.left },
-          (
-            tool-does store old.toolbox call does.1 outcome new.toolbox step.0 step.1 honest,
-            goes old.toolbox old.answers.left call does.1 outcome new.toolbox new.answers.left honest worked step.0 does.3,
-          ),
-          does.5,
-          cc (refused, resource_refused, variables),
+          tool-does store old.toolbox call does.1 outcome new.toolbox step.0 step.1 honest,
+          goes old.toolbox old.answers.left call does.1 outcome new.toolbox new.answers.left honest worked step.0 does.3,
         ),
-        still-honest store old.toolbox call does.1 outcome new.toolbox step.0 honest,
+        does.5,
+        cc (refused, resource_refused, variables),
       )
   statement-goes old number (Answer line) text new honest worked does =
       let toolbox = does.1 in let variables = does.2 in let left = does.3 in
-      ((does.0, cc (toolbox, variables, left)), subst (IsHonest store) (sym toolbox) honest)
+      (does.0, cc (toolbox, variables, left))
 
   -- lines
   lines-agree : (old old' : Machine S) (lines : List Line) (texts texts' : List (List ℕ)) (new new' : Machine S)
-      → IsHonest store old.toolbox → IsHonest store old'.toolbox → seen old ≡ seen old'
+      → IsHonest store new.toolbox → IsHonest store new'.toolbox → seen old ≡ seen old'
       → (run : AreRun store old lines texts new) → LinesWorked store old lines texts new run
       → (run' : AreRun store old' lines texts' new') → LinesWorked store old' lines texts' new' run' → (texts ≡ texts') × (seen new ≡ seen new')
   lines-agree old old' [] [] [] new new' honest honest' same run worked run' worked' = (refl, ap seen run ∙ same ∙ sym (ap seen run'))
@@ -173,11 +171,11 @@ module _ {S : Type 0} (store : Ghosts S) where
   lines-agree old old' (line ∷ lines) [] texts' new new' honest honest' same run worked run' worked' = absurd run
   lines-agree old old' (line ∷ lines) (text ∷ texts) [] new new' honest honest' same run worked run' worked' = absurd run'
   lines-agree old old' (line ∷ lines) (text ∷ texts) (text' ∷ texts') new new' honest honest' same run worked run' worked' =
-      let a = statement-goes old line.number line.statement text run.0 honest worked.0 run.1 in
-      let b = statement-goes old' line.number line.statement text' run'.0 honest' worked'.0 run'.1 in
-      let moved = subst (λ x. StatementGoes x line.number line.statement text (seen run.0)) same a.0 in
-      let first = one-stated (seen old') line.number line.statement text text' (seen run.0) (seen run'.0) moved b.0 in
-      let rest = lines-agree run.0 run'.0 lines texts texts' new new' a.1 b.1 first.1 run.2 worked.1 run'.2 worked'.1 in
+      let a = statement-goes old line.number line.statement text run.0 (before-lines store run.0 lines texts new run.2 honest) worked.0 run.1 in
+      let b = statement-goes old' line.number line.statement text' run'.0 (before-lines store run'.0 lines texts' new' run'.2 honest') worked'.0 run'.1 in
+      let moved = subst (λ x. StatementGoes x line.number line.statement text (seen run.0)) same a in
+      let first = one-stated (seen old') line.number line.statement text text' (seen run.0) (seen run'.0) moved b in
+      let rest = lines-agree run.0 run'.0 lines texts texts' new new' honest honest' first.1 run.2 worked.1 run'.2 worked'.1 in
       (ap (λ t. t ∷ texts) first.0 ∙ ap (λ ts. text' ∷ ts) rest.0, rest.1)
 
 -- two runs agree
@@ -188,11 +186,9 @@ runs-agree store sizes one other lines (text ∷ texts) (text' ∷ texts') last 
     let start = start_of sizes one in let run = a.0 in let worked = a.1 in
     let start' = start_of sizes other in let run' = b.0 in let worked' = b.1 in
     let same : seen store start ≡ seen store start' = ap (λ disks. over disks (seen store start)) forks in
-    let moved = subst (λ x. OpeningGoes store x text (seen store run.0)) same (opening-goes store start text run.0 honest worked.0 run.1) in
-    let opens = opening-goes store start' text' run'.0 honest' worked'.0 run'.1 in
+    let moved = subst (λ x. OpeningGoes store x text (seen store run.0)) same (opening-goes store start text run.0 (before-lines store run.0 lines texts last run.2 honest) worked.0 run.1) in
+    let opens = opening-goes store start' text' run'.0 (before-lines store run'.0 lines texts' last' run'.2 honest') worked'.0 run'.1 in
     let x = seen store start' in
     let first = one-goes store x (Resource (OpenResFile 1)) (λ e. opening_text e.outcome) (behind_opening x) text text' (seen store run.0) (seen store run'.0) moved opens in
-    let still = still-honest store start.toolbox (Resource (OpenResFile 1)) [] run.1.0 (run.0).toolbox run.1.1 honest in
-    let still' = still-honest store start'.toolbox (Resource (OpenResFile 1)) [] run'.1.0 (run'.0).toolbox run'.1.1 honest' in
-    let rest = lines-agree store run.0 run'.0 lines texts texts' last last' still still' first.1 run.2 worked.1 run'.2 worked'.1 in
+    let rest = lines-agree store run.0 run'.0 lines texts texts' last last' honest honest' first.1 run.2 worked.1 run'.2 worked'.1 in
     (ap (λ t. t ∷ texts) first.0 ∙ ap (λ ts. text' ∷ ts) rest.0, ap (λ (x : Seen). x.before.tools) rest.1)

@@ -12,7 +12,7 @@ use Rattle.res_files.specs.FilesOn.{FilesOn}
 use Rattle.toolbox.specs.Steps.{Gives}
 use Rattle.toolbox.specs.Headline.{tools_of}
 use Rattle.toolbox.specs.ToolState.{IsHonest}
-use Rattle.toolbox.proofs.Headline.{still-honest, tool-does}
+use Rattle.toolbox.proofs.Headline.{tool-does}
 use Rattle.script_lines.specs.declared.line.Line.{Line}
 use Rattle.script_lines.specs.declared.line.Statement.{Statement}
 use Rattle.script_lines.specs.declared.line.Statement.TheVariants.{Call as CallStatement, Answer}
@@ -20,6 +20,7 @@ use Rattle.script_vars.specs.Variables.{call_of}
 use Rattle.script_run.specs.declared.machine.Machine.{Machine}
 use Rattle.script_run.specs.Line.{StatementDoes, start_of}
 use Rattle.script_run.specs.Run.{AreRun}
+use Rattle.script_run.proofs.Honest.{before-lines}
 use Rattle.res_calls.specs.Steps.{Memory}
 use Rattle.res_laws.specs.Tools.{Called, IsToolRun, ToolDoes, Tools}
 use Rattle.res_laws.proofs.Acts.{anything-left}
@@ -39,27 +40,26 @@ module _ {S : Type 0} (store : Ghosts S) where
     pub prints : PrintsReply number statement text calls Rest
     pub run : IsToolRun old calls
 
-  stated : (old mid : Machine S) (number : ℕ) (statement : Statement) (text : List ℕ) (Rest : List Called → Type 0) → IsHonest store old.toolbox → StatementDoes store old number statement text mid
-      → (IsHonest store mid.toolbox → (later : List Called) × Rest later × IsToolRun (tools_of store mid.toolbox) later) → Stated (tools_of store old.toolbox) number statement text Rest
-  stated old mid number (CallStatement line) text Rest honest does rest =
+  stated : (old mid : Machine S) (number : ℕ) (statement : Statement) (text : List ℕ) (Rest : List Called → Type 0) → IsHonest store mid.toolbox → StatementDoes store old number statement text mid
+      → (later : List Called) × Rest later × IsToolRun (tools_of store mid.toolbox) later → Stated (tools_of store old.toolbox) number statement text Rest
+  stated old mid number (CallStatement line) text Rest honest does others =
       let call = call_of old.variables line in
       let step = does.2 in
       let outcome : Outcome = (does.0).outcome in
-      let others = rest (still-honest store old.toolbox call does.1 outcome mid.toolbox step.0 honest) in
       record {
         calls = record { call = call; asks = does.1; outcome = outcome; tools = tools_of store mid.toolbox } ∷ others.0;
         prints = (does.5, others.1);
         run = (tool-does store old.toolbox call does.1 outcome mid.toolbox step.0 step.1 honest, others.2);
       }
-  stated old mid number (Answer line) text Rest honest does rest =
-      let others = rest (subst (IsHonest store) (sym does.1) honest) in
+  stated old mid number (Answer line) text Rest honest does others =
       record { calls = others.0; prints = (does.0, others.1); run = subst (λ t. IsToolRun (tools_of store t) others.0) does.1 others.2 }
 
-  lines-print : (old : Machine S) (lines : List Line) (texts : List (List ℕ)) (new : Machine S) → IsHonest store old.toolbox → AreRun store old lines texts new → Printed (tools_of store old.toolbox) lines texts
+  lines-print : (old : Machine S) (lines : List Line) (texts : List (List ℕ)) (new : Machine S) → IsHonest store new.toolbox → AreRun store old lines texts new → Printed (tools_of store old.toolbox) lines texts
   lines-print old [] [] new honest run = record { calls = []; prints = refl; run = tt }
   lines-print old (line ∷ lines) (text ∷ texts) new honest run =
       let mid = run.0 in
-      let one = stated old mid line.number line.statement text (λ rest. PrintReplies lines texts rest) honest run.1 (λ still. let later = lines-print mid lines texts new still run.2 in (later.calls, later.prints, later.run)) in
+      let later = lines-print mid lines texts new honest run.2 in
+      let one = stated old mid line.number line.statement text (λ rest. PrintReplies lines texts rest) (before-lines store mid lines texts new run.2 honest) run.1 (later.calls, later.prints, later.run) in
       record { calls = one.calls; prints = one.prints; run = one.run }
   lines-print old [] (text ∷ texts) new honest run = absurd run
   lines-print old (line ∷ lines) [] new honest run = absurd run
@@ -71,9 +71,8 @@ run-shows store sizes stores lines (text ∷ texts) last possible honest run =
     let start = start_of sizes stores in
     let opened = run.0 in
     let opens = run.1 in
-    let still = still-honest store start.toolbox (Resource (OpenResFile 1)) [] opens.0 opened.toolbox opens.1 honest in
-    let printed = lines-print store opened lines texts last still run.2 in
+    let printed = lines-print store opened lines texts last honest run.2 in
     let opening : Called = record { call = Resource (OpenResFile 1); asks = []; outcome = opens.0; tools = tools_of store opened.toolbox } in
     let calls = opening ∷ printed.calls in
-    let goes : IsToolRun (tools_of store start.toolbox) calls = (tool-does store start.toolbox (Resource (OpenResFile 1)) [] opens.0 opened.toolbox opens.1 opens.2 honest, printed.run) in
+    let goes : IsToolRun (tools_of store start.toolbox) calls = (tool-does store start.toolbox (Resource (OpenResFile 1)) [] opens.0 opened.toolbox opens.1 opens.2 (before-lines store opened lines texts last run.2 honest), printed.run) in
     (calls, (opens.7, printed.prints), goes, tools-show sizes (tools_of store start.toolbox) calls possible refl refl refl goes)

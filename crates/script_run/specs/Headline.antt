@@ -32,9 +32,9 @@ PrintAllReplies lines (text ∷ texts) (opening ∷ calls) = (text ≡ opening_t
 PrintAllReplies lines [] calls = ⊥
 PrintAllReplies lines (text ∷ texts) [] = ⊥
 
--- Whatever the lines of a script print is the replies of calls that were made, where the devices of the stores are honest; and this is
+-- Whatever the lines of a script print is the replies of calls that were made, where the devices of the stores that they leave are honest; and this is
 -- what is promised of these calls.
 abbrev pub RunShows : {S : Type 0} → Ghosts S → Type 0
 RunShows {S = S} store = (sizes : ZoneSizes) (stores : List S) (lines : List Line) (texts : List (List ℕ)) (last : Machine S)
-    → ArePossible sizes → All store.is_honest stores → IsRun store (start_of sizes stores) lines texts last
+    → ArePossible sizes → All store.is_honest last.toolbox.resources.stores → IsRun store (start_of sizes stores) lines texts last
     → (let start = tools_of store (start_of sizes stores).toolbox in (calls : List Called) × PrintAllReplies lines texts calls × IsToolRun start calls × Headline start calls)
