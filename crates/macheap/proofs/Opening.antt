@@ -3,7 +3,7 @@ use Rattle.std.proofs.Common.{◌≡◌, ◌+◌, ◌<◌, ◌≤◌, arith, zer
 use Rattle.std.proofs.lemmas.List.{length-map, take_all, take_more, map-append}
 use Rattle.std.proofs.Math.Seq.{split_at}
 use Rattle.clap.specs.Words.{Text}
-use Rattle.macheap.specs.Stores.{AreOf, ArePaired, no_fork, one_fork, CantBeOpened, Opening}
+use Rattle.macheap.specs.Stores.{AreOf, AreOn, ArePaired, no_fork, one_fork, CantBeOpened, Opening}
 
 AreOf-push : {S : Type 0} (gives : Opening S) (names : List Text) (stores : List S) (name : Text) (store : S) → AreOf gives names stores → gives name (Some store) → AreOf gives (names ++ name ∷ []) (stores ++ store ∷ [])
 AreOf-push gives [] [] name store are one = (one, tt)
@@ -53,17 +53,25 @@ fewer yielded items all rest fork whole next =
     let one : length items ≡ length rest + 1 = ap length next ∙ omega arith in
     omega (arith, long, one)
 
-ArePaired-push : {F J : Type 0} (gives : Opening F) (pairs : F → F → J → Type 0) (fork journal : F) (name : Text) (store : J) {forks : List F} {names : List Text} {stores : List J} → ArePaired gives pairs forks names stores → gives name (Some journal) → pairs fork journal store
-    → ArePaired gives pairs (forks ++ fork ∷ []) (names ++ name ∷ []) (stores ++ store ∷ [])
-ArePaired-push gives pairs fork journal name store no_fork given paired = one_fork journal given paired no_fork
-ArePaired-push gives pairs fork journal name store (one_fork j g p others) given paired = one_fork j g p (ArePaired-push gives pairs fork journal name store others given paired)
+-- one more file has a store, of the next number
+pub AreOn-push : {F S : Type 0} (plain : ℕ → F → S → Type 0) (from number : ℕ) (files : List F) (stores : List S) (file : F) (store : S) → AreOn plain from files stores → number ≡ from + length files → plain number file store → AreOn plain from (files ++ file ∷ []) (stores ++ store ∷ [])
+AreOn-push plain from number [] [] file store are is one = (subst (λ n. plain n file store) (is ∙ omega arith) one, tt)
+AreOn-push plain from number (f ∷ files) (s ∷ stores) file store are is one = (are.0, AreOn-push plain (suc from) number files stores file store are.1 (is ∙ omega arith) one)
+AreOn-push plain from number [] (s ∷ stores) file store are is one = absurd are
+AreOn-push plain from number (f ∷ files) [] file store are is one = absurd are
+
+ArePaired-push : {F J : Type 0} (gives : Opening F) (pairs : ℕ → F → F → J → Type 0) (number : ℕ) (fork journal : F) (name : Text) (store : J) {from : ℕ} {forks : List F} {names : List Text} {stores : List J} → ArePaired gives pairs from forks names stores
+    → number ≡ from + length forks → gives name (Some journal) → pairs number fork journal store → ArePaired gives pairs from (forks ++ fork ∷ []) (names ++ name ∷ []) (stores ++ store ∷ [])
+ArePaired-push gives pairs number fork journal name store no_fork is given paired = one_fork journal given (subst (λ n. pairs n fork journal store) (is ∙ omega arith) paired) no_fork
+ArePaired-push gives pairs number fork journal name store (one_fork j g p others) is given paired = one_fork j g p (ArePaired-push gives pairs number fork journal name store others (is ∙ omega arith) given paired)
 
 -- one more fork has its journal
-pub ArePaired-step : {F J B : Type 0} (gives : Opening F) (pairs : F → F → J → Type 0) (forks : List F) (names : List B) (now : B → Text) (stores : List J) (fork journal : F) (name : B) (store : J) → length forks < length names → name ≡ get_or names (length forks) name
-    → ArePaired gives pairs forks (map now (take (length forks) names)) stores → gives (now name) (Some journal) → pairs fork journal store → ArePaired gives pairs (forks ++ fork ∷ []) (map now (take (length (forks ++ fork ∷ [])) names)) (stores ++ store ∷ [])
-ArePaired-step {B = B} gives pairs forks names now stores fork journal name store lt is are given paired =
+pub ArePaired-step : {F J B : Type 0} (gives : Opening F) (pairs : ℕ → F → F → J → Type 0) (forks : List F) (names : List B) (now : B → Text) (stores : List J) (number : ℕ) (fork journal : F) (name : B) (store : J) → length forks < length names → name ≡ get_or names (length forks) name
+    → ArePaired gives pairs 0 forks (map now (take (length forks) names)) stores → number ≡ length forks → gives (now name) (Some journal) → pairs number fork journal store
+    → ArePaired gives pairs 0 (forks ++ fork ∷ []) (map now (take (length (forks ++ fork ∷ [])) names)) (stores ++ store ∷ [])
+ArePaired-step {B = B} gives pairs forks names now stores number fork journal name store lt is are same given paired =
     let next : take (length (forks ++ fork ∷ [])) names ≡ take (length forks) names ++ name ∷ [] =
     ap (λ (n : ℕ). take n names) (length-append forks (fork ∷ [])) ∙ take_more names (length forks) name lt ∙ ap (λ (b : B). take (length forks) names ++ b ∷ []) (sym is) in
-    subst (λ (ns : List Text). ArePaired gives pairs (forks ++ fork ∷ []) ns (stores ++ store ∷ []))
+    subst (λ (ns : List Text). ArePaired gives pairs 0 (forks ++ fork ∷ []) ns (stores ++ store ∷ []))
     (sym (ap (λ (l : List B). map now l) next ∙ map-append now (take (length forks) names) (name ∷ [])))
-    (ArePaired-push gives pairs fork journal (now name) store are given paired)
+    (ArePaired-push gives pairs number fork journal (now name) store are (same ∙ omega arith) given paired)

@@ -1,24 +1,32 @@
 -- A disk in memory or a file, as a disk.
-use Rattle.std.specs.Prelude.{ℕ, List, [], ⊤}
+use Rattle.std.specs.Prelude.{◌≡◌, ℕ, List, [], ⊤}
+use Rattle.fork_disk.specs.Record.{IsHonest, IsStable}
+use Rattle.fork_disk.specs.declared.host_file.HostFile.{HostFile}
+use Rattle.fork_disk.specs.declared.world.World.{Ghosts}
 use Rattle.macheap.specs.declared.disk.Disk.{Disk}
 use Rattle.macheap.specs.declared.disk.Disk.TheVariants.{Memory, File}
 
--- the bytes of a disk in memory; of a file nothing is known
-abbrev pub seen : Disk → List ℕ
-seen (Memory disk) = disk.bytes.items
-seen (File disk) = []
+-- the bytes of a disk in memory; of a file those that its world tells of
+abbrev pub seen : {W : Type 0} → Ghosts W → Disk W → List ℕ
+seen world (Memory disk) = disk.bytes.items
+seen world (File disk) = world.held disk.number disk.log.events
 
--- a disk in memory returns what was written; of a file nothing is claimed
-abbrev pub honest : Disk → Type 0
-honest (Memory disk) = ⊤
-honest (File disk) = ⊥
+-- a disk in memory returns what was written; a file is honest where its answers are those of the file that its world tells of
+abbrev pub honest : {W : Type 0} → Ghosts W → Disk W → Type 0
+honest world (Memory disk) = ⊤
+honest world (File disk) = IsHonest (world.held disk.number) (world.may_leave disk.number) disk.log.events
 
--- a disk in memory is stable; of a file nothing is claimed
-abbrev pub stable : Disk → Type 0
-stable (Memory disk) = ⊤
-stable (File disk) = ⊥
+-- a disk in memory is stable; a file is where a crash leaves what it holds
+abbrev pub stable : {W : Type 0} → Ghosts W → Disk W → Type 0
+stable world (Memory disk) = ⊤
+stable world (File disk) = IsStable (world.held disk.number) (world.may_leave disk.number) disk.log.events
 
 -- how often a disk has failed
-abbrev pub fails : Disk → ℕ
+abbrev pub fails : {W : Type 0} → Disk W → ℕ
 fails (Memory disk) = disk.failures
-fails (File disk) = disk.failures
+fails (File disk) = disk.file.failures
+
+-- the disk is a file, of this number in its world, of which nothing was asked so far
+abbrev pub IsFile : {W : Type 0} → ℕ → HostFile → Disk W → Type 0
+IsFile number file (Memory disk) = ⊥
+IsFile number file (File disk) = (disk.file ≡ file) × (disk.number ≡ number) × (disk.log.events ≡ [])

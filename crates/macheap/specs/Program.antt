@@ -55,8 +55,8 @@ pub record Parts (F S J : Type 0) : Type 1 where
   pub store : Ghosts S
   pub with_journal : Ghosts J
   pub gives : Opening F
-  pub plain : F → S
-  pub pairs : F → F → J → Type 0
+  pub plain : ℕ → F → S → Type 0
+  pub pairs : ℕ → F → F → J → Type 0
 
 -- A run on a zone of these sizes over the files of these names may end with this status, with this written: each fork alone, or each with
 -- its journal. Or one of the files can't be opened, or the host has no memory for the stores.

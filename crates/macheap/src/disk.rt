@@ -1,25 +1,25 @@
 //! The disks of a run.
 
 use fork_disk::disk::{DiskFault, ForkDisk};
-use fork_disk::{FileDisk, MemDisk};
+use fork_disk::{FileDisk, MemDisk, World};
 
 /// A disk in memory, or a file.
 #[derive(Drop)]
-pub enum Disk {
+pub enum Disk<W: World> {
     /// A disk in memory, which is gone when the program ends.
     Memory(MemDisk),
     /// A file.
-    File(FileDisk),
+    File(FileDisk<W>),
 }
 
-impl ForkDisk for Disk {
+impl<W: World> ForkDisk for Disk<W> {
     ghost use Rattle.macheap.specs.Disks.{fails, honest, seen, stable};
 
-    ghost seen = { seen };
+    ghost seen = { seen W.World };
 
-    ghost is_honest = { honest };
+    ghost is_honest = { honest W.World };
 
-    ghost is_stable = { stable };
+    ghost is_stable = { stable W.World };
 
     ghost failures = { fails };
 

@@ -1,24 +1,25 @@
 //! The stores of a run.
 
-ghost use Rattle.std.specs.Prelude.{◌≡◌, ◌≤◌, [], ⊤, List, ℕ, Option, length, map, IfOk, IfSome, IsErrOf};
-ghost use Rattle.macheap.specs.Stores.{AreJournalled, AreOf, ArePlain, CantBeOpened, OneCantBeOpened};
+ghost use Rattle.std.specs.Prelude.{◌≡◌, ◌≤◌, [], ⊤, List, ℕ, Option, length, map, IfOk, IfErr, IfSome, IsErrOf};
+ghost use Rattle.macheap.specs.Stores.{AreJournalled, AreOf, AreOn, ArePlain, CantBeOpened, OneCantBeOpened};
 
 use crate::disk::Disk;
 use fork_disk::store::{ForkStore, PlainStore};
-use fork_disk::{FileDisk, MemDisk};
-use fork_journal::{FilePair, Journal};
+use fork_disk::{FileDisk, HostFile, MemDisk, World};
+use fork_journal::{FilePair, Journal, PairWorld};
 use std::alloc::{AllocError, AllocFailed, Global};
+use std::marker::PhantomData;
 
 /// What opens the files of a run, and makes stores of them: `S` of a fork alone, and `J` of a fork with its journal.
 pub trait Opens<F, S: ForkStore, J: ForkStore> {
     /// What opening the file of a name may give: the file, or none where it can't be opened.
     ghost gives: { Self → List ℕ → Option F → Type 0 };
 
-    /// The store of a fork in a file.
-    ghost plain: { F → S };
+    /// What is a store of this number of a fork, which is this file.
+    ghost plain: { ℕ → F → S → Type 0 };
 
-    /// What is a store of a fork and its journal, which are these files.
-    ghost pairs: { F → F → J → Type 0 };
+    /// What is a store of this number of a fork and its journal, which are these files.
+    ghost pairs: { ℕ → F → F → J → Type 0 };
 
     /// The file of a name, which is made where it is missing. None where it can't be opened.
     fn open(&self, name: &str) -> Option<F>
@@ -30,48 +31,63 @@ pub trait Opens<F, S: ForkStore, J: ForkStore> {
         ensures ready { S.is_ready result }
         ensures honest { S.is_honest result };
 
-    /// The store of a fork in a file.
-    fn plain(&self, fork: F) -> S
-        ensures { result ≡ plain fork };
+    /// The store of a fork in a file. No other store of the run may have its number.
+    fn plain(&self, fork: F, number: u64) -> S
+        ensures { plain number fork result };
 
-    /// The store of a fork and its journal, each in a file.
-    fn journalled(&self, fork: F, journal: F) -> J
-        ensures { pairs fork journal result };
+    /// The store of a fork and its journal, each in a file. No other store of the run may have its number.
+    fn journalled(&self, fork: F, journal: F, number: u64) -> J
+        ensures { pairs number fork journal result };
 }
 
-/// Opens the host's files, and disks in its memory.
+/// Opens the host's files, and disks in its memory. What the files hold is told by `W` of forks alone, and by `V` of those with journals.
 #[derive(Drop)]
-pub struct HostDisks<'a> {
-    pub runtime: &'a HostRuntime,
+pub struct HostDisks<'a, W: World, V: PairWorld> {
+    runtime: &'a HostRuntime,
+    world: PhantomData<W>,
+    pair_world: PhantomData<V>,
 }
 
-impl Opens<FileDisk, PlainStore<Disk>, Journal<FilePair>> for HostDisks<'_> {
-    ghost use Rattle.macheap.specs.declared.disk.Disk.TheVariants.{File};
+impl<'a, W: World, V: PairWorld> HostDisks<'a, W, V> {
+    /// Opens the files of this host.
+    pub fn new(runtime: &'a HostRuntime) -> HostDisks<'a, W, V> {
+        HostDisks {
+            runtime,
+            world: PhantomData,
+            pair_world: PhantomData,
+        }
+    }
+}
+
+impl<W: World, V: PairWorld> Opens<HostFile, PlainStore<Disk<W>>, Journal<FilePair<V>>>
+    for HostDisks<'_, W, V> {
+    ghost use Rattle.macheap.specs.Disks.{IsFile};
 
     ghost gives = { λ _ _ _. ⊤ };
 
-    ghost plain = { λ file. record { disk = File file } };
+    ghost plain = { λ number fork store. IsFile number fork store.disk };
 
-    ghost pairs = { λ fork journal store. (store.pair.fork ≡ fork) × (store.pair.journal ≡ journal) };
+    ghost pairs = { λ number fork journal store. (store.pair.fork ≡ fork) × (store.pair.journal ≡ journal)
+        × (store.pair.number ≡ number) × (store.pair.log.events ≡ []) };
 
-    fn open(&self, name: &str) -> Option<FileDisk> {
-        FileDisk::open(self.runtime, name).ok()
+    fn open(&self, name: &str) -> Option<HostFile> {
+        HostFile::open(self.runtime, name).ok()
     }
 
-    fn in_memory(&self) -> PlainStore<Disk> {
+    fn in_memory(&self) -> PlainStore<Disk<W>> {
         PlainStore {
             disk: Disk::Memory(MemDisk::new(self.runtime.alloc())),
         }
     }
 
-    fn plain(&self, fork: FileDisk) -> PlainStore<Disk> {
+    fn plain(&self, fork: HostFile, number: u64) -> PlainStore<Disk<W>> {
         PlainStore {
-            disk: Disk::File(fork),
+            disk: Disk::File(FileDisk::new(fork, number)),
         }
     }
 
-    fn journalled(&self, fork: FileDisk, journal: FileDisk) -> Journal<FilePair> {
-        Journal::new(self.runtime.alloc(), FilePair::new(fork, journal))
+    fn journalled(&self, fork: HostFile, journal: HostFile, number: u64) -> Journal<FilePair<V>> {
+        Journal::new(self.runtime.alloc(), FilePair::new(fork, journal, number))
     }
 }
 
@@ -123,12 +139,25 @@ pub fn plain_stores<F: Drop, S: ForkStore + Drop, J: ForkStore, O: Opens<F, S, J
         return Ok(stores);
     }
     let forks = opened(alloc, opener, names)?;
-    Ok(
-        forks
-            .into_iter()
-            .map(|fork| opener.plain(fork))
-            .collect(alloc)?,
-    )
+    stores_on(alloc, opener, forks)
+}
+
+/// The stores of the forks in these files, numbered as they come.
+fn stores_on<F: Drop, S: ForkStore + Drop, J: ForkStore, O: Opens<F, S, J>>(
+    alloc: Global,
+    opener: &O,
+    forks: Vec<F>,
+) -> Result<Vec<S>, NoStores>
+    ensures stores { IfOk result (λ stores. AreOn O.plain 0 forks.items stores.items) }
+    ensures count { IfOk result (λ stores. length stores.items ≡ length forks.items) }
+    ensures full { IfErr result (λ fault. fault ≡ NoStores.HostFull) }
+{
+    let mut stores = Vec::new(alloc);
+    for fork in forks {
+        let number = stores.len();
+        stores.push(opener.plain(fork, number as u64))?;
+    }
+    Ok(stores)
 }
 
 /// The stores of the forks and the journals in the files of these names.
@@ -146,10 +175,11 @@ pub fn journalled_stores<F: Drop, S: ForkStore, J: ForkStore + Drop, O: Opens<F,
     let forks = opened(alloc, opener, names)?;
     let mut stores = Vec::new(alloc);
     for fork in forks {
-        let Some(journal) = opener.open(journals[stores.len()]) else {
+        let number = stores.len();
+        let Some(journal) = opener.open(journals[number]) else {
             return Err(NoStores::CannotOpen);
         };
-        stores.push(opener.journalled(fork, journal))?;
+        stores.push(opener.journalled(fork, journal, number as u64))?;
     }
     Ok(stores)
 }
