@@ -7,8 +7,8 @@ mod files;
 mod program;
 mod stores;
 
-use fork_disk::Unknown;
-use fork_journal::UnknownPair;
+use fork_disk::{Unknown, World};
+use fork_journal::{PairWorld, UnknownPair};
 use program::{BAD_WORDS, program};
 use script_run::{Counted, status, tell_no_memory};
 use std::io::ErrorKind;
@@ -17,19 +17,24 @@ use std::{env, io};
 use stores::HostDisks;
 
 fn main(rt: HostRuntime) -> ExitCode {
+    run_on_host::<Unknown, UnknownPair>(&rt)
+}
+
+/// Does what the command line asks for, with the host's files and standard streams.
+fn run_on_host<W: World, V: PairWorld>(rt: &HostRuntime) -> ExitCode {
     let alloc = rt.alloc();
-    let words = match env::args(&rt) {
+    let words = match env::args(rt) {
         Ok(words) => words,
-        Err(error) => return no_words(&rt, &error),
+        Err(error) => return no_words(rt, &error),
     };
     let Ok(words) = words.collect::<Vec<String>>(alloc) else {
-        return no_memory(&rt);
+        return no_memory(rt);
     };
     let mut input = Counted::new(rt.stdin());
     let mut output = Counted::new(rt.stdout());
     let mut messages = rt.stderr();
     let words = words.as_slice();
-    let opener: HostDisks<'_, Unknown, UnknownPair> = HostDisks::new(&rt);
+    let opener: HostDisks<'_, W, V> = HostDisks::new(rt);
     ExitCode::from(program(
         alloc,
         words,
