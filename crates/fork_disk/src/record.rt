@@ -1,4 +1,4 @@
-//! A list of calls that only clauses read.
+//! What was asked of files, for clauses alone.
 
 ghost use Rattle.std.specs.Prelude.{◌≡◌, List, [], ◌∷◌};
 ghost use Rattle.std.specs.Borrow.{ftrue};
@@ -25,7 +25,7 @@ impl Record {
         Record {}
     }
 
-    /// The same. A pick may read the arguments of the call that it is for, so they are what `note` picks from.
+    /// The same. A pick sees the arguments of the call that it is for and nothing else, so `note` hands over all that it picks from.
     fn of_calls_beside(_past: &Record, _numbers: &[u64], _bytes: &[u8]) -> Record
         ghost calls: { List Event }
         ensures { result.events ≡ calls }

@@ -1,6 +1,5 @@
 -- A record has no bytes, so any list may be the one that it tells of.
 use base.Logic.{emp}
-use contract.Running.{tables}
 use denote.Steps.{nothing, owned}
 use denote.Struct.Laws.{makes}
 use denote.Triple.Entry.{on_entry}
