@@ -25,18 +25,6 @@ types_fail m fails = record {
   before = map_below m 1 (λ (low : 1 < 1). absurd (omega arith)) (λ (low : 2 < 1). absurd (omega arith)) (λ (low : 3 < 1). absurd (omega arith)) (λ (low : 4 < 1). absurd (omega arith));
 }
 
-pub references_fail : (m : List ℕ) → HasTypes m → (HasReferences m → ⊥) → MapFailsFirst m References
-references_fail m types fails = record {
-  fails = fails;
-  before = map_below m 2 (λ _. types) (λ (low : 2 < 2). absurd (omega arith)) (λ (low : 3 < 2). absurd (omega arith)) (λ (low : 4 < 2). absurd (omega arith));
-}
-
-pub rows_fail : (m : List ℕ) → HasTypes m → HasReferences m → (HasFewRows m → ⊥) → MapFailsFirst m RowCount
-rows_fail m types references fails = record {
-  fails = fails;
-  before = map_below m 3 (λ _. types) (λ _. references) (λ (low : 3 < 3). absurd (omega arith)) (λ (low : 4 < 3). absurd (omega arith));
-}
-
 pub names_fail : (m : List ℕ) → HasTypes m → HasReferences m → HasFewRows m → (HasNames m → ⊥) → MapFailsFirst m Names
 names_fail m types references rows fails = record {
   fails = fails;
@@ -83,10 +71,6 @@ pub map_refuses : (fork : List ℕ) → 16 ≤ length fork → HasParts (length 
 map_refuses fork whole parts EndOfFile told = absurd told
 map_refuses fork whole parts (BadMap condition) told = (whole, map_fails fork parts condition told)
 map_refuses fork whole parts HostFull told = tt
-
--- the parts fail
-pub parts_refuse : (fork : List ℕ) → 16 ≤ length fork → (HasParts (length fork) (header_of fork) → ⊥) → Refuses fork (BadMap Parts)
-parts_refuse fork whole fails = (whole, record { fails = fails; before = λ other low. absurd (omega arith) })
 
 -- the places fail
 pub places_fail : (fork : List ℕ) → HasParts (length fork) (header_of fork) → IsMap (map_of fork) → (HasData (data_of fork) (map_rows (map_of fork)) → ⊥) → FailsFirst fork Places
@@ -137,6 +121,3 @@ faults_less condition P Q less HostFull at = tt
 -- a fault that is known
 pub fault_known : (condition : Condition) (P : Type 0) → P → (fault : ForkFault) → fault ≡ BadMap condition → FaultsAt condition P fault
 fault_known condition P holds fault is = let Q : ForkFault → Type 0 = FaultsAt condition P in subst Q (sym is) (refl, holds)
-
-pub fault_of_host : (condition : Condition) (P : Type 0) (fault : ForkFault) → fault ≡ HostFull → FaultsAt condition P fault
-fault_of_host condition P fault is = let Q : ForkFault → Type 0 = FaultsAt condition P in subst Q (sym is) tt

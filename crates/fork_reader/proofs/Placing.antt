@@ -9,7 +9,7 @@ use Rattle.std.proofs.lemmas.List.Sums.{sum_by-cons}
 use Rattle.byteorder.specs.Numbers.{big_from-take}
 use Rattle.fork_bytes.specs.declared.layout.Header.{Header}
 use Rattle.fork_bytes.specs.Rows.{Row, MapRow}
-use Rattle.fork_bytes.specs.Fork.{number_at, bytes_at, header_of, data_of, map_of, datum_length, row_with, HasParts, HasData, HasFewBytes, max_fork}
+use Rattle.fork_bytes.specs.Fork.{number_at, bytes_at, header_of, data_of, datum_length, row_with, HasParts, HasData, HasFewBytes, max_fork}
 use Rattle.fork_reader.specs.Reading.{PlacedRow, placed, placed_row, row_at, HasDatum, IsWithin, AreFewBytes}
 
 -- the bytes from an offset in a part on are those of the whole from behind both offsets
@@ -34,9 +34,6 @@ length-part n start bytes within = let rest = length-drop start bytes in length-
 
 pub length-data : (fork : List ℕ) → HasParts (length fork) (header_of fork) → length (data_of fork) ≡ (header_of fork).data_length
 length-data fork parts = length-part (header_of fork).data_length (header_of fork).data_offset fork parts.whole_data
-
-pub length-map_of : (fork : List ℕ) → HasParts (length fork) (header_of fork) → length (map_of fork) ≡ (header_of fork).map_length
-length-map_of fork parts = length-part (header_of fork).map_length (header_of fork).map_offset fork parts.whole_map
 
 -- the length of a datum, where the fork has it
 pub datum_in_fork : (fork : List ℕ) (at : ℕ) → at + 4 ≤ (header_of fork).data_length →

@@ -1,13 +1,9 @@
 -- A fork as a whole.
-use Rattle.std.proofs.Common.{◌≡◌, ℕ, ◌<◌, ◌≤◌, List, length, map, ◌↔◌, subst, sym, ap, ◌∙◌, arith}
-use Rattle.std.specs.Prelude.{Result, Err, IfErr}
+use Rattle.std.proofs.Common.{◌≡◌, ℕ, ◌≤◌, List, length, map, subst, sym, ap, ◌∙◌, arith}
 use Rattle.fork_bytes.specs.declared.fault.Condition.TheVariants.{Parts, Places}
-use Rattle.fork_bytes.specs.declared.fault.ForkFault.{ForkFault}
-use Rattle.fork_bytes.specs.declared.fault.ForkFault.TheVariants.{EndOfFile}
 use Rattle.fork_bytes.specs.declared.layout.Header.{Header}
 use Rattle.fork_bytes.specs.Rows.{Row}
-use Rattle.fork_bytes.specs.declared.table.Table.{Table}
-use Rattle.fork_bytes.specs.Fork.{bytes_at, header_of, map_of, map_rows, table_of, extra_of, attributes_of, HasParts, IsFork, StandsFor, Refuses}
+use Rattle.fork_bytes.specs.Fork.{bytes_at, header_of, map_of, map_rows, table_of, extra_of, attributes_of, HasParts, IsFork, StandsFor}
 use Rattle.fork_reader.specs.Reading.{placed_rows, row_at}
 use Rattle.fork_reader.proofs.Placing.{rows_are_at, length-part}
 
@@ -23,13 +19,6 @@ stands fork rows extra attributes is same behind marks = (
   ap (λ (r : List Row). record { rows = r; extra = extra; map_attributes = attributes }) (same ∙ sym (rows_of_table fork is))
       ∙ ap (λ (e : List ℕ). record { rows = (table_of fork).rows; extra = e; map_attributes = attributes }) behind
       ∙ ap (λ (n : ℕ). record { rows = (table_of fork).rows; extra = extra_of fork; map_attributes = n }) marks,
-)
-
--- the bytes end within the header exactly where that is the fault
-pub ends_early : (fork : List ℕ) (result : Result Table ForkFault) → 16 ≤ length fork → IfErr result (Refuses fork) → (result ≡ Err EndOfFile) ↔ (length fork < 16)
-ends_early fork result whole told = (
-  λ is. (let P : Result Table ForkFault → Type 0 = λ r. IfErr r (Refuses fork) in subst P is told),
-  λ short. absurd (omega arith),
 )
 
 -- what a header that was read says of the fork

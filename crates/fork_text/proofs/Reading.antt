@@ -76,10 +76,6 @@ put_next done kind byte i is small whole =
     ∙ sym (append_assoc done (byte ∷ []) (replicate (3 - i) 32))
     ∙ ap (λ (n : ℕ). (done ++ byte ∷ []) ++ replicate n 32) (sym fewer)
 
--- before the first turn
-pub reading_start : (inner : List ℕ) → Reading inner inner (32 ∷ 32 ∷ 32 ∷ 32 ∷ []) 0
-reading_start inner = ([], (λ bytes is. is, λ bytes is. (bytes, refl, is)), refl, omega arith, λ below. absurd (omega arith))
-
 -- a turn that reads a byte
 pub reading_more : (inner rest behind kind : List ℕ) (byte i : ℕ) → rest ≢ [] → i < 4 → ShowsFirst rest byte behind → Reading inner rest kind i → Reading inner behind (set kind i byte) (i + 1)
 reading_more inner rest behind kind byte i some small first (done, reads, whole, most, short) =

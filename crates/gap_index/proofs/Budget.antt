@@ -63,11 +63,6 @@ lasts-more t u β γ k l at (e ∷ es) j same more le h =
     subst (λ (b : Bool). (cost b e ≤ l) × Lasts u γ (left b γ l at e) (at + e.size) es j) (sym same.0)
     (let first : cost (is_fixed t e.kind) e ≤ k = h.0 in omega arith, lasts-more t u β γ (left (is_fixed t e.kind) β k at e) (left (is_fixed t e.kind) γ l at e) (at + e.size) es j same.1 more (left-more (is_fixed t e.kind) β γ k l at e more le) h.1)
 
--- and less is left as well
-pub lasts-fewer : (t : HandleTable) (β : Bounds) (k at : ℕ) (m : ZoneMap) (i j : ℕ) → i ≤ j → Lasts t β k at m j → Lasts t β k at m i
-lasts-fewer t β k at [] i j le h = omega arith
-lasts-fewer t β k at (e ∷ es) i j le h = (h.0, lasts-fewer t β (left (is_fixed t e.kind) β k at e) (at + e.size) es i j le h.1)
-
 -- what is left between two parts
 pub record Halves (t : HandleTable) (β : Bounds) (k at : ℕ) (a b : ZoneMap) (j : ℕ) : Type 0 where
   pub middle : ℕ

@@ -106,10 +106,6 @@ pub record Searched (z : ZoneState) (bounds : List ℕ) (k from : ℕ) : Type 0 
   pub below : (j : ℕ) → j < from → slice_index bounds j < k
 
 module _ (z : ZoneState) (sizes : HasSizes z) (k : ℕ) (some : 0 < k) (bounds : List ℕ) where
-  -- at first none is looked at
-  pub none-searched : AreBounds z bounds → Searched z bounds k 0
-  none-searched a = record { kept = a; below = λ j low. absurd (omega arith) }
-
   module _ (from : ℕ) (s : Searched z bounds k from) where
     -- where no more bound is as high no gap has room
     pub searched-none : ((j : ℕ) → from ≤ j → j < length bounds → slice_index bounds j < k) → lowest_gap k (gaps z.heap.table z.heap.map) ≡ None

@@ -30,9 +30,6 @@ Joined old new gap n = Raised old new ((gap.start - gap.base) / 4) (slice_index 
 abbrev pub Parted : List ℕ → List ℕ → Around → Type 0
 Parted old new gap = Raised old new ((gap.end - gap.base) / 4) (slice_index old ((gap.start - gap.base) / 4))
 
-named_entry : (z : ZoneState) (x at : ℕ) → NamedAt z x at → EntryAt z at
-named_entry z x at b = record { before = b.before; here = b.here; behind = b.behind; map = b.map; place = b.place }
-
 abbrev pub own_entry : (z : ZoneState) (h at : ℕ) → BlockOf z h at → EntryAt z at
 own_entry z h at b = record { before = b.before; here = block (Rel h) b.size; behind = b.behind; map = b.map; place = b.place }
 

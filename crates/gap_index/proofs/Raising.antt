@@ -11,7 +11,7 @@ use Rattle.fixed_index.specs.Index.{place}
 use Rattle.fixed_index.specs.Runs.{none_fixed}
 use Rattle.gap_index.specs.Index.{AreBounds}
 use Rattle.gap_index.specs.Raised.{Higher, most_room}
-use Rattle.gap_index.proofs.Budget.{Alike, Bounds}
+use Rattle.gap_index.proofs.Budget.{Alike}
 use Rattle.gap_index.proofs.Leaves.{Leaves, loose-loose, fixed-loose, loose-fixed, fixed-fixed}
 use Rattle.gap_index.proofs.Renewed.{Within, bound_in, lifted_in, lifted-high, lifted-higher, bounds-renewed, within-renewed}
 use Rattle.gap_index.proofs.Replaced.{behind-same}
@@ -39,9 +39,6 @@ module _ (z : ZoneState) (heap : Heap) (old new : List ℕ) (a : AreBounds z old
   -- where the gap before or around it begins
   abbrev pub start : ℕ
   start = address_behind z.shape [] + total_size (last_run z.heap.table r.front).before
-
-  abbrev β : Bounds
-  β = bound_in z.shape old
 
   -- the raised bounds are the new zone's where as much is left
   renewed : (d : ℕ) → Leaves z.heap.table heap.table (bound_in z.shape old) (lifted_in z.shape d new) start here (r.was ∷ r.old) (r.is ∷ r.new) → AreBounds (with_heap heap z) new

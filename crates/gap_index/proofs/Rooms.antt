@@ -3,7 +3,7 @@ use Rattle.std.proofs.Common.{◌≡◌, ℕ, ◌+◌, ◌≤◌, ◌<◌, true,
 use Rattle.std.proofs.lemmas.Bool.{and_parts, not-true}
 use Rattle.mac_base.specs.declared.block.Entry.{Entry}
 use Rattle.mac_base.specs.declared.block.Kind.TheVariants.{Free}
-use Rattle.mac_base.specs.ZoneMap.{ZoneMap, address_behind, block, free_bytes, free_size, is_free, total_size}
+use Rattle.mac_base.specs.ZoneMap.{ZoneMap, block, free_bytes, free_size, is_free, total_size}
 use Rattle.mac_base.specs.ZoneState.{ZoneState}
 use Rattle.zone_laws.proofs.Arranging.{free_bytes-all_used, total_size-used}
 use Rattle.zone_laws.proofs.GapAppend.{free_bytes-append, total_size-append}
@@ -51,18 +51,6 @@ pub record Summed (z : ZoneState) (start : ℕ) (rest : RestAt z start) (from ro
   pub sum : room ≡ free_bytes passed
 
 module _ (z : ZoneState) (start : ℕ) (rest : RestAt z start) where
-  -- at first none is passed
-  pub none-summed : Summed z start rest start 0
-  none-summed = record { passed = []; left = rest.blocks; parts = refl; place = omega arith; sum = refl }
-
-  -- the gap is a part of the zone
-  pub rest-within : start + total_size rest.blocks ≤ address_behind z.shape z.heap.map
-  rest-within =
-      let there = rest.place in
-      let all = ap total_size rest.map ∙ total_size-append rest.before (rest.blocks ++ rest.behind) in
-      let inner = total_size-append rest.blocks rest.behind in
-      omega arith
-
   module _ (from room : ℕ) (s : Summed z start rest from room) where
     abbrev pub split_summed : SplitAt z from
     split_summed = record {

@@ -5,7 +5,6 @@ use Rattle.std.specs.Set.{is_member}
 use Rattle.std.proofs.Common.{◌≡◌, ℕ, suc, ◌+◌, ◌<◌, ◌≤◌, ◌&&◌, ◌||◌, ◌==◌, not, Bool, true, false, cond, eqb, List, [], ◌∷◌, ◌++◌, length, Some, None, refl, sym, ap, subst, ◌∙◌, arith, Ok}
 use Rattle.std.proofs.lemmas.Bool.{and_parts}
 use Rattle.std.proofs.lemmas.Bool.Decides.{nat_tests}
-use Rattle.std.proofs.lemmas.List.{map-append}
 use Rattle.std.proofs.lemmas.Map.Views.{any-filter_same}
 use Rattle.std.proofs.lemmas.Cmp.{nat_eq_equiv}
 use Rattle.std.proofs.lemmas.Map.Made.{length-le_from_is_member}
@@ -140,10 +139,6 @@ Holds-lent old new held x loan is here keeps none holds =
       once = EachOnce-push held h (sym (holds.all x) ∙ none) holds.once;
       all = λ y. by_case y (is_held y (held ++ h ∷ [])) refl;
     }
-
--- the loans with one more
-pub loans_of-push : (held : List Held) (x : ℕ) (loan : Loan) (bytes : List ℕ) → loan.bytes ≡ bytes → loans_of (held ++ record { block = x; loan = loan } ∷ []) ≡ loans_of held ++ (x, bytes) ∷ []
-loans_of-push held x loan bytes is = map-append (λ (h : Held). (h.block, h.loan.bytes)) held (record { block = x; loan = loan } ∷ []) ∙ ap (λ (bs : List ℕ). loans_of held ++ (x, bs) ∷ []) is
 
 -- a write leaves the blocks whose loans are held
 is_held-written : (y x at : ℕ) (bytes : List ℕ) (held : List Held) → is_held y (held_written x at bytes held) ≡ is_held y held

@@ -1,7 +1,6 @@
 -- The queue of answers, as it is asked.
-use Rattle.std.proofs.Common.{◌≡◌, ℕ, ◌&&◌, Bool, List, [], ◌∷◌, ◌++◌, Option, Some, None, refl, sym, ap, ◌∙◌, append_assoc}
-use Rattle.std.specs.Prelude.{IfNone, IfSome, is_some}
-use Rattle.std.specs.List.{list_all}
+use Rattle.std.proofs.Common.{◌≡◌, ℕ, List, [], ◌∷◌, ◌++◌, Option, Some, None, refl, sym, ap, ◌∙◌, append_assoc}
+use Rattle.std.specs.Prelude.{IfNone, IfSome}
 use Rattle.std.proofs.lemmas.List.{append-nil}
 use Rattle.std.proofs.lemmas.List.Elements.{filter_map-append}
 use Rattle.mac_base.specs.declared.error.OsErr.{OsErr}
@@ -46,12 +45,6 @@ noted-answers call code (a ∷ b ∷ asks) = behind a.answer (noted-answers call
     behind : (o : Option Answer) → answers_in (noted call code (b ∷ asks)) ≡ answers_in (b ∷ asks) → answers_in (record a { answer = o } ∷ noted call code (b ∷ asks)) ≡ answers_in (record a { answer = o } ∷ b ∷ asks)
     behind (Some x) same = ap (λ (xs : List Answer). x ∷ xs) same
     behind None same = same
-
--- and as many asks have one
-pub noted-all_answered : (call : ReleasingCall) (code : Option OsErr) (asks : List Ask) → list_all (λ (a : Ask). is_some a.answer) (noted call code asks) ≡ list_all (λ (a : Ask). is_some a.answer) asks
-noted-all_answered call code [] = refl
-noted-all_answered call code (a ∷ []) = refl
-noted-all_answered call code (a ∷ b ∷ asks) = ap (λ (rest : Bool). is_some a.answer && rest) (noted-all_answered call code (b ∷ asks))
 
 -- the asks with the last of them noted anew
 pub noted-back : (call : ReleasingCall) (code : Option OsErr) (asks front : List Ask) (ask new : Ask) → asks ≡ front ++ ask ∷ [] → new ∷ [] ≡ noted call code (ask ∷ []) → front ++ new ∷ [] ≡ noted call code asks

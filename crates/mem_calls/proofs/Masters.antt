@@ -1,19 +1,18 @@
 -- The run of a call's request behind one for a master block.
-use Rattle.std.proofs.Common.{◌≡◌, ℕ, ◌-◌, Bool, true, false, cond, eqb, List, [], ◌∷◌, ◌++◌, length, Option, Some, None, refl, ap, sym, ◌∙◌, arith, append-nil}
+use Rattle.std.proofs.Common.{◌≡◌, ℕ, ◌-◌, Bool, true, false, cond, eqb, List, [], ◌∷◌, ◌++◌, length, Option, Some, None, refl, ap, sym, ◌∙◌, arith}
 use Rattle.std.specs.Prelude.{is_some, ◌&&◌}
 use Rattle.std.specs.List.{list_all}
 use Rattle.std.proofs.lemmas.List.Elements.{filter_map-append}
 use Rattle.mac_base.specs.HeadKind.{Shape}
 use Rattle.mac_base.specs.ZoneMap.{ZoneMap}
 use Rattle.mac_base.specs.Heap.{Heap, front_slot, has_none}
-use Rattle.mac_base.specs.ZoneState.{ZoneState}
 use Rattle.mac_base.specs.declared.request.Request.{Request}
-use Rattle.mac_base.specs.declared.request.Request.TheVariants.{NewBlock, NewEmpty, NewPointer, NewMaster, Reserve, Resize, Replace}
+use Rattle.mac_base.specs.declared.request.Request.TheVariants.{NewMaster}
 use Rattle.mac_base.specs.Serve.{serve}
 use Rattle.mac_calls.specs.GrowZone.{Answer, Ask, answers_in, most_answers, carried_out}
 use Rattle.mac_calls.specs.ExactRequest.{Ending, unserved, served_or, after_ask, asked, prepared, request_run}
 use Rattle.mac_calls.specs.ExactStep.{behind_master}
-use Rattle.zone_heap.specs.Attempts.{CanAsk, lacks_slot}
+use Rattle.zone_heap.specs.Attempts.{lacks_slot}
 use Rattle.mac_base.specs.Request.{makes_handle}
 use Rattle.mem_calls.specs.Requesting.{MayAskMore, IsRun, IsCallRun, call_run, given_or_full}
 use Rattle.mem_calls.proofs.Running.{other_answered}
@@ -95,43 +94,10 @@ run-longer s protected r x allowed (a ∷ later) rest heap given none =
     by_case mid after ask b d e longer None more h none = by_tests mid after ask b d e longer more h none
     by_case mid after ask b d e longer (Some found) more h none = absurd (cc none)
 
--- a request for a new handle needs nothing else
-pub ready-handle : (r : Request) (old new : ZoneState) → lacks_slot r old.heap ≡ true → CanAsk old r → CanAsk new r
-ready-handle (NewBlock n) old new lacks ready = record { size = ready.size; operand = refl }
-ready-handle NewEmpty old new lacks ready = record { size = ready.size; operand = refl }
-ready-handle (NewPointer n) old new lacks ready = absurd (cc lacks)
-ready-handle NewMaster old new lacks ready = absurd (cc lacks)
-ready-handle (Reserve n) old new lacks ready = absurd (cc lacks)
-ready-handle (Resize y n) old new lacks ready = absurd (cc lacks)
-ready-handle (Replace y n) old new lacks ready = absurd (cc lacks)
-
 module _ (s : Shape) (protected : List ℕ) (r : Request) (before : List Ask) (unasked : before ≡ []) (old : Heap) where
-  -- where a slot is free, or none is needed
-  pub call-runs : (left : ℕ) (after : List Ask) (given : Option ℕ) (new : Heap) → lacks_slot r old ≡ false → IsRun s protected r most_answers left before after old given new
-      → IsCallRun s protected r after old (given_or_full given) new
-  call-runs left after given new slot run =
-      let behind : after ≡ run.asks = run.behind ∙ ap (λ asks. asks ++ run.asks) unasked in
-      record {
-        given = given;
-        result_is = refl;
-        run = ap (call_run s protected r (answers_in after) old) slot ∙ ap (λ asks. request_run s protected r most_answers (answers_in asks) old) behind ∙ run.run
-            ∙ ap (λ (asks : List Ask). record { given = given; heap = new; asks = asks; left = [] }) (sym behind);
-      }
-
   -- what is behind the run for a master block
   abbrev finished : Ending → Ending
   finished master = let e = behind_master s protected r master master.given in record e { asks = master.asks ++ e.asks }
-
-  -- the master block isn't given
-  pub call-no_master : (left : ℕ) (after : List Ask) (new : Heap) → lacks_slot r old ≡ true → IsRun s protected NewMaster most_answers left before after old None new → IsCallRun s protected r after old (given_or_full None) new
-  call-no_master left after new slot run =
-      let behind : after ≡ run.asks = run.behind ∙ ap (λ asks. asks ++ run.asks) unasked in
-      record {
-        given = None;
-        result_is = refl;
-        run = ap (call_run s protected r (answers_in after) old) slot ∙ ap (λ asks. finished (request_run s protected NewMaster most_answers (answers_in asks) old)) behind ∙ ap finished run.run
-            ∙ ap (λ (asks : List Ask). record { given = None; heap = new; asks = asks; left = [] }) (append-nil run.asks ∙ sym behind);
-      }
 
   -- the number of a run that is served
   pub given_master : (left : ℕ) (between : List Ask) (mid : Heap) (o : Option ℕ) → is_some o ≡ true → IsRun s protected NewMaster most_answers left before between old o mid

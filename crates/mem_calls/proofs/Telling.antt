@@ -1,9 +1,9 @@
 -- The calls of an answer carried out in order, as far as they are.
-use Rattle.std.proofs.Common.{◌≡◌, ℕ, suc, ◌+◌, ◌<◌, ◌≤◌, true, List, [], ◌∷◌, ◌++◌, length, take, drop, Option, Some, None, refl, ap, sym, ◌∙◌, arith, append-nil, length-append, slice_index_or}
+use Rattle.std.proofs.Common.{◌≡◌, ℕ, suc, ◌+◌, ◌<◌, true, List, [], ◌∷◌, ◌++◌, length, take, drop, Option, Some, None, refl, ap, sym, ◌∙◌, arith, append-nil, length-append, slice_index_or}
 use Rattle.std.specs.List.{flat_map}
 use Rattle.std.specs.Option.{option_to_list}
 use Rattle.std.proofs.lemmas.Grind.{flat_map-append}
-use Rattle.std.proofs.lemmas.List.{take_more, take_all}
+use Rattle.std.proofs.lemmas.List.{take_more}
 use Rattle.std.proofs.Math.Seq.{split_at}
 use Rattle.mac_base.specs.HeadKind.{Shape}
 use Rattle.mac_base.specs.Heap.{Heap}
@@ -28,10 +28,6 @@ pub calls-same : (places : List (Option ReleasingCall)) (i : ℕ) (place : Optio
     → calls_at (take (i + 1) places) ≡ calls_at (take i places)
 calls-same places i place below at is = ap calls_at (take_more places i place below ∙ ap (λ o. take i places ++ o ∷ []) (sym at ∙ is)) ∙ flat_map-append option_to_list (take i places) (None ∷ [])
     ∙ append-nil (calls_at (take i places))
-
--- all places
-pub calls-all : (places : List (Option ReleasingCall)) (i : ℕ) → length places ≤ i → calls_at (take i places) ≡ calls_at places
-calls-all places i long = ap calls_at (take_all i places long)
 
 -- before a call there are fewer of them than in all
 pub calls-fewer : (places : List (Option ReleasingCall)) (i : ℕ) (place : Option ReleasingCall) (call : ReleasingCall) → i < length places → place ≡ slice_index_or places i place → place ≡ Some call

@@ -39,11 +39,7 @@ attempted-fits s heap r found sound ready slot is =
     let parts = option_map-Some (λ (p : ℕ × ZoneMap). (p.0, granted r p.0 p.1 heap)) (serve s heap.table (front_slot heap) heap.map r) found is in
     sym (serve-fits s heap.table (front_slot heap) heap.map r sound.suits (may_ask s heap r sound ready slot)) ∙ ap is_some parts.1
 
--- a heap in which the request fits is prepared as it is
-pub prepared-fits : (s : Shape) (protected : List ℕ) (r : Request) (heap : Heap) → fits s heap.table r heap.map ≡ true → prepared s protected r heap ≡ heap
-prepared-fits s protected r heap h = ap (λ b. cond b heap (purged s protected r (grown s heap))) h
-
--- another is grown and purged
+-- a heap in which the request does not fit is grown and purged
 pub prepared-else : (s : Shape) (protected : List ℕ) (r : Request) (heap : Heap) → fits s heap.table r heap.map ≡ false → prepared s protected r heap ≡ purged s protected r (grown s heap)
 prepared-else s protected r heap h = ap (λ b. cond b heap (purged s protected r (grown s heap))) h
 

@@ -1,8 +1,7 @@
 -- The disks of the resource files: how a device may fail, what an update leaves on a disk, and what opening reads.
-use Rattle.std.specs.Prelude.{◌≡◌, ℕ, ◌<◌, ◌≤◌, Bool, true, false, List, [], length, replicate, Result, Ok, Err, IsFalse}
+use Rattle.std.specs.Prelude.{◌≡◌, ℕ, ◌<◌, ◌≤◌, Bool, true, false, List, [], length, replicate, Result, Ok, Err}
 use Rattle.mac_base.specs.declared.error.OsErr.{OsErr}
 use Rattle.mac_base.specs.declared.error.OsErr.TheVariants.{EofErr, MapReadErr, IoErr}
-use Rattle.fork_disk.specs.Disk.{Rose}
 use Rattle.fork_bytes.specs.declared.table.Table.{Table}
 use Rattle.fork_bytes.specs.Fork.{IsFork, StandsFor}
 use Rattle.res_calls.specs.Changes.{FileTable, opened_table}
@@ -21,10 +20,6 @@ abbrev pub device_works : Device → Bool
 device_works Works = true
 device_works FailsBefore = false
 device_works (FailsWriting left) = false
-
--- a device that goes so fails only where its count of failures rose
-abbrev pub IsCaused : Device → ℕ → ℕ → Type 0
-IsCaused device before now = IsFalse (device_works device) → Rose before now
 
 -- the table of a file without resources
 abbrev pub empty_table : FileTable

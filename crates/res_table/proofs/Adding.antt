@@ -1,8 +1,7 @@
 -- A new row put in behind the last of its type.
-use Rattle.std.proofs.Common.{◌≡◌, refl, subst, sym, ap, ◌∙◌, arith, ℕ, suc, ◌+◌, ◌<◌, ◌≤◌, List, [], ◌∷◌, length, drop, get_or, Bool, true, false, not}
+use Rattle.std.proofs.Common.{◌≡◌, refl, subst, sym, ap, ◌∙◌, arith, ℕ, suc, ◌+◌, ◌≤◌, List, [], ◌∷◌, length, Bool, true, false, not}
 use Rattle.std.specs.Prelude.{if◌then◌else◌, insert, ◌||◌, ◌&&◌}
 use Rattle.std.specs.List.{list_any}
-use Rattle.std.proofs.Math.Seq.{drop-cons}
 use Rattle.res_table.specs.declared.row.Row.{Row}
 use Rattle.res_table.specs.Rows.{is_of_type, added}
 use Rattle.res_table.specs.Behind.{last_of_type, end_of_type}
@@ -72,9 +71,3 @@ end-within kind rows = subst (λ n. n ≤ length rows) (sym (last-is kind (lengt
     by : (some : Bool) → up_to_last kind rows ≤ length rows → (if some then 0 + up_to_last kind rows else length rows) ≤ length rows
     by true within = omega arith
     by false within = omega arith
-
--- one step of the search
-pub last-step : {D : Type 0} (kind : List ℕ) (end at : ℕ) (rows : List (Row D)) (d : Row D) → at < length rows
-    → last_of_type kind end at (drop at rows) ≡ last_of_type kind (if is_of_type kind (get_or rows at d) then at + 1 else end) (at + 1) (drop (at + 1) rows)
-last-step kind end at rows d within = ap (last_of_type kind end at) (drop-cons rows at d within)
-    ∙ ap (λ k. last_of_type kind (if is_of_type kind (get_or rows at d) then at + 1 else end) (at + 1) (drop k rows)) (let e : suc at ≡ at + 1 = omega arith in e)

@@ -148,12 +148,6 @@ no_row {D} place chain is some =
     let P : Option (OpenFile D) → Type 0 = λ found. IsSome (option_and_then (λ (table : ResourceTable D). slice_get table.rows place.index) (option_map table_in found)) in
     let none = subst P ((none_open place.file chain.files (past_end _ chain.files is)).1) some in absurd (cc none)
 
--- writing what stands there changes nothing
-pub set-same : {X : Type 0} (xs : List X) (i : ℕ) (x : X) → x ≡ get_or xs i x → i < length xs → set xs i x ≡ xs
-set-same [] i x is within = absurd (omega arith)
-set-same (y ∷ ys) zero x is within = ap (λ (z : _). z ∷ ys) is
-set-same (y ∷ ys) (suc i) x is within = ap (λ (zs : List _). y ∷ zs) (set-same ys i x is (omega arith))
-
 -- where the file of a number isn't found it isn't open
 pub not_open : {D : Type 0} (k : ℕ) (chain : OpenFiles D) → position (is_numbered k) chain.files ≡ None → is_open k chain ≡ true → ⊥
 not_open k chain is open_now = let none = (none_open k chain.files (past_end _ chain.files is)).0 in cc

@@ -1,15 +1,9 @@
 -- The lines of a script print the replies of a run of calls.
-use Rattle.std.proofs.Common.{◌≡◌, ℕ, List, [], ◌∷◌, Ok, Err, refl, ap, sym, subst, ◌∙◌}
-use Rattle.std.specs.Prelude.{All, map}
-use Rattle.mac_calls.specs.declared.call.Call.{Call}
-use Rattle.mac_calls.specs.declared.call.Call.TheVariants.{Memory as MemoryCalls, Loan, Resource, MemError, ResError}
+use Rattle.std.proofs.Common.{ℕ, List, [], ◌∷◌, refl, subst}
+use Rattle.mac_calls.specs.declared.call.Call.TheVariants.{Resource}
 use Rattle.mac_calls.specs.declared.resource_call.ResourceCall.TheVariants.{OpenResFile}
-use Rattle.mac_calls.specs.GrowZone.{Ask, answered}
 use Rattle.mac_calls.specs.Outcomes.{Outcome}
-use Rattle.mac_base.specs.ZoneSizes.{ZoneSizes}
 use Rattle.fork_disk.specs.declared.store.ForkStore.{Ghosts}
-use Rattle.res_files.specs.FilesOn.{FilesOn}
-use Rattle.toolbox.specs.Steps.{Gives}
 use Rattle.toolbox.specs.Headline.{tools_of}
 use Rattle.toolbox.specs.ToolState.{IsHonest}
 use Rattle.toolbox.proofs.Headline.{tool-does}
@@ -21,9 +15,7 @@ use Rattle.script_run.specs.declared.machine.Machine.{Machine}
 use Rattle.script_run.specs.Line.{StatementDoes, start_of}
 use Rattle.script_run.specs.Run.{AreRun}
 use Rattle.script_run.proofs.Honest.{before-lines}
-use Rattle.res_calls.specs.Steps.{Memory}
-use Rattle.res_laws.specs.Tools.{Called, IsToolRun, ToolDoes, Tools}
-use Rattle.res_laws.proofs.Acts.{anything-left}
+use Rattle.res_laws.specs.Tools.{Called, IsToolRun, Tools}
 use Rattle.res_laws.proofs.Tools.{tools-show}
 use Rattle.script_run.specs.Headline.{PrintReplies, PrintsReply, RunShows}
 

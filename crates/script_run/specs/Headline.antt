@@ -1,5 +1,5 @@
 -- What the lines of a script print, told of the calls that were made.
-use Rattle.std.specs.Prelude.{◌≡◌, ℕ, List, [], ◌∷◌, All, Ok, Err, ⊤}
+use Rattle.std.specs.Prelude.{◌≡◌, ℕ, List, [], ◌∷◌, All}
 use Rattle.mac_base.specs.ZoneSizes.{ArePossible, ZoneSizes}
 use Rattle.mac_calls.specs.declared.call.Call.TheVariants.{Resource}
 use Rattle.mac_calls.specs.declared.resource_call.ResourceCall.TheVariants.{OpenResFile}

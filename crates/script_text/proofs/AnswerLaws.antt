@@ -7,21 +7,13 @@ use Rattle.std.proofs.lemmas.List.{take_rest, nil_from_length}
 use Rattle.std.proofs.lemmas.Slice.Eq.{bytes_eq-Decides}
 use Rattle.script_lines.specs.declared.line.NumberOperand.{NumberOperand}
 use Rattle.script_lines.specs.Numbers.{as_operand}
-use Rattle.script_lines.specs.declared.line.ReleasingName.{ReleasingName}
-use Rattle.script_lines.specs.declared.line.ReleasingName.TheVariants.{DisposeHandle, DisposePtr, EmptyHandle}
 use Rattle.script_lines.specs.declared.line.WrittenAnswer.{WrittenAnswer}
 use Rattle.script_lines.specs.declared.line.WrittenCall.{WrittenCall}
 use Rattle.script_text.specs.Tokens.{Token, Word}
-use Rattle.script_text.specs.Answers.{releasing_text, IsWrittenCall, AreCalls, AreFewCalls, IsAnswer, MayFollow}
+use Rattle.script_text.specs.Answers.{IsWrittenCall, AreCalls, AreFewCalls, IsAnswer, MayFollow}
 use Rattle.script_lines.specs.Calls.{most_calls}
 use Rattle.script_text.specs.Operands.{IsNumberOperand}
 use Rattle.script_text.proofs.OneAnswer.{one_written, one_calls}
-
--- a word that is none of the names
-pub no_releasing : (word : List ℕ) → codes "DisposeHandle" ≢ word → codes "DisposePtr" ≢ word → codes "EmptyHandle" ≢ word → (name : ReleasingName) → releasing_text name ≢ word
-no_releasing word one two three DisposeHandle e = one e
-no_releasing word one two three DisposePtr e = two e
-no_releasing word one two three EmptyHandle e = three e
 
 -- the tokens in front of `rest` are these calls: what is left decides on the whole
 pub record Calling (names : List (List ℕ)) (tokens rest : List Token) (calls : List WrittenCall) : Type 0 where

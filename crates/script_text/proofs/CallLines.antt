@@ -1,5 +1,5 @@
 -- Which tokens make a call.
-use Rattle.std.proofs.Common.{◌≡◌, ℕ, List, [], ◌∷◌, ◌++◌, Option, Some, None, sym, ap, subst, ◌∙◌}
+use Rattle.std.proofs.Common.{◌≡◌, ℕ, List, ◌∷◌, ◌++◌, Option, Some, None, sym, ap, subst, ◌∙◌}
 use Rattle.std.specs.Prelude.{IfSome, IsTrue}
 use Rattle.mac_calls.specs.declared.table.CallName.{CallName}
 use Rattle.script_lines.specs.declared.line.CallLine.{CallLine}
@@ -30,14 +30,6 @@ behind_by names tokens rest (Some o) x parted p are (Some a) e =
 
 behind : (names : List (List ℕ)) (tokens rest : List Token) (o : Option (List ℕ)) (x : CallLine) → Parted tokens o rest → (p : IsCall names tokens x) → rest ≡ Word (signature x.call).name ∷ p.1
 behind names tokens rest o x parted p = behind_by names tokens rest o x parted p.1 p.5 p.0 p.2
-
--- no tokens make no call
-pub no_call : (names : List (List ℕ)) (line : CallLine) → ¬ IsCall names [] line
-no_call names line p = empty p.0 p.2
-  where
-    empty : (x : Option (List ℕ)) → [] ≡ assignment x ++ Word (signature line.call).name ∷ p.1 → ⊥
-    empty None e = absurd cc
-    empty (Some name) e = absurd cc
 
 -- tokens without the name of a call behind the assignment make no call
 pub no_named : (names : List (List ℕ)) (tokens rest : List Token) (o : Option (List ℕ)) → Parted tokens o rest → HasNoCall rest → (x : CallLine) → ¬ IsCall names tokens x

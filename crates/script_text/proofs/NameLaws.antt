@@ -1,5 +1,5 @@
 -- No two names have one place, and a name keeps its place.
-use Rattle.std.proofs.Common.{◌≡◌, ℕ, suc, ◌+◌, ◌<◌, Bool, true, false, cond, eqb, List, [], ◌∷◌, ◌++◌, length, get_or, Option, Some, None, refl, sym, ap, ◌∙◌, arith}
+use Rattle.std.proofs.Common.{◌≡◌, ℕ, suc, ◌+◌, ◌<◌, Bool, true, false, cond, eqb, List, [], ◌∷◌, ◌++◌, length, get_or, Some, refl, sym, ap, ◌∙◌, arith}
 use Rattle.std.specs.Borrow.{Bor}
 use Rattle.std.specs.Prelude.{not, ◌||◌}
 use Rattle.std.specs.List.{list_any, position_or_len}
@@ -84,11 +84,6 @@ stays_by names a place false named e =
 -- a name that has a place is added no more
 pub stays_named : (names : List (List ℕ)) (a : List ℕ) (place : ℕ) → place_of names a ≡ Some place → names ≡ with_name names a
 stays_named names a place e = stays_by names a place (is_named names a) refl e
-
--- the name that was assigned last has its place when another is assigned
-pub last_kept : (names : List (List ℕ)) (b : List ℕ) (last : Option (Bor (List ℕ) × ℕ)) → IsLast names last → IsLast (with_name names b) last
-last_kept names b None is = tt
-last_kept names b (Some it) is = keeps_place names it.0.now b it.1 is
 
 -- a name that is assigned now is the last
 pub last_taken : (names : List (List ℕ)) (a : Bor (List ℕ)) (place : ℕ) → place ≡ place_for names a.now → IsLast (with_name names a.now) (Some (a, place))

@@ -1,6 +1,6 @@
 -- Look-ups by the bytes of names, in sets whose keys spell them.
 use Rattle.std.proofs.Common.{◌≡◌, ℕ, ◌+◌, Bool, true, false, cond, List, [], ◌∷◌, ◌++◌, map, refl, sym, ap, ◌∙◌}
-use Rattle.std.specs.Prelude.{◌||◌, not, position, Result, Ok, Err, OnOk}
+use Rattle.std.specs.Prelude.{◌||◌, not, position}
 use Rattle.std.specs.List.{list_any, position_or_len}
 use Rattle.std.specs.Str.{bytes_eq}
 use Rattle.std.proofs.lemmas.List.{map_push, length-map}
@@ -30,8 +30,3 @@ pub with_name-map : {V : Type 0} (spelled : V → List ℕ) (keys : List V) (key
 with_name-map spelled keys key =
     with_name-cases spelled key keys (list_any (λ k. bytes_eq (spelled key) (spelled k)) keys)
     ∙ ap (λ (b : Bool). cond b (map spelled keys) (map spelled keys ++ spelled key ∷ [])) (sym (is_named-map spelled (spelled key) keys))
-
--- a fact holds where a call succeeded
-pub on_ok : {X E : Type 0} (r : Result X E) (P : Type 0) → P → OnOk r P
-on_ok (Ok x) P h = h
-on_ok (Err e) P h = tt

@@ -15,7 +15,7 @@ use Rattle.script_lines.specs.declared.line.WrittenCall.{WrittenCall}
 use Rattle.script_text.specs.Tokens.{Token, Equals, Word}
 use Rattle.script_text.specs.Answers.{releasing_text, IsWrittenCall, AreCalls, IsAnswer}
 use Rattle.script_text.specs.Operands.{IsNumberOperand}
-use Rattle.script_text.specs.Script.{assignment, assigned_by, IsCall}
+use Rattle.script_text.specs.Script.{assignment, IsCall}
 use Rattle.script_text.proofs.OneOperand.{one_number_operand}
 
 -- no two calls of answers have one name
@@ -99,11 +99,3 @@ not_both names tokens line answer p q = by_name p.0 (sym p.2 ∙ q.2)
     by_name : (name : Option (List ℕ)) → assignment name ++ Word (signature line.call).name ∷ p.1 ≡ Word (codes "gz") ∷ q.0 ∷ q.1 → ⊥
     by_name None e = let same : (signature line.call).name ≡ codes "gz" = cc in no_gz line.call same
     by_name (Some name) e = let value : q.0 ≡ Equals = cc in no_equals names (as_operand answer.value) (subst (λ (t : Token). IsNumberOperand names t (as_operand answer.value)) value q.3)
-
-assigned_value : (names : List (List ℕ)) (value : Token) (rest : List Token) (x : Operand) → IsNumberOperand names value x → assigned_by (Word (codes "gz") ∷ value ∷ rest) ≡ None
-assigned_value names (Word word) rest x is = refl
-assigned_value names token rest x is = absurd is
-
--- an answer assigns no name
-pub answer_assigns : (names : List (List ℕ)) (tokens : List Token) (answer : WrittenAnswer) → IsAnswer names tokens answer → assigned_by tokens ≡ None
-answer_assigns names tokens answer is = ap assigned_by is.2 ∙ assigned_value names is.0 is.1 (as_operand answer.value) is.3

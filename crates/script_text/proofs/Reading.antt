@@ -7,10 +7,6 @@ pub record Reading (line rest : List ℕ) (read : List Token) : Type 0 where
   pub there : (more : List Token) → AreTokens rest more → AreTokens line (read ++ more)
   pub back : (all : List Token) → AreTokens line all → (more : List Token) × (all ≡ read ++ more) × AreTokens rest more
 
--- at the start
-pub reading_none : (line : List ℕ) → Reading line line []
-reading_none line = record { there = λ more h. h; back = λ all h. (all, refl, h) }
-
 -- one token more
 pub reading_more : (line rest behind : List ℕ) (read : List Token) (token : Token) → Reading line rest read → TakesToken rest token behind → Reading line behind (read ++ token ∷ [])
 reading_more line rest behind read token r takes = record { there = there; back = back }
@@ -27,7 +23,3 @@ reading_more line rest behind read token r takes = record { there = there; back 
 -- the end of the line
 pub reading_all : (line rest : List ℕ) (read : List Token) → Reading line rest read → AreTokens rest [] → AreTokens line read
 reading_all line rest read r h = subst (λ (t : List Token). AreTokens line t) (append-nil read) (r.there [] h)
-
--- bytes that are no token
-pub reading_fails : (line rest : List ℕ) (read : List Token) → Reading line rest read → ((more : List Token) → ¬ AreTokens rest more) → (all : List Token) → ¬ AreTokens line all
-reading_fails line rest read r none all h = let found = r.back all h in none found.0 found.2

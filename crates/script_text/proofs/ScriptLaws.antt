@@ -1,5 +1,5 @@
 -- The lines of a script, read one by one.
-use Rattle.std.proofs.Common.{◌≡◌, ℕ, ◌+◌, ◌≤◌, List, [], ◌∷◌, ◌++◌, length, take, Option, Some, None, refl, sym, ap, subst, ◌∙◌, append_assoc, append-nil, add-one, arith}
+use Rattle.std.proofs.Common.{◌≡◌, ℕ, ◌+◌, ◌≤◌, List, [], ◌∷◌, ◌++◌, length, take, Option, Some, None, refl, sym, ap, subst, ◌∙◌, append_assoc, add-one, arith}
 use Rattle.std.specs.Prelude.{slice_get, option_to_list}
 use Rattle.std.specs.Str.Lines.{lines}
 use Rattle.std.proofs.lemmas.List.{take_at, length_push}
@@ -7,7 +7,7 @@ use Rattle.script_lines.specs.declared.line.Line.{Line}
 use Rattle.script_text.specs.declared.script.Fault.{Fault}
 use Rattle.script_text.specs.declared.script.Fault.TheVariants as fault
 use Rattle.script_text.specs.Tokens.{Token, AreTokens}
-use Rattle.script_text.specs.Script.{AreLines, AreParted, IsScript, IsFaultAt, IsNoLine, StopsBehind, IsFault, names_after, names_of, max_lines, max_script}
+use Rattle.script_text.specs.Script.{AreLines, AreParted, IsFaultAt, IsNoLine, StopsBehind, IsFault, names_after, names_of, max_lines, max_script}
 use Rattle.script_text.specs.Reading.{Says, Reads, Fails}
 
 -- one text more
@@ -84,11 +84,6 @@ parsing_more text rest behind here number names new script found p split reads =
 
     counted : number + 1 ≡ length (p.front ++ here ∷ [])
     counted = let c = p.count in omega (arith, length_push p.front here)
-
--- no line is left
-pub parsing_all : (text rest : List ℕ) (number : ℕ) (names : List (List ℕ)) (script : List Line) → length text ≤ max_script → Parsing text rest number names script → lines rest ≡ [] → IsScript text script
-parsing_all text rest number names script small p none =
-    (small, p.parted, subst (λ (t : List (List ℕ)). AreParted t p.parted) (sym (p.texts ∙ ap (λ (t : List (List ℕ)). p.front ++ t) none ∙ append-nil p.front)) p.parts, p.are)
 
 slice_get-at : (front : List (List ℕ)) (here : List ℕ) (behind : List (List ℕ)) → slice_get (front ++ here ∷ behind) (length front) ≡ Some here
 slice_get-at [] here behind = refl

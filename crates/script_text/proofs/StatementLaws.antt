@@ -1,24 +1,14 @@
 -- What the tokens of a line say.
-use Rattle.std.proofs.Common.{◌≡◌, ◌≢◌, ℕ, ◌<◌, ◌≤◌, List, [], ◌∷◌, Option, Some, refl, sym, ap, subst, ◌∙◌, arith}
+use Rattle.std.proofs.Common.{◌≡◌, ◌≢◌, ℕ, ◌≤◌, List, [], ◌∷◌, Some, refl, subst}
 use Rattle.script_lines.specs.declared.line.CallLine.{CallLine}
 use Rattle.script_lines.specs.declared.line.Statement.{Statement}
 use Rattle.script_lines.specs.declared.line.Statement.TheVariants.{Call, Answer}
 use Rattle.script_lines.specs.declared.line.WrittenAnswer.{WrittenAnswer}
 use Rattle.script_text.specs.Answers.{IsAnswer}
-use Rattle.script_text.specs.Tokens.{Token, AreTokens, HasNoTokens}
-use Rattle.script_text.specs.Script.{IsCall, IsStatement, MayStand, IsNoLine, names_after, with_assigned, max_lines}
+use Rattle.script_text.specs.Tokens.{Token, AreTokens}
+use Rattle.script_text.specs.Script.{IsCall, IsStatement, MayStand, IsNoLine, names_after, max_lines}
 use Rattle.script_text.specs.Reading.{Says, Reads}
-use Rattle.script_text.proofs.OneAnswer.{answer_assigns}
 use Rattle.script_text.proofs.TokenLaws.{one_tokens}
-
--- no line has a number above the largest
-pub no_number : (number : ℕ) (names : List (List ℕ)) (text : List ℕ) → max_lines < number → IsNoLine number names text
-no_number number names text over [] are may = absurd (omega arith)
-no_number number names text over (token ∷ tokens) are may = let small = may.1.0 in absurd (omega arith)
-
--- a text with bytes that are no token is no line
-pub no_tokens : (number : ℕ) (names : List (List ℕ)) (text : List ℕ) → HasNoTokens text → IsNoLine number names text
-no_tokens number names text none tokens are may = none tokens are
 
 says_none : (number : ℕ) (names : List (List ℕ)) (tokens : List Token) → tokens ≢ [] → ((statement : Statement) → ¬ IsStatement names tokens statement) → ¬ MayStand number names tokens
 says_none number names [] some none may = some refl
@@ -42,7 +32,3 @@ no_statement names tokens call answer (Answer line) is = answer line is
 -- the tokens of a text that make a call or queue an answer say what its line says
 pub reads_statement : (number : ℕ) (names after : List (List ℕ)) (text : List ℕ) (tokens : List Token) (statement : Statement) → number ≤ max_lines → AreTokens text tokens → tokens ≢ [] → IsStatement names tokens statement → after ≡ names_after names tokens → Reads number names text (Some (record { number = number; statement = statement })) after
 reads_statement number names after text tokens statement small are some is named = record { tokens = tokens; are = are; says = says_line number names tokens statement small some is; named = named }
-
--- tokens that queue an answer assign no name
-pub answer_keeps : (names after : List (List ℕ)) (tokens : List Token) (answer : WrittenAnswer) → after ≡ names → IsAnswer names tokens answer → after ≡ names_after names tokens
-answer_keeps names after tokens answer same is = same ∙ ap (λ (o : Option (List ℕ)). with_assigned names o) (sym (answer_assigns names tokens answer is))

@@ -1,5 +1,5 @@
 -- What is promised of the calls that are made of a toolbox.
-use Rattle.std.proofs.Common.{◌≡◌, List, [], ◌∷◌, map, refl, ap, sym, subst, ◌∙◌}
+use Rattle.std.proofs.Common.{◌≡◌, List, [], ◌∷◌, map, ap, subst, ◌∙◌}
 use Rattle.std.specs.Prelude.{All}
 use Rattle.mac_base.specs.HeadKind.{Shape}
 use Rattle.mac_base.specs.Heap.{Heap}

@@ -2,7 +2,6 @@
 use Rattle.std.proofs.Common.{◌≡◌, ℕ, zero, suc, ◌+◌, ◌-◌, ◌<◌, ◌≤◌, length, map, take, drop, get_or, Bool, true, ◌&&◌, nat_lt, List, [], ◌∷◌, ◌++◌, Option, Some, None, Ok, Err, refl, sym, ap, ◌∙◌, subst, append_assoc, length-append, length-drop, arith, inl, inr}
 use Rattle.std.specs.Prelude.{All, IfOk, OnErr, Result, is_some, filter_map, option_map}
 use Rattle.std.specs.List.{cons_option, flat_map, slice_get}
-use Rattle.std.proofs.lemmas.Option.{get_or_from_slice_get, slice_get_within}
 use Rattle.std.specs.Option.{option_to_list}
 use Rattle.std.proofs.lemmas.Bool.{and_parts}
 use Rattle.std.proofs.lemmas.Bool.Decides.{nat_tests}
@@ -77,16 +76,6 @@ left_with calls kept taken k within =
     ap (λ (rest : List Kept). map (kept_answer calls) rest) (drop-append-le taken kept (k ∷ []) within)
     ∙ map-append (kept_answer calls) (drop taken kept) (k ∷ [])
 
--- calls were put behind the others, and their answer isn't kept yet
-pub calls_added : (calls new : List ReleasingCall) (kept : List Kept) (taken : ℕ) (asks : List Ask) (printed : List Asked) → IsInOrder calls kept taken asks printed → take (length calls) new ≡ calls → IsInOrder new kept taken asks printed
-calls_added calls new kept taken asks printed queue others = record {
-  within = queue.within;
-  own = own_behind calls new kept others queue.own;
-  few = queue.few;
-  out = elim queue.out [ inl all ↦ inl all | inr none ↦ inr (left_behind calls new kept taken others queue.own ∙ none) ];
-  printed_is = queue.printed_is;
-}
-
 -- what is said of a failure holds at once
 pub on_err : {A E : Type 0} (result : Result A E) (P : Type 0) → P → OnErr result P
 on_err (Ok x) P holds = tt
@@ -114,33 +103,6 @@ pushed_left calls new kept taken k answer within own others is =
     left_with new kept taken k within
     ∙ ap (λ (front : List Answer). front ++ kept_answer new k ∷ []) (left_behind calls new kept taken others own)
     ∙ ap (λ (last : Answer). left_of calls kept taken ++ last ∷ []) is
-
--- the answer that is kept at a place is the first of those that are left there
-front_left : (calls : List ReleasingCall) (kept : List Kept) (taken : ℕ) (k : Kept) → slice_get kept taken ≡ Some k → left_of calls kept taken ≡ kept_answer calls k ∷ left_of calls kept (suc taken)
-front_left calls [] taken k is = cc
-front_left calls (x ∷ kept) zero k is =
-    let same : x ≡ k = cc in
-    ap (λ (front : Kept). kept_answer calls front ∷ map (kept_answer calls) kept) same
-front_left calls (x ∷ kept) (suc n) k is = front_left calls kept n k is
-
--- it is taken
-pub front_taken : (calls : List ReleasingCall) (kept : List Kept) (taken next : ℕ) (k : Kept) (answer : Answer) → slice_get kept taken ≡ Some k → next ≡ taken + 1 → answer ≡ kept_answer calls k → left_of calls kept taken ≡ answer ∷ left_of calls kept next
-front_taken calls kept taken next k answer is one made =
-    let last : suc taken ≡ next = omega arith in
-    front_left calls kept taken k is
-    ∙ ap (λ n. kept_answer calls k ∷ left_of calls kept n) last
-    ∙ ap (λ (front : Answer). front ∷ left_of calls kept next) (sym made)
-
--- none is left behind the last
-pub none_left : (calls : List ReleasingCall) (kept : List Kept) (taken : ℕ) → slice_get kept taken ≡ None → left_of calls kept taken ≡ []
-none_left calls [] zero is = refl
-none_left calls [] (suc n) is = refl
-none_left calls (x ∷ kept) zero is = cc
-none_left calls (x ∷ kept) (suc n) is = none_left calls kept n is
-
--- the calls of an answer that is kept at a place are there
-pub own_at : (calls : List ReleasingCall) (kept : List Kept) (taken : ℕ) (k : Kept) → All (HasItsCalls calls) kept → slice_get kept taken ≡ Some k → HasItsCalls calls k
-own_at calls kept taken k own is = subst (HasItsCalls calls) (get_or_from_slice_get kept taken k k is) (own taken k (slice_get_within kept taken k is))
 
 -- eight places with these calls, and none behind them
 pub eight_places : (calls : List ReleasingCall) → length calls ≤ 8

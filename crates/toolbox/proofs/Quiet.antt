@@ -12,17 +12,14 @@ use Rattle.mac_base.specs.HandleTable.{HandleTable, Live, bytes_of, has_block, i
 use Rattle.zone_laws.proofs.Tables.{with_live_agrees}
 use Rattle.linked_zone.specs.Loans.{KeepsLoans}
 use Rattle.mac_calls.specs.declared.memory_call.MemoryCall.{MemoryCall}
-use Rattle.mac_calls.specs.declared.memory_call.MemoryCall.TheVariants.{Poke, Peek, ZoneMap as WalkZone}
+use Rattle.mac_calls.specs.declared.memory_call.MemoryCall.TheVariants.{Poke, Peek}
 use Rattle.mac_calls.specs.ExactStep.{step_unless}
 use Rattle.mac_calls.specs.RequestRun.{RequestRun}
 use Rattle.mac_calls.specs.Tests.{refusal}
-use Rattle.mac_calls.specs.declared.reply.Results.TheVariants.{Nothing, Bytes, Blocks}
-use Rattle.mac_base.specs.BlockReport.{reports_from}
-use Rattle.mac_base.specs.declared.block.Block.{Block}
+use Rattle.mac_calls.specs.declared.reply.Results.TheVariants.{Nothing, Bytes}
 use Rattle.mac_base.specs.Heap.{with_table}
-use Rattle.mac_base.specs.ZoneMap.{address_behind}
 use Rattle.mac_base.specs.ZoneState.{ZoneState, overwritten, with_contents, with_heap, written}
-use Rattle.call_laws.proofs.Steps.{step-refused, step-Peek, step-Poke, step-ZoneMap}
+use Rattle.call_laws.proofs.Steps.{step-refused, step-Peek, step-Poke}
 use Rattle.toolbox.specs.Steps.{MemorySteps}
 
 -- a call that is refused
@@ -35,12 +32,6 @@ peek_step zone x at n contents bytes passed whole is =
     let shown : bytes ≡ take n (drop at (bytes_of zone.heap.table x)) = rw (← whole, ← add-sub_cancel_left at n) is in
     let P : List ℕ → Type 0 = λ bs. MemorySteps zone (Peek x at n) [] (Ok (Bytes bs)) zone in
     subst P (sym shown) (step-Peek RequestRun zone.shape zone.heap x at n passed, ap (λ (o : Option OsErr). step_unless zone.shape [] zone.heap (Peek x at n) o) passed, refl)
-
--- the walk over the zone
-pub zone_map_step : (zone : ZoneState) (blocks : List Block) → blocks ≡ reports_from zone.heap.table (address_behind zone.shape []) zone.heap.map → MemorySteps zone WalkZone [] (Ok (Blocks blocks)) zone
-zone_map_step zone blocks is =
-    let P : List Block → Type 0 = λ bs. MemorySteps zone WalkZone [] (Ok (Blocks bs)) zone in
-    subst P (sym is) (step-ZoneMap RequestRun zone.shape zone.heap, refl, refl)
 
 -- bytes written over all others
 overwritten-whole : (old new : List ℕ) → length new ≡ length old → overwritten old new ≡ new

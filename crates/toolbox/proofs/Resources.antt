@@ -16,7 +16,7 @@ use Rattle.mac_calls.specs.GrowZone.{Ask}
 use Rattle.mac_calls.specs.Outcomes.{Outcome}
 use Rattle.res_table.specs.declared.chain.RowPlace.{RowPlace}
 use Rattle.res_table.specs.OpenFiles.{is_open, row_at}
-use Rattle.res_calls.specs.Changes.{FileRow, Files, handles_forgotten}
+use Rattle.res_calls.specs.Changes.{FileRow}
 use Rattle.res_calls.specs.Device.{Device}
 use Rattle.res_calls.specs.Files.{ResState, ResourceEnd}
 use Rattle.res_calls.specs.Loads.{loads_bytes, placing}
@@ -26,7 +26,7 @@ use Rattle.res_files.specs.FilesOn.{FilesOn}
 use Rattle.res_manager.specs.Crash.{CrashLeaves, IsSettled, file_settled}
 use Rattle.fork_disk.specs.declared.store.ForkStore.{Ghosts}
 use Rattle.toolbox.specs.Steps.{Gives, ResourceGives, Unchanged}
-use Rattle.toolbox.specs.ToolState.{ToolState, IsHonest, resource_state, without_handles}
+use Rattle.toolbox.specs.ToolState.{ToolState, IsHonest, resource_state}
 
 module _ (One Other : MemoryRelation) (MayLeave : LeaveRelation) (device : Device) (old : ResState) (call : ResourceCall) (asks : List Ask) (end : ResourceEnd)
     (same : (s : Shape) (heap : Heap) (inner : MemoryCall) (outcome : Outcome) (new : Heap) → One s heap inner asks outcome new → Other s heap inner asks outcome new) where
@@ -88,15 +88,6 @@ gives_noted store old mid refused resource_refused (Loan call) asks outcome give
 gives_noted store old mid refused resource_refused (Resource call) asks outcome gives = gives
 gives_noted store old mid refused resource_refused MemError asks outcome gives = gives
 gives_noted store old mid refused resource_refused ResError asks outcome gives = gives
-
--- handles are forgotten one after the other
-handles_forgotten-append : (hs others : List ℕ) (files : Files) → handles_forgotten (hs ++ others) files ≡ handles_forgotten others (handles_forgotten hs files)
-handles_forgotten-append [] others files = refl
-handles_forgotten-append (h ∷ hs) others files = handles_forgotten-append hs others (handles_forgotten (h ∷ []) files)
-
--- rows that have forgotten what answers disposed of forget what the call itself did
-pub both_forgotten : {S : Type 0} (hs others : List ℕ) (on : FilesOn S) → without_handles others (without_handles hs on) ≡ without_handles (hs ++ others) on
-both_forgotten hs others on = ap (λ (files : Files). record on { files = files }) (sym (handles_forgotten-append hs others on.files))
 
 -- the opening of a file asks nothing
 opening_asks_nothing : (One : MemoryRelation) (MayLeave : LeaveRelation) (device : Device) (old : ResState) (k : ℕ) (asks : List Ask) (end : ResourceEnd) → ResourceStepBy One MayLeave device old (call.OpenResFile k) asks end → asks ≡ []

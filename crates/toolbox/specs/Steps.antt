@@ -1,5 +1,5 @@
 -- What a call of the toolbox does.
-use Rattle.std.specs.Prelude.{◌≡◌, Bool, true, false, not, IsFalse, ℕ, List, [], ◌++◌, length, Option, Some, None, Ok, OnOk}
+use Rattle.std.specs.Prelude.{◌≡◌, Bool, true, false, not, IsFalse, List, [], ◌++◌, length, Option, None, Ok, OnOk}
 use Rattle.std.specs.Result.{result_err}
 use Rattle.mac_base.specs.declared.error.OsErr.{OsErr}
 use Rattle.mac_base.specs.ZoneState.{ZoneState}

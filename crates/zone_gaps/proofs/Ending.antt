@@ -1,5 +1,5 @@
 -- The blocks in use with which a run ends, by the last free one below its end.
-use Rattle.std.proofs.Common.{◌≡◌, ℕ, ◌+◌, ◌<◌, ◌≤◌, true, [], ◌∷◌, ◌++◌, refl, ap, sym, ◌∙◌, append_assoc, arith}
+use Rattle.std.proofs.Common.{◌≡◌, ℕ, ◌+◌, ◌<◌, ◌≤◌, true, [], ◌∷◌, ◌++◌, ap, sym, ◌∙◌, append_assoc, arith}
 use Rattle.mac_base.specs.declared.block.Entry.{Entry}
 use Rattle.mac_base.specs.declared.block.Kind.TheVariants.{Free}
 use Rattle.mac_base.specs.ZoneMap.{ZoneMap, block, is_free, total_size, address_behind}
@@ -10,7 +10,7 @@ use Rattle.linked_zone.specs.Places as places
 use Rattle.linked_zone.specs.Places.{EntryAt, SplitAt, none_free}
 use Rattle.zone_gaps.specs.Runs.{RunAt, UsedFrom, LastFree}
 use Rattle.page_sums.proofs.Entries.{entry_size}
-use Rattle.zone_gaps.proofs.Lasts.{no_last, same_last}
+use Rattle.zone_gaps.proofs.Lasts.{same_last}
 use Rattle.page_sums.proofs.Sizes.{all_parts}
 
 -- the last free one of some blocks and others, where it isn't below the others
@@ -98,7 +98,3 @@ module _ {start end : ℕ} (z : ZoneState) (run : RunAt z start end) where
       ends = λ front e same. ap (λ (e : Entry). is_free e.kind) ((same_last front e f.front (block Free f.size) (sym same)).1);
       place = (let there = f.place in let all = total_size-append f.front (block Free f.size ∷ []) in omega arith);
     }
-
-  -- or all
-  pub used_whole : none_free run.blocks ≡ true → UsedFrom run.blocks start start
-  used_whole none = record { rest = []; used = run.blocks; parts = refl; none = none; ends = λ front e is. absurd (no_last front e is); place = omega arith }

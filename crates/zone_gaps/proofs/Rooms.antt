@@ -31,9 +31,6 @@ use Rattle.page_sums.proofs.Sizes.{total_size-push}
 
 -- a gap that a search finds, between its addresses
 module _ (z : ZoneState) (test : Gap → Bool) (g : Gap) (found : find test (gaps z.heap.table z.heap.map) ≡ Some g) (start end : ℕ) (place : start ≡ address_behind z.shape g.before) (long : end ≡ start + total_size g.blocks) where
-  abbrev pub at_found : GapAt z start
-  at_found = record { gap = g; among = find-contains test (gaps z.heap.table z.heap.map) g found; place = place }
-
   -- is the one that is sought
   pub gap_found : IsGapOf z (find test (gaps z.heap.table z.heap.map)) (record { start = start; end = end })
   gap_found = record { gap = g; is = found; start = place; end = long }

@@ -11,7 +11,6 @@ use Rattle.mac_base.specs.Gap.{Gap, is_fixed}
 use Rattle.mac_base.specs.HandleTable.{HandleTable, Live, EmptyHandle, FullHandle, Pointer, live_at, live_full, live_handle, live_pointer, is_full, is_handle, is_lent, is_locked}
 use Rattle.mac_base.specs.Heap.{Heap}
 use Rattle.mac_base.specs.Loans.{LoansAreFixed}
-use Rattle.mac_base.specs.Sound.{Sound}
 use Rattle.mac_base.specs.Suits.{is_handle_block}
 use Rattle.mac_base.specs.ZoneMap.{ZoneMap, address_behind, sizes, total_size}
 use Rattle.mac_base.specs.ZoneState.{ZoneState}
@@ -22,10 +21,6 @@ use Rattle.linked_zone.specs.Places.{can_move, all_can_move}
 use Rattle.fixed_index.specs.Runs.{RestAt, none_fixed}
 use Rattle.zone_gaps.specs.Runs.{HasOwners, RunAt, has_owner}
 use Rattle.page_sums.proofs.Sizes.{all_parts}
-
--- a sound heap in which what is lent is fixed is settled
-pub settled-sound : (z : ZoneState) → Sound z.shape z.heap → LoansAreFixed z.heap → Settled z
-settled-sound z sound loans = let suits = sound.suits in record { coherent = suits.coherent; sizes = suits.sizes; loans = loans }
 
 -- a handle with a block is live
 live_full-handle : (o : Option Live) → live_full o ≡ true → live_handle o ≡ true

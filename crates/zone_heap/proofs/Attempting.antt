@@ -6,7 +6,7 @@ use Rattle.mac_base.specs.declared.block.Kind.{Kind}
 use Rattle.mac_base.specs.declared.block.Kind.TheVariants.{Free, Master, Ptr, Rel}
 use Rattle.mac_base.specs.declared.request.Request.{Request}
 use Rattle.mac_base.specs.declared.request.Request.TheVariants.{NewBlock, NewPointer, NewMaster, Reserve}
-use Rattle.mac_base.specs.Gap.{Gap, gaps, filled, lowest_gap, some_gap_has}
+use Rattle.mac_base.specs.Gap.{Gap, gaps, filled, some_gap_has}
 use Rattle.mac_base.specs.HeadKind.{need, head_size, master_length}
 use Rattle.mac_base.specs.Heap.{Heap, front_slot, granted, has_none}
 use Rattle.mac_base.specs.Request.{fits}
@@ -152,17 +152,7 @@ module _ (old new : ZoneState) (k at n : ℕ) (size : k ≡ need old.shape.heads
         ap (λ (w : ZoneState). w.shape) is ∙ ap (λ (w : ZoneState). w.shape) c.zone,
       )
 
-  -- what is reserved stays free
-  pub reserve_served : IsServed (Reserve n) old 0 new
-  reserve_served =
-      let give : Option (ℕ × ZoneMap) → Option (ℕ × Heap) = option_map (λ (f : ℕ × ZoneMap). (f.0, granted (Reserve n) f.0 f.1 old.heap)) in (
-        refl,
-        ap (λ k. give (option_map (gives 0) (option_map (λ (g : Gap). filled g (cleared k g.blocks)) (lowest_gap k (gaps old.heap.table old.heap.map))))) (sym size)
-            ∙ ap (λ o. give (option_map (gives 0) (option_map (λ (g : Gap). filled g (cleared k g.blocks)) o))) c.lowest ∙ ap (λ (w : ZoneState). Some (0, w.heap)) (sym c.zone),
-        ap (λ (w : ZoneState). w.shape) c.zone,
-      )
-
--- so has a new master block
+-- a request for a master block is served with the block that was chosen
 pub master_served : (old new : ZoneState) (k at : ℕ) (size : k ≡ need old.shape.heads master_length) (c : IsCleared old k at new) (last : ZoneState) (p : ChosenBlock new master_length k at) → last ≡ master_zone new k at p → IsServed NewMaster old (first_slot new k at p) last
 master_served old new k at size c last p is =
     let x = first_slot new k at p in

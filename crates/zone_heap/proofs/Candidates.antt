@@ -1,5 +1,5 @@
 -- The search for the next block that may be purged.
-use Rattle.std.proofs.Common.{◌≡◌, ℕ, ◌+◌, ◌<◌, ◌≤◌, Bool, true, false, not, List, [], ◌∷◌, ◌++◌, append-nil, refl, ap, sym, ◌∙◌, subst, arith}
+use Rattle.std.proofs.Common.{◌≡◌, ℕ, ◌+◌, ◌<◌, ◌≤◌, Bool, true, false, not, List, [], ◌∷◌, ◌++◌, refl, ap, sym, ◌∙◌, subst, arith}
 use Rattle.std.specs.Prelude.{◌&&◌}
 use Rattle.std.proofs.lemmas.Bool.{and_parts, not-true}
 use Rattle.mac_base.specs.declared.block.Entry.{Entry}
@@ -20,7 +20,7 @@ use Rattle.zone_gaps.proofs.Entries.{entry_owner}
 use Rattle.zone_gaps.proofs.Settling.{owners-settled}
 use Rattle.zone_heap.specs.Purge.{AllStay, BlocksAt, FirstToPurge, may_purge}
 use Rattle.zone_heap.proofs.Runs.{all_stay-append}
-use Rattle.zone_heap.proofs.Walks.{Walked, Facing, end_walked, entry_facing, map_rest, none_walked, place_rest, rest_walked, walked_end, walked_on, walked_over}
+use Rattle.zone_heap.proofs.Walks.{Walked, Facing, end_walked, entry_facing, map_rest, none_walked, place_rest, rest_walked, walked_on, walked_over}
 use Rattle.zone_heap.specs.declared.purge.Candidate.{Candidate}
 use Rattle.zone_heap.proofs.FreedBlocks.{candidates-append}
 use Rattle.zone_heap.proofs.Until.{none-candidates}
@@ -81,11 +81,6 @@ module _ {start end : ℕ} (z : ZoneState) (b : BlocksAt z start end) (protected
   none_passed = record { walked = none_walked z b; stay = tt }
 
   module _ (at : ℕ) (s : Passed z b protected at) where
-    -- at the end all are
-    pub passed_all : HasSizes z → end ≤ at → AllStay (may_purge z.heap.table protected) b.blocks
-    passed_all sizes above =
-        subst (AllStay (may_purge z.heap.table protected)) (sym ((s.walked).parts ∙ ap (λ m. (s.walked).done ++ m) (walked_end z b at s.walked sizes above) ∙ append-nil (s.walked).done)) s.stay
-
     -- the address parts the map
     abbrev pub split_passed : SplitAt z at
     split_passed = record { before = b.before ++ (s.walked).done; behind = (s.walked).rest ++ b.behind; map = map_rest z b at s.walked; place = place_rest z b at s.walked }

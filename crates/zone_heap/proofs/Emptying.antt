@@ -1,6 +1,5 @@
 -- A handle that becomes empty, or is so already.
 use Rattle.std.proofs.Common.{◌≡◌, ℕ, ◌+◌, Bool, true, false, cond, T, eqb, List, [], ◌∷◌, length, Some, None, Option, refl, ap, sym, ◌∙◌, arith, subst, IsTrue}
-use Rattle.std.specs.Prelude.{◌||◌}
 use Rattle.std.specs.Ordering.{nat_cmp}
 use Rattle.std.specs.declared.cmp.Ordering.TheVariants.{Equal}
 use Rattle.std.specs.Cmp.{nat_cmp_total}
@@ -8,7 +7,7 @@ use Rattle.std.specs.FinMap.Entries.{is_sorted, same_entries}
 use Rattle.std.proofs.lemmas.Bool.Decides.{nat_tests}
 use Rattle.mac_base.specs.HeadKind.{Shape}
 use Rattle.mac_base.specs.ZoneMap.{ZoneMap, is_named, joined, released, sizes}
-use Rattle.mac_base.specs.HandleTable.{HandleTable, Live, EmptyHandle, FullHandle, Pointer, live_at, live_full, live_handle, live_pointer, has_block, is_full, is_handle, is_lent, is_pointer, with_live, without}
+use Rattle.mac_base.specs.HandleTable.{HandleTable, Live, EmptyHandle, FullHandle, Pointer, live_at, live_full, live_handle, live_pointer, is_full, is_handle, is_lent, is_pointer, with_live, without}
 use Rattle.mac_base.specs.Suits.{Suits}
 use Rattle.mac_base.specs.Heap.{Heap}
 use Rattle.mac_base.specs.declared.releasing.ReleasingCall.TheVariants.{DisposesHandle, Empties}
@@ -52,16 +51,6 @@ handle_empty t x = by_case (live_at t x)
     by_case (Some EmptyHandle) live none = refl
     by_case (Some (FullHandle flags bytes)) live none = absurd (cc none)
     by_case (Some (Pointer bytes)) live none = absurd (cc live)
-
--- a handle with a block has one as a handle
-pub handle_full : (t : HandleTable) (x : ℕ) → is_handle t x ≡ true → has_block t x ≡ true → is_full t x ≡ true
-handle_full t x = by_case (live_at t x)
-  where
-    by_case : (o : Option Live) → live_handle o ≡ true → (live_full o || live_pointer o) ≡ true → live_full o ≡ true
-    by_case None live has = absurd (cc live)
-    by_case (Some EmptyHandle) live has = absurd (cc has)
-    by_case (Some (FullHandle flags bytes)) live has = refl
-    by_case (Some (Pointer bytes)) live has = absurd (cc live)
 
 -- without a block there is none to release
 pub released-none : (s : Shape) (t : HandleTable) (m : ZoneMap) (x : ℕ) → Suits s t m → is_full t x ≡ false → is_pointer t x ≡ false → released x m ≡ m

@@ -14,7 +14,7 @@ use Rattle.zone_laws.proofs.Lent.{KeepsLent, contents_of-same}
 use Rattle.gap_laws.proofs.SoundGrown.{addresses-at_limit}
 use Rattle.linked_zone.specs.Changes.{extended, with_map}
 use Rattle.linked_zone.proofs.ChangeExtended.{passes-behind}
-use Rattle.zone_heap.specs.Joins.{NewlyFree, all_joined}
+use Rattle.zone_heap.specs.Joins.{NewlyFree}
 
 -- what is lent is kept
 pub keeps-grown : (s : Shape) (heap : Heap) → KeepsLent s heap (grown s heap)
@@ -46,11 +46,7 @@ module _ (z : ZoneState) (sound : Sound z.shape z.heap) where
     sizes = passes-behind (λ (e : Entry). is_block_size z.shape e.size) z.heap.map left sound.suits.sizes (λ some. or_rest (eqb left 0) (is_block_size z.shape left) sound.growth (not_zero left some));
   }
 
-  -- joined to the last, it is the grown zone's
-  pub extended-joined : all_joined (extended z) ≡ with_heap (grown z.shape z.heap) z
-  extended-joined = refl
-
-  -- and so it is where there is none
+  -- where nothing is left up to the limit, the zone is the grown one
   pub grown-full : (zone_header + total_size z.heap.map < z.shape.limit → ⊥) → z ≡ with_heap (grown z.shape z.heap) z
   grown-full full =
       let none : left ≡ 0 = omega arith in

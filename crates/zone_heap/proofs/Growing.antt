@@ -1,5 +1,5 @@
 -- A block made longer where it stands, by the bytes of the free block right behind it.
-use Rattle.std.proofs.Common.{◌≡◌, ℕ, ◌+◌, ◌-◌, ◌<◌, ◌≤◌, Bool, true, false, cond, [], ◌∷◌, ◌++◌, Some, None, Option, refl, ap, sym, ◌∙◌, arith, subst, append_assoc, IsTrue}
+use Rattle.std.proofs.Common.{◌≡◌, ℕ, ◌+◌, ◌-◌, ◌<◌, ◌≤◌, Bool, true, false, cond, [], ◌∷◌, ◌++◌, Some, None, refl, ap, sym, ◌∙◌, arith, subst, append_assoc, IsTrue}
 use Rattle.std.specs.Prelude.{◌&&◌, ◌==◌, ◌%◌, nat_le, nat_lt}
 use Rattle.std.specs.List.{list_all}
 use Rattle.std.proofs.lemmas.Bool.Decides.{nat_tests}
@@ -18,7 +18,7 @@ use Rattle.linked_zone.specs.Changes.{enlarged}
 use Rattle.linked_zone.specs.Places.{EntryAt, CanGrow}
 use Rattle.zone_heap.specs.Placed.{resized_there}
 use Rattle.zone_heap.proofs.Places.{total_size-behind, large-size}
-use Rattle.zone_heap.proofs.Sizing.{Standing, resized_zone, resized-there, not-resized, can-front, free-rest, here-size}
+use Rattle.zone_heap.proofs.Sizing.{Standing, resized_zone, resized-there, can-front, free-rest, here-size}
 use Rattle.zone_heap.proofs.Taking.{front_size, taken-parts, all-there}
 
 -- what stands behind a block by its address are the free bytes in front of those behind it
@@ -68,14 +68,6 @@ module _ (z : ZoneState) (x n k at : ℕ) (b : Standing z x n k at) (more : b.na
   -- the bytes of the block and the free ones right behind it
   abbrev pub whole : ℕ
   whole = b.named.here.size + free_in_front b.named.behind
-
-  -- it can't be so long where they are too few
-  pub too-few : whole < k → resized_there z.shape x n z.heap ≡ None
-  too-few few =
-      let es = b.named.behind in
-      let longer : Option ZoneMap = Some (taken z.shape k b.named.here.kind whole ++ behind_free es) in
-      not-resized z x n k at b
-      (ap (λ c. cond c (Some (cut z.shape k b.named.here es)) (cond (nat_le k whole) longer None)) (not_least k b.named.here.size more) ∙ ap (λ c. cond c longer None) (not_least k whole few))
 
   module _ (enough : k ≤ whole) where
     -- the blocks where they are taken

@@ -1,15 +1,14 @@
 -- A new handle is placed: its slot is taken, then a free block is cut, and then the handle has the block.
-use Rattle.std.proofs.Common.{◌≡◌, ℕ, ◌≤◌, Bool, true, false, cond, List, ◌∷◌, ◌++◌, drop, [], Some, None, Option, MatchOption, refl, ap, sym, ◌∙◌, subst, IsTrue}
-use Rattle.std.specs.Prelude.{not, slice_index, option_map}
+use Rattle.std.proofs.Common.{◌≡◌, ℕ, ◌≤◌, Bool, ◌∷◌, ◌++◌, drop, [], Some, None, Option, MatchOption, refl, ap, sym, ◌∙◌, subst, IsTrue}
 use Rattle.std.specs.List.{list_all}
 use Rattle.mac_base.specs.declared.block.Entry.{Entry}
 use Rattle.mac_base.specs.declared.block.Kind.TheVariants.{Free, Rel}
-use Rattle.mac_base.specs.HeadKind.{Shape, need}
-use Rattle.mac_base.specs.ZoneMap.{ZoneMap, block, has_free}
+use Rattle.mac_base.specs.HeadKind.{need}
+use Rattle.mac_base.specs.ZoneMap.{ZoneMap, block}
 use Rattle.mac_base.specs.HandleTable.{HandleTable, EmptyHandle, FullHandle, no_flags, zeros, live_at, with_live}
 use Rattle.mac_base.specs.Suits.{is_block_size, has_length}
 use Rattle.mac_base.specs.declared.request.Request.TheVariants.{NewBlock}
-use Rattle.mac_base.specs.Heap.{Heap, granted, has_none}
+use Rattle.mac_base.specs.Heap.{granted}
 use Rattle.mac_base.specs.Serve.{take_lowest, taken}
 use Rattle.mac_base.specs.Sound.{Sound}
 use Rattle.mac_base.specs.Loans.{LoansAreFixed}
@@ -25,21 +24,9 @@ use Rattle.linked_zone.specs.Changes as change
 use Rattle.linked_zone.specs.Loans.{KeepsLoans}
 use Rattle.linked_zone.specs.Places.{LowestAt, RoomFor}
 use Rattle.zone_heap.specs.Joins.{CanTake, with_front}
-use Rattle.zone_heap.specs.Placed.{placed_lowest}
 use Rattle.zone_heap.proofs.Loans.{keeps-loans}
-use Rattle.zone_heap.proofs.Taking.{front_size, front_rest, taken-parts, front-has_length, take_lowest-there, take_lowest-none, all-there}
+use Rattle.zone_heap.proofs.Taking.{front_size, front_rest, taken-parts, front-has_length, take_lowest-there, all-there}
 use Rattle.zone_heap.proofs.Twice.{with_live-twice}
-
--- where no block has room there is no new handle
-pub placed-full : (s : Shape) (n : ℕ) (heap : Heap) → IsTrue (list_all (λ e. not (has_free (need s.heads n) e)) heap.map) → placed_lowest s n heap ≡ None
-placed-full s n heap none =
-    let h = slice_index heap.free_slots 0 in
-    let place : Option ZoneMap → Option (ℕ × Heap) = option_map (λ m. (h, granted (NewBlock n) h m heap)) in
-    ap (λ o. cond (has_none heap.free_slots) None (place o)) (take_lowest-none s (need s.heads n) (Rel h) heap.map none) ∙ either (has_none heap.free_slots) None
-  where
-    either : (b : Bool) (o : Option (ℕ × Heap)) → cond b o o ≡ o
-    either true o = refl
-    either false o = refl
 
 -- the block for n bytes is chosen, and so is the slot
 pub record Chosen (z : ZoneState) (h n k at : ℕ) : Type 0 where
@@ -104,13 +91,6 @@ pub lowest-taken : (z : ZoneState) (h n k at : ℕ) (p : Chosen z h n k at) → 
 lowest-taken z h n k at p =
     subst (λ j. take_lowest z.shape j (Rel h) z.heap.map ≡ Some (placed_map z h n k at p)) p.size
     (ap (take_lowest z.shape k (Rel h)) p.low.free.map ∙ take_lowest-there z.shape k (Rel h) p.low.free.before p.low.free.size p.low.free.behind p.low.lowest p.low.large)
-
--- so the new handle is given
-pub placed-there : (z : ZoneState) (h n k at : ℕ) (p : Chosen z h n k at) → placed_lowest z.shape n z.heap ≡ Some (h, (placed_zone z h n k at p).heap)
-placed-there z h n k at p =
-    let place : ℕ → Option ZoneMap → Option (ℕ × Heap) = λ x. option_map (λ m. (x, granted (NewBlock n) x m z.heap)) in
-    ap (λ (slots : List ℕ). cond (has_none slots) None (place (slice_index slots 0) (take_lowest z.shape (need z.shape.heads n) (Rel (slice_index slots 0)) z.heap.map))) p.front
-    ∙ ap (place h) (lowest-taken z h n k at p)
 
 -- the zone stays sound
 pub placed-sound : (z : ZoneState) (h n k at : ℕ) (p : Chosen z h n k at) → Sound z.shape (placed_zone z h n k at p).heap

@@ -1,15 +1,15 @@
 -- A new pointer is placed: a free block is cut, and then the pointer has the block.
-use Rattle.std.proofs.Common.{◌≡◌, ℕ, ◌+◌, ◌≤◌, Bool, cond, ◌∷◌, ◌++◌, Some, None, Option, refl, ap, sym, ◌∙◌, subst, IsTrue}
-use Rattle.std.specs.Prelude.{[], not, option_map}
+use Rattle.std.proofs.Common.{◌≡◌, ℕ, ◌+◌, ◌≤◌, Bool, cond, ◌∷◌, ◌++◌, Some, refl, ap, sym, ◌∙◌, subst, IsTrue}
+use Rattle.std.specs.Prelude.{[], not}
 use Rattle.std.specs.List.{list_all}
 use Rattle.mac_base.specs.declared.block.Entry.{Entry}
 use Rattle.mac_base.specs.declared.block.Kind.TheVariants.{Free, Ptr}
-use Rattle.mac_base.specs.HeadKind.{Shape, need, head_size}
+use Rattle.mac_base.specs.HeadKind.{need, head_size}
 use Rattle.mac_base.specs.ZoneMap.{ZoneMap, block, has_free, address_behind}
 use Rattle.mac_base.specs.HandleTable.{Pointer, with_live, zeros}
 use Rattle.mac_base.specs.Suits.{is_block_size, has_length}
 use Rattle.mac_base.specs.declared.request.Request.TheVariants.{NewPointer}
-use Rattle.mac_base.specs.Heap.{Heap, granted}
+use Rattle.mac_base.specs.Heap.{granted}
 use Rattle.mac_base.specs.Serve.{take_lowest, taken, lowest_before, lowest_contents}
 use Rattle.mac_base.specs.Sound.{Sound}
 use Rattle.mac_base.specs.Loans.{LoansAreFixed}
@@ -22,14 +22,7 @@ use Rattle.zone_laws.proofs.SoundPointer.{sound-placed_pointer}
 use Rattle.linked_zone.specs.Changes.{with_map, fixed}
 use Rattle.linked_zone.specs.Places.{LowestAt, RoomFor}
 use Rattle.zone_heap.specs.Joins.{CanTake, with_front}
-use Rattle.zone_heap.specs.Placed.{placed_pointer}
-use Rattle.zone_heap.proofs.Taking.{front_size, front_rest, taken-parts, front-has_length, has_free-free, take_lowest-there, take_lowest-none, all-there}
-
--- where no block has room there is no new pointer
-pub pointer-full : (s : Shape) (n : ℕ) (heap : Heap) → IsTrue (list_all (λ e. not (has_free (need s.heads n) e)) heap.map) → placed_pointer s n heap ≡ None
-pointer-full s n heap none =
-    let p = lowest_contents s (need s.heads n) heap.map in
-    ap (option_map (λ m. (p, granted (NewPointer n) p m heap))) (take_lowest-none s (need s.heads n) (Ptr p) heap.map none)
+use Rattle.zone_heap.proofs.Taking.{front_size, front_rest, taken-parts, front-has_length, has_free-free, take_lowest-there, all-there}
 
 -- what stands before the lowest free block that has room
 lowest_before-there : (k : ℕ) (before : ZoneMap) (n : ℕ) (behind : ZoneMap) → IsTrue (list_all (λ e. not (has_free k e)) before) → k ≤ n → lowest_before k (before ++ block Free n ∷ behind) ≡ before
@@ -94,12 +87,6 @@ module _ (z : ZoneState) (n k at : ℕ) (c : ChosenBlock z n k at) where
   pointer_taken =
       ap (λ j. take_lowest z.shape j (Ptr pointer_at) z.heap.map) (sym c.size)
       ∙ ap (take_lowest z.shape k (Ptr pointer_at)) c.low.free.map ∙ take_lowest-there z.shape k (Ptr pointer_at) c.low.free.before c.low.free.size c.low.free.behind c.low.lowest c.low.large
-
-  -- so the new pointer is given
-  pub pointer-there : placed_pointer z.shape n z.heap ≡ Some (pointer_at, pointer_zone.heap)
-  pointer-there =
-      let place : ℕ → Option ZoneMap → Option (ℕ × Heap) = λ p. option_map (λ m. (p, granted (NewPointer n) p m z.heap)) in
-      ap (λ p. place p (take_lowest z.shape (need z.shape.heads n) (Ptr p) z.heap.map)) (sym pointer_place) ∙ ap (place pointer_at) pointer_taken
 
   -- the zone stays sound
   pub pointer-sound : Sound z.shape pointer_zone.heap

@@ -28,7 +28,6 @@ use Rattle.linked_zone.specs.Places.{RoomFor}
 use Rattle.zone_heap.specs.Attempts.{CanAsk, IsServed, IsRefused, SoundZone}
 use Rattle.zone_heap.specs.declared.shortage.Shortage.TheVariants.{NoRoom}
 use Rattle.zone_heap.specs.Joins.{CanTake, with_front}
-use Rattle.zone_heap.specs.Purge.{CanCount}
 use Rattle.zone_heap.specs.Room.{IsOpened, LacksRoom}
 use Rattle.zone_heap.proofs.Attempting.{none_of}
 use Rattle.zone_heap.proofs.Clearing.{opened_taken}
@@ -55,10 +54,6 @@ module _ (z : ZoneState) (h n : ℕ) (asks : CanAsk z (Replace h n)) where
   -- nor lent
   pub asked-here : is_lent z.heap.table h ≡ false
   asked-here = not-true _ (and_parts _ _ (and_parts (is_handle z.heap.table h) _ asks.operand).1).1
-
-  -- so its block may count as free
-  pub asked-counts : CanCount z (Some h)
-  asked-counts = (asked-handle, asked-unlocked)
 
   -- the same numbers stay once it is empty
   fixes-emptied : FixesSame z.heap.table (emptied h z.heap.table)

@@ -2,11 +2,11 @@
 use Rattle.std.proofs.Common.{◌≡◌, ℕ, true, false, cond, refl, ap, sym, ◌∙◌, subst, Option, Some, None, MatchResult}
 use Rattle.std.specs.Prelude.{is_some, option_map, Result, Ok, Err}
 use Rattle.std.specs.Option.{option_or}
-use Rattle.std.proofs.lemmas.Bool.{and_parts, not-true}
+use Rattle.std.proofs.lemmas.Bool.{and_parts}
 use Rattle.mac_base.specs.declared.block.Kind.TheVariants.{Rel}
 use Rattle.mac_base.specs.declared.request.Request.TheVariants.{Resize}
 use Rattle.mac_base.specs.Attempt.{attempted}
-use Rattle.mac_base.specs.HandleTable.{has_block, is_lent}
+use Rattle.mac_base.specs.HandleTable.{has_block}
 use Rattle.mac_base.specs.HeadKind.{Shape, need}
 use Rattle.mac_base.specs.Heap.{Heap, front_slot, granted}
 use Rattle.mac_base.specs.Request.{fits, stays}
@@ -27,10 +27,6 @@ use Rattle.zone_heap.proofs.Resizing.{way-fits}
 -- what is asked for has a block
 pub asked-block : (z : ZoneState) (x n : ℕ) → CanAsk z (Resize x n) → has_block z.heap.table x ≡ true
 asked-block z x n asks = (and_parts (has_block z.heap.table x) _ asks.operand).0
-
--- which is not lent
-pub asked-here : (z : ZoneState) (x n : ℕ) → CanAsk z (Resize x n) → is_lent z.heap.table x ≡ false
-asked-here z x n asks = not-true _ (and_parts (has_block z.heap.table x) _ asks.operand).1
 
 -- the request is served where the block can have the size
 served-block : (s : Shape) (x n : ℕ) (heap : Heap) (m : ZoneMap) → resized_block s heap.table (need s.heads n) x heap.map ≡ Some m → attempted s (Resize x n) heap ≡ Some (x, granted (Resize x n) x m heap)

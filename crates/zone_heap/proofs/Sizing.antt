@@ -1,5 +1,5 @@
 -- A block that gets another size where it stands: the one block of a handle or a pointer, the front of it that is held, and the sound heap then.
-use Rattle.std.proofs.Common.{◌≡◌, ℕ, ◌+◌, ◌-◌, ◌<◌, ◌≤◌, Bool, true, false, cond, List, [], ◌∷◌, ◌++◌, length, Some, None, refl, ap, sym, ◌∙◌, arith, subst, length-append, IsTrue, inl, inr}
+use Rattle.std.proofs.Common.{◌≡◌, ℕ, ◌+◌, ◌-◌, ◌<◌, ◌≤◌, Bool, true, false, cond, List, [], ◌∷◌, ◌++◌, length, Some, refl, ap, sym, ◌∙◌, arith, subst, length-append, IsTrue, inl, inr}
 use Rattle.std.specs.Prelude.{◌==◌, ◌⊎◌, nat_lt, option_map}
 use Rattle.std.specs.List.{list_all}
 use Rattle.std.proofs.lemmas.Bool.Decides.{nat_tests}
@@ -89,10 +89,6 @@ module _ (z : ZoneState) (x n k at : ℕ) (b : Standing z x n k at) where
   -- the heap is that, where the block can have the size
   pub resized-there : (m : ZoneMap) (new : ZoneState) → sized z.shape k b.named.here b.named.behind ≡ Some m → new ≡ resized_zone m → resized_there z.shape x n z.heap ≡ Some new.heap
   resized-there m new sizes is = ap (option_map (λ m. granted (Resize x n) x m z.heap)) (in-place ∙ ap (option_map (λ m. b.named.before ++ m)) sizes) ∙ ap (λ (w : ZoneState). Some w.heap) (sym is)
-
-  -- and there is none where it can't
-  pub not-resized : sized z.shape k b.named.here b.named.behind ≡ None → resized_there z.shape x n z.heap ≡ None
-  not-resized none = ap (option_map (λ m. granted (Resize x n) x m z.heap)) (in-place ∙ ap (option_map (λ m. b.named.before ++ m)) none)
 
 -- the heap in which x has n bytes where its block is, is sound
 pub sound-there : (s : Shape) (heap new : Heap) (x n : ℕ) → Sound s heap → IsTrue (has_block heap.table x) → resized_there s x n heap ≡ Some new → Sound s new

@@ -138,10 +138,6 @@ module _ (bounds counted : Kind → Bool) (k : ℕ) (free_counts : counted Free 
         | false ↦ on_rest
       ])
 
-or_over : (a b c : Bool) → (a || b || c) ≡ (a || (b || c))
-or_over true b c = refl
-or_over false b c = refl
-
 no_bytes_more : (k n : ℕ) → nat_le k n ≡ nat_le k (n + 0)
 no_bytes_more k n = ap (nat_le k) (let e : n ≡ n + 0 = omega arith in e)
 

@@ -56,7 +56,7 @@ impl Zone {
     ghost use Rattle.mac_base.specs.declared.releasing.ReleasingCall.TheVariants.{DisposesHandle, DisposesPtr, Empties};
     ghost use Rattle.mac_base.specs.Releasing.{heap_released};
     ghost use Rattle.mac_base.specs.ZoneSizes.{shape_of};
-    ghost use Rattle.zone_heap.specs.Placed.{placed_lowest, placed_empty, placed_pointer, resized_there};
+    ghost use Rattle.zone_heap.specs.Placed.{resized_there};
     ghost use Rattle.mac_base.specs.BlockReport.{report_at};
     ghost use Rattle.linked_zone.specs.Image.{IsImage};
     ghost use Rattle.block_bytes.specs.Walk.{Walks};
