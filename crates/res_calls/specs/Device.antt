@@ -33,7 +33,20 @@ pub data Reads (disk : Disk) : Result (FileTable) OsErr → Type 0 where
   short : 0 < length disk → length disk < 16 → Reads disk (Err EofErr)
   damaged : 16 ≤ length disk → (IsFork disk → ⊥) → Reads disk (Err MapReadErr)
 
+-- what a replacement that failed may leave: by the new fork and the old one
+abbrev pub LeaveRelation : Type 1
+LeaveRelation = Disk → Disk → Disk → Type 0
+
+-- What may become of disks: what a replacement that failed may leave, and what an opening may read.
+pub record DiskRelations : Type 1 where
+  pub may_leave : LeaveRelation
+  pub may_read : Disk → Result FileTable OsErr → Type 0
+
+-- an opening reads what the disk has
+abbrev pub read_truly : LeaveRelation → DiskRelations
+read_truly may_leave = record { may_leave = may_leave; may_read = Reads }
+
 -- what opening reads where the device goes so
-abbrev pub ReadsBy : Device → Disk → Result (FileTable) OsErr → Type 0
-ReadsBy Works disk read = Reads disk read
-ReadsBy _ disk read = read ≡ Err IoErr
+abbrev pub ReadsBy : DiskRelations → Device → Disk → Result FileTable OsErr → Type 0
+ReadsBy disks Works disk read = disks.may_read disk read
+ReadsBy disks _ disk read = read ≡ Err IoErr

@@ -8,3 +8,4 @@ pub mod Updates
 pub mod Loads
 pub mod Quiet
 pub mod Steps
+pub mod Answered

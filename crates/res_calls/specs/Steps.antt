@@ -18,7 +18,7 @@ use Rattle.res_calls.specs.Changes.{FileRow, FileTable, saved_table, handles_for
 use Rattle.mac_calls.specs.declared.resource_call.ResourceCall.{ResourceCall}
 use Rattle.mac_calls.specs.declared.resource_call.ResourceCall.TheVariants as call
 use Rattle.mac_calls.specs.declared.reply.Results.TheVariants.{Number}
-use Rattle.res_calls.specs.Device.{Device, FailsWriting, Disk, ReadsBy}
+use Rattle.res_calls.specs.Device.{Device, FailsWriting, Disk, DiskRelations, ReadsBy}
 use Rattle.res_calls.specs.Files.{ResState, ResourceEnd, refused_with, with_heap, with_files, disk_of}
 use Rattle.res_calls.specs.Tests.{resource_refusal}
 use Rattle.res_calls.specs.Loads.{row_wanted, loads_bytes, placing, placed_end, found_end}
@@ -61,14 +61,10 @@ MemoryRelation = Shape → Heap → MemoryCall → List Ask → Outcome → Heap
 abbrev pub Memory : MemoryRelation
 Memory shape old call asks outcome new = MemoryStep shape old call asks outcome new × IsExactStep shape old call asks outcome new
 
--- what a replacement that failed may leave: by the new fork and the old one
-abbrev pub LeaveRelation : Type 1
-LeaveRelation = Disk → Disk → Disk → Type 0
-
-module _ (Memory : MemoryRelation) (MayLeave : LeaveRelation) where
+module _ (Memory : MemoryRelation) (disks : DiskRelations) where
   -- what an update may leave on the disk where the device goes so
   abbrev pub LeavesDisk : Device → Update → Disk → Type 0
-  LeavesDisk (FailsWriting left) u disk = MayLeave (written (saved_table u.table)) disk left
+  LeavesDisk (FailsWriting left) u disk = disks.may_leave (written (saved_table u.table)) disk left
   LeavesDisk device u disk = ⊤
 
   -- The call gets the row at a place; this call of the Memory Manager makes the place for its bytes, if one is needed.
@@ -88,7 +84,7 @@ module _ (Memory : MemoryRelation) (MayLeave : LeaveRelation) where
   Works device old call asks end (Gets p) = GetsPlace device old call asks end p (row_at p old.files)
   Works device old call asks end (Updates u) = (asks ≡ []) × LeavesDisk device u (disk_of u.file old) × (end ≡ update_end device call u old)
   Works device old call asks end (Opens k) = (asks ≡ []) × (read : Result (FileTable) OsErr)
-      × ReadsBy device (disk_of k old) read × (end ≡ opened_end k old read)
+      × ReadsBy disks device (disk_of k old) read × (end ≡ opened_end k old read)
   Works device old call asks end Quiet = (asks ≡ []) × (end ≡ quiet_end call old)
 
   -- a call by its refusal, if it is refused before anything is asked or changed
@@ -96,8 +92,8 @@ module _ (Memory : MemoryRelation) (MayLeave : LeaveRelation) where
   StepsUnless (Some code) device old call asks end = (asks ≡ []) × (end ≡ refused_with code old)
   StepsUnless None device old call asks end = Works device old call asks end (work_of old call)
 
-  -- From the old state, and with the device going so, the call may ask so and end so, where the Memory Manager steps so, and what a
-  -- replacement that failed may leave is this.
+  -- From the old state, and with the device going so, the call may ask so and end so, where the Memory Manager steps so, and this may
+  -- become of disks.
   abbrev pub ResourceStepBy : Device → ResState → ResourceCall → List Ask → ResourceEnd → Type 0
   ResourceStepBy device old call asks end = StepsUnless (resource_refusal old call) device old call asks end
 
