@@ -1,5 +1,6 @@
 -- Calls by what the devices answered in them: the stores need not be honest.
-use Rattle.std.specs.Prelude.{◌≡◌, ◌⊎◌, ℕ, List, [], length, map, Option, Some, None, IfSome, MatchBool, Result, Ok, Err}
+use Rattle.std.specs.Prelude.{◌≡◌, ◌⊎◌, ℕ, List, [], length, map, Option, Some, None, MatchBool, Result, Ok, Err}
+use Rattle.std.specs.Option.{IsSomeAnd}
 use Rattle.mac_base.specs.declared.error.OsErr.{OsErr}
 use Rattle.mac_base.specs.declared.error.OsErr.TheVariants.{EofErr, MapReadErr}
 use Rattle.mac_base.specs.HandleTable.{zeros}
@@ -74,4 +75,4 @@ pub record AnswersStep (honest worked : Type 0) (Failed : ℕ → Type 0) (Memor
   pub was : IsAnswered honest old before
   pub becomes : IsAnswered honest new after
   pub step : ResourceStepBy Memory (answered_disks honest may_leave) device before call asks (record { outcome = outcome; state = after })
-  pub cause : MatchBool (device_works device) worked (IfSome (file_of_work (work_of before call)) Failed)
+  pub cause : MatchBool (device_works device) worked (IsSomeAnd (file_of_work (work_of before call)) Failed)

@@ -1,5 +1,5 @@
 -- How calls end that ask nothing, and which calls need what.
-use Rattle.std.specs.Prelude.{◌≡◌, ℕ, Bool, true, false, ◌||◌, List, Result, IsFalse, MatchBool}
+use Rattle.std.specs.Prelude.{◌≡◌, ℕ, Bool, true, false, ◌||◌, All, List, Result, MatchBool}
 use Rattle.mac_base.specs.declared.error.OsErr.{OsErr}
 use Rattle.mac_base.specs.declared.error.OsErr.TheVariants.{DskFulErr}
 use Rattle.mac_base.specs.ZoneState.{ZoneState}
@@ -8,11 +8,13 @@ use Rattle.mac_calls.specs.declared.resource_call.ResourceCall.TheVariants as ca
 use Rattle.mac_calls.specs.Outcomes.{Outcome}
 use Rattle.res_calls.specs.Changes.{FileTable}
 use Rattle.res_calls.specs.Device.{Device, ReadsBy, device_works}
-use Rattle.res_calls.specs.Files.{disk_of, refused_with}
+use Rattle.res_calls.specs.Answered.{IsAnswered, answered_disks}
+use Rattle.res_calls.specs.Files.{ResState, disk_of, refused_with}
 use Rattle.res_calls.specs.Quiet.{quiet_end}
-use Rattle.res_calls.specs.Steps.{LeaveRelation, LeavesDisk, opened_end, Memory}
+use Rattle.res_calls.specs.Steps.{LeavesDisk, opened_end, Memory}
 use Rattle.res_calls.specs.Updates.{Update, fits_fork, update_end}
-use Rattle.res_files.specs.FilesOn.{FilesOn, SomeFailed}
+use Rattle.fork_disk.specs.declared.store.ForkStore.{Ghosts}
+use Rattle.res_files.specs.FilesOn.{FailedAt, FilesOn, NoneFailed}
 use Rattle.res_manager.specs.Steps.{state_of}
 
 -- the call ends so and leaves these, as calls do that need neither room in the zone nor a disk
@@ -71,17 +73,31 @@ writes _ = false
 abbrev pub is_calm : ResourceCall → Bool
 is_calm call = gets call || is_quiet call
 
--- Such a call ends so where it makes this update: it is refused where no fork can hold what it writes, and else a device may fail.
-abbrev pub WritesFile : {S : Type 0} → (S → List ℕ) → (S → ℕ) → LeaveRelation → ZoneState → FilesOn S → ResourceCall → Update → Outcome → ZoneState → FilesOn S → Type 0
-WritesFile fork failures may_leave old old_files call u outcome new new_files = MatchBool (fits_fork u.table)
-    ((device : Device) × LeavesDisk Memory may_leave device u (disk_of u.file (state_of fork old old_files))
-    × (update_end device call u (state_of fork old old_files) ≡ record { outcome = outcome; state = state_of fork new new_files })
-    × (IsFalse (device_works device) → SomeFailed failures old_files.stores new_files.stores))
-    (refused_with DskFulErr (state_of fork old old_files) ≡ record { outcome = outcome; state = state_of fork new new_files })
+-- What a call that makes an update does to the disk and leaves, where its fork holds what is written: a device may fail.
+pub record Writes {S : Type 0} (store : Ghosts S) (old : ZoneState) (old_files : FilesOn S) (call : ResourceCall) (u : Update) (outcome : Outcome) (new : ZoneState) (new_files : FilesOn S) : Type 0 where
+  pub device : Device
+  pub after : ResState
+  pub becomes : IsAnswered (All store.is_honest new_files.stores) (state_of store.fork new new_files) after
+  pub leaves : LeavesDisk Memory (answered_disks (All store.is_honest new_files.stores) store.may_leave) device u (disk_of u.file (state_of store.fork old old_files))
+  pub ends : update_end device call u (state_of store.fork old old_files) ≡ record { outcome = outcome; state = after }
+  pub cause : MatchBool (device_works device) (NoneFailed store.failures old_files.stores new_files.stores) (FailedAt store.failures u.file old_files.stores new_files.stores)
+
+-- it is refused, and leaves what was there
+pub record IsUnwritten {S : Type 0} (store : Ghosts S) (old : ZoneState) (old_files : FilesOn S) (outcome : Outcome) (new : ZoneState) (new_files : FilesOn S) : Type 0 where
+  pub ends : refused_with DskFulErr (state_of store.fork old old_files) ≡ record { outcome = outcome; state = state_of store.fork new new_files }
+  pub works : NoneFailed store.failures old_files.stores new_files.stores
+
+-- Such a call ends so: it is refused where no fork can hold what it writes, and else it writes.
+abbrev pub WritesFile : {S : Type 0} → Ghosts S → ZoneState → FilesOn S → ResourceCall → Update → Outcome → ZoneState → FilesOn S → Type 0
+WritesFile store old old_files call u outcome new new_files =
+    MatchBool (fits_fork u.table) (Writes store old old_files call u outcome new new_files) (IsUnwritten store old old_files outcome new new_files)
 
 -- OpenResFile of a file that isn't open ends so: a device may fail, and it is refused where the disk can't be opened.
-abbrev pub OpensFile : {S : Type 0} → (S → List ℕ) → (S → ℕ) → ZoneState → FilesOn S → ℕ → Outcome → FilesOn S → Type 0
-OpensFile fork failures zone old_files k outcome new_files = (device : Device) × (read : Result FileTable OsErr)
-    × ReadsBy device (disk_of k (state_of fork zone old_files)) read
-    × (opened_end k (state_of fork zone old_files) read ≡ record { outcome = outcome; state = state_of fork zone new_files })
-    × (IsFalse (device_works device) → SomeFailed failures old_files.stores new_files.stores)
+pub record OpensFile {S : Type 0} (store : Ghosts S) (zone : ZoneState) (old_files : FilesOn S) (k : ℕ) (outcome : Outcome) (new_files : FilesOn S) : Type 0 where
+  pub device : Device
+  pub read : Result FileTable OsErr
+  pub after : ResState
+  pub becomes : IsAnswered (All store.is_honest new_files.stores) (state_of store.fork zone new_files) after
+  pub reads : ReadsBy (answered_disks (All store.is_honest new_files.stores) store.may_leave) device (disk_of k (state_of store.fork zone old_files)) read
+  pub ends : opened_end k (state_of store.fork zone old_files) read ≡ record { outcome = outcome; state = after }
+  pub cause : MatchBool (device_works device) (NoneFailed store.failures old_files.stores new_files.stores) (FailedAt store.failures k old_files.stores new_files.stores)

@@ -1,5 +1,5 @@
 -- Loads of a row's bytes, step by step.
-use Rattle.std.specs.Prelude.{◌≡◌, ℕ, Bool, true, false, ◌==◌, List, length, Option, Some, None, unwrap_or, Result, Ok, Err, IsFalse, IfSome}
+use Rattle.std.specs.Prelude.{◌≡◌, ℕ, Bool, true, false, ◌==◌, All, List, length, Option, Some, None, unwrap_or, Result, Ok, Err, IfSome, MatchBool}
 use Rattle.mac_base.specs.declared.error.OsErr.{OsErr}
 use Rattle.mac_base.specs.declared.releasing.ReleasingCall.TheVariants.{DisposesHandle}
 use Rattle.mac_base.specs.HandleTable.{Live, FullHandle, live_at, is_lent, no_flags, with_live, zeros}
@@ -18,10 +18,13 @@ use Rattle.mac_base.specs.declared.block.Flags.{Flags}
 use Rattle.res_base.specs.declared.resource.ResAttrs.{ResAttrs}
 use Rattle.res_calls.specs.Attributes.{has_bit, res_locked, res_purgeable}
 use Rattle.res_calls.specs.Changes.{FileRow}
-use Rattle.res_calls.specs.Device.{Device, device_works}
+use Rattle.res_calls.specs.Device.{Device, DiskRelations, device_works}
+use Rattle.res_calls.specs.Files.{ResState}
+use Rattle.res_calls.specs.Answered.{IsAnswered, answered_disks}
 use Rattle.res_calls.specs.Loads.{loads_bytes, loaded_results}
-use Rattle.res_calls.specs.Steps.{LeaveRelation, GetsPlace, Memory}
-use Rattle.res_files.specs.FilesOn.{FilesOn, SomeFailed}
+use Rattle.res_calls.specs.Steps.{GetsPlace, Memory}
+use Rattle.fork_disk.specs.declared.store.ForkStore.{Ghosts}
+use Rattle.res_files.specs.FilesOn.{FailedAt, FilesOn, NoneFailed}
 use Rattle.res_manager.specs.Steps.{state_of}
 
 -- the outcome of a call that gets or loads a row, by the row's handle or the code of its refusal
@@ -29,13 +32,20 @@ abbrev pub loaded_outcome : ResourceCall → Result ℕ OsErr → Outcome
 loaded_outcome call (Ok h) = Ok (loaded_results call h)
 loaded_outcome call (Err code) = Err code
 
--- From the old zone and files, each call that gets or loads the row at a place, and loads its bytes or not, may ask so, end so and
--- leave the new ones; a device failed in it only where a count of failures rose.
-abbrev pub LoadSteps : {S : Type 0} → (S → List ℕ) → (S → ℕ) → LeaveRelation → ZoneState → FilesOn S → RowPlace → Bool → List Ask → Result ℕ OsErr → ZoneState → FilesOn S → Type 0
-LoadSteps fork failures may_leave old old_files place loads asks result new new_files = (device : Device)
-    × ((call : ResourceCall) → loads_bytes (state_of fork old old_files) call ≡ loads → GetsPlace Memory may_leave device (state_of fork old old_files) call asks
-    (record { outcome = loaded_outcome call result; state = state_of fork new new_files }) place (row_at place old_files.files))
-    × (IsFalse (device_works device) → SomeFailed failures old_files.stores new_files.stores)
+-- From the old state, each call that gets or loads the row at a place, and loads its bytes or not, may ask so, end so and leave the new one.
+abbrev pub LoadsTo : DiskRelations → Device → ResState → RowPlace → Bool → List Ask → Result ℕ OsErr → ResState → Type 0
+LoadsTo disks device old place loads asks result new = (call : ResourceCall) → loads_bytes old call ≡ loads
+    → GetsPlace Memory disks device old call asks (record { outcome = loaded_outcome call result; state = new }) place (row_at place old.files)
+
+-- So it is by what the devices answered; a device failed just where the count of failures of the row's file rose.
+pub record LoadSteps {S : Type 0} (store : Ghosts S) (old : ZoneState) (old_files : FilesOn S) (place : RowPlace) (loads : Bool) (asks : List Ask) (result : Result ℕ OsErr) (new : ZoneState) (new_files : FilesOn S) : Type 0 where
+  pub device : Device
+  pub before : ResState
+  pub after : ResState
+  pub was : IsAnswered (All store.is_honest new_files.stores) (state_of store.fork old old_files) before
+  pub becomes : IsAnswered (All store.is_honest new_files.stores) (state_of store.fork new new_files) after
+  pub step : LoadsTo (answered_disks (All store.is_honest new_files.stores) store.may_leave) device before place loads asks result after
+  pub cause : MatchBool (device_works device) (NoneFailed store.failures old_files.stores new_files.stores) (FailedAt store.failures place.file old_files.stores new_files.stores)
 
 -- the call of the Memory Manager that makes the place for so many bytes: under the row's own handle, or a new one
 abbrev pub place_call : Option ℕ → ℕ → Bool → MemoryCall
@@ -71,3 +81,12 @@ pub record IsFilled (h : ℕ) (bytes : List ℕ) (old new : Heap) : Type 0 where
 -- the flags of the handle of a loaded row with these attributes
 abbrev pub flags_for : ResAttrs → Flags
 flags_for attributes = record { lock = has_bit res_locked attributes; purge = has_bit res_purgeable attributes; resource = true }
+
+-- the heap once these bytes are loaded behind a handle, with these flags
+abbrev pub loaded_with : ℕ → Flags → List ℕ → Heap → Heap
+loaded_with h flags bytes heap = with_table (with_live h (FullHandle flags bytes) heap.table) heap
+
+-- bytes with which a device answers the read of a row: as many as it has, and where the devices are honest, its own
+pub record AreAnswered (honest : Type 0) (size : ℕ) (row : Option FileRow) (bytes : List ℕ) : Type 0 where
+  pub long : length bytes ≡ size
+  pub own : honest → IfSome row (λ r. bytes ≡ r.resource.datum)

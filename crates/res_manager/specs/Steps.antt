@@ -1,25 +1,25 @@
 -- What a call of the Resource Manager does to the zone and the resource files.
-use Rattle.std.specs.Prelude.{ℕ, Bool, true, false, List, map, IsFalse}
+use Rattle.std.specs.Prelude.{ℕ, Bool, true, false, All, List, map}
 use Rattle.mac_base.specs.ZoneState.{ZoneState}
 use Rattle.mac_calls.specs.declared.resource_call.ResourceCall.{ResourceCall}
 use Rattle.mac_calls.specs.declared.resource_call.ResourceCall.TheVariants as call
 use Rattle.mac_calls.specs.GrowZone.{Ask}
 use Rattle.mac_calls.specs.Outcomes.{Outcome}
-use Rattle.res_calls.specs.Device.{Device, device_works}
+use Rattle.fork_disk.specs.declared.store.ForkStore.{Ghosts}
+use Rattle.res_calls.specs.Answered.{AnswersStep}
 use Rattle.res_calls.specs.Files.{ResState}
-use Rattle.res_calls.specs.Steps.{LeaveRelation, Memory, ResourceStepBy, Work, Gets, Updates, Opens, Quiet, work_of}
-use Rattle.res_files.specs.FilesOn.{FilesOn, SomeFailed}
+use Rattle.res_calls.specs.Steps.{Memory, Work, Gets, Updates, Opens, Quiet, work_of}
+use Rattle.res_files.specs.FilesOn.{FailedAt, FilesOn, NoneFailed}
 
 -- the zone and the resource files as the calls see them, where this gives the fork of a store
 abbrev pub state_of : {S : Type 0} → (S → List ℕ) → ZoneState → FilesOn S → ResState
 state_of fork zone on = record { shape = zone.shape; heap = zone.heap; files = on.files; loads = on.loads; disks = map fork on.stores }
 
--- From the old zone and files, the call with these asks may have this outcome and leave the new ones: it is a step of the Resource
--- Manager, and a device failed in it only where a count of failures rose.
-abbrev pub ResourceSteps : {S : Type 0} → (S → List ℕ) → (S → ℕ) → LeaveRelation → ZoneState → FilesOn S → ResourceCall → List Ask → Outcome → ZoneState → FilesOn S → Type 0
-ResourceSteps fork failures may_leave old old_files call asks outcome new new_files = (device : Device)
-    × ResourceStepBy Memory may_leave device (state_of fork old old_files) call asks (record { outcome = outcome; state = state_of fork new new_files })
-    × (IsFalse (device_works device) → SomeFailed failures old_files.stores new_files.stores)
+-- From the old zone and files, the call with these asks may have this outcome and leave the new ones, by what the devices answered.
+abbrev pub ResourceSteps : {S : Type 0} → Ghosts S → ZoneState → FilesOn S → ResourceCall → List Ask → Outcome → ZoneState → FilesOn S → Type 0
+ResourceSteps store old old_files call asks outcome new new_files = AnswersStep (All store.is_honest new_files.stores)
+    (NoneFailed store.failures old_files.stores new_files.stores) (λ k. FailedAt store.failures k old_files.stores new_files.stores)
+    Memory store.may_leave (state_of store.fork old old_files) call asks outcome (state_of store.fork new new_files)
 
 -- whether such work takes host memory: a fork, or a table
 abbrev pub work_takes_memory : Work → Bool

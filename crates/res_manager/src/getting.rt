@@ -28,8 +28,7 @@ pub(crate) fn get<S: ForkStore, G: GrowZone>(
     requires gets { IsTrue (gets call.now) }
     requires passed { Passes (state_of S.fork memory.old files.old) (early_tests call.now) }
     requires unasked { G.asks procedure.old ≡ [] }
-    ensures step { All S.is_honest files.new.stores →
-        ResourceSteps S.fork S.failures S.may_leave memory.old files.old call.now (G.asks procedure.new) result memory.new files.new }
+    ensures step { ResourceSteps S.ForkStore memory.old files.old call.now (G.asks procedure.new) result memory.new files.new }
     ensures calm { All S.is_honest files.new.stores → map S.history files.new.stores ≡ map S.history files.old.stores }
     ensures source { G.source procedure.new ≡ G.source procedure.old }
     ensures loans { KeepsLoans memory.old memory.new }

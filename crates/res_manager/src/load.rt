@@ -1,6 +1,6 @@
 //! Loads of resources: a row's bytes come into a block of the zone.
 
-ghost use Rattle.std.specs.Prelude.{◌≡◌, [], Some, true, false, not, ◌||◌, length, map, All, IsTrue, IsFalse, IsSome, IfOk, IfSome, OnOk, OnErr, IfErr, ◌≤◌, ◌<◌, ℕ, List, if◌then◌else◌};
+ghost use Rattle.std.specs.Prelude.{◌≡◌, [], Some, true, false, not, ◌||◌, length, map, All, IsTrue, IsFalse, IsSome, IfOk, IfSome, OnOk, OnErr, IfErr, MatchResult, ◌≤◌, ◌<◌, ℕ, List, if◌then◌else◌};
 ghost use Rattle.linked_zone.specs.Loans.{KeepsLoans};
 ghost use Rattle.mac_base.specs.declared.releasing.ReleasingCall.TheVariants.{DisposesHandle};
 ghost use Rattle.mac_base.specs.HandleTable.{is_full, with_flags};
@@ -9,12 +9,12 @@ ghost use Rattle.mac_base.specs.FlagState.{flags_from};
 ghost use Rattle.mac_base.specs.Releasing.{heap_released};
 ghost use Rattle.mac_calls.specs.Outcomes.{Outcome};
 ghost use Rattle.res_calls.specs.Changes.{handles_forgotten, row_changed};
-ghost use Rattle.res_calls.specs.Loads.{loaded};
 ghost use Rattle.mac_calls.specs.Released.{disposed_in};
-ghost use Rattle.res_files.specs.FilesOn.{SomeFailed};
+ghost use Rattle.res_files.specs.FilesOn.{FailedAt, NoneFailed};
+ghost use Rattle.res_calls.specs.Answered.{AnswersFor};
 ghost use Rattle.res_table.specs.OpenFiles.{row_at};
 ghost use Rattle.res_table.specs.Rows.{with_handle};
-ghost use Rattle.res_manager.specs.Loading.{LoadSteps, IsPlaced, IsFilled, HasBytes, flags_for, place_call, handle_placed};
+ghost use Rattle.res_manager.specs.Loading.{LoadSteps, AreAnswered, IsPlaced, IsFilled, HasBytes, flags_for, loaded_with, place_call, handle_placed};
 ghost use Rattle.res_calls.specs.Steps.{Memory};
 
 use crate::watch::Watched;
@@ -40,7 +40,7 @@ pub(crate) fn get_row<S: ForkStore, G: GrowZone>(
 ) -> Result<Handle, OsErr>
     requires unasked { G.asks procedure.old ≡ [] }
     requires there { IsSome (row_at place files.old.files) }
-    ensures step { All S.is_honest files.new.stores → LoadSteps S.fork S.failures S.may_leave memory.old files.old place loads (G.asks procedure.new) result memory.new files.new }
+    ensures step { LoadSteps S.ForkStore memory.old files.old place loads (G.asks procedure.new) result memory.new files.new }
     ensures calm { All S.is_honest files.new.stores → map S.history files.new.stores ≡ map S.history files.old.stores }
     ensures source { G.source procedure.new ≡ G.source procedure.old }
     ensures loans { KeepsLoans memory.old memory.new }
@@ -175,21 +175,22 @@ fn load_bytes<S: ForkStore>(
     attributes: ResAttrs,
 ) -> Result<(), OsErr>
     requires placed { IsPlaced memory.old.heap handle size }
-    requires long { All S.is_honest files.old.stores → HasBytes size (row_at place files.old.files) }
-    ensures loaded { All S.is_honest files.new.stores → OnOk result (IfSome (row_at place files.old.files) (λ r. r.resource.attributes ≡ attributes → memory.new.heap ≡ loaded handle r memory.old.heap)) }
+    requires long { HasBytes size (row_at place files.old.files) }
+    ensures loaded { OnOk result ((bytes : List ℕ) × AreAnswered (All S.is_honest files.new.stores) size (row_at place files.old.files) bytes
+        × (memory.new.heap ≡ loaded_with handle (flags_for attributes) bytes memory.old.heap)) }
     ensures undone { OnErr result (memory.new.heap ≡ (if is_own then with_emptied memory.old.heap handle else heap_released (DisposesHandle handle) memory.old.heap)) }
     ensures code { IfErr result (λ code. code ≡ OsErr.IoErr) }
     ensures some { OnErr result (0 < size) }
     ensures loans { KeepsLoans memory.old memory.new }
     ensures lent { memory.new.heap.table.lent ≡ memory.old.heap.table.lent }
     ensures shape { memory.new.shape ≡ memory.old.shape }
-    ensures files { All S.is_honest files.new.stores → files.new.files ≡ files.old.files }
+    ensures files { AnswersFor (All S.is_honest files.new.stores) files.old.files files.new.files }
     ensures forks { All S.is_honest files.new.stores → map S.fork files.new.stores ≡ map S.fork files.old.stores }
     ensures calm { All S.is_honest files.new.stores → map S.history files.new.stores ≡ map S.history files.old.stores }
     ensures loads { files.new.loads ≡ files.old.loads }
     ensures honest { All S.is_honest files.new.stores → All S.is_honest files.old.stores }
     ensures count { length files.new.stores ≡ length files.old.stores }
-    ensures cause { OnErr result (SomeFailed S.failures files.old.stores files.new.stores) }
+    ensures cause { MatchResult result (λ _. NoneFailed S.failures files.old.stores files.new.stores) (λ _. FailedAt S.failures place.file files.old.stores files.new.stores) }
 {
     if let Err(code) = read_bytes(files, memory, place, handle, size) {
         undo(memory, handle, is_own);
@@ -208,20 +209,20 @@ fn read_bytes<S: ForkStore>(
     size: u32,
 ) -> Result<(), OsErr>
     requires placed { IsPlaced memory.old.heap handle size }
-    requires long { All S.is_honest files.old.stores → HasBytes size (row_at place files.old.files) }
-    ensures filled { (bytes : List ℕ) × IsFilled handle bytes memory.old.heap memory.new.heap }
-    ensures read { All S.is_honest files.new.stores → OnOk result (IfSome (row_at place files.old.files) (λ r. IsFilled handle r.resource.datum memory.old.heap memory.new.heap)) }
+    requires long { HasBytes size (row_at place files.old.files) }
+    ensures filled { (bytes : List ℕ) × IsFilled handle bytes memory.old.heap memory.new.heap
+        × OnOk result (AreAnswered (All S.is_honest files.new.stores) size (row_at place files.old.files) bytes) }
     ensures code { IfErr result (λ code. code ≡ OsErr.IoErr) }
     ensures some { OnErr result (0 < size) }
     ensures loans { KeepsLoans memory.old memory.new }
     ensures shape { memory.new.shape ≡ memory.old.shape }
-    ensures files { All S.is_honest files.new.stores → files.new.files ≡ files.old.files }
+    ensures files { AnswersFor (All S.is_honest files.new.stores) files.old.files files.new.files }
     ensures forks { All S.is_honest files.new.stores → map S.fork files.new.stores ≡ map S.fork files.old.stores }
     ensures calm { All S.is_honest files.new.stores → map S.history files.new.stores ≡ map S.history files.old.stores }
     ensures loads { files.new.loads ≡ files.old.loads }
     ensures honest { All S.is_honest files.new.stores → All S.is_honest files.old.stores }
     ensures count { length files.new.stores ≡ length files.old.stores }
-    ensures cause { OnErr result (SomeFailed S.failures files.old.stores files.new.stores) }
+    ensures cause { MatchResult result (λ _. NoneFailed S.failures files.old.stores files.new.stores) (λ _. FailedAt S.failures place.file files.old.stores files.new.stores) }
 {
     if size == 0 {
         return Ok(());

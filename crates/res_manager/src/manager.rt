@@ -2,6 +2,7 @@
 
 ghost use Rattle.std.specs.Prelude.{◌≡◌, [], None, length, All, IsTrue, IfOk, OnOk, OnErr};
 ghost use Rattle.linked_zone.specs.Loans.{KeepsLoans};
+ghost use Rattle.res_calls.specs.Answered.{IsAnswered};
 ghost use Rattle.res_calls.specs.Tests.{resource_refusal};
 ghost use Rattle.mac_calls.specs.declared.resource_call.ResourceCall.TheVariants as call;
 ghost use Rattle.res_calls.specs.Steps.{work_of, ReadsBack, update_in};
@@ -39,8 +40,7 @@ pub fn make<S: ForkStore, G: GrowZone>(
 ) -> Result<Outcome, HostFull>
     requires lent { AreLent memory.old.heap.table lent.now }
     requires unasked { G.asks procedure.old ≡ [] }
-    ensures step { All S.is_honest files.new.stores → IfOk result (λ outcome.
-        ResourceSteps S.fork S.failures S.may_leave memory.old files.old call.now (G.asks procedure.new) outcome memory.new files.new) }
+    ensures step { IfOk result (λ outcome. ResourceSteps S.ForkStore memory.old files.old call.now (G.asks procedure.new) outcome memory.new files.new) }
     ensures reads_back { All S.is_honest files.new.stores → IfOk result (λ outcome. ReadsBack (state_of S.fork memory.old files.old) call.now outcome (state_of S.fork memory.new files.new)) }
     // Whenever a crash comes, each file is found as before the call, or as the call saves it; once an update or an opening succeeded, as it is read.
     ensures any_moment { All S.is_honest files.new.stores → IfOk result (λ outcome.
@@ -56,9 +56,9 @@ pub fn make<S: ForkStore, G: GrowZone>(
     ensures count { length files.new.stores ≡ length files.old.stores }
     ensures unchanged { OnErr result (memory.new ≡ memory.old) }
     ensures unasked { OnErr result (G.asks procedure.new ≡ []) }
-    ensures same { All S.is_honest files.new.stores → OnErr result (state_of S.fork memory.new files.new ≡ state_of S.fork memory.old files.old) }
-    ensures full { All S.is_honest files.new.stores → OnErr result (IsTrue (takes_memory (state_of S.fork memory.old files.old) call.now)) }
-    ensures late { All S.is_honest files.new.stores → OnErr result (resource_refusal (state_of S.fork memory.old files.old) call.now ≡ None) }
+    ensures same { OnErr result (IsAnswered (All S.is_honest files.new.stores) (state_of S.fork memory.new files.new) (state_of S.fork memory.old files.old)) }
+    ensures full { OnErr result (IsTrue (takes_memory (state_of S.fork memory.old files.old) call.now)) }
+    ensures late { OnErr result (resource_refusal (state_of S.fork memory.old files.old) call.now ≡ None) }
 {
     if let Err(code) = test_call(files, memory, lent, call) {
         return Ok(Err(code));
@@ -83,8 +83,7 @@ fn make_calm<S: ForkStore, G: GrowZone>(
     requires calm { IsTrue (is_calm call.now) }
     requires passed { Passes (state_of S.fork memory.old files.old) (early_tests call.now) }
     requires unasked { G.asks procedure.old ≡ [] }
-    ensures step { All S.is_honest files.new.stores → IfOk result (λ outcome.
-        ResourceSteps S.fork S.failures S.may_leave memory.old files.old call.now (G.asks procedure.new) outcome memory.new files.new) }
+    ensures step { IfOk result (λ outcome. ResourceSteps S.ForkStore memory.old files.old call.now (G.asks procedure.new) outcome memory.new files.new) }
     ensures reads_back { All S.is_honest files.new.stores → IfOk result (λ outcome. ReadsBack (state_of S.fork memory.old files.old) call.now outcome (state_of S.fork memory.new files.new)) }
     ensures any_moment { All S.is_honest files.new.stores → IfOk result (λ outcome.
         CrashLeaves S.ForkStore (update_in (work_of (state_of S.fork memory.old files.old) call.now)) files.old.stores files.new.stores) }
@@ -99,9 +98,9 @@ fn make_calm<S: ForkStore, G: GrowZone>(
     ensures count { length files.new.stores ≡ length files.old.stores }
     ensures unchanged { OnErr result (memory.new ≡ memory.old) }
     ensures unasked { OnErr result (G.asks procedure.new ≡ []) }
-    ensures same { All S.is_honest files.new.stores → OnErr result (state_of S.fork memory.new files.new ≡ state_of S.fork memory.old files.old) }
-    ensures full { All S.is_honest files.new.stores → OnErr result (IsTrue (takes_memory (state_of S.fork memory.old files.old) call.now)) }
-    ensures late { All S.is_honest files.new.stores → OnErr result (resource_refusal (state_of S.fork memory.old files.old) call.now ≡ None) }
+    ensures same { OnErr result (IsAnswered (All S.is_honest files.new.stores) (state_of S.fork memory.new files.new) (state_of S.fork memory.old files.old)) }
+    ensures full { OnErr result (IsTrue (takes_memory (state_of S.fork memory.old files.old) call.now)) }
+    ensures late { OnErr result (resource_refusal (state_of S.fork memory.old files.old) call.now ≡ None) }
 {
     match *call {
         ResourceCall::GetResource { .. }
@@ -121,7 +120,7 @@ fn make_quiet<S: ForkStore>(
 ) -> Result<Outcome, HostFull>
     requires quiet { IsTrue (is_quiet call.now) }
     requires passed { Passes (state_of S.fork memory.old files.old) (early_tests call.now) }
-    ensures quiet { All S.is_honest files.new.stores → IfOk result (λ outcome. EndsQuietly S.fork memory.old files.old call.now outcome memory.new files.new) }
+    ensures quiet { IfOk result (λ outcome. EndsQuietly S.fork memory.old files.old call.now outcome memory.new files.new) }
     ensures loans { KeepsLoans memory.old memory.new }
     ensures lent { memory.new.heap.table.lent ≡ memory.old.heap.table.lent }
     ensures shape { memory.new.shape ≡ memory.old.shape }
@@ -160,14 +159,13 @@ fn open_file<S: ForkStore>(
     number: u32,
 ) -> Result<Outcome, HostFull>
     requires { Passes (state_of S.fork memory.now files.old) (early_tests (call.OpenResFile number)) }
-    ensures step { All S.is_honest files.new.stores → IfOk result (λ outcome.
-        ResourceSteps S.fork S.failures S.may_leave memory.now files.old (call.OpenResFile number) [] outcome memory.now files.new) }
+    ensures step { IfOk result (λ outcome. ResourceSteps S.ForkStore memory.now files.old (call.OpenResFile number) [] outcome memory.now files.new) }
     ensures any_moment { All S.is_honest files.new.stores → IfOk result (λ outcome.
         CrashLeaves S.ForkStore (update_in (work_of (state_of S.fork memory.now files.old) (call.OpenResFile number))) files.old.stores files.new.stores) }
     ensures settled { All S.is_honest files.new.stores → IfOk result (λ outcome. OnOk outcome
         (IsSettled S.ForkStore (file_settled (work_of (state_of S.fork memory.now files.old) (call.OpenResFile number))) files.new.stores)) }
     ensures crash_full { All S.is_honest files.new.stores → OnErr result (CrashLeaves S.ForkStore None files.old.stores files.new.stores) }
-    ensures same { All S.is_honest files.new.stores → OnErr result (state_of S.fork memory.now files.new ≡ state_of S.fork memory.now files.old) }
+    ensures same { OnErr result (IsAnswered (All S.is_honest files.new.stores) (state_of S.fork memory.now files.new) (state_of S.fork memory.now files.old)) }
     ensures full { OnErr result (IsTrue (takes_memory (state_of S.fork memory.now files.old) (call.OpenResFile number))) }
     ensures honest { All S.is_honest files.new.stores → All S.is_honest files.old.stores }
     ensures count { length files.new.stores ≡ length files.old.stores }

@@ -18,9 +18,8 @@ pub(crate) fn open<S: ForkStore>(
 ) -> Result<Outcome, HostFull>
     requires there { (1 ≤ number) × (number ≤ length files.old.stores) }
     requires closed { IsFalse (is_open number files.old.files) }
-    ensures opened { All S.is_honest files.new.stores → IfOk result (λ outcome.
-        (zone : ZoneState) → OpensFile S.fork S.failures zone files.old number outcome files.new) }
-    ensures full { All S.is_honest files.new.stores → OnErr result (files.new.files ≡ files.old.files) }
+    ensures opened { IfOk result (λ outcome. (zone : ZoneState) → OpensFile S.ForkStore zone files.old number outcome files.new) }
+    ensures full { OnErr result (files.new.files ≡ files.old.files) }
     ensures forks { All S.is_honest files.new.stores → map S.fork files.new.stores ≡ map S.fork files.old.stores }
     ensures any_moment { All S.is_honest files.new.stores → CrashLeaves S.ForkStore None files.old.stores files.new.stores }
     ensures settled { All S.is_honest files.new.stores → IfOk result (λ outcome. OnOk outcome (IsSettled S.ForkStore (Some number) files.new.stores)) }

@@ -1,6 +1,6 @@
 //! The calls that need neither room in the zone nor a disk.
 
-ghost use Rattle.std.specs.Prelude.{◌≡◌, ◌≤◌, length, nat_le, option_copied, All, IfOk, OnOk, OnErr, IsTrue, Ok};
+ghost use Rattle.std.specs.Prelude.{◌≡◌, ◌≤◌, length, nat_le, option_copied, IfOk, OnOk, OnErr, IsTrue, Ok};
 ghost use Rattle.std.specs.Option.{option_map_or};
 ghost use Rattle.linked_zone.specs.Loans.{KeepsLoans};
 ghost use Rattle.mac_calls.specs.declared.resource_call.ResourceCall.TheVariants as call;
@@ -28,7 +28,7 @@ use std::alloc::Global;
 /// What a call gives that only tells what the open files say.
 pub(crate) fn tell<S: ForkStore>(files: &ResourceFiles<S>, call: &ResourceCall<'_>) -> Results
     requires { IsTrue (tells call.now) }
-    ensures { All S.is_honest files.now.stores → (state : ResState) → state.files ≡ files.now.files → result ≡ quiet_results state call.now }
+    ensures { (state : ResState) → state.files ≡ files.now.files → result ≡ quiet_results state call.now }
 {
     match *call {
         ResourceCall::GetResAttrs(handle) => match row_of(files, handle) {

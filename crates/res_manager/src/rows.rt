@@ -1,6 +1,6 @@
 //! The rows of handles.
 
-ghost use Rattle.std.specs.Prelude.{◌≡◌, All, IfSome, IfNone, Some, None};
+ghost use Rattle.std.specs.Prelude.{◌≡◌, IfSome, IfNone, Some, None};
 ghost use Rattle.res_calls.specs.Changes.{FileRow, row_of_handle};
 ghost use Rattle.res_files.specs.FilesOn.{Shows};
 
@@ -13,7 +13,7 @@ use res_table::row::Row;
 /// The row with a handle, in any open file.
 pub(crate) fn row_of<S: ForkStore>(files: &ResourceFiles<S>, handle: Handle) -> Option<&Row<Place>>
     ensures some { IfSome result (λ row. (shown : FileRow) × (row_of_handle handle files.now.files ≡ Some shown)
-        × Shows (All S.is_honest files.now.stores) row.now shown) }
+        × Shows row.now shown) }
     ensures none { IfNone result (row_of_handle handle files.now.files ≡ None) }
 {
     let place = files.row_of_handle(handle)?;

@@ -33,8 +33,7 @@ pub(crate) fn update<S: ForkStore>(
 ) -> Result<Outcome, HostFull>
     requires writes { IsTrue (writes call.now) }
     requires passed { Passes (state_of S.fork memory.old files.old) (early_tests call.now) }
-    ensures step { All S.is_honest files.new.stores → IfOk result (λ outcome.
-        ResourceSteps S.fork S.failures S.may_leave memory.old files.old call.now [] outcome memory.new files.new) }
+    ensures step { IfOk result (λ outcome. ResourceSteps S.ForkStore memory.old files.old call.now [] outcome memory.new files.new) }
     ensures reads_back { All S.is_honest files.new.stores → IfOk result (λ outcome. ReadsBack (state_of S.fork memory.old files.old) call.now outcome (state_of S.fork memory.new files.new)) }
     ensures any_moment { All S.is_honest files.new.stores → IfOk result (λ outcome.
         CrashLeaves S.ForkStore (update_in (work_of (state_of S.fork memory.old files.old) call.now)) files.old.stores files.new.stores) }
@@ -47,8 +46,8 @@ pub(crate) fn update<S: ForkStore>(
     ensures count { length files.new.stores ≡ length files.old.stores }
     ensures unchanged { OnErr result (memory.new ≡ memory.old) }
     ensures same { OnErr result (files.new ≡ files.old) }
-    ensures late { All S.is_honest files.new.stores → OnErr result (resource_refusal (state_of S.fork memory.old files.old) call.now ≡ None) }
-    ensures full { All S.is_honest files.new.stores → OnErr result (IsTrue (takes_memory (state_of S.fork memory.old files.old) call.now)) }
+    ensures late { OnErr result (resource_refusal (state_of S.fork memory.old files.old) call.now ≡ None) }
+    ensures full { OnErr result (IsTrue (takes_memory (state_of S.fork memory.old files.old) call.now)) }
 {
     match *call {
         ResourceCall::WriteResource(handle) => write_resource(files, memory, handle),
@@ -75,8 +74,7 @@ fn write_resource<S: ForkStore>(
     handle: Handle,
 ) -> Result<Outcome, HostFull>
     requires { Passes (state_of S.fork memory.now files.old) (early_tests (call.WriteResource handle)) }
-    ensures step { All S.is_honest files.new.stores → IfOk result (λ outcome.
-        ResourceSteps S.fork S.failures S.may_leave memory.now files.old (call.WriteResource handle) [] outcome memory.now files.new) }
+    ensures step { IfOk result (λ outcome. ResourceSteps S.ForkStore memory.now files.old (call.WriteResource handle) [] outcome memory.now files.new) }
     ensures reads_back { All S.is_honest files.new.stores → IfOk result (λ outcome. ReadsBack (state_of S.fork memory.now files.old) (call.WriteResource handle) outcome (state_of S.fork memory.now files.new)) }
     ensures any_moment { All S.is_honest files.new.stores → IfOk result (λ outcome.
         CrashLeaves S.ForkStore (update_in (work_of (state_of S.fork memory.now files.old) (call.WriteResource handle))) files.old.stores files.new.stores) }
@@ -85,8 +83,8 @@ fn write_resource<S: ForkStore>(
     ensures honest { All S.is_honest files.new.stores → All S.is_honest files.old.stores }
     ensures count { length files.new.stores ≡ length files.old.stores }
     ensures same { OnErr result (files.new ≡ files.old) }
-    ensures late { All S.is_honest files.new.stores → OnErr result (resource_refusal (state_of S.fork memory.now files.old) (call.WriteResource handle) ≡ None) }
-    ensures full { All S.is_honest files.new.stores → OnErr result (IsTrue (takes_memory (state_of S.fork memory.now files.old) (call.WriteResource handle))) }
+    ensures late { OnErr result (resource_refusal (state_of S.fork memory.now files.old) (call.WriteResource handle) ≡ None) }
+    ensures full { OnErr result (IsTrue (takes_memory (state_of S.fork memory.now files.old) (call.WriteResource handle))) }
 {
     let Some(place) = files.row_of_handle(handle) else {
         unreachable!();
@@ -105,9 +103,9 @@ fn close<S: ForkStore>(
 ) -> Result<Outcome, HostFull>
     requires open { IsTrue (is_open number files.old.files) }
     requires unlent { IsFalse (reads_lent memory.old.heap.table Selection.AllChanged (rows_of number files.old.files)) }
-    ensures written { All S.is_honest files.new.stores → IfOk result (λ outcome. (u : Update)
+    ensures written { IfOk result (λ outcome. (u : Update)
         → update_of number (updated memory.old.heap.table Selection.AllChanged) files.old.files ≡ Some u
-        → WritesFile S.fork S.failures S.may_leave memory.old files.old (call.CloseResFile None) u outcome memory.new files.new) }
+        → WritesFile S.ForkStore memory.old files.old (call.CloseResFile None) u outcome memory.new files.new) }
     ensures saved { All S.is_honest files.new.stores → IfOk result (λ outcome.
         OnOk outcome (IsSaved (update_of number (updated memory.old.heap.table Selection.AllChanged) files.old.files) (state_of S.fork memory.new files.new))) }
     ensures any_moment { All S.is_honest files.new.stores → (u : Update)
@@ -120,7 +118,7 @@ fn close<S: ForkStore>(
     ensures count { length files.new.stores ≡ length files.old.stores }
     ensures unchanged { OnErr result (memory.new ≡ memory.old) }
     ensures same { OnErr result (files.new ≡ files.old) }
-    ensures fits { All S.is_honest files.new.stores → OnErr result ((u : Update)
+    ensures fits { OnErr result ((u : Update)
         → update_of number (updated memory.old.heap.table Selection.AllChanged) files.old.files ≡ Some u → IsTrue (fits_fork u.table)) }
 {
     let outcome = write_file(files, memory, number, Selection::AllChanged)?;
@@ -142,9 +140,9 @@ fn write_file<S: ForkStore>(
 ) -> Result<Outcome, HostFull>
     requires open { IsTrue (is_open number files.old.files) }
     requires unlent { IsFalse (reads_lent memory.now.heap.table selection (rows_of number files.old.files)) }
-    ensures written { All S.is_honest files.new.stores → IfOk result (λ outcome. (u : Update)
+    ensures written { IfOk result (λ outcome. (u : Update)
         → update_of number (updated memory.now.heap.table selection) files.old.files ≡ Some u
-        → WritesFile S.fork S.failures S.may_leave memory.now files.old (call.UpdateResFile None) u outcome memory.now files.new) }
+        → WritesFile S.ForkStore memory.now files.old (call.UpdateResFile None) u outcome memory.now files.new) }
     ensures saved { All S.is_honest files.new.stores → IfOk result (λ outcome.
         OnOk outcome (IsSaved (update_of number (updated memory.now.heap.table selection) files.old.files) (state_of S.fork memory.now files.new))) }
     ensures any_moment { All S.is_honest files.new.stores → (u : Update)
@@ -153,7 +151,7 @@ fn write_file<S: ForkStore>(
     ensures honest { All S.is_honest files.new.stores → All S.is_honest files.old.stores }
     ensures count { length files.new.stores ≡ length files.old.stores }
     ensures same { OnErr result (files.new ≡ files.old) }
-    ensures fits { All S.is_honest files.new.stores → OnErr result ((u : Update)
+    ensures fits { OnErr result ((u : Update)
         → update_of number (updated memory.now.heap.table selection) files.old.files ≡ Some u → IsTrue (fits_fork u.table)) }
 {
     let contents = MemoryContents::new(memory);
