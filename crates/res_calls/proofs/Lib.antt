@@ -1,2 +1,3 @@
+pub mod Answering
 mod Running
 mod Worked

@@ -8,6 +8,7 @@ use Rattle.mac_calls.specs.declared.resource_call.ResourceCall.TheVariants as ca
 use Rattle.mac_calls.specs.Outcomes.{Outcome}
 use Rattle.fork_disk.specs.declared.store.ForkStore.{Ghosts}
 use Rattle.res_table.specs.declared.chain.RowPlace.{RowPlace}
+use Rattle.res_calls.specs.Answered.{IsAnswered}
 use Rattle.res_calls.specs.Files.{ResState}
 use Rattle.res_calls.specs.Loads.{row_wanted}
 use Rattle.res_calls.specs.Steps.{Work, Gets, Quiet, work_of, IsSaved, ReadsBack, update_in}
@@ -19,6 +20,7 @@ use Rattle.res_files.specs.FilesOn.{FilesOn}
 use Rattle.res_manager.specs.Ends.{copies, is_calm, is_quiet}
 use Rattle.res_manager.specs.Steps.{state_of, takes_memory}
 use Rattle.res_manager.specs.Tests.{early_tests, late_tests}
+use Rattle.res_manager.proofs.Blank.{itself}
 use Rattle.res_manager.proofs.Refusals.{passed-early}
 
 -- work that writes no file and opens none
@@ -87,6 +89,7 @@ copies_take state (call.GetResInfo h) is = refl
 copies_take state _ is = absurd (cc is)
 
 -- an error behind which zone and files are as before
-pub err_same : {S T E : Type 0} (fork : S → List ℕ) (old new : ZoneState) (on after : FilesOn S) (result : Result T E) → OnErr result (new ≡ old) → OnErr result (after ≡ on) → OnErr result (state_of fork new after ≡ state_of fork old on)
-err_same fork old new on after (Ok x) zone files = tt
-err_same fork old new on after (Err e) zone files = ap (λ z. state_of fork z after) zone ∙ ap (state_of fork old) files
+pub err_same : {S T E : Type 0} (honest : Type 0) (fork : S → List ℕ) (old new : ZoneState) (on after : FilesOn S) (result : Result T E) → OnErr result (new ≡ old) → OnErr result (after ≡ on)
+    → OnErr result (IsAnswered honest (state_of fork new after) (state_of fork old on))
+err_same honest fork old new on after (Ok x) zone files = tt
+err_same honest fork old new on after (Err e) zone files = subst (λ (s : ResState). IsAnswered honest (state_of fork new after) s) (ap (λ z. state_of fork z after) zone ∙ ap (state_of fork old) files) (itself honest (state_of fork new after))

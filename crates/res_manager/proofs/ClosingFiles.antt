@@ -1,6 +1,6 @@
 -- How closing a file ends that was written.
-use Rattle.std.proofs.Common.{◌≡◌, ◌∙◌, ℕ, Bool, true, false, List, map, None, Err, sym, ap}
-use Rattle.std.specs.Prelude.{IsFalse, MatchBool}
+use Rattle.std.proofs.Common.{◌≡◌, ◌∙◌, ℕ, Bool, true, false, List, map, None, Err, refl, sym, ap, subst}
+use Rattle.std.specs.Prelude.{All, MatchBool}
 use Rattle.std.specs.Result.{is_err}
 use Rattle.mac_base.specs.ZoneState.{ZoneState}
 use Rattle.mac_base.specs.declared.error.OsErr.{OsErr}
@@ -9,21 +9,23 @@ use Rattle.mac_calls.specs.declared.resource_call.ResourceCall.TheVariants.{Clos
 use Rattle.mac_calls.specs.Outcomes.{Outcome}
 use Rattle.res_table.specs.OpenFiles.{file_closed}
 use Rattle.res_calls.specs.Changes.{rows_of}
+use Rattle.fork_disk.specs.declared.store.ForkStore.{Ghosts}
+use Rattle.res_calls.specs.Answered.{IsAnswered}
 use Rattle.res_calls.specs.Device.{Device, device_works}
 use Rattle.res_calls.specs.Device as device
-use Rattle.res_calls.specs.Files.{ResState, ResourceEnd, disk_of, refused_with}
-use Rattle.res_calls.specs.Steps.{LeaveRelation, LeavesDisk, Memory}
+use Rattle.res_calls.specs.Files.{ResState, ResourceEnd}
 use Rattle.res_calls.specs.Updates.{Update, behind_update, disposed, fits_fork, handles_of, update_end}
-use Rattle.res_files.specs.FilesOn.{FilesOn, SomeFailed}
-use Rattle.res_manager.specs.Ends.{WritesFile}
+use Rattle.res_files.specs.FilesOn.{FailedAt, FilesOn, NoneFailed}
+use Rattle.res_manager.specs.Ends.{IsUnwritten, Writes, WritesFile}
 use Rattle.res_manager.specs.Steps.{state_of}
-use Rattle.res_manager.proofs.States.{same_end, same_state}
+use Rattle.res_manager.proofs.Blank.{closed-answered}
+use Rattle.res_manager.proofs.States.{same_state}
 
-module _ {S : Type 0} (fork : S → List ℕ) (failures : S → ℕ) (may_leave : LeaveRelation) (zone new : ZoneState) (on mid after : FilesOn S) (u : Update) (outcome : Outcome) where
+module _ {S : Type 0} (store : Ghosts S) (zone new : ZoneState) (on mid after : FilesOn S) (u : Update) (outcome : Outcome) where
   -- a file that was written is closed, and the handles of its rows are disposed of
   pub closes_written : is_err outcome ≡ false → new.shape ≡ zone.shape → new.heap ≡ disposed zone.shape (handles_of (rows_of u.file mid.files)) zone.heap
-      → after ≡ record mid { files = file_closed u.file mid.files } → WritesFile fork failures may_leave zone on (UpdateResFile None) u outcome zone mid
-      → WritesFile fork failures may_leave zone on (CloseResFile None) u outcome new after
+      → after ≡ record mid { files = file_closed u.file mid.files } → WritesFile store zone on (UpdateResFile None) u outcome zone mid
+      → WritesFile store zone on (CloseResFile None) u outcome new after
   closes_written given shape heap closed written = by_case (fits_fork u.table) written
     where
       not_given : (code : OsErr) → outcome ≡ Err code → ⊥
@@ -32,44 +34,60 @@ module _ {S : Type 0} (fork : S → List ℕ) (failures : S → ℕ) (may_leave 
       closing : ResState → ResState
       closing state = behind_update (CloseResFile None) u.file state
 
-      closed_state : closing (state_of fork zone mid) ≡ state_of fork new after
-      closed_state = same_state fork (closing (state_of fork zone mid)) new after (sym shape) (sym heap) (ap (λ (on : FilesOn S). on.files) (sym closed)) (ap (λ (on : FilesOn S). on.loads) (sym closed)) (ap (λ (on : FilesOn S). map fork on.stores) (sym closed))
+      closed_state : closing (state_of store.fork zone mid) ≡ state_of store.fork new after
+      closed_state = same_state store.fork (closing (state_of store.fork zone mid)) new after (sym shape) (sym heap) (ap (λ (on : FilesOn S). on.files) (sym closed)) (ap (λ (on : FilesOn S). on.loads) (sym closed))
+          (ap (λ (on : FilesOn S). map store.fork on.stores) (sym closed))
 
-      by_device : (dev : Device) → LeavesDisk Memory may_leave dev u (disk_of u.file (state_of fork zone on)) → update_end dev (UpdateResFile None) u (state_of fork zone on) ≡ record { outcome = outcome; state = state_of fork zone mid }
-          → (dev : Device) × LeavesDisk Memory may_leave dev u (disk_of u.file (state_of fork zone on)) × (update_end dev (CloseResFile None) u (state_of fork zone on) ≡ record { outcome = outcome; state = state_of fork new after })
-          × (IsFalse (device_works dev) → SomeFailed failures on.stores after.stores)
-      by_device device.Works leaves ends = (
-        device.Works,
-        leaves,
-        ap (λ (e : ResourceEnd). record e { state = closing e.state }) ends ∙ same_end outcome (closing (state_of fork zone mid)) (state_of fork new after) closed_state,
-        λ h. absurd (cc h),
-      )
-      by_device device.FailsBefore leaves ends = absurd (not_given IoErr (sym (ap (λ (e : ResourceEnd). e.outcome) ends)))
-      by_device (device.FailsWriting left) leaves ends = absurd (not_given IoErr (sym (ap (λ (e : ResourceEnd). e.outcome) ends)))
+      mid_stores : mid.stores ≡ after.stores
+      mid_stores = ap (λ (f : FilesOn S). f.stores) (sym closed)
 
-      by_case : (b : Bool) → MatchBool b ((dev : Device) × LeavesDisk Memory may_leave dev u (disk_of u.file (state_of fork zone on)) × (update_end dev (UpdateResFile None) u (state_of fork zone on) ≡ record { outcome = outcome; state = state_of fork zone mid })
-          × (IsFalse (device_works dev) → SomeFailed failures on.stores mid.stores)) (refused_with DskFulErr (state_of fork zone on) ≡ record { outcome = outcome; state = state_of fork zone mid })
-          → MatchBool b ((dev : Device) × LeavesDisk Memory may_leave dev u (disk_of u.file (state_of fork zone on)) × (update_end dev (CloseResFile None) u (state_of fork zone on) ≡ record { outcome = outcome; state = state_of fork new after })
-          × (IsFalse (device_works dev) → SomeFailed failures on.stores after.stores)) (refused_with DskFulErr (state_of fork zone on) ≡ record { outcome = outcome; state = state_of fork new after })
-      by_case true (dev, leaves, ends, cause) = by_device dev leaves ends
-      by_case false ends = absurd (not_given DskFulErr (sym (ap (λ (e : ResourceEnd). e.outcome) ends)))
+      -- what is as the devices answered is so once the file is closed
+      closing_answered : (state : ResState) → IsAnswered (All store.is_honest mid.stores) (state_of store.fork zone mid) state → IsAnswered (All store.is_honest after.stores) (state_of store.fork new after) (closing state)
+      closing_answered state answered =
+          subst (λ (s : ResState). IsAnswered (All store.is_honest after.stores) s (closing state)) closed_state
+          (subst (λ (stores : List S). IsAnswered (All store.is_honest stores) (closing (state_of store.fork zone mid)) (closing state)) mid_stores (closed-answered (All store.is_honest mid.stores) u.file (state_of store.fork zone mid) state answered))
 
-module _ {S : Type 0} (fork : S → List ℕ) (failures : S → ℕ) (may_leave : LeaveRelation) (zone : ZoneState) (on mid : FilesOn S) (u : Update) (outcome : Outcome) where
+      by_device : (w : Writes store zone on (UpdateResFile None) u outcome zone mid) (dev : Device) → w.device ≡ dev → Writes store zone on (CloseResFile None) u outcome new after
+      by_device w device.Works is =
+          let ends = ap (λ (d : Device). update_end d (UpdateResFile None) u (state_of store.fork zone on)) (sym is) ∙ w.ends in
+          record {
+            device = device.Works;
+            after = closing w.after;
+            becomes = closing_answered w.after w.becomes;
+            leaves = tt;
+            ends = ap (λ (e : ResourceEnd). record e { state = closing e.state }) ends;
+            cause = subst (λ (stores : List S). NoneFailed store.failures on.stores stores) mid_stores
+                (subst (λ (d : Device). MatchBool (device_works d) (NoneFailed store.failures on.stores mid.stores) (FailedAt store.failures u.file on.stores mid.stores)) is w.cause);
+          }
+      by_device w device.FailsBefore is =
+          absurd (not_given IoErr (sym (ap (λ (e : ResourceEnd). e.outcome) (ap (λ (d : Device). update_end d (UpdateResFile None) u (state_of store.fork zone on)) (sym is) ∙ w.ends))))
+      by_device w (device.FailsWriting left) is =
+          absurd (not_given IoErr (sym (ap (λ (e : ResourceEnd). e.outcome) (ap (λ (d : Device). update_end d (UpdateResFile None) u (state_of store.fork zone on)) (sym is) ∙ w.ends))))
+
+      by_case : (b : Bool) → MatchBool b (Writes store zone on (UpdateResFile None) u outcome zone mid) (IsUnwritten store zone on outcome zone mid)
+          → MatchBool b (Writes store zone on (CloseResFile None) u outcome new after) (IsUnwritten store zone on outcome new after)
+      by_case true w = by_device w w.device refl
+      by_case false unwritten = absurd (not_given DskFulErr (sym (ap (λ (e : ResourceEnd). e.outcome) unwritten.ends)))
+
+module _ {S : Type 0} (store : Ghosts S) (zone : ZoneState) (on mid : FilesOn S) (u : Update) (outcome : Outcome) where
   -- a file that wasn't written ends as its update did
-  pub closes_refused : is_err outcome ≡ true → WritesFile fork failures may_leave zone on (UpdateResFile None) u outcome zone mid → WritesFile fork failures may_leave zone on (CloseResFile None) u outcome zone mid
+  pub closes_refused : is_err outcome ≡ true → WritesFile store zone on (UpdateResFile None) u outcome zone mid → WritesFile store zone on (CloseResFile None) u outcome zone mid
   closes_refused given written = by_case (fits_fork u.table) written
     where
-      by_device : (dev : Device) → LeavesDisk Memory may_leave dev u (disk_of u.file (state_of fork zone on)) → update_end dev (UpdateResFile None) u (state_of fork zone on) ≡ record { outcome = outcome; state = state_of fork zone mid }
-          → (IsFalse (device_works dev) → SomeFailed failures on.stores mid.stores)
-          → (dev : Device) × LeavesDisk Memory may_leave dev u (disk_of u.file (state_of fork zone on)) × (update_end dev (CloseResFile None) u (state_of fork zone on) ≡ record { outcome = outcome; state = state_of fork zone mid })
-          × (IsFalse (device_works dev) → SomeFailed failures on.stores mid.stores)
-      by_device device.Works leaves ends cause = absurd (cc (ap (λ (e : ResourceEnd). is_err e.outcome) ends ∙ given))
-      by_device device.FailsBefore leaves ends cause = (device.FailsBefore, leaves, ends, cause)
-      by_device (device.FailsWriting left) leaves ends cause = (device.FailsWriting left, leaves, ends, cause)
+      same_ends : (dev : Device) → (let e : ResourceEnd = update_end dev (UpdateResFile None) u (state_of store.fork zone on) in is_err e.outcome ≡ true)
+          → update_end dev (CloseResFile None) u (state_of store.fork zone on) ≡ update_end dev (UpdateResFile None) u (state_of store.fork zone on)
+      same_ends device.Works is = absurd (cc is)
+      same_ends device.FailsBefore is = refl
+      same_ends (device.FailsWriting left) is = refl
 
-      by_case : (b : Bool) → MatchBool b ((dev : Device) × LeavesDisk Memory may_leave dev u (disk_of u.file (state_of fork zone on)) × (update_end dev (UpdateResFile None) u (state_of fork zone on) ≡ record { outcome = outcome; state = state_of fork zone mid })
-          × (IsFalse (device_works dev) → SomeFailed failures on.stores mid.stores)) (refused_with DskFulErr (state_of fork zone on) ≡ record { outcome = outcome; state = state_of fork zone mid })
-          → MatchBool b ((dev : Device) × LeavesDisk Memory may_leave dev u (disk_of u.file (state_of fork zone on)) × (update_end dev (CloseResFile None) u (state_of fork zone on) ≡ record { outcome = outcome; state = state_of fork zone mid })
-          × (IsFalse (device_works dev) → SomeFailed failures on.stores mid.stores)) (refused_with DskFulErr (state_of fork zone on) ≡ record { outcome = outcome; state = state_of fork zone mid })
-      by_case true (dev, leaves, ends, cause) = by_device dev leaves ends cause
-      by_case false ends = ends
+      by_case : (b : Bool) → MatchBool b (Writes store zone on (UpdateResFile None) u outcome zone mid) (IsUnwritten store zone on outcome zone mid)
+          → MatchBool b (Writes store zone on (CloseResFile None) u outcome zone mid) (IsUnwritten store zone on outcome zone mid)
+      by_case true w = record {
+        device = w.device;
+        after = w.after;
+        becomes = w.becomes;
+        leaves = w.leaves;
+        ends = same_ends w.device (ap (λ (e : ResourceEnd). is_err e.outcome) w.ends ∙ given) ∙ w.ends;
+        cause = w.cause;
+      }
+      by_case false unwritten = unwritten

@@ -10,7 +10,9 @@ use Rattle.std.specs.FinMap.Entries.{by_order}
 use Rattle.std.proofs.lemmas.Bool.Decides.{nat_tests}
 use Rattle.mac_base.specs.HeadKind.{Shape}
 use Rattle.mac_base.specs.FlagState.{state_locks}
-use Rattle.mac_base.specs.HandleTable.{Live, FullHandle, bytes_of, live_at, live_bytes, is_lent, no_flags, refilled, with_bytes, with_live, zeros}
+use Rattle.mac_base.specs.HandleTable.{Live, FullHandle, bytes_of, live_at, live_bytes, is_lent, no_flags, refilled, with_bytes, with_flags, with_live, zeros}
+use Rattle.mac_base.specs.declared.block.Flags.{Flags}
+use Rattle.std.proofs.lemmas.List.{length-replicate}
 use Rattle.mac_base.specs.Heap.{Heap, with_table}
 use Rattle.mac_calls.specs.declared.memory_call.MemoryCall.{MemoryCall}
 use Rattle.mac_calls.specs.declared.memory_call.MemoryCall.TheVariants.{HSetState}
@@ -24,7 +26,7 @@ use Rattle.mac_base.specs.ZoneState.{ZoneState, overwritten, with_contents}
 use Rattle.linked_zone.specs.Loans.{KeepsLoans}
 use Rattle.zone_laws.proofs.Tables.{eqb_same, live_at-with_live_same, with_live_agrees}
 use Rattle.res_calls.specs.Changes.{FileRow}
-use Rattle.res_manager.specs.Loading.{IsPlaced, IsFilled}
+use Rattle.res_manager.specs.Loading.{AreAnswered, HasBytes, IsFilled, IsPlaced, loaded_with}
 
 same_cmp : (k : ℕ) → nat_cmp k k ≡ Equal
 same_cmp k = grind (arith, nat_tests)
@@ -106,15 +108,30 @@ loans-filled zone h n x bytes placed is = λ y loan held.
     let same : live_at (with_contents zone x bytes).heap.table y ≡ live_at t y = (with_live_agrees x (refilled (overwritten (bytes_of t x) bytes) (live_at t x)) t).others y other in
     record { lent = held.lent; memory = held.memory; contents = held.contents; long = held.long ∙ ap (λ (o : Option Live). length (live_bytes o)) (sym same) }
 
--- the same where they are a row's that were read
-pub filled-read : {X E F : Type 0} (heap : Heap) (h n x : ℕ) (bytes : List ℕ) → IsPlaced heap h n → x ≡ h → length bytes ≡ length (bytes_of heap.table x) → (row : Option FileRow) (result : Result X E) (told : Result X F) → is_ok told ≡ is_ok result
-    → OnOk result (IfSome row (λ r. bytes ≡ r.resource.datum))
-    → OnOk told (IfSome row (λ r. IsFilled h r.resource.datum heap (with_table (with_bytes x (overwritten (bytes_of heap.table x) bytes) heap.table) heap)))
-filled-read heap h n x bytes placed is long row (Err e) (Ok u) same read = absurd (cc same)
-filled-read heap h n x bytes placed is long row result (Err f) same read = tt
-filled-read heap h n x bytes placed is long None (Ok v) (Ok u) same read = tt
-filled-read heap h n x bytes placed is long (Some r) (Ok v) (Ok u) same read = subst (λ others. IsFilled h others heap (with_table (with_bytes x (overwritten (bytes_of heap.table x) bytes) heap.table) heap)) read (filled-contents heap h n x bytes placed is long)
-
 -- what is filled is as it is
 pub filled-itself : (h : ℕ) (bytes : List ℕ) (old new : Heap) → IsFilled h bytes old new → IsFilled h bytes new new
 filled-itself h bytes old new filled = record { some = filled.some; block = filled.block; here = filled.here; given = λ l. refl; gone = refl }
+
+-- what was read of a row, by whether the read succeeded
+pub answered-read : {X E F : Type 0} (honest : Type 0) (heap : Heap) (h n x : ℕ) (bytes : List ℕ) → IsPlaced heap h n → x ≡ h → length bytes ≡ length (bytes_of heap.table x) → (row : Option FileRow) (result : Result X E) (told : Result X F) → is_ok told ≡ is_ok result
+    → (honest → OnOk result (IfSome row (λ r. bytes ≡ r.resource.datum))) → OnOk told (AreAnswered honest n row bytes)
+answered-read honest heap h n x bytes placed is long row (Err e) (Ok u) same read = absurd (cc same)
+answered-read honest heap h n x bytes placed is long row result (Err f) same read = tt
+answered-read honest heap h n x bytes placed is long row (Ok v) (Ok u) same read =
+    record { long = long ∙ ap (λ (k : ℕ). length (bytes_of heap.table k)) is ∙ ap (λ (o : Option Live). length (live_bytes o)) placed.block ∙ length-replicate n 0; own = read }
+
+-- no bytes are what was read of a row that has none
+pub none-answered : (honest : Type 0) (n : ℕ) (row : Option FileRow) → n ≡ 0 → HasBytes n row → AreAnswered honest n row []
+none-answered honest n row none has = record { long = sym none; own = λ h. by row has }
+  where
+    no_bytes : (bytes : List ℕ) → n ≡ length bytes → [] ≡ bytes
+    no_bytes [] is = refl
+    no_bytes (x ∷ bytes) is = absurd (cc (sym none ∙ is))
+
+    by : (row : Option FileRow) → HasBytes n row → IfSome row (λ r. let none : List ℕ = [] in none ≡ r.resource.datum)
+    by None has = tt
+    by (Some r) has = no_bytes r.resource.datum has
+
+-- the flags of a filled block are set
+pub flagged-filled : (h : ℕ) (bytes : List ℕ) (flags : Flags) (old mid : Heap) → IsFilled h bytes old mid → with_table (with_flags h flags mid.table) mid ≡ loaded_with h flags bytes old
+flagged-filled h bytes flags old mid filled = ap (λ (o : Option Live). with_table (with_live h (FullHandle flags (live_bytes o)) mid.table) mid) filled.block ∙ filled.given (FullHandle flags bytes)

@@ -1,7 +1,12 @@
 -- The end of a load, by the call that made the place for the row's bytes and by what was read into it.
-use Rattle.std.proofs.Common.{◌≡◌, ℕ, ◌<◌, Bool, true, false, List, length, map, IfSome, IsSome, Option, Some, None, Result, Ok, Err, refl, ap, sym, ◌∙◌, subst, arith}
+use Rattle.std.proofs.Common.{◌≡◌, ℕ, ◌<◌, Bool, true, false, List, [], length, map, All, IfSome, IsSome, Option, Some, None, Result, Ok, Err, refl, ap, sym, ◌∙◌, subst, arith}
 use Rattle.std.specs.Prelude.{◌==◌, ◌||◌, ◌&&◌, not, is_some, unwrap_or, if◌then◌else◌}
+use Rattle.std.specs.Option.{option_map_or}
 use Rattle.std.proofs.lemmas.Bool.Decides.{nat_tests}
+use Rattle.std.proofs.lemmas.List.{length-map}
+use Rattle.mac_calls.specs.declared.memory_call.MemoryCall.{MemoryCall}
+use Rattle.mac_calls.specs.declared.memory_call.MemoryCall.TheVariants as memory_call
+use Rattle.res_files.proofs.PlacedRows.{row_changed_there}
 use Rattle.mac_base.specs.declared.error.OsErr.{OsErr}
 use Rattle.mac_base.specs.declared.error.OsErr.TheVariants.{IoErr}
 use Rattle.mac_base.specs.declared.releasing.ReleasingCall.TheVariants.{DisposesHandle}
@@ -17,15 +22,18 @@ use Rattle.res_base.specs.declared.resource.ResAttrs.{ResAttrs}
 use Rattle.res_base.specs.declared.resource.Resource.{Resource}
 use Rattle.res_table.specs.declared.chain.RowPlace.{RowPlace}
 use Rattle.res_table.specs.OpenFiles.{row_at}
-use Rattle.res_table.specs.Rows.{with_handle}
-use Rattle.res_calls.specs.Changes.{FileRow, handles_forgotten, row_changed}
-use Rattle.res_calls.specs.Device.{Device, Works as Working, FailsBefore}
+use Rattle.res_table.specs.Rows.{with_datum, with_handle}
+use Rattle.res_calls.specs.Changes.{FileRow, Files, handles_forgotten, row_changed}
+use Rattle.res_calls.specs.Answered.{AnswersFor, IsAnswered, answered_disks, blank_files}
+use Rattle.res_calls.specs.Device.{Device, DiskRelations, Works as Working, FailsBefore}
 use Rattle.res_calls.specs.Files.{ResState, ResourceEnd, refused_with, with_heap, with_files}
-use Rattle.res_calls.specs.Loads.{loads_bytes, placing, loaded, unloaded, loaded_results, read_fails, load_end, placed_end}
+use Rattle.res_calls.specs.Loads.{found_end, loads_bytes, placing, loaded, unloaded, loaded_results, read_fails, load_end, placed_end}
 use Rattle.mac_calls.specs.Released.{disposed_in}
-use Rattle.res_calls.specs.Steps.{LeaveRelation, GetsPlace, behind_memory, Memory}
-use Rattle.res_files.specs.FilesOn.{FilesOn, SomeFailed}
-use Rattle.res_manager.specs.Loading.{LoadSteps, HasBytes, place_call, handle_placed}
+use Rattle.res_calls.specs.Steps.{GetsPlace, GetsRow, behind_memory, Memory}
+use Rattle.fork_disk.specs.declared.store.ForkStore.{Ghosts}
+use Rattle.res_files.specs.FilesOn.{FailedAt, FilesOn}
+use Rattle.res_manager.specs.Loading.{AreAnswered, HasBytes, LoadSteps, LoadsTo, flags_for, handle_placed, loaded_outcome, loaded_with, place_call}
+use Rattle.res_manager.proofs.Blank.{answered-parts, answers-back, blank-datum, blank-forgotten, blank-handle, blank-there, itself, same-datum}
 use Rattle.res_manager.proofs.Forgetting.{row_forgotten}
 use Rattle.res_manager.specs.Steps.{state_of}
 
@@ -57,10 +65,6 @@ works : (b : Bool) → (b && false) ≡ false
 works true = refl
 works false = refl
 
--- a row is loaded by its resource
-loaded_by : (h : ℕ) (now r : FileRow) (heap : Heap) → now.resource ≡ r.resource → loaded h now heap ≡ loaded h r heap
-loaded_by h now r heap same = ap (λ (resource : Resource (List ℕ)). loaded h (record { resource = resource; handle = r.handle }) heap) same
-
 -- what holds of what is there
 pub some-holds : {X : Type 0} (P : X → Type 0) (o : Option X) (x : X) → o ≡ Some x → IfSome o P → P x
 some-holds P None x is held = absurd (cc is)
@@ -74,79 +78,195 @@ second : {X : Type 0} (b : Bool) (x y : X) → b ≡ false → (if b then x else
 second b x y is = rw is refl
 
 -- the row at a place with its own handle and its size, where that handle doesn't serve as it is
-pub record IsGot {S : Type 0} (old : ZoneState) (files : FilesOn S) (p : RowPlace) (loads : Bool) (own : Option ℕ) (size : ℕ) (r : FileRow) : Type 0 where
-  pub here : row_at p files.files ≡ Some r
+pub record IsGot (old : ResState) (p : RowPlace) (loads : Bool) (own : Option ℕ) (size : ℕ) (r : FileRow) : Type 0 where
+  pub here : row_at p old.files ≡ Some r
   pub same : own ≡ r.handle
   pub long : size ≡ length r.resource.datum
   pub needs : IfSome own (λ h. (is_full old.heap.table h || not loads) ≡ false)
 
-module _ {S : Type 0} {old : ZoneState} {files : FilesOn S} {p : RowPlace} {loads : Bool} {own : Option ℕ} {size : ℕ} {r : FileRow} (got : IsGot old files p loads own size r) (fork : S → List ℕ) (failures : S → ℕ) (may_leave : LeaveRelation)
-    (asks : List Ask) (mid : ZoneState) (mid_files : FilesOn S) (forgotten : mid_files ≡ record files { files = handles_forgotten (disposed_in asks) files.files }) where
-  -- the row as the call of the Memory Manager left it
-  row_kept : (now : FileRow) × (row_at p mid_files.files ≡ Some now) × (now.resource ≡ r.resource)
-  row_kept = rw forgotten (row_forgotten (disposed_in asks) p files.files r got.here)
+module _ (disks : DiskRelations) (old : ResState) (p : RowPlace) (loads : Bool) (own : Option ℕ) (size : ℕ) (r : FileRow) (got : IsGot old p loads own size r)
+    (asks : List Ask) (heap : Heap) (outcome : Outcome) (step : Memory old.shape old.heap (place_call own size loads) asks outcome heap) where
+  -- the state that the call of the Memory Manager left
+  abbrev placed_state : ResState
+  placed_state = behind_memory asks heap old
 
-  -- it still has its bytes
+  gets_place : (device : Device) (call : ResourceCall) (end : ResourceEnd) → loads_bytes old call ≡ loads → end ≡ placed_end device loads call p r outcome placed_state
+      → GetsPlace Memory disks device old call asks end p (row_at p old.files)
+  gets_place device call end same_loads is = rw (got.here, same_loads, places old.heap.table loads r own size got.same got.long got.needs, same_loads) (outcome, heap, step, is)
+
+  -- the place isn't made
+  refuses : (code : OsErr) → (let failed : Result ℕ OsErr = Err code in failed ≡ handle_placed own outcome) → LoadsTo disks Working old p loads asks (Err code) placed_state
+  refuses code is = λ call same_loads. gets_place Working call (refused_with code placed_state) same_loads (sym (unplaced Working loads call p r own placed_state code outcome is))
+
+  module _ (h : ℕ) (made : (let handle : Result ℕ OsErr = Ok h in handle ≡ handle_placed own outcome)) where
+    -- the bytes aren't read
+    faults : loads ≡ true → 0 < size → LoadsTo disks FailsBefore old p loads asks (Err IoErr) (with_heap (unloaded h r heap) placed_state)
+    faults is some =
+        let none : (length r.resource.datum == 0) ≡ false = subst (λ n. (n == 0) ≡ false) got.long (grind (arith, nat_tests, some)) in
+        let fails : read_fails FailsBefore loads r ≡ true = rw (is, none) refl in
+        λ call same_loads.
+        let ending : load_end FailsBefore loads call p r h placed_state ≡ refused_with IoErr (with_heap (unloaded h r heap) placed_state) = first _ _ _ fails in
+        gets_place FailsBefore call (refused_with IoErr (with_heap (unloaded h r heap) placed_state)) same_loads (sym ending ∙ sym (placed FailsBefore loads call p r own placed_state h outcome got.same made))
+
+    -- the row has its handle, and its bytes where they were to be loaded
+    succeeds : LoadsTo disks Working old p loads asks (Ok h) (with_files (row_changed p (with_handle (Some h)) placed_state.files) (if loads then with_heap (loaded h r heap) placed_state else placed_state))
+    succeeds =
+        let fails : read_fails Working loads r ≡ false = ap (λ b. loads && b) (works (not (length r.resource.datum == 0))) ∙ works loads in
+        let last : ResState = with_files (row_changed p (with_handle (Some h)) placed_state.files) (if loads then with_heap (loaded h r heap) placed_state else placed_state) in
+        λ call same_loads.
+        let ending : load_end Working loads call p r h placed_state ≡ record { outcome = Ok (loaded_results call h); state = last } = second _ _ _ fails in
+        gets_place Working call (record { outcome = Ok (loaded_results call h); state = last }) same_loads (sym ending ∙ sym (placed Working loads call p r own placed_state h outcome got.same made))
+
+-- a handle serves as it is
+serves_load : (disks : DiskRelations) (old : ResState) (p : RowPlace) (loads : Bool) (r : FileRow) (h : ℕ) (asks : List Ask) → asks ≡ [] → row_at p old.files ≡ Some r → r.handle ≡ Some h → (is_full old.heap.table h || not loads) ≡ true
+    → LoadsTo disks Working old p loads asks (Ok h) old
+serves_load disks old p loads r h asks none here handle serves call same =
+    let end : ResourceEnd = record { outcome = loaded_outcome call (Ok h); state = old } in
+    let placed : placing old.heap.table (loads_bytes old call) r ≡ None =
+    ap (λ (b : Bool). placing old.heap.table b r) same
+    ∙ ap (λ (o : Option ℕ). option_map_or (λ k. if is_full old.heap.table k || not loads then None else Some (memory_call.ReallocateHandle k (length r.resource.datum))) o (Some (if loads then memory_call.NewHandle (length r.resource.datum) else memory_call.NewEmptyHandle))) handle
+    ∙ ap (λ (b : Bool). if b then None else Some (memory_call.ReallocateHandle h (length r.resource.datum))) serves
+    in
+    let found : end ≡ found_end call r old = ap (λ (o : Option ℕ). let e : ResourceEnd = record { outcome = Ok (loaded_results call (unwrap_or o 0)); state = old } in e) (sym handle) in
+    subst (λ (o : Option FileRow). GetsPlace Memory disks Working old call asks end p o) (sym here) (subst (λ (o : Option MemoryCall). GetsRow Memory disks Working old call asks end p r o) (sym placed) (none, found))
+
+pub served : {S : Type 0} (store : Ghosts S) (old : ZoneState) (on : FilesOn S) (p : RowPlace) (loads : Bool) (r : FileRow) (h : ℕ) (asks : List Ask) → asks ≡ [] → row_at p on.files ≡ Some r → r.handle ≡ Some h → (is_full old.heap.table h || not loads) ≡ true
+    → LoadSteps store old on p loads asks (Ok h) old on
+served store old on p loads r h asks none here handle serves =
+    let honest = All store.is_honest on.stores in
+    record {
+      device = Working;
+      before = state_of store.fork old on;
+      after = state_of store.fork old on;
+      was = itself honest (state_of store.fork old on);
+      becomes = itself honest (state_of store.fork old on);
+      step = serves_load (answered_disks honest store.may_leave) (state_of store.fork old on) p loads r h asks none here handle serves;
+      cause = refl;
+    }
+
+-- what was read of a row is its own, as the call of the Memory Manager left it
+own-forgotten : (hs : List ℕ) (p : RowPlace) (files : Files) (r : FileRow) (bytes : List ℕ) → row_at p files ≡ Some r → IfSome (row_at p (handles_forgotten hs files)) (λ now. bytes ≡ now.resource.datum) → bytes ≡ r.resource.datum
+own-forgotten hs p files r bytes is held =
+    let kept = row_forgotten hs p files r is in
+    some-holds (λ (now : FileRow). bytes ≡ now.resource.datum) (row_at p (handles_forgotten hs files)) kept.0 kept.1 held ∙ ap (λ (resource : Resource (List ℕ)). resource.datum) kept.2
+
+module _ {S : Type 0} (store : Ghosts S) (old : ZoneState) (on : FilesOn S) (p : RowPlace) (loads : Bool) (own : Option ℕ) (size : ℕ) (r : FileRow) (got : IsGot (state_of store.fork old on) p loads own size r)
+    (asks : List Ask) (mid : ZoneState) (mid_files : FilesOn S) (forgotten : mid_files ≡ record on { files = handles_forgotten (disposed_in asks) on.files })
+    (shape : mid.shape ≡ old.shape) (outcome : Outcome) (step : Memory old.shape old.heap (place_call own size loads) asks outcome mid.heap) where
+  -- the row still has its bytes where its place is made
   pub long_then : HasBytes size (row_at p mid_files.files)
-  long_then = let kept = row_kept in rw kept.1 (got.long ∙ ap (λ (resource : Resource (List ℕ)). length resource.datum) (sym kept.2))
+  long_then =
+      let kept : (now : FileRow) × (row_at p mid_files.files ≡ Some now) × (now.resource ≡ r.resource) = rw forgotten (row_forgotten (disposed_in asks) p on.files r got.here) in
+      rw kept.1 (got.long ∙ ap (λ (resource : Resource (List ℕ)). length resource.datum) (sym kept.2))
 
-  -- and is loaded as it was
-  pub loaded_then : (h : ℕ) (attributes : ResAttrs) (new : Heap) → attributes ≡ r.resource.attributes → IfSome (row_at p mid_files.files) (λ now. now.resource.attributes ≡ attributes → new ≡ loaded h now mid.heap) → new ≡ loaded h r mid.heap
-  loaded_then h attributes new is held =
-      let kept = row_kept in
-      some-holds (λ (now : FileRow). now.resource.attributes ≡ attributes → new ≡ loaded h now mid.heap) (row_at p mid_files.files) kept.0 kept.1 held (ap (λ (resource : Resource (List ℕ)). resource.attributes) kept.2 ∙ sym is) ∙ loaded_by h kept.0 r mid.heap kept.2
+  abbrev begun : ResState
+  begun = state_of store.fork old on
 
-  module _ (shape : mid.shape ≡ old.shape) (outcome : Outcome) (step : Memory old.shape old.heap (place_call own size loads) asks outcome mid.heap) where
-    -- the state behind the call of the Memory Manager
-    abbrev behind : ResState
-    behind = behind_memory asks mid.heap (state_of fork old files)
+  made_state : state_of store.fork mid mid_files ≡ behind_memory asks mid.heap begun
+  made_state = rw (shape, forgotten) refl
 
-    behind_is : state_of fork mid mid_files ≡ behind
-    behind_is = rw (shape, forgotten) refl
+  mid_stores : mid_files.stores ≡ on.stores
+  mid_stores = ap (λ (f : FilesOn S). f.stores) forgotten
 
-    gets : (device : Device) (call : ResourceCall) (end : ResourceEnd) → loads_bytes (state_of fork old files) call ≡ loads → end ≡ placed_end device loads call p r outcome behind
-        → GetsPlace Memory may_leave device (state_of fork old files) call asks end p (row_at p files.files)
-    gets device call end same_loads is = rw (got.here, same_loads, places old.heap.table loads r own size got.same got.long got.needs, same_loads) (outcome, mid.heap, step, is)
+  -- the place isn't made
+  pub refused_load : (code : OsErr) → (let failed : Result ℕ OsErr = Err code in failed ≡ handle_placed own outcome) → LoadSteps store old on p loads asks (Err code) mid mid_files
+  refused_load code is =
+      let honest = All store.is_honest mid_files.stores in
+      record {
+        device = Working;
+        before = begun;
+        after = behind_memory asks mid.heap begun;
+        was = itself honest begun;
+        becomes = subst (λ (s : ResState). IsAnswered honest s (behind_memory asks mid.heap begun)) (sym made_state) (itself honest (behind_memory asks mid.heap begun));
+        step = refuses (answered_disks honest store.may_leave) begun p loads own size r got asks mid.heap outcome step code is;
+        cause = ap (map store.failures) mid_stores;
+      }
 
-    -- the place isn't made
-    pub refuses : (code : OsErr) → (let failed : Result ℕ OsErr = Err code in failed ≡ handle_placed own outcome) → LoadSteps fork failures may_leave old files p loads asks (Err code) mid mid_files
-    refuses code is = (Working, (λ call same_loads. gets Working call _ same_loads (ap (refused_with code) behind_is ∙ sym (unplaced Working loads call p r own behind code outcome is))), λ no. absurd (cc no))
+  module _ (h : ℕ) (made : (let handle : Result ℕ OsErr = Ok h in handle ≡ handle_placed own outcome)) (new : ZoneState) (new_files : FilesOn S) (new_shape : new.shape ≡ mid.shape)
+      (files : AnswersFor (All store.is_honest new_files.stores) mid_files.files new_files.files) (forks : All store.is_honest new_files.stores → map store.fork new_files.stores ≡ map store.fork mid_files.stores)
+      (same_loads : new_files.loads ≡ mid_files.loads) (count : length new_files.stores ≡ length mid_files.stores) where
+    -- the bytes aren't read
+    pub failed_load : loads ≡ true → 0 < size → new.heap ≡ (if is_some own then with_emptied mid.heap h else heap_released (DisposesHandle h) mid.heap) → FailedAt store.failures p.file mid_files.stores new_files.stores
+        → LoadSteps store old on p loads asks (Err IoErr) new new_files
+    failed_load is some heap cause =
+        let honest = All store.is_honest new_files.stores in
+        let last : ResState = with_heap (unloaded h r mid.heap) (behind_memory asks mid.heap begun) in
+        record {
+          device = FailsBefore;
+          before = begun;
+          after = last;
+          was = itself honest begun;
+          becomes = answered-parts honest (state_of store.fork new new_files) last (sym (new_shape ∙ shape))
+              (sym (heap ∙ ap (λ (o : Option ℕ). if is_some o then with_emptied mid.heap h else heap_released (DisposesHandle h) mid.heap) got.same))
+              (subst (λ (f : FilesOn S). AnswersFor honest new_files.files f.files) forgotten (answers-back honest mid_files.files new_files.files files))
+              (sym (same_loads ∙ ap (λ (f : FilesOn S). f.loads) forgotten))
+              (length-map on.stores store.fork ∙ ap (λ (stores : List S). length stores) (sym mid_stores) ∙ sym count ∙ sym (length-map new_files.stores store.fork))
+              (λ all. ap (map store.fork) (sym mid_stores) ∙ sym (forks all));
+          step = faults (answered_disks honest store.may_leave) begun p loads own size r got asks mid.heap outcome step h made is some;
+          cause = subst (λ (stores : List S). FailedAt store.failures p.file stores new_files.stores) mid_stores cause;
+        }
 
-    module _ (h : ℕ) (made : (let handle : Result ℕ OsErr = Ok h in handle ≡ handle_placed own outcome)) (new : ZoneState) (new_files : FilesOn S) (new_shape : new.shape ≡ mid.shape)
-        (new_forks : map fork new_files.stores ≡ map fork mid_files.stores) (new_loads : new_files.loads ≡ mid_files.loads) where
-      -- the bytes aren't read
-      pub faults : loads ≡ true → 0 < size → new.heap ≡ (if is_some own then with_emptied mid.heap h else heap_released (DisposesHandle h) mid.heap) → new_files.files ≡ mid_files.files → SomeFailed failures mid_files.stores new_files.stores
-          → LoadSteps fork failures may_leave old files p loads asks (Err IoErr) new new_files
-      faults is some heap same_files cause =
-          let none : (length r.resource.datum == 0) ≡ false = subst (λ n. (n == 0) ≡ false) got.long (grind (arith, nat_tests, some)) in
-          let fails : read_fails FailsBefore loads r ≡ true = rw (is, none) refl in
-          let state : state_of fork new new_files ≡ with_heap (unloaded h r mid.heap) behind = rw (new_shape, heap, same_files, new_forks, new_loads, got.same, shape, forgotten) refl in (
-            FailsBefore,
-            (λ call same_loads.
-                let ending : load_end FailsBefore loads call p r h behind ≡ refused_with IoErr (with_heap (unloaded h r mid.heap) behind) = first _ _ _ fails in
-                gets FailsBefore call _ same_loads (ap (refused_with IoErr) state ∙ sym ending ∙ sym (placed FailsBefore loads call p r own behind h outcome got.same made))),
-            λ no. subst (λ (f : FilesOn S). SomeFailed failures f.stores new_files.stores) forgotten cause,
-          )
+    -- the row has its handle, which is empty
+    pub empty_load : loads ≡ false → new.heap ≡ mid.heap → new_files ≡ mid_files → (last_files : FilesOn S) → (IsSome (row_at p new_files.files) → last_files ≡ record new_files { files = row_changed p (with_handle (Some h)) new_files.files })
+        → LoadSteps store old on p loads asks (Ok h) new last_files
+    empty_load none heap unread last_files attached =
+        let honest = All store.is_honest last_files.stores in
+        let kept : (now : FileRow) × (row_at p mid_files.files ≡ Some now) × (now.resource ≡ r.resource) = rw forgotten (row_forgotten (disposed_in asks) p on.files r got.here) in
+        let there : IsSome (row_at p new_files.files) = rw (unread, kept.1) refl in
+        let is = attached there in
+        let placed : ResState = behind_memory asks mid.heap begun in
+        let last : ResState = with_files (row_changed p (with_handle (Some h)) placed.files) placed in
+        let ends : state_of store.fork new last_files ≡ last = rw (is, new_shape, heap, unread, shape, forgotten) refl in
+        let chosen : (if loads then with_heap (loaded h r mid.heap) placed else placed) ≡ placed = second loads (with_heap (loaded h r mid.heap) placed) placed none in
+        record {
+          device = Working;
+          before = begun;
+          after = last;
+          was = itself honest begun;
+          becomes = subst (λ (s : ResState). IsAnswered honest s last) (sym ends) (itself honest last);
+          step = subst (λ (s : ResState). LoadsTo (answered_disks honest store.may_leave) Working begun p loads asks (Ok h) (with_files (row_changed p (with_handle (Some h)) placed.files) s)) chosen
+              (succeeds (answered_disks honest store.may_leave) begun p loads own size r got asks mid.heap outcome step h made);
+          cause = ap (λ (f : FilesOn S). map store.failures f.stores) is ∙ ap (λ (f : FilesOn S). map store.failures f.stores) unread ∙ ap (map store.failures) mid_stores;
+        }
 
-      -- the row has its handle, and its bytes where they were to be loaded
-      succeeds : new.heap ≡ (if loads then loaded h r mid.heap else mid.heap) → new_files.files ≡ row_changed p (with_handle (Some h)) mid_files.files → LoadSteps fork failures may_leave old files p loads asks (Ok h) new new_files
-      succeeds heap changed =
-          let fails : read_fails Working loads r ≡ false = ap (λ b. loads && b) (works (not (length r.resource.datum == 0))) ∙ works loads in
-          let by_loads : (b : Bool) → with_heap (if b then loaded h r mid.heap else mid.heap) behind ≡ (if b then with_heap (loaded h r mid.heap) behind else behind) = λ b. elim b as (λ b. with_heap (if b then loaded h r mid.heap else mid.heap) behind ≡ (if b then with_heap (loaded h r mid.heap) behind else behind)) [ true ↦ refl | false ↦ refl ] in
-          let state : state_of fork new new_files ≡ with_files (row_changed p (with_handle (Some h)) behind.files) (with_heap (if loads then loaded h r mid.heap else mid.heap) behind) = rw (new_shape, heap, changed, new_forks, new_loads, shape, forgotten) refl in (
-            Working,
-            (λ call same_loads.
-                let ending : load_end Working loads call p r h behind ≡ record { outcome = Ok (loaded_results call h); state = with_files (row_changed p (with_handle (Some h)) behind.files) (if loads then with_heap (loaded h r mid.heap) behind else behind) } = second _ _ _ fails in
-                gets Working call _ same_loads (ap (λ (s : ResState). record { outcome = Ok (loaded_results call h); state = s }) (state ∙ ap (with_files (row_changed p (with_handle (Some h)) behind.files)) (by_loads loads)) ∙ sym ending ∙ sym (placed Working loads call p r own behind h outcome got.same made))),
-            λ no. absurd (cc no),
-          )
-
-    -- so it is where the row was given its handle behind all else
-    pub attaches : (h : ℕ) (made : (let handle : Result ℕ OsErr = Ok h in handle ≡ handle_placed own outcome)) (new : ZoneState) (before after : FilesOn S) → new.shape ≡ mid.shape → new.heap ≡ (if loads then loaded h r mid.heap else mid.heap)
-        → before.files ≡ mid_files.files → map fork before.stores ≡ map fork mid_files.stores → before.loads ≡ mid_files.loads → (IsSome (row_at p before.files) → after ≡ record before { files = row_changed p (with_handle (Some h)) before.files })
-        → LoadSteps fork failures may_leave old files p loads asks (Ok h) new after
-    attaches h made new before after new_shape heap same_files forks same_loads attached =
-        let kept = row_kept in
-        let there : IsSome (row_at p before.files) = rw (same_files, kept.1) refl in
-        subst (λ (f : FilesOn S). LoadSteps fork failures may_leave old files p loads asks (Ok h) new f) (sym (attached there))
-        (succeeds h made new (record before { files = row_changed p (with_handle (Some h)) before.files }) new_shape forks same_loads heap (ap (row_changed p (with_handle (Some h))) same_files))
+    -- the row has its handle, with the bytes that were read
+    pub given_load : (attributes : ResAttrs) (bytes : List ℕ) → loads ≡ true → attributes ≡ r.resource.attributes → AreAnswered (All store.is_honest new_files.stores) size (row_at p mid_files.files) bytes
+        → new.heap ≡ loaded_with h (flags_for attributes) bytes mid.heap → map store.failures new_files.stores ≡ map store.failures mid_files.stores
+        → (last_files : FilesOn S) → (IsSome (row_at p new_files.files) → last_files ≡ record new_files { files = row_changed p (with_handle (Some h)) new_files.files })
+        → LoadSteps store old on p loads asks (Ok h) new last_files
+    given_load attributes bytes is same_attributes answered heap worked last_files attached =
+        let honest = All store.is_honest new_files.stores in
+        let kept : (now : FileRow) × (row_at p mid_files.files ≡ Some now) × (now.resource ≡ r.resource) = rw forgotten (row_forgotten (disposed_in asks) p on.files r got.here) in
+        let there : IsSome (row_at p mid_files.files) = rw kept.1 refl in
+        let is_last = attached (blank-there p new_files.files mid_files.files files.0 there) in
+        let shown : FileRow = with_datum bytes r in
+        let long : length bytes ≡ length r.resource.datum = answered.long ∙ got.long in
+        let mine : honest → bytes ≡ r.resource.datum = λ all. own-forgotten (disposed_in asks) p on.files r bytes got.here
+        (subst (λ (f : FilesOn S). IfSome (row_at p f.files) (λ now. bytes ≡ now.resource.datum)) forgotten (answered.own all)) in
+        let before : ResState = with_files (row_changed p (with_datum bytes) on.files) begun in
+        let placed : ResState = behind_memory asks mid.heap before in
+        let last : ResState = with_files (row_changed p (with_handle (Some h)) placed.files) (with_heap (loaded h shown mid.heap) placed) in
+        let got_now : IsGot before p loads own size shown = record { here = row_changed_there p (with_datum bytes) on.files r got.here; same = got.same; long = sym answered.long; needs = got.needs } in
+        let chosen : (if loads then with_heap (loaded h shown mid.heap) placed else placed) ≡ with_heap (loaded h shown mid.heap) placed = first loads (with_heap (loaded h shown mid.heap) placed) placed is in
+        let was : IsAnswered honest begun before = answered-parts honest begun before refl refl (blank-datum p bytes on.files r got.here long, λ all. same-datum p bytes on.files r got.here (mine all)) refl refl (λ all. refl) in
+        let rows : blank_files placed.files ≡ blank_files new_files.files =
+        sym (blank-forgotten (disposed_in asks) before.files) ∙ ap (handles_forgotten (disposed_in asks)) (blank-datum p bytes on.files r got.here long) ∙ blank-forgotten (disposed_in asks) on.files
+        ∙ ap (λ (f : FilesOn S). blank_files f.files) (sym forgotten) ∙ sym files.0 in
+        let same : honest → placed.files ≡ new_files.files = λ all. ap (handles_forgotten (disposed_in asks)) (same-datum p bytes on.files r got.here (mine all)) ∙ ap (λ (f : FilesOn S). f.files) (sym forgotten) ∙ sym (files.1 all) in
+        let becomes : IsAnswered honest (state_of store.fork new (record new_files { files = row_changed p (with_handle (Some h)) new_files.files })) last =
+        answered-parts honest (state_of store.fork new (record new_files { files = row_changed p (with_handle (Some h)) new_files.files })) last (sym (new_shape ∙ shape))
+        (sym (heap ∙ ap (λ (a : ResAttrs). loaded_with h (flags_for a) bytes mid.heap) same_attributes))
+        (blank-handle p (Some h) placed.files ∙ ap (row_changed p (with_handle (Some h))) rows ∙ sym (blank-handle p (Some h) new_files.files), λ all. ap (row_changed p (with_handle (Some h))) (same all))
+        (sym (same_loads ∙ ap (λ (f : FilesOn S). f.loads) forgotten))
+        (length-map on.stores store.fork ∙ ap (λ (stores : List S). length stores) (sym mid_stores) ∙ sym count ∙ sym (length-map new_files.stores store.fork))
+        (λ all. ap (map store.fork) (sym mid_stores) ∙ sym (forks all)) in
+        subst (λ (f : FilesOn S). LoadSteps store old on p loads asks (Ok h) new f) (sym is_last) (record {
+          device = Working;
+          before = before;
+          after = last;
+          was = was;
+          becomes = becomes;
+          step = subst (λ (s : ResState). LoadsTo (answered_disks honest store.may_leave) Working before p loads asks (Ok h) (with_files (row_changed p (with_handle (Some h)) placed.files) s)) chosen
+              (succeeds (answered_disks honest store.may_leave) before p loads own size shown got_now asks mid.heap outcome step h made);
+          cause = worked ∙ ap (map store.failures) mid_stores;
+        })

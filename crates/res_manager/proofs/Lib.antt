@@ -1,3 +1,4 @@
+pub mod Blank
 pub mod CalmCalls
 pub mod Changing
 pub mod ClosingFiles

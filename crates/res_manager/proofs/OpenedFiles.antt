@@ -1,20 +1,23 @@
 -- How opening a file ends.
-use Rattle.std.proofs.Common.{◌≡◌, ℕ, ◌-◌, List, [], map, slice_get, Option, Some, None, Ok, Err, unwrap_or, option_map, refl, sym, ap, subst, ◌∙◌, ◌⊎◌, inl, inr}
+use Rattle.std.proofs.Common.{◌≡◌, ℕ, ◌-◌, List, [], length, map, slice_get, All, Option, Some, None, Result, Ok, Err, unwrap_or, option_map, refl, sym, ap, subst, ◌∙◌, ◌⊎◌, inl, inr}
 use Rattle.std.specs.Option.{option_map_or}
+use Rattle.std.proofs.lemmas.List.{length-map}
 use Rattle.std.proofs.lemmas.Option.{slice_get-map}
 use Rattle.mac_base.specs.declared.error.OsErr.{OsErr}
 use Rattle.mac_base.specs.declared.error.OsErr.TheVariants.{IoErr}
 use Rattle.mac_base.specs.ZoneState.{ZoneState}
 use Rattle.mac_calls.specs.declared.reply.Results.TheVariants.{Number}
-use Rattle.res_calls.specs.Changes.{FileTable}
-use Rattle.res_calls.specs.Device.{Disk, Reads, ReadsBy}
+use Rattle.res_calls.specs.Changes.{FileTable, Files}
+use Rattle.fork_disk.specs.declared.store.ForkStore.{Ghosts}
+use Rattle.res_calls.specs.Answered.{IsAnswered, IsOpening, answered_disks, blank_files}
+use Rattle.res_calls.specs.Device.{Disk, Reads}
 use Rattle.res_calls.specs.Device as device
-use Rattle.res_calls.specs.Files.{ResState, disk_of}
-use Rattle.res_files.specs.FilesOn.{FilesOn, SomeFailed, fork_of}
+use Rattle.res_calls.specs.Files.{ResState, disk_of, with_files}
+use Rattle.res_files.specs.FilesOn.{FailedAt, FilesOn, NoneFailed, fork_of}
 use Rattle.res_table.specs.OpenFiles.{file_opened}
 use Rattle.res_manager.specs.Ends.{OpensFile}
 use Rattle.res_manager.specs.Steps.{state_of}
-use Rattle.res_manager.proofs.States.{same_end, same_state}
+use Rattle.res_manager.proofs.Blank.{answered-parts}
 
 default_of : {S : Type 0} (fork : S → List ℕ) (o : Option S) → unwrap_or (option_map fork o) [] ≡ option_map_or fork o []
 default_of fork None = refl
@@ -24,29 +27,51 @@ default_of fork (Some s) = refl
 pub disk-fork : {S : Type 0} (fork : S → List ℕ) (zone : ZoneState) (on : FilesOn S) (k : ℕ) → disk_of k (state_of fork zone on) ≡ fork_of fork k on.stores
 disk-fork fork zone on k = ap (λ (o : Option (List ℕ)). unwrap_or o []) (slice_get-map fork on.stores (k - 1)) ∙ default_of fork (slice_get on.stores (k - 1))
 
--- the file is open then
-pub opens : {S : Type 0} (fork : S → List ℕ) (failures : S → ℕ) (zone : ZoneState) (on after : FilesOn S) (k : ℕ) (table : FileTable) → Reads (fork_of fork k on.stores) (Ok table) → after.files ≡ file_opened k table on.files
-    → map fork after.stores ≡ map fork on.stores → after.loads ≡ on.loads → OpensFile fork failures zone on k (Ok (Number k)) after
-opens fork failures zone on after k table reads files forks loads =
-    let P : Disk → Type 0 = λ d. Reads d (Ok table) in
-    let state : ResState = state_of fork zone on in (
-      device.Works,
-      Ok table,
-      subst P (sym (disk-fork fork zone on k)) reads,
-      same_end (Ok (Number k)) (record state { files = file_opened k table on.files }) (state_of fork zone after)
-          (same_state fork (record state { files = file_opened k table on.files }) zone after refl refl (sym files) (sym loads) (sym forks)),
-      λ h. absurd (cc h),
-    )
+module _ {S : Type 0} (store : Ghosts S) (zone : ZoneState) (on after : FilesOn S) (k : ℕ) (forks : All store.is_honest after.stores → map store.fork after.stores ≡ map store.fork on.stores)
+    (loads : after.loads ≡ on.loads) (count : length after.stores ≡ length on.stores) where
+  state : ResState
+  state = state_of store.fork zone on
 
--- or the call is refused, and no file is opened
-pub opens_none : {S : Type 0} (fork : S → List ℕ) (failures : S → ℕ) (zone : ZoneState) (on after : FilesOn S) (k : ℕ) (code : OsErr)
-    → Reads (fork_of fork k on.stores) (Err code) ⊎ ((code ≡ IoErr) × SomeFailed failures on.stores after.stores) → after.files ≡ on.files
-    → map fork after.stores ≡ map fork on.stores → after.loads ≡ on.loads → OpensFile fork failures zone on k (Err code) after
-opens_none fork failures zone on after k code why files forks loads =
-    let ends : state_of fork zone on ≡ state_of fork zone after = same_state fork (state_of fork zone on) zone after refl refl (sym files) (sym loads) (sym forks) in
-    elim why [
-      | inl reads ↦
-          let P : Disk → Type 0 = λ d. Reads d (Err code) in
-          (device.Works, Err code, subst P (sym (disk-fork fork zone on k)) reads, same_end (Err code) (state_of fork zone on) (state_of fork zone after) ends, λ h. absurd (cc h))
-      | inr (io, failed) ↦ (device.FailsBefore, Err code, ap Err io, same_end (Err code) (state_of fork zone on) (state_of fork zone after) ends, λ h. failed)
-    ]
+  -- what was read of the disk
+  reads_disk : (read : Result FileTable OsErr) → IsOpening read → (All store.is_honest after.stores → Reads (fork_of store.fork k on.stores) read) → (answered_disks (All store.is_honest after.stores) store.may_leave).may_read (disk_of k state) read
+  reads_disk read opening reads = (opening, λ honest. subst (λ (d : Disk). Reads d read) (sym (disk-fork store.fork zone on k)) (reads honest))
+
+  -- the state with such files is as the devices answered
+  leaves_files : (files : Files) → after.files ≡ files → IsAnswered (All store.is_honest after.stores) (state_of store.fork zone after) (with_files files state)
+  leaves_files files is = answered-parts (All store.is_honest after.stores) (state_of store.fork zone after) (with_files files state) refl refl (ap blank_files (sym is), λ honest. sym is) (sym loads)
+      (length-map on.stores store.fork ∙ sym count ∙ sym (length-map after.stores store.fork)) (λ honest. sym (forks honest))
+
+  -- the file is open then
+  pub opens : (table : FileTable) → IsOpening (Ok table) → (All store.is_honest after.stores → Reads (fork_of store.fork k on.stores) (Ok table)) → after.files ≡ file_opened k table on.files → NoneFailed store.failures on.stores after.stores
+      → OpensFile store zone on k (Ok (Number k)) after
+  opens table opening reads files works = record {
+    device = device.Works;
+    read = Ok table;
+    after = with_files (file_opened k table on.files) state;
+    becomes = leaves_files (file_opened k table on.files) files;
+    reads = reads_disk (Ok table) opening reads;
+    ends = refl;
+    cause = works;
+  }
+
+  -- or the call is refused, and no file is opened
+  pub opens_none : (code : OsErr) → (IsOpening (Err code) × (All store.is_honest after.stores → Reads (fork_of store.fork k on.stores) (Err code)) × NoneFailed store.failures on.stores after.stores)
+      ⊎ ((code ≡ IoErr) × FailedAt store.failures k on.stores after.stores) → after.files ≡ on.files → OpensFile store zone on k (Err code) after
+  opens_none code (inl (opening, reads, works)) files = record {
+    device = device.Works;
+    read = Err code;
+    after = state;
+    becomes = leaves_files on.files files;
+    reads = reads_disk (Err code) opening reads;
+    ends = refl;
+    cause = works;
+  }
+  opens_none code (inr (io, failed)) files = record {
+    device = device.FailsBefore;
+    read = Err code;
+    after = state;
+    becomes = leaves_files on.files files;
+    reads = ap Err io;
+    ends = refl;
+    cause = failed;
+  }

@@ -12,7 +12,8 @@ use Rattle.mac_calls.specs.Outcomes.{Outcome}
 use Rattle.mac_calls.specs.Tests.{unless_passed}
 use Rattle.res_calls.specs.Changes.{FileRow, FileTable, Files, rows_of}
 use Rattle.res_calls.specs.Files.{ResState, file_named}
-use Rattle.res_calls.specs.Steps.{LeaveRelation, Updates, updating, work_of}
+use Rattle.fork_disk.specs.declared.store.ForkStore.{Ghosts}
+use Rattle.res_calls.specs.Steps.{Updates, updating, work_of}
 use Rattle.res_calls.specs.Tests.{resource_refusal, first_refused_for, refused_for, is_lent_row, rows_named, IsOpen, AllUnlent, HasFile}
 use Rattle.res_calls.specs.Updates.{Update, can_be_made, file_update, fits_fork, row_passes, row_update, update_of, updated_at}
 use Rattle.res_files.specs.FilesOn.{FilesOn}
@@ -130,10 +131,11 @@ module _ {S : Type 0} (fork : S → List ℕ) (zone : ZoneState) (on : FilesOn S
   pub made_late : (c : ResourceCall) (u : Update) → Makes c u → fits_fork u.table ≡ true → resource_refusal (state_of fork zone on) c ≡ None
   made_late c u m fits = m.late ∙ m.test ∙ ap (λ b. unless_passed DskFulErr b) fits
 
-  -- such a call steps as it writes the file
-  pub made_steps : (failures : S → ℕ) (may_leave : LeaveRelation) (new : ZoneState) (after : FilesOn S) (c : ResourceCall) (u : Update) (outcome : Outcome) → Makes c u
-      → WritesFile fork failures may_leave zone on c u outcome new after → ResourceSteps fork failures may_leave zone on c [] outcome new after
-  made_steps failures may_leave new after c u outcome m written = written_steps fork failures may_leave zone new on after c u outcome m.late m.test m.work written
+
+-- such a call steps as it writes the file
+pub made_steps : {S : Type 0} (store : Ghosts S) (zone : ZoneState) (on : FilesOn S) (new : ZoneState) (after : FilesOn S) (c : ResourceCall) (u : Update) (outcome : Outcome) → Makes store.fork zone on c u
+    → WritesFile store zone on c u outcome new after → ResourceSteps store zone on c [] outcome new after
+made_steps store zone on new after c u outcome m written = written_steps store zone new on after c u outcome m.late m.test m.work written
 
 -- what holds of an error
 pub on_err : {T E : Type 0} (P Q : Type 0) (result : Result T E) → (P → Q) → OnErr result P → OnErr result Q

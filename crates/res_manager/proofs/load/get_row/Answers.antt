@@ -1,88 +1,87 @@
-use Rattle.std.proofs.Common.{◌≡◌, ◌∙◌, List, length, sym, refl, ap, subst, map, All}
+use Rattle.std.proofs.Common.{◌≡◌, ◌∙◌, List, length, sym, refl, ap, subst, map, All, IsSome, Some}
 use Rattle.std.proofs.lemmas.Result.{err_from_is_err_and}
 use Rattle.std.specs.Prelude.{if◌then◌else◌}
 use Rattle.mac_base.specs.Heap.{with_emptied}
 use Rattle.mac_base.specs.Releasing.{heap_released}
 use Rattle.mac_base.specs.declared.releasing.ReleasingCall.TheVariants.{DisposesHandle}
 use Rattle.res_files.specs.FilesOn.{FilesOn}
-use Rattle.res_manager.proofs.GettingRows.{IsGot, some-holds, long_then, loaded_then, refuses, faults, attaches}
+use Rattle.res_calls.specs.Answered.{AnswersFor}
+use Rattle.res_calls.specs.Changes.{row_changed}
+use Rattle.res_table.specs.OpenFiles.{row_at}
+use Rattle.res_table.specs.Rows.{with_handle}
+use Rattle.res_manager.specs.Steps.{state_of}
+use Rattle.res_manager.proofs.GettingRows.{IsGot, empty_load, failed_load, given_load, long_then, refused_load, some-holds}
 use Rattle.res_manager.proofs.Lent.{lent_placed}
 use Rattle.res_manager.proofs.load.get_row.Goals as goal
 use Rattle.res_manager.proofs.load.get_row.Goals.{in-Some+else-serves, in_default, then-loads+in_ok-load_bytes, else-loads}
 
 pub returns-in_err-handle-clause-step : goal.returns-in_err-handle-clause-step
-returns-in_err-handle-clause-step g c honest =
+returns-in_err-handle-clause-step g c =
     let shown = some-holds _ _ _ c.unwrap-row.ensures c.row.ensures.some in
     let row = shown.2 in
-    let before = subst (λ (f : FilesOn g.row.S.Denot). All g.S.ForkStore.is_honest f.stores) c.make_place.ensures.forgotten honest in
-    let got : IsGot c.args.memory.now c.args.files.now c.args.place c.args.loads c.match-own.own c.unwrap-row.result.now.resource.datum.length shown.0 = record {
+    let got : IsGot (state_of g.S.ForkStore.fork c.args.memory.now c.args.files.now) c.args.place c.args.loads c.match-own.own c.unwrap-row.result.now.resource.datum.length shown.0 = record {
       here = shown.1;
       same = (elim c.match-own.branch [ in-Some+else-serves w ↦ w.own-is ∙ sym w.in-Some.is | in_default w ↦ w.own-is ]) ∙ row.handle;
-      long = row.size before;
+      long = row.size;
       needs = elim c.match-own.branch [ in-Some+else-serves w ↦ rw w.own-is (sym w.serves.ensures ∙ w.if-serves.false) | in_default w ↦ rw (w.own-is ∙ w.in_default.is) tt ];
     } in
     let ends = err_from_is_err_and c.from_residual.result c.from_residual.ensures.1 in
     let step = c.make_place.ensures.step in
-    rw (ends.1, ends.2) (refuses got g.S.ForkStore.fork g.S.ForkStore.failures g.S.ForkStore.may_leave (g.G.GrowZone.asks c.make_place.new.procedure) c.make_place.new.memory c.make_place.new.files c.make_place.ensures.forgotten c.make_place.ensures.shape step.0 step.1 _ (sym c.in_err-handle.was ∙ step.2))
+    rw (ends.1, ends.2) (refused_load g.S.ForkStore c.args.memory.now c.args.files.now c.args.place c.args.loads c.match-own.own c.unwrap-row.result.now.resource.datum.length shown.0 got (g.G.GrowZone.asks c.make_place.new.procedure) c.make_place.new.memory c.make_place.new.files c.make_place.ensures.forgotten c.make_place.ensures.shape step.0 step.1 _ (sym c.in_err-handle.was ∙ step.2))
 
 pub load_bytes-requires-clause-long : goal.load_bytes-requires-clause-long
-load_bytes-requires-clause-long g c honest =
+load_bytes-requires-clause-long g c =
     let shown = some-holds _ _ _ c.unwrap-row.ensures c.row.ensures.some in
     let row = shown.2 in
-    let before = subst (λ (f : FilesOn g.row.S.Denot). All g.S.ForkStore.is_honest f.stores) c.make_place.ensures.forgotten honest in
-    let got : IsGot c.args.memory.now c.args.files.now c.args.place c.args.loads c.match-own.own c.unwrap-row.result.now.resource.datum.length shown.0 = record {
+    let got : IsGot (state_of g.S.ForkStore.fork c.args.memory.now c.args.files.now) c.args.place c.args.loads c.match-own.own c.unwrap-row.result.now.resource.datum.length shown.0 = record {
       here = shown.1;
       same = (elim c.match-own.branch [ in-Some+else-serves w ↦ w.own-is ∙ sym w.in-Some.is | in_default w ↦ w.own-is ]) ∙ row.handle;
-      long = row.size before;
+      long = row.size;
       needs = elim c.match-own.branch [ in-Some+else-serves w ↦ rw w.own-is (sym w.serves.ensures ∙ w.if-serves.false) | in_default w ↦ rw (w.own-is ∙ w.in_default.is) tt ];
     } in
-    long_then got g.S.ForkStore.fork g.S.ForkStore.failures g.S.ForkStore.may_leave (g.G.GrowZone.asks c.make_place.new.procedure) c.make_place.new.memory c.make_place.new.files c.make_place.ensures.forgotten
+    let step = c.make_place.ensures.step in
+    long_then g.S.ForkStore c.args.memory.now c.args.files.now c.args.place c.args.loads c.match-own.own c.unwrap-row.result.now.resource.datum.length shown.0 got (g.G.GrowZone.asks c.make_place.new.procedure) c.make_place.new.memory c.make_place.new.files c.make_place.ensures.forgotten c.make_place.ensures.shape step.0 step.1
 
 pub returns-in_err-load_bytes-clause-step : goal.returns-in_err-load_bytes-clause-step
-returns-in_err-load_bytes-clause-step g c honest =
+returns-in_err-load_bytes-clause-step g c =
     let shown = some-holds _ _ _ c.unwrap-row.ensures c.row.ensures.some in
     let row = shown.2 in
-    let before = subst (λ (f : FilesOn g.row.S.Denot). All g.S.ForkStore.is_honest f.stores) c.make_place.ensures.forgotten (c.load_bytes.ensures.honest honest) in
-    let got : IsGot c.args.memory.now c.args.files.now c.args.place c.args.loads c.match-own.own c.unwrap-row.result.now.resource.datum.length shown.0 = record {
+    let got : IsGot (state_of g.S.ForkStore.fork c.args.memory.now c.args.files.now) c.args.place c.args.loads c.match-own.own c.unwrap-row.result.now.resource.datum.length shown.0 = record {
       here = shown.1;
       same = (elim c.match-own.branch [ in-Some+else-serves w ↦ w.own-is ∙ sym w.in-Some.is | in_default w ↦ w.own-is ]) ∙ row.handle;
-      long = row.size before;
+      long = row.size;
       needs = elim c.match-own.branch [ in-Some+else-serves w ↦ rw w.own-is (sym w.serves.ensures ∙ w.if-serves.false) | in_default w ↦ rw (w.own-is ∙ w.in_default.is) tt ];
     } in
     let step = c.make_place.ensures.step in
     let ends = err_from_is_err_and c.from_residual-in_err-load_bytes.result c.from_residual-in_err-load_bytes.ensures.1 in
     let load = c.in_err-load_bytes.ensures in
-    rw (ends.1, ends.2, load.code) (faults got g.S.ForkStore.fork g.S.ForkStore.failures g.S.ForkStore.may_leave (g.G.GrowZone.asks c.make_place.new.procedure) c.make_place.new.memory c.make_place.new.files c.make_place.ensures.forgotten c.make_place.ensures.shape step.0 step.1 c.in_ok-handle.handle (sym c.in_ok-handle.was ∙ step.2) c.load_bytes.new.memory c.load_bytes.new.files load.shape (load.forks honest) load.loads c.if-loads.true load.some (load.undone ∙ ap (λ b. if b then with_emptied c.make_place.new.memory.heap c.in_ok-handle.handle else heap_released (DisposesHandle c.in_ok-handle.handle) c.make_place.new.memory.heap) c.is_some.ensures) (load.files honest) load.cause)
+    rw (ends.1, ends.2, load.code) (failed_load g.S.ForkStore c.args.memory.now c.args.files.now c.args.place c.args.loads c.match-own.own c.unwrap-row.result.now.resource.datum.length shown.0 got (g.G.GrowZone.asks c.make_place.new.procedure) c.make_place.new.memory c.make_place.new.files c.make_place.ensures.forgotten c.make_place.ensures.shape step.0 step.1 c.in_ok-handle.handle (sym c.in_ok-handle.was ∙ step.2) c.load_bytes.new.memory c.load_bytes.new.files load.shape load.files load.forks load.loads load.count c.if-loads.true load.some
+    (load.undone ∙ ap (λ b. if b then with_emptied c.make_place.new.memory.heap c.in_ok-handle.handle else heap_released (DisposesHandle c.in_ok-handle.handle) c.make_place.new.memory.heap) c.is_some.ensures) load.cause)
 
 pub returns-in_err-load_bytes-clause-loans : goal.returns-in_err-load_bytes-clause-loans
 returns-in_err-load_bytes-clause-loans g c = λ x loan held. c.load_bytes.ensures.loans x loan (c.make_place.ensures.loans x loan held)
 
 pub returns-clause-step : goal.returns-clause-step
-returns-clause-step g c honest =
+returns-clause-step g c =
     let shown = some-holds _ _ _ c.unwrap-row.ensures c.row.ensures.some in
     let row = shown.2 in
-    let kept = subst (All g.S.ForkStore.is_honest) c.attach.ensures.stores honest in
-    let before : All g.S.ForkStore.is_honest c.args.files.now.stores =
-    elim c.if-loads.branch [
-      | then-loads+in_ok-load_bytes w ↦ subst (λ (f : FilesOn g.row.S.Denot). All g.S.ForkStore.is_honest f.stores) c.make_place.ensures.forgotten (w.load_bytes.ensures.honest (subst (λ (f : FilesOn g.row.S.Denot). All g.S.ForkStore.is_honest f.stores) w.files-is kept))
-      | else-loads w ↦ subst (λ (f : FilesOn g.row.S.Denot). All g.S.ForkStore.is_honest f.stores) c.make_place.ensures.forgotten (subst (λ (f : FilesOn g.row.S.Denot). All g.S.ForkStore.is_honest f.stores) w.files-is kept)
-    ]
-    in
-    let got : IsGot c.args.memory.now c.args.files.now c.args.place c.args.loads c.match-own.own c.unwrap-row.result.now.resource.datum.length shown.0 = record {
+    let got : IsGot (state_of g.S.ForkStore.fork c.args.memory.now c.args.files.now) c.args.place c.args.loads c.match-own.own c.unwrap-row.result.now.resource.datum.length shown.0 = record {
       here = shown.1;
       same = (elim c.match-own.branch [ in-Some+else-serves w ↦ w.own-is ∙ sym w.in-Some.is | in_default w ↦ w.own-is ]) ∙ row.handle;
-      long = row.size before;
+      long = row.size;
       needs = elim c.match-own.branch [ in-Some+else-serves w ↦ rw w.own-is (sym w.serves.ensures ∙ w.if-serves.false) | in_default w ↦ rw (w.own-is ∙ w.in_default.is) tt ];
     } in
     let step = c.make_place.ensures.step in
     elim c.if-loads.branch [
-      | else-loads w ↦ rw w.memory-is (attaches got g.S.ForkStore.fork g.S.ForkStore.failures g.S.ForkStore.may_leave (g.G.GrowZone.asks c.make_place.new.procedure) c.make_place.new.memory c.make_place.new.files c.make_place.ensures.forgotten c.make_place.ensures.shape step.0 step.1 c.in_ok-handle.handle (sym c.in_ok-handle.was ∙ step.2) c.make_place.new.memory c.if-loads.files c.attach.new.files refl (rw w.if-loads.false refl) (ap (λ (f : FilesOn g.row.S.Denot). f.files) w.files-is) (ap (λ (f : FilesOn g.row.S.Denot). map g.S.ForkStore.fork f.stores) w.files-is) (ap (λ (f : FilesOn g.row.S.Denot). f.loads) w.files-is) c.attach.ensures.attached)
+      | else-loads w ↦ rw w.memory-is (empty_load g.S.ForkStore c.args.memory.now c.args.files.now c.args.place c.args.loads c.match-own.own c.unwrap-row.result.now.resource.datum.length shown.0 got (g.G.GrowZone.asks c.make_place.new.procedure) c.make_place.new.memory c.make_place.new.files c.make_place.ensures.forgotten c.make_place.ensures.shape step.0 step.1 c.in_ok-handle.handle (sym c.in_ok-handle.was ∙ step.2) c.make_place.new.memory c.if-loads.files refl
+          (subst (λ (f : FilesOn g.row.S.Denot). AnswersFor (All g.S.ForkStore.is_honest c.if-loads.files.stores) c.make_place.new.files.files f.files) (sym w.files-is) (refl, λ all. refl))
+          (λ all. ap (λ (f : FilesOn g.row.S.Denot). map g.S.ForkStore.fork f.stores) w.files-is) (ap (λ (f : FilesOn g.row.S.Denot). f.loads) w.files-is) (ap (λ (f : FilesOn g.row.S.Denot). length f.stores) w.files-is)
+          w.if-loads.false refl w.files-is c.attach.new.files c.attach.ensures.attached)
       | then-loads+in_ok-load_bytes w ↦
           let load = w.in_ok-load_bytes.ensures in
-          let after = subst (λ (f : FilesOn g.row.S.Denot). All g.S.ForkStore.is_honest f.stores) w.files-is kept in
-          rw w.memory-is (attaches got g.S.ForkStore.fork g.S.ForkStore.failures g.S.ForkStore.may_leave (g.G.GrowZone.asks c.make_place.new.procedure) c.make_place.new.memory c.make_place.new.files c.make_place.ensures.forgotten c.make_place.ensures.shape step.0 step.1 c.in_ok-handle.handle (sym c.in_ok-handle.was ∙ step.2) w.load_bytes.new.memory c.if-loads.files c.attach.new.files load.shape
-          (rw w.if-loads.true (loaded_then got g.S.ForkStore.fork g.S.ForkStore.failures g.S.ForkStore.may_leave (g.G.GrowZone.asks c.make_place.new.procedure) c.make_place.new.memory c.make_place.new.files c.make_place.ensures.forgotten c.in_ok-handle.handle c.unwrap-row.result.now.resource.attributes w.load_bytes.new.memory.heap row.attributes (load.loaded after)))
-          (ap (λ (f : FilesOn g.row.S.Denot). f.files) w.files-is ∙ load.files after) (ap (λ (f : FilesOn g.row.S.Denot). map g.S.ForkStore.fork f.stores) w.files-is ∙ load.forks after) (ap (λ (f : FilesOn g.row.S.Denot). f.loads) w.files-is ∙ load.loads) c.attach.ensures.attached)
+          rw w.memory-is (given_load g.S.ForkStore c.args.memory.now c.args.files.now c.args.place c.args.loads c.match-own.own c.unwrap-row.result.now.resource.datum.length shown.0 got (g.G.GrowZone.asks c.make_place.new.procedure) c.make_place.new.memory c.make_place.new.files c.make_place.ensures.forgotten c.make_place.ensures.shape step.0 step.1 c.in_ok-handle.handle (sym c.in_ok-handle.was ∙ step.2) w.load_bytes.new.memory w.load_bytes.new.files load.shape load.files load.forks load.loads load.count
+          c.unwrap-row.result.now.resource.attributes load.loaded.0 w.if-loads.true row.attributes load.loaded.1 load.loaded.2 load.cause c.attach.new.files
+          (subst (λ (f : FilesOn g.row.S.Denot). IsSome (row_at c.args.place f.files) → c.attach.new.files ≡ record f { files = row_changed c.args.place (with_handle (Some c.in_ok-handle.handle)) f.files }) w.files-is c.attach.ensures.attached))
     ]
 
 pub returns-clause-loans : goal.returns-clause-loans

@@ -9,9 +9,9 @@ use Rattle.res_manager.proofs.UpdatingCalls.{on_err}
 use Rattle.res_manager.proofs.manager.make.Goals as goal
 
 pub returns-in-Err-clause-step : goal.returns-in-Err-clause-step
-returns-in-Err-clause-step g c = λ honest.
-    let P : List Ask → Type 0 = λ asks. ResourceSteps g.S.ForkStore.fork g.S.ForkStore.failures g.S.ForkStore.may_leave c.args.memory.now c.args.files.now c.args.call.now asks (Err c.in-Err.code) c.args.memory.now c.args.files.now in
-    subst P (sym c.requires.unasked) (refused_steps g.S.ForkStore.fork g.S.ForkStore.failures g.S.ForkStore.may_leave c.args.memory.now c.args.files.now c.args.call.now c.in-Err.code c.in-Err.ensures)
+returns-in-Err-clause-step g c =
+    let P : List Ask → Type 0 = λ asks. ResourceSteps g.S.ForkStore c.args.memory.now c.args.files.now c.args.call.now asks (Err c.in-Err.code) c.args.memory.now c.args.files.now in
+    subst P (sym c.requires.unasked) (refused_steps g.S.ForkStore c.args.memory.now c.args.files.now c.args.call.now c.in-Err.code c.in-Err.ensures)
 
 pub returns-in-Err-clause-any_moment : goal.returns-in-Err-clause-any_moment
 returns-in-Err-clause-any_moment g c = λ honest.

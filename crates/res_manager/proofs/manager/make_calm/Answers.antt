@@ -28,13 +28,13 @@ returns-in-GetResource-clause-settled g c = λ honest.
     calm_settles g.S.ForkStore c.get.new.files.stores (work_of old c.args.call.now) (calm_work old c.args.call.now c.requires.calm) c.get.result
 
 pub returns-in_default-clause-step : goal.returns-in_default-clause-step
-returns-in_default-clause-step g c = λ honest.
+returns-in_default-clause-step g c =
     let old = state_of g.S.ForkStore.fork c.args.memory.now c.args.files.now in
     let call = c.args.call.now in
     let quiet : is_quiet c.args.call.now ≡ true = search rules in
-    let P : List Ask → Type 0 = λ asks. IfOk c.make_quiet.result (λ outcome. ResourceSteps g.S.ForkStore.fork g.S.ForkStore.failures g.S.ForkStore.may_leave c.args.memory.now c.args.files.now c.args.call.now asks outcome c.make_quiet.new.memory c.make_quiet.new.files) in
-    subst P (sym c.requires.unasked) (if_ok _ _ c.make_quiet.result (λ outcome ends. quiet_steps g.S.ForkStore.fork g.S.ForkStore.failures g.S.ForkStore.may_leave c.args.memory.now c.make_quiet.new.memory c.args.files.now c.make_quiet.new.files call outcome
-    (calm_passes old call c.requires.calm c.requires.passed) (quiet_work old call quiet) ends) (c.make_quiet.ensures.quiet honest))
+    let P : List Ask → Type 0 = λ asks. IfOk c.make_quiet.result (λ outcome. ResourceSteps g.S.ForkStore c.args.memory.now c.args.files.now c.args.call.now asks outcome c.make_quiet.new.memory c.make_quiet.new.files) in
+    subst P (sym c.requires.unasked) (if_ok _ _ c.make_quiet.result (λ outcome ends. quiet_steps g.S.ForkStore c.args.memory.now c.make_quiet.new.memory c.args.files.now c.make_quiet.new.files call outcome
+    (calm_passes old call c.requires.calm c.requires.passed) (quiet_work old call quiet) c.make_quiet.ensures.stores ends) c.make_quiet.ensures.quiet)
 
 pub returns-in_default-clause-reads_back : goal.returns-in_default-clause-reads_back
 returns-in_default-clause-reads_back g c = λ honest.
@@ -64,12 +64,12 @@ pub returns-in_default-clause-unasked : goal.returns-in_default-clause-unasked
 returns-in_default-clause-unasked g c = err_anyhow _ c.make_quiet.result c.requires.unasked
 
 pub returns-in_default-clause-same : goal.returns-in_default-clause-same
-returns-in_default-clause-same g c = λ honest. err_same g.S.ForkStore.fork c.args.memory.now c.make_quiet.new.memory c.args.files.now c.make_quiet.new.files c.make_quiet.result c.make_quiet.ensures.unchanged c.make_quiet.ensures.same
+returns-in_default-clause-same g c = err_same (All g.S.ForkStore.is_honest c.make_quiet.new.files.stores) g.S.ForkStore.fork c.args.memory.now c.make_quiet.new.memory c.args.files.now c.make_quiet.new.files c.make_quiet.result c.make_quiet.ensures.unchanged c.make_quiet.ensures.same
 
 pub returns-in_default-clause-full : goal.returns-in_default-clause-full
-returns-in_default-clause-full g c = λ honest.
+returns-in_default-clause-full g c =
     on_err _ _ c.make_quiet.result (copies_take (state_of g.S.ForkStore.fork c.args.memory.now c.args.files.now) c.args.call.now) c.make_quiet.ensures.full
 
 pub returns-in_default-clause-late : goal.returns-in_default-clause-late
-returns-in_default-clause-late g c = λ honest.
+returns-in_default-clause-late g c =
     err_anyhow _ c.make_quiet.result (calm_passes (state_of g.S.ForkStore.fork c.args.memory.now c.args.files.now) c.args.call.now c.requires.calm c.requires.passed)

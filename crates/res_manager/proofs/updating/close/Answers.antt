@@ -19,21 +19,20 @@ pub returns-clause-lent : goal.returns-clause-lent
 returns-clause-lent g c = ap (λ (heap : Heap). heap.table.lent) c.dispose_all.ensures.heap ∙ lent_disposed c.args.memory.now.shape (handles_of (rows_of c.args.number c.write_file.new.files.files)) c.args.memory.now.heap
 
 pub returns-clause-written : goal.returns-clause-written
-returns-clause-written g c = λ honest u is.
-    let mid_honest = subst (λ (f : FilesOn g.row.S.Denot). All g.S.ForkStore.is_honest f.stores) c.close.ensures honest in
+returns-clause-written g c = λ u is.
     let zone = c.args.memory.now in
     let on = c.args.files.now in
     let mid = c.write_file.new.files in
     let found = update_found c.args.number (updated zone.heap.table AllChanged) on.files u is in
     let number : c.args.number ≡ u.file = ap (λ (v : Update). v.file) found.is in
-    closes_written g.S.ForkStore.fork g.S.ForkStore.failures g.S.ForkStore.may_leave zone c.dispose_all.new.memory on mid c.close.new.self u c.in_ok-outcome.outcome
+    closes_written g.S.ForkStore zone c.dispose_all.new.memory on mid c.close.new.self u c.in_ok-outcome.outcome
     (sym c.is_err.ensures.value ∙ c.if-is_err.false) c.dispose_all.ensures.shape
     (c.dispose_all.ensures.heap ∙ ap (λ k. disposed zone.shape (handles_of (rows_of k mid.files)) zone.heap) number)
     (c.close.ensures ∙ ap (λ k. record mid { files = file_closed k mid.files }) number)
-    (c.in_ok-outcome.ensures.written mid_honest u is)
+    (c.in_ok-outcome.ensures.written u is)
 
 pub returns-then-is_err-clause-written : goal.returns-then-is_err-clause-written
-returns-then-is_err-clause-written g c = λ honest u is. closes_refused g.S.ForkStore.fork g.S.ForkStore.failures g.S.ForkStore.may_leave c.args.memory.now c.args.files.now c.write_file.new.files u c.in_ok-outcome.outcome (sym c.is_err.ensures.value ∙ c.if-is_err.true) (c.in_ok-outcome.ensures.written honest u is)
+returns-then-is_err-clause-written g c = λ u is. closes_refused g.S.ForkStore c.args.memory.now c.args.files.now c.write_file.new.files u c.in_ok-outcome.outcome (sym c.is_err.ensures.value ∙ c.if-is_err.true) (c.in_ok-outcome.ensures.written u is)
 
 pub returns-clause-saved : goal.returns-clause-saved
 returns-clause-saved g c = λ honest.

@@ -18,9 +18,7 @@ close-requires-clause-unlent g c =
     closing_unlent g.S.ForkStore.fork c.args.memory.now c.args.files.now c.args.call.now c.in-CloseResFile.named c.in-Ok-test_open.number c.in-CloseResFile.is c.requires.passed c.in-Ok-test_open.ensures.value.0
 
 pub returns-in-Ok-clause-step : goal.returns-in-Ok-clause-step
-returns-in-Ok-clause-step g c = λ honest.
-    let failures = g.S.ForkStore.failures in
-    let leave = g.S.ForkStore.may_leave in
+returns-in-Ok-clause-step g c =
     let new = c.args.memory.now in
     let after = c.write_file.new.files in
     let fork = g.S.ForkStore.fork in
@@ -28,8 +26,8 @@ returns-in-Ok-clause-step g c = λ honest.
     let on = c.args.files.now in
     let o = open_update c.in-Ok.number (updated zone.heap.table AllChanged) on.files c.in-Ok.ensures.value.1 in
     let made = makes_file fork zone on c.args.call.now c.in-UpdateResFile.named c.in-Ok.number o.0 c.in-UpdateResFile.is c.requires.passed c.in-Ok.ensures.value.0 o.1 in
-    if_ok _ _ c.write_file.result (λ outcome written. made_steps fork zone on failures leave new after c.args.call.now o.0 outcome made
-    (writes_as fork failures leave zone new on after o.0 (UpdateResFile None) c.args.call.now outcome (λ k state. ap (λ (d : ResourceCall). behind_update d k state) c.in-UpdateResFile.is) (written o.0 o.1))) (c.write_file.ensures.written honest)
+    if_ok _ _ c.write_file.result (λ outcome written. made_steps g.S.ForkStore zone on new after c.args.call.now o.0 outcome made
+    (writes_as g.S.ForkStore zone new on after o.0 (UpdateResFile None) c.args.call.now outcome (λ k state. ap (λ (d : ResourceCall). behind_update d k state) c.in-UpdateResFile.is) (written o.0 o.1))) (c.write_file.ensures.written)
 
 pub returns-in-Ok-clause-reads_back : goal.returns-in-Ok-clause-reads_back
 returns-in-Ok-clause-reads_back g c = λ honest.
@@ -43,27 +41,25 @@ returns-in-Ok-clause-reads_back g c = λ honest.
     if_ok _ _ c.write_file.result (λ outcome saved. made_reads fork zone on c.args.call.now o.0 update outcome new made o.1 saved) (c.write_file.ensures.saved honest)
 
 pub returns-in-Ok-clause-late : goal.returns-in-Ok-clause-late
-returns-in-Ok-clause-late g c = λ honest.
+returns-in-Ok-clause-late g c =
     let fork = g.S.ForkStore.fork in
     let zone = c.args.memory.now in
     let on = c.args.files.now in
     let o = open_update c.in-Ok.number (updated zone.heap.table AllChanged) on.files c.in-Ok.ensures.value.1 in
     let made = makes_file fork zone on c.args.call.now c.in-UpdateResFile.named c.in-Ok.number o.0 c.in-UpdateResFile.is c.requires.passed c.in-Ok.ensures.value.0 o.1 in
-    on_err _ _ c.write_file.result (λ fits. made_late fork zone on c.args.call.now o.0 made (fits o.0 o.1)) (c.write_file.ensures.fits honest)
+    on_err _ _ c.write_file.result (λ fits. made_late fork zone on c.args.call.now o.0 made (fits o.0 o.1)) (c.write_file.ensures.fits)
 
 pub returns-in-Ok-clause-full : goal.returns-in-Ok-clause-full
-returns-in-Ok-clause-full g c = λ honest.
+returns-in-Ok-clause-full g c =
     let fork = g.S.ForkStore.fork in
     let zone = c.args.memory.now in
     let on = c.args.files.now in
     let o = open_update c.in-Ok.number (updated zone.heap.table AllChanged) on.files c.in-Ok.ensures.value.1 in
     let made = makes_file fork zone on c.args.call.now c.in-UpdateResFile.named c.in-Ok.number o.0 c.in-UpdateResFile.is c.requires.passed c.in-Ok.ensures.value.0 o.1 in
-    on_err _ _ c.write_file.result (λ fits. made.full) (c.write_file.ensures.fits honest)
+    on_err _ _ c.write_file.result (λ fits. made.full) (c.write_file.ensures.fits)
 
 pub returns-in-Ok-test_open-clause-step : goal.returns-in-Ok-test_open-clause-step
-returns-in-Ok-test_open-clause-step g c = λ honest.
-    let failures = g.S.ForkStore.failures in
-    let leave = g.S.ForkStore.may_leave in
+returns-in-Ok-test_open-clause-step g c =
     let new = c.close.new.memory in
     let after = c.close.new.files in
     let fork = g.S.ForkStore.fork in
@@ -71,8 +67,8 @@ returns-in-Ok-test_open-clause-step g c = λ honest.
     let on = c.args.files.now in
     let o = open_update c.in-Ok-test_open.number (updated zone.heap.table AllChanged) on.files c.in-Ok-test_open.ensures.value.1 in
     let made = makes_closed fork zone on c.args.call.now c.in-CloseResFile.named c.in-Ok-test_open.number o.0 c.in-CloseResFile.is c.requires.passed c.in-Ok-test_open.ensures.value.0 o.1 in
-    if_ok _ _ c.close.result (λ outcome written. made_steps fork zone on failures leave new after c.args.call.now o.0 outcome made
-    (writes_as fork failures leave zone new on after o.0 (CloseResFile None) c.args.call.now outcome (λ k state. ap (λ (d : ResourceCall). behind_update d k state) c.in-CloseResFile.is) (written o.0 o.1))) (c.close.ensures.written honest)
+    if_ok _ _ c.close.result (λ outcome written. made_steps g.S.ForkStore zone on new after c.args.call.now o.0 outcome made
+    (writes_as g.S.ForkStore zone new on after o.0 (CloseResFile None) c.args.call.now outcome (λ k state. ap (λ (d : ResourceCall). behind_update d k state) c.in-CloseResFile.is) (written o.0 o.1))) (c.close.ensures.written)
 
 pub returns-in-Ok-test_open-clause-reads_back : goal.returns-in-Ok-test_open-clause-reads_back
 returns-in-Ok-test_open-clause-reads_back g c = λ honest.
@@ -86,22 +82,22 @@ returns-in-Ok-test_open-clause-reads_back g c = λ honest.
     if_ok _ _ c.close.result (λ outcome saved. made_reads fork zone on c.args.call.now o.0 update outcome new made o.1 saved) (c.close.ensures.saved honest)
 
 pub returns-in-Ok-test_open-clause-late : goal.returns-in-Ok-test_open-clause-late
-returns-in-Ok-test_open-clause-late g c = λ honest.
+returns-in-Ok-test_open-clause-late g c =
     let fork = g.S.ForkStore.fork in
     let zone = c.args.memory.now in
     let on = c.args.files.now in
     let o = open_update c.in-Ok-test_open.number (updated zone.heap.table AllChanged) on.files c.in-Ok-test_open.ensures.value.1 in
     let made = makes_closed fork zone on c.args.call.now c.in-CloseResFile.named c.in-Ok-test_open.number o.0 c.in-CloseResFile.is c.requires.passed c.in-Ok-test_open.ensures.value.0 o.1 in
-    on_err _ _ c.close.result (λ fits. made_late fork zone on c.args.call.now o.0 made (fits o.0 o.1)) (c.close.ensures.fits honest)
+    on_err _ _ c.close.result (λ fits. made_late fork zone on c.args.call.now o.0 made (fits o.0 o.1)) (c.close.ensures.fits)
 
 pub returns-in-Ok-test_open-clause-full : goal.returns-in-Ok-test_open-clause-full
-returns-in-Ok-test_open-clause-full g c = λ honest.
+returns-in-Ok-test_open-clause-full g c =
     let fork = g.S.ForkStore.fork in
     let zone = c.args.memory.now in
     let on = c.args.files.now in
     let o = open_update c.in-Ok-test_open.number (updated zone.heap.table AllChanged) on.files c.in-Ok-test_open.ensures.value.1 in
     let made = makes_closed fork zone on c.args.call.now c.in-CloseResFile.named c.in-Ok-test_open.number o.0 c.in-CloseResFile.is c.requires.passed c.in-Ok-test_open.ensures.value.0 o.1 in
-    on_err _ _ c.close.result (λ fits. made.full) (c.close.ensures.fits honest)
+    on_err _ _ c.close.result (λ fits. made.full) (c.close.ensures.fits)
 
 pub returns-in-Ok-clause-any_moment : goal.returns-in-Ok-clause-any_moment
 returns-in-Ok-clause-any_moment g c = λ honest.

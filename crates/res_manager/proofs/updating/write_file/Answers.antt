@@ -16,16 +16,16 @@ use Rattle.res_manager.proofs.WritingFiles.{true_unless, update_found, writes_al
 use Rattle.res_manager.proofs.updating.write_file.Goals as goal
 
 pub returns-in-Ok-clause-written : goal.returns-in-Ok-clause-written
-returns-in-Ok-clause-written g c = λ honest u is.
+returns-in-Ok-clause-written g c = λ u is.
     let t = c.new-contents.result.heap.table in
     let Q : ZoneState → Type 0 = λ z. update_of c.args.number (updated z.heap.table c.args.selection) c.args.files.now.files ≡ Some u in
     let f = update_found c.args.number (updated t c.args.selection) c.args.files.now.files u (subst Q (sym c.new-contents.ensures) is) in
-    let rows = rw f.there at (c.in-Ok.ensures.rows honest) in
-    let forks = rw f.there at (c.in-Ok.ensures.written honest) in
-    let big = rw f.there at (c.in-Ok.ensures.too_big honest) in
+    let rows = rw f.there at c.in-Ok.ensures.rows in
+    let forks = λ honest. rw f.there at (c.in-Ok.ensures.written honest) in
+    let big = rw f.there at c.in-Ok.ensures.too_big in
     let v : Update = record { file = c.args.number; table = updated t c.args.selection f.table } in
-    let P : Update → Type 0 = λ w. WritesFile g.S.ForkStore.fork g.S.ForkStore.failures g.S.ForkStore.may_leave c.args.memory.now c.args.files.now (UpdateResFile None) w (Ok Nothing) c.args.memory.now c.update.new.self in
-    subst P f.is (writes_all g.S.ForkStore.fork g.S.ForkStore.failures g.S.ForkStore.may_leave c.args.memory.now c.args.files.now c.update.new.self v (true_unless (fits_fork v.table) (λ h. absurd (cc (big.1 h)))) rows forks c.update.ensures.loads)
+    let P : Update → Type 0 = λ w. WritesFile g.S.ForkStore c.args.memory.now c.args.files.now (UpdateResFile None) w (Ok Nothing) c.args.memory.now c.update.new.self in
+    subst P f.is (writes_all g.S.ForkStore c.args.memory.now c.args.files.now c.update.new.self v c.update.ensures.loads c.update.ensures.count (true_unless (fits_fork v.table) (λ h. absurd (cc (big.1 h)))) rows forks c.in-Ok.ensures.none)
 
 pub returns-in-Ok-clause-saved : goal.returns-in-Ok-clause-saved
 returns-in-Ok-clause-saved g c = λ honest.
@@ -36,18 +36,20 @@ returns-in-Ok-clause-saved g c = λ honest.
     subst Q c.new-contents.ensures (saved_update fork zone after c.args.number (updated c.new-contents.result.heap.table c.args.selection) c.args.files.now.files (c.in-Ok.ensures.stands honest))
 
 pub returns-in-Err-Device-clause-written : goal.returns-in-Err-Device-clause-written
-returns-in-Err-Device-clause-written g c = λ honest u is.
+returns-in-Err-Device-clause-written g c = λ u is.
     let t = c.new-contents.result.heap.table in
     let Q : ZoneState → Type 0 = λ z. update_of c.args.number (updated z.heap.table c.args.selection) c.args.files.now.files ≡ Some u in
     let f = update_found c.args.number (updated t c.args.selection) c.args.files.now.files u (subst Q (sym c.new-contents.ensures) is) in
     let all = rw c.in-Err-Device.field-0-is at c.in-Err-Device.ensures in
-    let big = rw f.there at (all.too_big honest) in
+    let big = rw f.there at all.too_big in
     let v : Update = record { file = c.args.number; table = updated t c.args.selection f.table } in
-    let P : Update → Type 0 = λ w. WritesFile g.S.ForkStore.fork g.S.ForkStore.failures g.S.ForkStore.may_leave c.args.memory.now c.args.files.now (UpdateResFile None) w (Err IoErr) c.args.memory.now c.update.new.self in
-    subst P f.is (writes_faulted g.S.ForkStore.fork g.S.ForkStore.failures g.S.ForkStore.may_leave c.args.memory.now c.args.files.now c.update.new.self v c.in-Err-Device.field-0-0 (true_unless (fits_fork v.table) (λ h. absurd (cc (big.1 h))))
-    (λ is. all.before honest (ap (λ (f : ReplaceFault). Err (Device f)) is))
-    (λ is. rw f.there at (all.later honest (ap (λ (f : ReplaceFault). Err (Device f)) is)))
-    c.update.ensures.loads (λ is. all.cause (ap (λ (f : ReplaceFault). Err (Device f)) is)) (λ is. all.cause_later (ap (λ (f : ReplaceFault). Err (Device f)) is)))
+    let P : Update → Type 0 = λ w. WritesFile g.S.ForkStore c.args.memory.now c.args.files.now (UpdateResFile None) w (Err IoErr) c.args.memory.now c.update.new.self in
+    subst P f.is (writes_faulted g.S.ForkStore c.args.memory.now c.args.files.now c.update.new.self v c.update.ensures.loads c.update.ensures.count c.in-Err-Device.field-0-0 (true_unless (fits_fork v.table) (λ h. absurd (cc (big.1 h))))
+    (λ is. all.before (ap (λ (f : ReplaceFault). Err (Device f)) is))
+    (λ honest is. all.before_forks honest (ap (λ (f : ReplaceFault). Err (Device f)) is))
+    (λ is. all.closed (ap (λ (f : ReplaceFault). Err (Device f)) is))
+    (λ honest is. rw f.there at (all.later honest (ap (λ (f : ReplaceFault). Err (Device f)) is)))
+    (λ is. all.cause (ap (λ (f : ReplaceFault). Err (Device f)) is)) (λ is. all.cause_later (ap (λ (f : ReplaceFault). Err (Device f)) is)))
 
 pub returns-in-Ok-clause-any_moment : goal.returns-in-Ok-clause-any_moment
 returns-in-Ok-clause-any_moment g c = λ honest u is. zone_leaves g.S.ForkStore c.args.files.now.stores c.update.new.self.stores c.new-contents.result c.args.memory.now c.args.selection c.args.number c.args.files.now.files u c.new-contents.ensures is (c.update.ensures.any_moment honest) (c.update.ensures.others honest)
@@ -62,21 +64,21 @@ pub returns-in-Err-Device-clause-any_moment : goal.returns-in-Err-Device-clause-
 returns-in-Err-Device-clause-any_moment g c = λ honest u is. zone_leaves g.S.ForkStore c.args.files.now.stores c.update.new.self.stores c.new-contents.result c.args.memory.now c.args.selection c.args.number c.args.files.now.files u c.new-contents.ensures is (c.update.ensures.any_moment honest) (c.update.ensures.others honest)
 
 pub returns-in-Err-TooBig-clause-written : goal.returns-in-Err-TooBig-clause-written
-returns-in-Err-TooBig-clause-written g c = λ honest u is.
+returns-in-Err-TooBig-clause-written g c = λ u is.
     let t = c.new-contents.result.heap.table in
     let Q : ZoneState → Type 0 = λ z. update_of c.args.number (updated z.heap.table c.args.selection) c.args.files.now.files ≡ Some u in
     let f = update_found c.args.number (updated t c.args.selection) c.args.files.now.files u (subst Q (sym c.new-contents.ensures) is) in
     let all = rw c.in-Err-TooBig.field-0-is at c.in-Err-TooBig.ensures in
-    let big = rw f.there at (all.too_big honest) in
+    let big = rw f.there at all.too_big in
     let v : Update = record { file = c.args.number; table = updated t c.args.selection f.table } in
-    let P : Update → Type 0 = λ w. WritesFile g.S.ForkStore.fork g.S.ForkStore.failures g.S.ForkStore.may_leave c.args.memory.now c.args.files.now (UpdateResFile None) w (Err DskFulErr) c.args.memory.now c.update.new.self in
-    subst P f.is (writes_nothing g.S.ForkStore.fork g.S.ForkStore.failures g.S.ForkStore.may_leave c.args.memory.now c.args.files.now c.update.new.self v (big.0 refl) (all.untouched refl))
+    let P : Update → Type 0 = λ w. WritesFile g.S.ForkStore c.args.memory.now c.args.files.now (UpdateResFile None) w (Err DskFulErr) c.args.memory.now c.update.new.self in
+    subst P f.is (writes_nothing g.S.ForkStore c.args.memory.now c.args.files.now c.update.new.self v c.update.ensures.loads c.update.ensures.count (big.0 refl) (all.untouched refl))
 
 pub returns-in-Err-HostFull-clause-fits : goal.returns-in-Err-HostFull-clause-fits
-returns-in-Err-HostFull-clause-fits g c = λ honest u is.
+returns-in-Err-HostFull-clause-fits g c = λ u is.
     let t = c.new-contents.result.heap.table in
     let Q : ZoneState → Type 0 = λ z. update_of c.args.number (updated z.heap.table c.args.selection) c.args.files.now.files ≡ Some u in
     let f = update_found c.args.number (updated t c.args.selection) c.args.files.now.files u (subst Q (sym c.new-contents.ensures) is) in
     let all = rw c.in-Err-HostFull.field-0-is at c.in-Err-HostFull.ensures in
-    let big = rw f.there at (all.too_big honest) in
+    let big = rw f.there at all.too_big in
     subst (λ (w : Update). fits_fork w.table ≡ true) f.is (true_unless (fits_fork (updated t c.args.selection f.table)) (λ h. absurd (cc (big.1 h))))

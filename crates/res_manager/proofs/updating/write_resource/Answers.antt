@@ -21,18 +21,16 @@ pub write_file-requires-clause-open : goal.write_file-requires-clause-open
 write_file-requires-clause-open g c = row_open c.in-Some.place c.args.files.now.files (λ (r : FileRow). r.handle ≡ Some c.args.handle) c.in-Some.ensures.there
 
 pub returns-clause-step : goal.returns-clause-step
-returns-clause-step g c = λ honest.
+returns-clause-step g c =
     let fork = g.S.ForkStore.fork in
-    let failures = g.S.ForkStore.failures in
-    let leave = g.S.ForkStore.may_leave in
     let zone = c.args.memory.now in
     let on = c.args.files.now in
     let after = c.write_file.new.files in
     let changed : row_passes is_changed c.args.handle c.args.files.now.files ≡ true = search rules in
     let o = open_update c.in-Some.place.file (updated zone.heap.table (RowAt c.in-Some.place.index)) on.files (row_open c.in-Some.place on.files (λ (r : FileRow). r.handle ≡ Some c.args.handle) c.in-Some.ensures.there) in
     let made = makes_row fork zone on c.args.handle c.in-Some.place o.0 c.requires (sym c.row_of_handle.ensures.value ∙ c.in-Some.is) changed o.1 in
-    if_ok _ _ c.write_file.result (λ outcome written. made_steps fork zone on failures leave zone after (WriteResource c.args.handle) o.0 outcome made
-    (writes_as fork failures leave zone zone on after o.0 (UpdateResFile None) (WriteResource c.args.handle) outcome (λ k state. refl) (written o.0 o.1))) (c.write_file.ensures.written honest)
+    if_ok _ _ c.write_file.result (λ outcome written. made_steps g.S.ForkStore zone on zone after (WriteResource c.args.handle) o.0 outcome made
+    (writes_as g.S.ForkStore zone zone on after o.0 (UpdateResFile None) (WriteResource c.args.handle) outcome (λ k state. refl) (written o.0 o.1))) (c.write_file.ensures.written)
 
 pub returns-clause-reads_back : goal.returns-clause-reads_back
 returns-clause-reads_back g c = λ honest.
@@ -47,14 +45,14 @@ returns-clause-reads_back g c = λ honest.
     if_ok _ _ c.write_file.result (λ outcome saved. made_reads fork zone on (WriteResource c.args.handle) o.0 update outcome new made o.1 saved) (c.write_file.ensures.saved honest)
 
 pub returns-clause-late : goal.returns-clause-late
-returns-clause-late g c = λ honest.
+returns-clause-late g c =
     let fork = g.S.ForkStore.fork in
     let zone = c.args.memory.now in
     let on = c.args.files.now in
     let changed : row_passes is_changed c.args.handle c.args.files.now.files ≡ true = search rules in
     let o = open_update c.in-Some.place.file (updated zone.heap.table (RowAt c.in-Some.place.index)) on.files (row_open c.in-Some.place on.files (λ (r : FileRow). r.handle ≡ Some c.args.handle) c.in-Some.ensures.there) in
     let made = makes_row fork zone on c.args.handle c.in-Some.place o.0 c.requires (sym c.row_of_handle.ensures.value ∙ c.in-Some.is) changed o.1 in
-    on_err _ _ c.write_file.result (λ fits. made_late fork zone on (WriteResource c.args.handle) o.0 made (fits o.0 o.1)) (c.write_file.ensures.fits honest)
+    on_err _ _ c.write_file.result (λ fits. made_late fork zone on (WriteResource c.args.handle) o.0 made (fits o.0 o.1)) (c.write_file.ensures.fits)
 
 pub returns-clause-any_moment : goal.returns-clause-any_moment
 returns-clause-any_moment g c = λ honest.
@@ -80,14 +78,14 @@ pub returns-then-not-is_changed-clause-any_moment : goal.returns-then-not-is_cha
 returns-then-not-is_changed-clause-any_moment g c = λ honest. calm_leaves g.S.ForkStore c.args.files.now.stores c.args.files.now.stores (update_in (work_of (state_of g.S.ForkStore.fork c.args.memory.now c.args.files.now) (WriteResource c.args.handle))) refl
 
 pub returns-clause-full : goal.returns-clause-full
-returns-clause-full g c = λ honest.
+returns-clause-full g c =
     let fork = g.S.ForkStore.fork in
     let zone = c.args.memory.now in
     let on = c.args.files.now in
     let changed : row_passes is_changed c.args.handle c.args.files.now.files ≡ true = search rules in
     let o = open_update c.in-Some.place.file (updated zone.heap.table (RowAt c.in-Some.place.index)) on.files (row_open c.in-Some.place on.files (λ (r : FileRow). r.handle ≡ Some c.args.handle) c.in-Some.ensures.there) in
     let made = makes_row fork zone on c.args.handle c.in-Some.place o.0 c.requires (sym c.row_of_handle.ensures.value ∙ c.in-Some.is) changed o.1 in
-    on_err _ _ c.write_file.result (λ fits. ap work_takes_memory made.work) (c.write_file.ensures.fits honest)
+    on_err _ _ c.write_file.result (λ fits. ap work_takes_memory made.work) (c.write_file.ensures.fits)
 
 pub returns-then-not-is_changed-clause-reads_back : goal.returns-then-not-is_changed-clause-reads_back
 returns-then-not-is_changed-clause-reads_back g c = λ honest.
