@@ -37,11 +37,11 @@ use Rattle.res_table.specs.Rows.{is_changed, with_handle}
 use Rattle.fork_bytes.specs.Written.{written}
 use Rattle.res_table.specs.declared.chain.RowPlace.{RowPlace}
 use Rattle.res_calls.specs.Changes.{FileRow, FileTable, row_changed, rows_of, saved_table}
-use Rattle.res_calls.specs.Device.{Device, Works as DeviceWorks, FailsBefore, FailsWriting, device_works}
+use Rattle.res_calls.specs.Device.{Device, DiskRelations, LeaveRelation, Works as DeviceWorks, FailsBefore, FailsWriting, device_works, read_truly}
 use Rattle.res_calls.specs.Files.{ResState, ResourceEnd, disk_of, refused_with, with_disk, with_files, with_heap}
 use Rattle.res_calls.specs.Loads.{handle_made, load_end, loaded, loaded_flags, loaded_results, loads_bytes, placed_end, placing, row_wanted, unloaded}
 use Rattle.res_calls.specs.Quiet.{quiet_state}
-use Rattle.res_calls.specs.Steps.{GetsPlace, GetsRow, LeaveRelation, LeavesDisk, ResourceStepBy, StepsUnless, Work, Gets, Updates, Opens, Quiet, Works, behind_memory, opened_end, updating, work_of, Memory}
+use Rattle.res_calls.specs.Steps.{GetsPlace, GetsRow, LeavesDisk, ResourceStepBy, StepsUnless, Work, Gets, Updates, Opens, Quiet, Works, behind_memory, opened_end, updating, work_of, Memory}
 use Rattle.res_calls.specs.Tests.{resource_refusal}
 use Rattle.res_calls.specs.Updates.{Update, behind_update, disposed, file_update, handles_of, row_passes, row_update, update_end}
 use Rattle.zone_laws.proofs.Tables.{live_at-with_live_same}
@@ -216,9 +216,9 @@ module _ (loans : Loans) where
     wanted-inner (call.CloseResFile named) inner wanted is = absurd (cc wanted)
     wanted-inner rc' inner wanted is = (p, r, wanted, stands, is)
 
-    gets-done : (device : Device) (asks : List Ask) (end : ResourceEnd) (MayLeave : LeaveRelation) (o : Option MemoryCall) → old.shape ≡ s → placing old.heap.table (loads_bytes old rc) r ≡ o → GetsRow Memory MayLeave device old rc asks end p r o → MadeOf s (IsActOf old rc) old.heap end.state.heap
-    gets-done device asks end MayLeave None shape is gets = none-done s (IsActOf old rc) old.heap end.state.heap (ap (λ (e : ResourceEnd). e.state.heap) gets.1)
-    gets-done device asks end MayLeave (Some inner) shape is gets =
+    gets-done : (device : Device) (asks : List Ask) (end : ResourceEnd) (disks : DiskRelations) (o : Option MemoryCall) → old.shape ≡ s → placing old.heap.table (loads_bytes old rc) r ≡ o → GetsRow Memory disks device old rc asks end p r o → MadeOf s (IsActOf old rc) old.heap end.state.heap
+    gets-done device asks end disks None shape is gets = none-done s (IsActOf old rc) old.heap end.state.heap (ap (λ (e : ResourceEnd). e.state.heap) gets.1)
+    gets-done device asks end disks (Some inner) shape is gets =
         let step : Memory s old.heap inner asks gets.0 gets.1 = subst (λ s. Memory s old.heap inner asks gets.0 gets.1) shape gets.2 in
         let rest = placed-done device (loads_bytes old rc) inner asks gets.0 gets.1 is step in
         subst (λ (e : ResourceEnd). MadeOf s (IsActOf old rc) old.heap e.state.heap) (sym gets.3)
@@ -286,49 +286,49 @@ module _ (loans : Loans) where
     gets-wanted (call.OpenResFile k) p is = absurd (no-opening (is_open k old.files) k p is)
     gets-wanted rc' p is = gotten (row_wanted old rc') p is
 
-    works-done : (MayLeave : LeaveRelation) (device : Device) (asks : List Ask) (end : ResourceEnd) (w : Work) → work_of old rc ≡ w → Works Memory MayLeave device old rc asks end w → Made end.state.heap
-    works-done MayLeave device asks end (Gets p) is works = by_row (row_at p old.files) refl works
+    works-done : (disks : DiskRelations) (device : Device) (asks : List Ask) (end : ResourceEnd) (w : Work) → work_of old rc ≡ w → Works Memory disks device old rc asks end w → Made end.state.heap
+    works-done disks device asks end (Gets p) is works = by_row (row_at p old.files) refl works
       where
-        by_row : (o : Option FileRow) → row_at p old.files ≡ o → GetsPlace Memory MayLeave device old rc asks end p o → MadeOf old.shape (IsActOf old rc) old.heap end.state.heap
+        by_row : (o : Option FileRow) → row_at p old.files ≡ o → GetsPlace Memory disks device old rc asks end p o → MadeOf old.shape (IsActOf old rc) old.heap end.state.heap
         by_row None stands works = absurd works
-        by_row (Some r) stands works = gets-done old.shape old rc p r (gets-wanted rc p is) stands fixed device asks end MayLeave (placing old.heap.table (loads_bytes old rc) r) refl refl works
-    works-done MayLeave device asks end (Updates u) is works = subst (λ (e : ResourceEnd). Made e.state.heap) (sym works.2) (updates-done device u)
-    works-done MayLeave device asks end (Opens k) is works = subst (λ (e : ResourceEnd). Made e.state.heap) (sym works.3) (opened-done k works.1)
-    works-done MayLeave device asks end Quiet is works = subst (λ (e : ResourceEnd). Made e.state.heap) (sym works.1) (quiet-done rc)
+        by_row (Some r) stands works = gets-done old.shape old rc p r (gets-wanted rc p is) stands fixed device asks end disks (placing old.heap.table (loads_bytes old rc) r) refl refl works
+    works-done disks device asks end (Updates u) is works = subst (λ (e : ResourceEnd). Made e.state.heap) (sym works.2) (updates-done device u)
+    works-done disks device asks end (Opens k) is works = subst (λ (e : ResourceEnd). Made e.state.heap) (sym works.3) (opened-done k works.1)
+    works-done disks device asks end Quiet is works = subst (λ (e : ResourceEnd). Made e.state.heap) (sym works.1) (quiet-done rc)
 
-    steps-done : (MayLeave : LeaveRelation) (device : Device) (asks : List Ask) (end : ResourceEnd) (o : Option OsErr) → StepsUnless Memory MayLeave o device old rc asks end → Made end.state.heap
-    steps-done MayLeave device asks end (Some code) step = same-done end.state.heap (ap (λ (e : ResourceEnd). e.state.heap) step.1)
-    steps-done MayLeave device asks end None step = works-done MayLeave device asks end (work_of old rc) refl step
+    steps-done : (disks : DiskRelations) (device : Device) (asks : List Ask) (end : ResourceEnd) (o : Option OsErr) → StepsUnless Memory disks o device old rc asks end → Made end.state.heap
+    steps-done disks device asks end (Some code) step = same-done end.state.heap (ap (λ (e : ResourceEnd). e.state.heap) step.1)
+    steps-done disks device asks end None step = works-done disks device asks end (work_of old rc) refl step
 
   -- what a call of the Resource Manager does to the heap is a run of acts
-  pub made-of-acts : (MayLeave : LeaveRelation) (device : Device) (old : ResState) (rc : ResourceCall) (asks : List Ask) (end : ResourceEnd) → LoansAreFixed old.heap → ResourceStepBy Memory MayLeave device old rc asks end → MadeOf old.shape (IsActOf old rc) old.heap end.state.heap
-  made-of-acts MayLeave device old rc asks end fixed step = steps-done old rc fixed MayLeave device asks end (resource_refusal old rc) step
+  pub made-of-acts : (disks : DiskRelations) (device : Device) (old : ResState) (rc : ResourceCall) (asks : List Ask) (end : ResourceEnd) → LoansAreFixed old.heap → ResourceStepBy Memory disks device old rc asks end → MadeOf old.shape (IsActOf old rc) old.heap end.state.heap
+  made-of-acts disks device old rc asks end fixed step = steps-done old rc fixed disks device asks end (resource_refusal old rc) step
 
 -- ---- whatever a device may leave, it may leave anything
 
 module _ (MayLeave : LeaveRelation) (device : Device) (old : ResState) (rc : ResourceCall) (asks : List Ask) (end : ResourceEnd) where
-  any-disk : (device : Device) (u : Update) (disk : List ℕ) → LeavesDisk Memory MayLeave device u disk → LeavesDisk Memory Anything device u disk
+  any-disk : (device : Device) (u : Update) (disk : List ℕ) → LeavesDisk Memory (read_truly MayLeave) device u disk → LeavesDisk Memory (read_truly Anything) device u disk
   any-disk (FailsWriting left) u disk may = tt
   any-disk DeviceWorks u disk may = tt
   any-disk FailsBefore u disk may = tt
 
-  any-row : (p : RowPlace) (r : FileRow) (o : Option MemoryCall) → GetsRow Memory MayLeave device old rc asks end p r o → GetsRow Memory Anything device old rc asks end p r o
+  any-row : (p : RowPlace) (r : FileRow) (o : Option MemoryCall) → GetsRow Memory (read_truly MayLeave) device old rc asks end p r o → GetsRow Memory (read_truly Anything) device old rc asks end p r o
   any-row p r None gets = gets
   any-row p r (Some inner) gets = gets
 
-  any-place : (p : RowPlace) (o : Option FileRow) → GetsPlace Memory MayLeave device old rc asks end p o → GetsPlace Memory Anything device old rc asks end p o
+  any-place : (p : RowPlace) (o : Option FileRow) → GetsPlace Memory (read_truly MayLeave) device old rc asks end p o → GetsPlace Memory (read_truly Anything) device old rc asks end p o
   any-place p None gets = gets
   any-place p (Some r) gets = any-row p r (placing old.heap.table (loads_bytes old rc) r) gets
 
-  any-work : (w : Work) → Works Memory MayLeave device old rc asks end w → Works Memory Anything device old rc asks end w
+  any-work : (w : Work) → Works Memory (read_truly MayLeave) device old rc asks end w → Works Memory (read_truly Anything) device old rc asks end w
   any-work (Gets p) works = any-place p (row_at p old.files) works
   any-work (Updates u) works = (works.0, any-disk device u (disk_of u.file old) works.1, works.2)
   any-work (Opens k) works = works
   any-work Quiet works = works
 
-  any-steps : (o : Option OsErr) → StepsUnless Memory MayLeave o device old rc asks end → StepsUnless Memory Anything o device old rc asks end
+  any-steps : (o : Option OsErr) → StepsUnless Memory (read_truly MayLeave) o device old rc asks end → StepsUnless Memory (read_truly Anything) o device old rc asks end
   any-steps (Some code) step = step
   any-steps None step = any-work (work_of old rc) step
 
-  pub anything-left : ResourceStepBy Memory MayLeave device old rc asks end → ResourceStepBy Memory Anything device old rc asks end
+  pub anything-left : ResourceStepBy Memory (read_truly MayLeave) device old rc asks end → ResourceStepBy Memory (read_truly Anything) device old rc asks end
   anything-left step = any-steps (resource_refusal old rc) step

@@ -32,7 +32,7 @@ use Rattle.res_table.specs.declared.chain.RowPlace.{RowPlace}
 use Rattle.res_table.proofs.Adding.{insert-at-end}
 use Rattle.res_calls.specs.Attributes.{marked, replaced_attributes}
 use Rattle.res_calls.specs.Changes.{FileRow, FileTable, Files, handles_forgotten, row_changed, saved_table}
-use Rattle.res_calls.specs.Device.{Device, Disk, ReadsBy, Works as DeviceWorks, FailsBefore, FailsWriting, empty, fork}
+use Rattle.res_calls.specs.Device.{Device, Disk, ReadsBy, Works as DeviceWorks, FailsBefore, FailsWriting, empty, fork, read_truly}
 use Rattle.res_calls.specs.Files.{ResState, ResourceEnd, disk_of, file_named, refused_with, with_disk, with_files, with_heap}
 use Rattle.res_calls.specs.Loads.{found_end, handle_made, loaded, loaded_results, loads_bytes, placed_end, placing, read_fails, row_wanted, unloaded}
 use Rattle.res_calls.specs.Quiet.{attributes_changed, quiet_end, quiet_state}
@@ -331,7 +331,7 @@ quiet-kept old rc kept = kept
 module _ (device : Device) (old : ResState) (asks : List Ask) (end : ResourceEnd) (kept : Kept old) where
   -- what is left of a call that is not refused, by its work
   abbrev Keeps : ResourceCall → Work → Type 0
-  Keeps rc w = Works Memory Anything device old rc asks end w → OnOk end.outcome (IsSaved (update_in w) end.state) → Kept end.state
+  Keeps rc w = Works Memory (read_truly Anything) device old rc asks end w → OnOk end.outcome (IsSaved (update_in w) end.state) → Kept end.state
 
   -- the call ended so
   ended : (e : ResourceEnd) → end ≡ e → Kept e.state → Kept end.state
@@ -384,14 +384,14 @@ module _ (device : Device) (old : ResState) (asks : List Ask) (end : ResourceEnd
       elim (read_fails device true r) as (λ b. Kept (cond b failed done).state) [ true ↦ kept | false ↦ is ]
 
   row-gets : (rc : ResourceCall) (p : RowPlace) (r : FileRow) (o : Option MemoryCall)
-      → GetsRow Memory Anything device old rc asks end p r o → Kept end.state
+      → GetsRow Memory (read_truly Anything) device old rc asks end p r o → Kept end.state
   row-gets rc p r None gets = ended (found_end rc r old) gets.1 kept
   row-gets rc p r (Some inner) gets =
       let behind = behind_memory asks gets.1 old in
       let placed = placed-kept rc p r (loads_bytes old rc) gets.0 behind (forgotten-kept old (disposed_in asks) old.files kept) in
       ended (placed_end device (loads_bytes old rc) rc p r gets.0 behind) gets.3 placed
 
-  place-gets : (rc : ResourceCall) (p : RowPlace) (o : Option FileRow) → GetsPlace Memory Anything device old rc asks end p o
+  place-gets : (rc : ResourceCall) (p : RowPlace) (o : Option FileRow) → GetsPlace Memory (read_truly Anything) device old rc asks end p o
       → Kept end.state
   place-gets rc p None gets = absurd gets
   place-gets rc p (Some r) gets = row-gets rc p r (placing old.heap.table (loads_bytes old rc) r) gets
@@ -408,7 +408,7 @@ module _ (device : Device) (old : ResState) (asks : List Ask) (end : ResourceEnd
   works-keep rc none = getting-keeps rc (row_wanted old rc)
 
   steps-keep : (rc : ResourceCall) (o : Option OsErr) → resource_refusal old rc ≡ o
-      → StepsUnless Memory Anything o device old rc asks end → ReadsBack old rc end.outcome end.state → Kept end.state
+      → StepsUnless Memory (read_truly Anything) o device old rc asks end → ReadsBack old rc end.outcome end.state → Kept end.state
   steps-keep rc (Some code) is step reads = ended (refused_with code old) step.1 kept
   steps-keep rc None is step reads = works-keep rc is step reads
 

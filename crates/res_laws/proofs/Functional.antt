@@ -18,10 +18,10 @@ use Rattle.fork_bytes.specs.declared.table.Table.{Table}
 use Rattle.res_table.specs.OpenFiles.{is_open, row_at}
 use Rattle.res_table.specs.declared.chain.RowPlace.{RowPlace}
 use Rattle.res_calls.specs.Changes.{FileRow, FileTable, opened_table}
-use Rattle.res_calls.specs.Device.{Device, Disk, Reads, empty, fork, short, damaged, Works as DeviceWorks}
+use Rattle.res_calls.specs.Device.{Device, Disk, LeaveRelation, Reads, empty, fork, short, damaged, read_truly, Works as DeviceWorks}
 use Rattle.res_calls.specs.Files.{ResState, ResourceEnd, disk_of, with_heap}
 use Rattle.res_calls.specs.Loads.{loads_bytes, placed_end, placing}
-use Rattle.res_calls.specs.Steps.{GetsPlace, GetsRow, LeaveRelation, MemoryRelation, ResourceStepBy, StepsUnless, Work, Gets, Updates, Opens, Quiet, Works, behind_memory, opened_end, work_of}
+use Rattle.res_calls.specs.Steps.{GetsPlace, GetsRow, MemoryRelation, ResourceStepBy, StepsUnless, Work, Gets, Updates, Opens, Quiet, Works, behind_memory, opened_end, work_of}
 use Rattle.res_calls.specs.Tests.{resource_refusal}
 use Rattle.res_laws.specs.Tools.{ToolDoes, Tools, with_rows_forgotten}
 
@@ -54,42 +54,42 @@ module _ (answers left left' : List Answer) (MayLeave : LeaveRelation) (old : Re
   abbrev Same : Type 0
   Same = (asks ≡ asks') × (end ≡ end')
 
-  row-agrees : (p : RowPlace) (r : FileRow) (o : Option MemoryCall) → GetsRow (Exactly answers left) MayLeave DeviceWorks old rc asks end p r o
-      → GetsRow (Exactly answers left') MayLeave DeviceWorks old rc asks' end' p r o → Same
+  row-agrees : (p : RowPlace) (r : FileRow) (o : Option MemoryCall) → GetsRow (Exactly answers left) (read_truly MayLeave) DeviceWorks old rc asks end p r o
+      → GetsRow (Exactly answers left') (read_truly MayLeave) DeviceWorks old rc asks' end' p r o → Same
   row-agrees p r None a b = (a.0 ∙ sym b.0, a.1 ∙ sym b.1)
   row-agrees p r (Some inner) a b =
       let same = sym a.2 ∙ b.2 in
       (ap (λ (e : StepEnd). e.asks) same, a.3 ∙ ap (λ (e : StepEnd). placed_end DeviceWorks (loads_bytes old rc) rc p r e.outcome (behind_memory e.asks e.heap old)) same ∙ sym b.3)
 
-  place-agrees : (p : RowPlace) (o : Option FileRow) → GetsPlace (Exactly answers left) MayLeave DeviceWorks old rc asks end p o
-      → GetsPlace (Exactly answers left') MayLeave DeviceWorks old rc asks' end' p o → Same
+  place-agrees : (p : RowPlace) (o : Option FileRow) → GetsPlace (Exactly answers left) (read_truly MayLeave) DeviceWorks old rc asks end p o
+      → GetsPlace (Exactly answers left') (read_truly MayLeave) DeviceWorks old rc asks' end' p o → Same
   place-agrees p None a b = absurd a
   place-agrees p (Some r) a b = row-agrees p r (placing old.heap.table (loads_bytes old rc) r) a b
 
-  work-agrees : (w : Work) → Works (Exactly answers left) MayLeave DeviceWorks old rc asks end w → Works (Exactly answers left') MayLeave DeviceWorks old rc asks' end' w → Same
+  work-agrees : (w : Work) → Works (Exactly answers left) (read_truly MayLeave) DeviceWorks old rc asks end w → Works (Exactly answers left') (read_truly MayLeave) DeviceWorks old rc asks' end' w → Same
   work-agrees (Gets p) a b = place-agrees p (row_at p old.files) a b
   work-agrees (Updates u) a b = (a.0 ∙ sym b.0, a.2 ∙ sym b.2)
   work-agrees (Opens k) a b = (a.0 ∙ sym b.0, a.3 ∙ ap (opened_end k old) (reads-agree (disk_of k old) a.1 b.1 a.2 b.2) ∙ sym b.3)
   work-agrees Quiet a b = (a.0 ∙ sym b.0, a.1 ∙ sym b.1)
 
-  unless-agree : (o : Option OsErr) → StepsUnless (Exactly answers left) MayLeave o DeviceWorks old rc asks end → StepsUnless (Exactly answers left') MayLeave o DeviceWorks old rc asks' end' → Same
+  unless-agree : (o : Option OsErr) → StepsUnless (Exactly answers left) (read_truly MayLeave) o DeviceWorks old rc asks end → StepsUnless (Exactly answers left') (read_truly MayLeave) o DeviceWorks old rc asks' end' → Same
   unless-agree (Some code) a b = (a.0 ∙ sym b.0, a.1 ∙ sym b.1)
   unless-agree None a b = work-agrees (work_of old rc) a b
 
-  steps-agree : ResourceStepBy (Exactly answers left) MayLeave DeviceWorks old rc asks end → ResourceStepBy (Exactly answers left') MayLeave DeviceWorks old rc asks' end' → Same
+  steps-agree : ResourceStepBy (Exactly answers left) (read_truly MayLeave) DeviceWorks old rc asks end → ResourceStepBy (Exactly answers left') (read_truly MayLeave) DeviceWorks old rc asks' end' → Same
   steps-agree a b = unless-agree (resource_refusal old rc) a b
 
 -- an opening makes no call of the Memory Manager, however those step
 module _ (One Other : MemoryRelation) (MayLeave : LeaveRelation) (device : Device) (old : ResState) (k : ℕ) (asks : List Ask) (end : ResourceEnd) where
-  opening-works : (b : Bool) → Works One MayLeave device old (OpenResFile k) asks end (cond b Quiet (Opens k)) → Works Other MayLeave device old (OpenResFile k) asks end (cond b Quiet (Opens k))
+  opening-works : (b : Bool) → Works One (read_truly MayLeave) device old (OpenResFile k) asks end (cond b Quiet (Opens k)) → Works Other (read_truly MayLeave) device old (OpenResFile k) asks end (cond b Quiet (Opens k))
   opening-works true step = step
   opening-works false step = step
 
-  opening-unless : (o : Option OsErr) → StepsUnless One MayLeave o device old (OpenResFile k) asks end → StepsUnless Other MayLeave o device old (OpenResFile k) asks end
+  opening-unless : (o : Option OsErr) → StepsUnless One (read_truly MayLeave) o device old (OpenResFile k) asks end → StepsUnless Other (read_truly MayLeave) o device old (OpenResFile k) asks end
   opening-unless (Some code) step = step
   opening-unless None step = opening-works (is_open k old.files) step
 
-  pub any-memory : ResourceStepBy One MayLeave device old (OpenResFile k) asks end → ResourceStepBy Other MayLeave device old (OpenResFile k) asks end
+  pub any-memory : ResourceStepBy One (read_truly MayLeave) device old (OpenResFile k) asks end → ResourceStepBy Other (read_truly MayLeave) device old (OpenResFile k) asks end
   any-memory step = opening-unless (resource_refusal old (OpenResFile k)) step
 
 -- what a call asked and gave, and what it left of the tools and of the queued answers
@@ -115,7 +115,7 @@ module _ (MayLeave : LeaveRelation) (old : Before) where
   abbrev pub GoesSo : Call → Ended → Type 0
   GoesSo (MemoryCalls call) e = Exactly old.answers e.left old.tools.resources.shape old.tools.resources.heap call e.asks e.outcome e.tools.resources.heap
   GoesSo (Loan call) e = (e.asks ≡ []) × (e.left ≡ old.answers)
-  GoesSo (Resource call) e = ResourceStepBy (Exactly old.answers e.left) MayLeave DeviceWorks old.tools.resources call e.asks (record { outcome = e.outcome; state = e.tools.resources })
+  GoesSo (Resource call) e = ResourceStepBy (Exactly old.answers e.left) (read_truly MayLeave) DeviceWorks old.tools.resources call e.asks (record { outcome = e.outcome; state = e.tools.resources })
       × (old.answers ≡ answers_in e.asks ++ e.left)
   GoesSo MemError e = (e.asks ≡ []) × (e.left ≡ old.answers) × (e.outcome ≡ Ok (Code old.refused))
   GoesSo ResError e = (e.asks ≡ []) × (e.left ≡ old.answers) × (e.outcome ≡ Ok (Code old.resource_refused))

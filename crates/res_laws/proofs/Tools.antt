@@ -17,6 +17,7 @@ use Rattle.heap_laws.specs.Headline.{Promised}
 use Rattle.heap_laws.proofs.Headline.{promised}
 use Rattle.heap_laws.proofs.Loaned.{LoansHeld}
 use Rattle.heap_laws.proofs.Standing.{Standing, run-first, run-later, stand-new, stand-run}
+use Rattle.res_calls.specs.Device.{read_truly}
 use Rattle.res_laws.specs.Acts.{Anything}
 use Rattle.res_laws.specs.Tools.{AreActsOf, AreMadeOf, Called, IsMadeOf, IsToolRun, ToolDoes, Tools, ToolsShow, UpdateReadsBack, all_acts, moment_of, tools_after}
 use Rattle.res_laws.proofs.Acts.{made-of-acts}
@@ -51,7 +52,7 @@ unfolding called moment
 call-acts old (MemoryCalls call) asks outcome new held does = one-act old (MemoryCalls call) asks outcome new (Calls call asks outcome) (does.0, does.1) refl
 call-acts old (Loan call) asks outcome new held does = one-act old (Loan call) asks outcome new (OnLoan call outcome) does.0 refl
 call-acts old (Resource rc) asks outcome new held does =
-    let made = made-of-acts old.loans Anything does.0 old.resources rc asks (record { outcome = outcome; state = new.resources }) held.fixed does.1 in
+    let made = made-of-acts old.loans (read_truly Anything) does.0 old.resources rc asks (record { outcome = outcome; state = new.resources }) held.fixed does.1 in
     (made.run, record { run = made.is; ends = made.ends ∙ ap (moment new.resources.heap) (sym does.2); own = made.acts })
 call-acts old MemError asks outcome new held does = no-act old MemError asks outcome new does.0 does.1 refl
 call-acts old ResError asks outcome new held does = no-act old ResError asks outcome new does.0 does.1 refl

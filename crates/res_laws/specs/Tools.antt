@@ -10,7 +10,7 @@ use Rattle.mac_calls.specs.Loans.{Loans, LoanStep}
 use Rattle.mac_calls.specs.Outcomes.{Outcome}
 use Rattle.mac_calls.specs.Released.{disposed_of}
 use Rattle.res_table.specs.OpenFiles.{no_files}
-use Rattle.res_calls.specs.Device.{Device}
+use Rattle.res_calls.specs.Device.{Device, read_truly}
 use Rattle.res_calls.specs.Changes.{handles_forgotten}
 use Rattle.res_calls.specs.Files.{ResState, with_files, with_heap}
 use Rattle.res_calls.specs.Steps.{Memory, ReadsBack, ResourceStepBy}
@@ -40,7 +40,7 @@ ToolDoes old (MemoryCalls call) asks outcome new = IsExactStep old.resources.sha
     × (new.resources ≡ with_rows_forgotten (disposed_of call asks outcome) new.resources.heap old.resources)
 ToolDoes old (Loan call) asks outcome new = LoanStep old.resources.shape old.loans old.resources.heap call outcome new.loans new.resources.heap
     × (new.resources ≡ with_heap new.resources.heap old.resources)
-ToolDoes old (Resource call) asks outcome new = (device : Device) × ResourceStepBy Memory Anything device old.resources call asks (record { outcome = outcome; state = new.resources })
+ToolDoes old (Resource call) asks outcome new = (device : Device) × ResourceStepBy Memory (read_truly Anything) device old.resources call asks (record { outcome = outcome; state = new.resources })
     × (new.loans ≡ old.loans) × (new.resources.shape ≡ old.resources.shape) × ReadsBack old.resources call outcome new.resources
 ToolDoes old _ asks outcome new = (new.resources ≡ old.resources) × (new.loans ≡ old.loans)
 

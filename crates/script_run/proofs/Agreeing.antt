@@ -1,6 +1,7 @@
 -- Two runs of a script in which no device fails agree.
-use Rattle.std.proofs.Common.{◌≡◌, ℕ, List, [], ◌∷◌, ◌++◌, refl, ap, sym, subst, ◌∙◌}
-use Rattle.std.specs.Prelude.{IsFalse}
+use Rattle.std.proofs.Common.{◌≡◌, ℕ, ◌-◌, List, [], ◌∷◌, ◌++◌, Option, Some, None, refl, ap, sym, subst, ◌∙◌}
+use Rattle.std.specs.Prelude.{MatchBool}
+use Rattle.std.specs.Option.{IsSomeAnd}
 use Rattle.mac_calls.specs.declared.call.Call.{Call}
 use Rattle.mac_calls.specs.declared.call.Call.TheVariants.{Memory as MemoryCalls, Loan, Resource, MemError, ResError}
 use Rattle.mac_calls.specs.declared.resource_call.ResourceCall.{ResourceCall}
@@ -8,12 +9,14 @@ use Rattle.mac_calls.specs.declared.resource_call.ResourceCall.TheVariants.{Open
 use Rattle.mac_calls.specs.GrowZone.{Answer as GivenAnswer, Ask, answered}
 use Rattle.mac_calls.specs.Outcomes.{Outcome}
 use Rattle.fork_disk.specs.declared.store.ForkStore.{Ghosts}
-use Rattle.res_calls.specs.Device.{Device, Disk, Works, FailsBefore, FailsWriting, device_works}
+use Rattle.res_calls.specs.Answered.{file_of_work}
+use Rattle.res_calls.specs.Device.{Device, Disk, Works, FailsBefore, FailsWriting, device_works, read_truly}
+use Rattle.res_calls.proofs.Answering.{honest_step}
 use Rattle.res_calls.specs.Files.{ResourceEnd}
-use Rattle.res_calls.specs.Steps.{MemoryRelation, ResourceStepBy, Memory as MayStep}
-use Rattle.res_files.specs.FilesOn.{SomeFailed}
+use Rattle.res_calls.specs.Steps.{MemoryRelation, ResourceStepBy, work_of, Memory as MayStep}
+use Rattle.res_files.specs.FilesOn.{FailedAt, NoneFailed, SomeFailed}
 use Rattle.toolbox.specs.Headline.{tools_of}
-use Rattle.toolbox.specs.Steps.{Gives, LeavesAnswers, StepsFrom, refused_after, resource_refused_after}
+use Rattle.toolbox.specs.Steps.{Gives, LeavesAnswers, ResourceGives, StepsFrom, refused_after, resource_refused_after}
 use Rattle.toolbox.specs.ToolState.{IsHonest, ToolState, resource_state}
 use Rattle.toolbox.proofs.Headline.{tool-does}
 use Rattle.script_lines.specs.declared.line.CallLine.{CallLine}
@@ -76,15 +79,28 @@ module _ {S : Type 0} (store : Ghosts S) where
   -- a call of the Resource Manager, where the device goes so
   abbrev StepsOn : MemoryRelation → Device → ToolState S → ResourceCall → List Ask → Outcome → ToolState S → Type 0
   StepsOn Inner device old call asks outcome new =
-      ResourceStepBy Inner store.may_leave device (resource_state store old) call asks (record { outcome = outcome; state = resource_state store new })
+      ResourceStepBy Inner (read_truly store.may_leave) device (resource_state store old) call asks (record { outcome = outcome; state = resource_state store new })
+
+  -- no store of a file has failed
+  none-failed : (old new : ToolState S) → Worked old new → (file : Option ℕ) → IsSomeAnd file (λ k. FailedAt store.failures k old.resources.stores new.resources.stores) → ⊥
+  none-failed old new worked None failed = failed
+  none-failed old new worked (Some k) failed = worked (k - 1, failed.0, failed.1)
 
   -- a device that didn't fail works
-  works : (Inner : MemoryRelation) (device : Device) (old : ToolState S) (call : ResourceCall) (asks : List Ask) (outcome : Outcome) (new : ToolState S) → Worked old new
-      → StepsOn Inner device old call asks outcome new → (IsFalse (device_works device) → SomeFailed store.failures old.resources.stores new.resources.stores)
-      → StepsOn Inner Works old call asks outcome new
-  works Inner Works old call asks outcome new worked step failed = step
-  works Inner FailsBefore old call asks outcome new worked step failed = absurd (worked (failed refl))
-  works Inner (FailsWriting left) old call asks outcome new worked step failed = absurd (worked (failed refl))
+  works : (Inner : MemoryRelation) (old : ToolState S) (call : ResourceCall) (asks : List Ask) (outcome : Outcome) (new : ToolState S) → IsHonest store new → Worked old new
+      → ResourceGives store Inner old call asks outcome new → StepsOn Inner Works old call asks outcome new
+  works Inner old call asks outcome new honest worked gives =
+      by_device gives.device gives.cause (honest_step (IsHonest store new) (NoneFailed store.failures old.resources.stores new.resources.stores) Failed Inner store.may_leave
+      (resource_state store old) call asks outcome (resource_state store new) honest gives)
+    where
+      Failed : ℕ → Type 0
+      Failed k = FailedAt store.failures k old.resources.stores new.resources.stores
+
+      by_device : (device : Device) → MatchBool (device_works device) (NoneFailed store.failures old.resources.stores new.resources.stores) (IsSomeAnd (file_of_work (work_of gives.before call)) Failed)
+          → StepsOn Inner device old call asks outcome new → StepsOn Inner Works old call asks outcome new
+      by_device Works cause step = step
+      by_device FailsBefore cause step = absurd (none-failed old new worked (file_of_work (work_of gives.before call)) cause)
+      by_device (FailsWriting left) cause step = absurd (none-failed old new worked (file_of_work (work_of gives.before call)) cause)
 
   -- so a call goes just so
   goes : (old : ToolState S) (answers : List GivenAnswer) (call : Call) (asks : List Ask) (outcome : Outcome) (new : ToolState S) (left : List GivenAnswer)
@@ -93,8 +109,7 @@ module _ {S : Type 0} (store : Ghosts S) where
   goes old answers (MemoryCalls call) asks outcome new left honest worked gives leaves = leaves
   goes old answers (Loan call) asks outcome new left honest worked gives leaves = (gives.0, leaves)
   goes old answers (Resource call) asks outcome new left honest worked gives leaves =
-      let r = leaves.1 honest in
-      (works (StepsFrom answers left) r.0 old call asks outcome new worked r.1 r.2, leaves.0)
+      (works (StepsFrom answers left) old call asks outcome new honest worked leaves.1, leaves.0)
   goes old answers MemError asks outcome new left honest worked gives leaves = (gives.0, leaves, gives.1)
   goes old answers ResError asks outcome new left honest worked gives leaves = (gives.0, leaves, gives.1)
 
@@ -115,16 +130,15 @@ module _ {S : Type 0} (store : Ghosts S) where
   opening-goes : (old : Machine S) (text : List ℕ) (new : Machine S) → IsHonest store new.toolbox → DevicesWorked store old new
       → OpensFirst store old text new → OpeningGoes (seen old) text (seen new)
   opening-goes old text new honest worked does =
-      let r = does.1.0 honest in
       let answers = old.answers.left in
       let Exact : MemoryRelation = StepsFrom answers answers in
       let end : ResourceEnd = record { outcome = does.0; state = resource_state store new.toolbox } in
-      let step = any-memory MayStep Exact store.may_leave r.0 (resource_state store old.toolbox) 1 [] end r.1 in
+      let step = any-memory MayStep Exact store.may_leave Works (resource_state store old.toolbox) 1 [] end (works MayStep old.toolbox (OpenResFile 1) [] does.0 new.toolbox honest worked does.1.0) in
       let refused = does.3 in let resource_refused = does.4 in let variables = does.5 in let left = does.6 in (
         record { asks = []; outcome = does.0; tools = tools_of store new.toolbox; left = answers },
         (
           tool-does store old.toolbox (Resource (OpenResFile 1)) [] does.0 new.toolbox does.1 does.2 honest,
-          (works Exact r.0 old.toolbox (OpenResFile 1) [] does.0 new.toolbox worked step r.2, refl),
+          (step, refl),
         ),
         does.7,
         cc (refused, resource_refused, variables, left),

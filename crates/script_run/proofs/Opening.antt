@@ -11,31 +11,33 @@ use Rattle.fork_disk.specs.declared.store.ForkStore.{Ghosts}
 use Rattle.fork_disk.specs.Crash.{at_first}
 use Rattle.res_table.specs.OpenFiles.{is_open}
 use Rattle.res_calls.specs.Changes.{FileTable}
-use Rattle.res_calls.specs.Device.{Device}
+use Rattle.res_calls.specs.Device.{Device, DiskRelations, read_truly}
+use Rattle.res_calls.proofs.Answering.{honest_step}
+use Rattle.res_files.specs.FilesOn.{FailedAt, NoneFailed}
 use Rattle.res_calls.specs.Files.{ResState, ResourceEnd}
-use Rattle.res_calls.specs.Steps.{LeaveRelation, MemoryRelation, Opens, Quiet, ResourceStepBy, StepsUnless, Works, opened_end, work_of, Memory as MayStep, update_in}
+use Rattle.res_calls.specs.Steps.{MemoryRelation, Opens, Quiet, ResourceStepBy, StepsUnless, Works, opened_end, work_of, Memory as MayStep, update_in}
 use Rattle.res_calls.specs.Tests.{resource_refusal}
 use Rattle.res_calls.specs.Updates.{Update}
 use Rattle.res_manager.specs.Crash.{CrashLeaves}
 use Rattle.toolbox.specs.Steps.{Gives, Unchanged}
-use Rattle.toolbox.specs.ToolState.{ToolState, resource_state}
+use Rattle.toolbox.specs.ToolState.{IsHonest, ToolState, resource_state}
 use Rattle.script_run.specs.declared.machine.Machine.{Machine}
 use Rattle.script_run.specs.Line.{OpensFirst, SameForks, opening_text}
 
-module _ (One : MemoryRelation) (MayLeave : LeaveRelation) (device : Device) (old : ResState) (k : ℕ) (asks : List Ask) (end : ResourceEnd) where
+module _ (One : MemoryRelation) (disks : DiskRelations) (device : Device) (old : ResState) (k : ℕ) (asks : List Ask) (end : ResourceEnd) where
   by_read : (read : Result FileTable OsErr) → end ≡ opened_end k old read → end.state.disks ≡ old.disks
   by_read (Ok table) is = ap (λ (e : ResourceEnd). e.state.disks) is
   by_read (Err code) is = ap (λ (e : ResourceEnd). e.state.disks) is
 
-  by_refusal : (refusal : Option OsErr) → StepsUnless One MayLeave refusal device old (call.OpenResFile k) asks end → end.state.disks ≡ old.disks
+  by_refusal : (refusal : Option OsErr) → StepsUnless One disks refusal device old (call.OpenResFile k) asks end → end.state.disks ≡ old.disks
   by_refusal (Some code) step = ap (λ (e : ResourceEnd). e.state.disks) step.1
-  by_refusal None step = elim (is_open k old.files) as (λ (b : Bool). Works One MayLeave device old (call.OpenResFile k) asks end (if b then Quiet else Opens k) → end.state.disks ≡ old.disks) [
+  by_refusal None step = elim (is_open k old.files) as (λ (b : Bool). Works One disks device old (call.OpenResFile k) asks end (if b then Quiet else Opens k) → end.state.disks ≡ old.disks) [
     | true ↦ λ works. ap (λ (e : ResourceEnd). e.state.disks) works.1
     | false ↦ λ works. by_read works.1 works.3
   ] step
 
   -- the opening of a file changes no disk
-  opening_keeps_disks : ResourceStepBy One MayLeave device old (call.OpenResFile k) asks end → end.state.disks ≡ old.disks
+  opening_keeps_disks : ResourceStepBy One disks device old (call.OpenResFile k) asks end → end.state.disks ≡ old.disks
   opening_keeps_disks step = by_refusal (resource_refusal old (call.OpenResFile k)) step
 
 -- nor does it update a file
@@ -46,7 +48,9 @@ opening_updates_none old k = elim (is_open k old.files) as (λ (b : Bool). updat
 pub opening_keeps_forks : {S : Type 0} (store : Ghosts S) (old new : ToolState S) (k : ℕ) (asks : List Ask) (outcome : Outcome) → Gives store old (Resource (call.OpenResFile k)) asks outcome new → SameForks store old.resources.stores new.resources.stores
 opening_keeps_forks store old new k asks outcome gives = λ honest. (
   gives.2 honest,
-  (let given = gives.0 honest in opening_keeps_disks MayStep store.may_leave given.0 (resource_state store old) k asks (record { outcome = outcome; state = resource_state store new }) given.1),
+  opening_keeps_disks MayStep (read_truly store.may_leave) (gives.0).device (resource_state store old) k asks (record { outcome = outcome; state = resource_state store new })
+      (honest_step (IsHonest store new) (NoneFailed store.failures old.resources.stores new.resources.stores) (λ k. FailedAt store.failures k old.resources.stores new.resources.stores) MayStep store.may_leave
+      (resource_state store old) (call.OpenResFile k) asks outcome (resource_state store new) honest gives.0),
   subst (λ (update : Option Update). CrashLeaves store update old.resources.stores new.resources.stores) (opening_updates_none (resource_state store old) k) (gives.5 honest),
 )
 
@@ -59,7 +63,7 @@ untouched {S = S} store old new same = same_forks store old.resources.stores new
 
 -- a call that has no host memory
 pub unchanged_keeps_forks : {S : Type 0} (store : Ghosts S) (old new : ToolState S) (one : Call) → Unchanged store old one new → SameForks store old.resources.stores new.resources.stores
-unchanged_keeps_forks store old new (Resource made) same = λ honest. (same.2 honest, ap (λ (s : ResState). s.disks) (same.1 honest), same.4 honest)
+unchanged_keeps_forks store old new (Resource made) same = λ honest. (same.2 honest, ap (λ (s : ResState). s.disks) (sym (same.1.1 honest)), same.4 honest)
 unchanged_keeps_forks store old new (Memory made) same = untouched store old new same
 unchanged_keeps_forks store old new (Loan made) same = untouched store old new same
 unchanged_keeps_forks store old new MemError same = untouched store old new same

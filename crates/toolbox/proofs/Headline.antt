@@ -12,7 +12,9 @@ use Rattle.mac_calls.specs.Released.{disposed_of}
 use Rattle.fork_disk.specs.declared.store.ForkStore.{Ghosts}
 use Rattle.heap_laws.specs.Act.{Moment}
 use Rattle.res_calls.specs.Files.{ResState}
-use Rattle.res_files.specs.FilesOn.{FilesOn}
+use Rattle.res_calls.specs.Steps.{Memory as MayStep}
+use Rattle.res_calls.proofs.Answering.{honest_step}
+use Rattle.res_files.specs.FilesOn.{FailedAt, FilesOn, NoneFailed}
 use Rattle.res_laws.specs.Tools.{IsToolRun, ToolDoes}
 use Rattle.res_laws.proofs.Acts.{anything-left}
 use Rattle.res_laws.proofs.Tools.{tools-show}
@@ -34,8 +36,10 @@ module _ {S : Type 0} (store : Ghosts S) where
   tool-does old (MemoryCalls call) asks outcome new g shape honest = (g.1, g.2, states old new (without_handles (disposed_of call asks outcome) old.resources) shape g.3)
   tool-does old (Loan call) asks outcome new g shape honest = (g.1, states old new old.resources shape g.2)
   tool-does old (Resource call) asks outcome new g shape honest =
-      let r = g.0 honest in
-      (r.0, anything-left store.may_leave r.0 (resource_state store old) call asks (record { outcome = outcome; state = resource_state store new }) r.1, g.1, shape, g.4 honest)
+      let r = g.0 in
+      let step = honest_step (IsHonest store new) (NoneFailed store.failures old.resources.stores new.resources.stores) (λ k. FailedAt store.failures k old.resources.stores new.resources.stores) MayStep store.may_leave
+      (resource_state store old) call asks outcome (resource_state store new) honest r in
+      (r.device, anything-left store.may_leave r.device (resource_state store old) call asks (record { outcome = outcome; state = resource_state store new }) step, g.1, shape, g.4 honest)
   tool-does old MemError asks outcome new g shape honest = (states old new old.resources shape g.4 ∙ ap (λ h. state old.shape h old.resources) g.2, g.3)
   tool-does old ResError asks outcome new g shape honest = (states old new old.resources shape g.4 ∙ ap (λ h. state old.shape h old.resources) g.2, g.3)
 

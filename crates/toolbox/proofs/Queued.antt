@@ -27,7 +27,8 @@ use Rattle.toolbox.specs.Queue.{HasItsCalls, IsInOrder, Queue, TookAnswers, kept
 use Rattle.fork_disk.specs.declared.store.ForkStore.{Ghosts}
 use Rattle.res_calls.specs.Steps.{Memory as MayStep}
 use Rattle.toolbox.specs.Steps.{LeavesAnswers, ResourceGives, Steps, StepsFrom}
-use Rattle.toolbox.specs.ToolState.{ToolState, resource_state}
+use Rattle.res_calls.specs.Answered.{answered_disks}
+use Rattle.toolbox.specs.ToolState.{IsHonest, ToolState}
 use Rattle.toolbox.proofs.Resources.{step_by}
 use Rattle.call_laws.proofs.RunAnswers.{all_answered}
 use Rattle.call_laws.proofs.StepAnswers.{exact-framed_all, step_left}
@@ -277,17 +278,21 @@ nothing_taken q none took = sym (took.taken ∙ ap (λ (asks : List Ask). answer
 -- a call of the Resource Manager does from a queue what it may do, where its call of the Memory Manager does just what it does with
 -- the answers that it took
 gives_from_queue : {S : Type 0} (store : Ghosts S) (old new : ToolState S) (call : ResourceCall) (outcome : Outcome) (q : Queue) → TookAnswers q → ResourceGives store MayStep old call q.asks outcome new → ResourceGives store (StepsFrom q.source q.left) old call q.asks outcome new
-gives_from_queue store old new call outcome q took gives = (
-  gives.0,
-  step_by MayStep (StepsFrom q.source q.left) store.may_leave gives.0 (resource_state store old) call q.asks (record { outcome = outcome; state = resource_state store new })
-      (λ s heap inner given after may. exact_from_queue s heap inner given after q may.1 took) gives.1,
-  gives.2,
-)
+gives_from_queue store old new call outcome q took gives = record {
+  device = gives.device;
+  before = gives.before;
+  after = gives.after;
+  was = gives.was;
+  becomes = gives.becomes;
+  step = step_by MayStep (StepsFrom q.source q.left) (answered_disks (IsHonest store new) store.may_leave) gives.device gives.before call q.asks (record { outcome = outcome; state = gives.after })
+      (λ s heap inner given after may. exact_from_queue s heap inner given after q may.1 took) gives.step;
+  cause = gives.cause;
+}
 
 left_by_call : {S : Type 0} (store : Ghosts S) (old new : ToolState S) (call : Call) (q : Queue) (reply : Reply) → Steps store old call q.asks reply.outcome new → TookAnswers q → LeavesAnswers store old q.source call q.asks reply.outcome new q.left
 left_by_call store old new (Memory call) q reply step took = exact_from_queue old.shape old.heap call reply.outcome new.heap q step.0.1 took
 left_by_call store old new (Loan call) q reply step took = nothing_taken q step.0.0 took
-left_by_call store old new (Resource call) q reply step took = (took.taken, λ honest. gives_from_queue store old new call reply.outcome q took (step.0.0 honest))
+left_by_call store old new (Resource call) q reply step took = (took.taken, gives_from_queue store old new call reply.outcome q took step.0.0)
 left_by_call store old new MemError q reply step took = nothing_taken q step.0.0 took
 left_by_call store old new ResError q reply step took = nothing_taken q step.0.0 took
 

@@ -1,5 +1,5 @@
 -- What a call of the toolbox does.
-use Rattle.std.specs.Prelude.{◌≡◌, Bool, true, false, not, IsFalse, List, [], ◌++◌, length, Option, None, Ok, OnOk}
+use Rattle.std.specs.Prelude.{◌≡◌, Bool, true, false, not, List, [], ◌++◌, length, Option, None, Ok, OnOk}
 use Rattle.std.specs.Result.{result_err}
 use Rattle.mac_base.specs.declared.error.OsErr.{OsErr}
 use Rattle.mac_base.specs.ZoneState.{ZoneState}
@@ -19,10 +19,10 @@ use Rattle.mac_calls.specs.Outcomes.{Outcome}
 use Rattle.mac_calls.specs.Released.{disposed_of}
 use Rattle.mac_calls.specs.Tests.{refusal}
 use Rattle.fork_disk.specs.declared.store.ForkStore.{Ghosts}
-use Rattle.res_calls.specs.Device.{Device, device_works}
-use Rattle.res_calls.specs.Steps.{MemoryRelation, ResourceStepBy, work_of, Memory as MayStep, ReadsBack, update_in}
+use Rattle.res_calls.specs.Answered.{AnswersStep, IsAnswered}
+use Rattle.res_calls.specs.Steps.{MemoryRelation, work_of, Memory as MayStep, ReadsBack, update_in}
 use Rattle.res_calls.specs.Tests.{resource_refusal}
-use Rattle.res_files.specs.FilesOn.{SomeFailed}
+use Rattle.res_files.specs.FilesOn.{FailedAt, NoneFailed}
 use Rattle.res_manager.specs.Crash.{CrashLeaves, IsSettled, file_settled}
 use Rattle.res_manager.specs.Steps.{takes_memory as resource_takes_memory}
 use Rattle.toolbox.specs.ToolState.{ToolState, IsHonest, resource_state, without_handles}
@@ -32,23 +32,21 @@ use Rattle.toolbox.specs.ToolState.{ToolState, IsHonest, resource_state, without
 abbrev pub MemorySteps : ZoneState → MemoryCall → List Ask → Outcome → ZoneState → Type 0
 MemorySteps old call asks outcome new = MemoryStep old.shape old.heap call asks outcome new.heap × IsExactStep old.shape old.heap call asks outcome new.heap × (new.shape ≡ old.shape)
 
--- What a call of the Resource Manager gives and does, where those of the Memory Manager step so. A device failed in it only where a
--- count of failures rose.
+-- What a call of the Resource Manager gives and does, by what the devices answered, where those of the Memory Manager step so.
 abbrev pub ResourceGives : {S : Type 0} → Ghosts S → MemoryRelation → ToolState S → ResourceCall → List Ask → Outcome → ToolState S → Type 0
-ResourceGives store Inner old call asks outcome new = (device : Device)
-    × ResourceStepBy Inner store.may_leave device (resource_state store old) call asks (record { outcome = outcome; state = resource_state store new })
-    × (IsFalse (device_works device) → SomeFailed store.failures old.resources.stores new.resources.stores)
+ResourceGives store Inner old call asks outcome new = AnswersStep (IsHonest store new)
+    (NoneFailed store.failures old.resources.stores new.resources.stores) (λ k. FailedAt store.failures k old.resources.stores new.resources.stores)
+    Inner store.may_leave (resource_state store old) call asks outcome (resource_state store new)
 
--- What a call gives and does to the heap, the loans and the resource files. What is said of files rests on devices that are honest behind
--- the call: then they were so before it. MemError gives the code of the last call of the Memory
--- Manager, ResError that of the last one of the Resource Manager, and both do nothing. A file that was updated with success reads back
--- as the table that was saved. Whenever a crash comes, each file is found as before the call, or as the call saves it; once an update or
--- an opening succeeded, as it is read.
+-- What a call gives and does to the heap, the loans and the resource files. MemError gives the code of the last call of the Memory
+-- Manager, ResError that of the last one of the Resource Manager, and both do nothing. What is said of the bytes on disks rests on devices
+-- that are honest after the call: then they were so before it. A file that was updated with success reads back as the table that was saved.
+-- Whenever a crash comes, each file is found as before the call, or as the call saves it; once an update or an opening succeeded, as it is read.
 abbrev pub Gives : {S : Type 0} → Ghosts S → ToolState S → Call → List Ask → Outcome → ToolState S → Type 0
 Gives store old (Memory call) asks outcome new = MemoryStep old.shape old.heap call asks outcome new.heap × IsExactStep old.shape old.heap call asks outcome new.heap × (new.loans ≡ old.loans)
     × (new.resources ≡ without_handles (disposed_of call asks outcome) old.resources)
 Gives store old (Loan call) asks outcome new = (asks ≡ []) × LoanStep old.shape old.loans old.heap call outcome new.loans new.heap × (new.resources ≡ old.resources)
-Gives store old (Resource call) asks outcome new = (IsHonest store new → ResourceGives store MayStep old call asks outcome new) × (new.loans ≡ old.loans)
+Gives store old (Resource call) asks outcome new = ResourceGives store MayStep old call asks outcome new × (new.loans ≡ old.loans)
     × (IsHonest store new → IsHonest store old) × (length new.resources.stores ≡ length old.resources.stores)
     × (IsHonest store new → ReadsBack (resource_state store old) call outcome (resource_state store new))
     × (IsHonest store new → CrashLeaves store (update_in (work_of (resource_state store old) call)) old.resources.stores new.resources.stores)
@@ -87,21 +85,16 @@ StepsFrom answers left shape old call asks outcome new = exact_step shape answer
 -- the Resource Manager by the call of the Memory Manager that it makes, if it makes one.
 abbrev pub LeavesAnswers : {S : Type 0} → Ghosts S → ToolState S → List Answer → Call → List Ask → Outcome → ToolState S → List Answer → Type 0
 LeavesAnswers store old answers (Memory call) asks outcome new left = StepsFrom answers left old.shape old.heap call asks outcome new.heap
-LeavesAnswers store old answers (Resource call) asks outcome new left = (answers ≡ answers_in asks ++ left) × (IsHonest store new → ResourceGives store (StepsFrom answers left) old call asks outcome new)
+LeavesAnswers store old answers (Resource call) asks outcome new left = (answers ≡ answers_in asks ++ left) × ResourceGives store (StepsFrom answers left) old call asks outcome new
 LeavesAnswers store old answers call asks outcome new left = left ≡ answers
 
--- A call that has no host memory has changed nothing. For a call of the Resource Manager, that is said of the forks, as they are read
--- and as they are found behind a crash, and not of the stores, and rests on devices that are honest behind the call.
+-- A call that has no host memory has changed nothing. For a call of the Resource Manager, the stores may have been read, so that is said of
+-- the files, and where the devices are honest after the call, of the forks, as they are read and as they are found after a crash.
 abbrev pub Unchanged : {S : Type 0} → Ghosts S → ToolState S → Call → ToolState S → Type 0
-Unchanged store old (Resource call) new = (new ≡ record old { resources = new.resources }) × (IsHonest store new → resource_state store new ≡ resource_state store old)
+Unchanged store old (Resource call) new = (new ≡ record old { resources = new.resources }) × IsAnswered (IsHonest store new) (resource_state store new) (resource_state store old)
     × (IsHonest store new → IsHonest store old) × (length new.resources.stores ≡ length old.resources.stores)
     × (IsHonest store new → CrashLeaves store None old.resources.stores new.resources.stores)
 Unchanged store old call new = new ≡ old
-
--- what is said of a call that left this state, where it rests on honest devices for a call of the Resource Manager
-abbrev pub WhereHonest : {S : Type 0} → Ghosts S → ToolState S → Call → Type 0 → Type 0
-WhereHonest store new (Resource call) Said = IsHonest store new → Said
-WhereHonest store new call Said = Said
 
 -- whether a call gives a copy of what the zone has
 abbrev pub copies : MemoryCall → Bool

@@ -49,7 +49,7 @@ impl<S: ForkStore> Toolbox<S> {
     ghost use Rattle.mac_calls.specs.declared.resource_call.ResourceCall.TheVariants.{OpenResFile};
     ghost use Rattle.mac_calls.specs.Loans.{all_returned};
     ghost use Rattle.toolbox.specs.Headline.{ToolboxShows};
-    ghost use Rattle.toolbox.specs.Steps.{Gives, LeavesAnswers, Steps, Unchanged, WhereHonest, refusal_of, takes_memory};
+    ghost use Rattle.toolbox.specs.Steps.{Gives, LeavesAnswers, Steps, Unchanged, refusal_of, takes_memory};
 
     /// The toolbox over this memory, of which nothing is lent, and these resource files. What takes host memory takes it of `alloc`.
     pub fn open(alloc: Global, memory: MemoryManager, files: ResourceFiles<S>) -> Toolbox<S>
@@ -95,8 +95,8 @@ impl<S: ForkStore> Toolbox<S> {
         ensures source { G.source procedure.new ≡ G.source procedure.old }
         ensures unchanged { OnErr result (Unchanged S.ForkStore self.old call.now self.new) }
         ensures unasked { OnErr result (G.asks procedure.new ≡ []) }
-        ensures full { OnErr result (WhereHonest S.ForkStore self.new call.now (IsTrue (takes_memory S.ForkStore self.old call.now))) }
-        ensures late { OnErr result (WhereHonest S.ForkStore self.new call.now (refusal_of S.ForkStore self.old call.now ≡ None)) }
+        ensures full { OnErr result (IsTrue (takes_memory S.ForkStore self.old call.now)) }
+        ensures late { OnErr result (refusal_of S.ForkStore self.old call.now ≡ None) }
     {
         let reply = Reply {
             outcome: self.outcome(call, procedure)?,
@@ -120,8 +120,8 @@ impl<S: ForkStore> Toolbox<S> {
         ensures source { G.source procedure.new ≡ G.source procedure.old }
         ensures unchanged { OnErr result (Unchanged S.ForkStore self.old call.now self.new) }
         ensures unasked { OnErr result (G.asks procedure.new ≡ []) }
-        ensures full { OnErr result (WhereHonest S.ForkStore self.new call.now (IsTrue (takes_memory S.ForkStore self.old call.now))) }
-        ensures late { OnErr result (WhereHonest S.ForkStore self.new call.now (refusal_of S.ForkStore self.old call.now ≡ None)) }
+        ensures full { OnErr result (IsTrue (takes_memory S.ForkStore self.old call.now)) }
+        ensures late { OnErr result (refusal_of S.ForkStore self.old call.now ≡ None) }
     {
         match call {
             Call::Memory(call) => self.call_memory(call, procedure),
@@ -172,8 +172,8 @@ impl<S: ForkStore> Toolbox<S> {
         ensures source { G.source procedure.new ≡ G.source procedure.old }
         ensures unchanged { OnErr result (Unchanged S.ForkStore self.old (Resource call.now) self.new) }
         ensures unasked { OnErr result (G.asks procedure.new ≡ []) }
-        ensures full { OnErr result (WhereHonest S.ForkStore self.new (Resource call.now) (IsTrue (takes_memory S.ForkStore self.old (Resource call.now)))) }
-        ensures late { OnErr result (WhereHonest S.ForkStore self.new (Resource call.now) (refusal_of S.ForkStore self.old (Resource call.now) ≡ None)) }
+        ensures full { OnErr result (IsTrue (takes_memory S.ForkStore self.old (Resource call.now))) }
+        ensures late { OnErr result (refusal_of S.ForkStore self.old (Resource call.now) ≡ None) }
     {
         let lent = self.loans.blocks();
         res_manager::make(
@@ -197,8 +197,8 @@ impl<S: ForkStore> Toolbox<S> {
         ensures answers { IfOk result (λ reply. LeavesAnswers S.ForkStore self.old queue.old.left call.now queue.new.asks reply.outcome self.new queue.new.left) }
         ensures unchanged { OnErr result (Unchanged S.ForkStore self.old call.now self.new) }
         ensures kept { OnErr result (queue.new.left ≡ queue.old.left) }
-        ensures full { OnErr result (WhereHonest S.ForkStore self.new call.now (IsTrue (takes_memory S.ForkStore self.old call.now))) }
-        ensures late { OnErr result (WhereHonest S.ForkStore self.new call.now (refusal_of S.ForkStore self.old call.now ≡ None)) }
+        ensures full { OnErr result (IsTrue (takes_memory S.ForkStore self.old call.now)) }
+        ensures late { OnErr result (refusal_of S.ForkStore self.old call.now ≡ None) }
     {
         queue.begin();
         let reply = self.step(call, queue);

@@ -1,6 +1,6 @@
 use Rattle.held_loans.specs.Holding.{loans_of}
 use Rattle.held_loans.proofs.Holding.{Holds-kept}
-use Rattle.toolbox.proofs.Resources.{given_first, resource_gives, resource_unchanged}
+use Rattle.toolbox.proofs.Resources.{resource_gives, resource_unchanged}
 use Rattle.toolbox.proofs.toolbox.Toolbox.call_resource.Goals as goal
 
 pub invariant_of-self : goal.invariant_of-self
@@ -13,7 +13,7 @@ pub returns-clause-unchanged : goal.returns-clause-unchanged
 returns-clause-unchanged g c = rw (← c.self.view_is) (resource_unchanged g.S.ForkStore c.self.inside.memory c.make.new.memory (loans_of c.self.inside.loans) c.self.inside.refused c.self.inside.files c.make.new.files c.self.inside.resource_refused c.args.call.now c.make.result c.make.ensures.unchanged c.make.ensures.same c.make.ensures.crash_full c.make.ensures.honest c.make.ensures.count)
 
 pub returns-clause-full : goal.returns-clause-full
-returns-clause-full g c = rw (← c.self.view_is) (given_first _ _ c.make.result c.make.ensures.full)
+returns-clause-full g c = rw (← c.self.view_is) c.make.ensures.full
 
 pub returns-clause-late : goal.returns-clause-late
-returns-clause-late g c = rw (← c.self.view_is) (given_first _ _ c.make.result c.make.ensures.late)
+returns-clause-late g c = rw (← c.self.view_is) c.make.ensures.late
