@@ -1,19 +1,21 @@
 -- Rows that keep where their bytes stand in the fork, and the same rows with these bytes.
-use Rattle.std.specs.Prelude.{ℕ, ◌+◌, ◌≤◌, List, length, map, All}
+use Rattle.std.specs.Prelude.{ℕ, ◌+◌, ◌≤◌, ◌++◌, List, length, take, drop, replicate, map, All}
 use Rattle.fork_reader.specs.declared.place.Place.{Place}
-use Rattle.fork_reader.specs.Reading.{row_at}
-use Rattle.fork_bytes.specs.Fork.{max_fork, bytes_at}
+use Rattle.fork_bytes.specs.Fork.{max_fork}
 use Rattle.res_table.specs.declared.row.Row.{Row}
 use Rattle.res_table.specs.declared.chain.ResourceTable.{ResourceTable}
 use Rattle.res_calls.specs.Changes.{FileRow, FileTable}
 
--- the bytes at a place of a fork
+-- the bytes at a place of a fork; where the fork ends before the place does, zeros follow
 abbrev pub bytes_on : List ℕ → Place → List ℕ
-bytes_on fork place = bytes_at place.length place.offset fork
+bytes_on fork place = take place.length (drop place.offset fork ++ replicate place.length 0)
 
 -- a row with the bytes at its place
 abbrev pub row_on : List ℕ → Row Place → FileRow
-row_on fork r = record { resource = row_at fork r.resource; handle = r.handle }
+row_on fork r = record {
+  resource = record { kind = r.resource.kind; id = r.resource.id; name = r.resource.name; attributes = r.resource.attributes; datum = bytes_on fork r.resource.datum };
+  handle = r.handle;
+}
 
 -- rows with the bytes at their places
 abbrev pub rows_on : List ℕ → List (Row Place) → List FileRow
