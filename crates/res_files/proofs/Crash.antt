@@ -13,7 +13,7 @@ use Rattle.res_table.specs.OpenFiles.{OpenFiles, is_numbered, table_in}
 use Rattle.res_files.specs.Crash.{history_of, OthersAreCalm}
 use Rattle.res_files.specs.FilesOn.{FilesOn, fork_of}
 use Rattle.res_files.proofs.On.{seen}
-use Rattle.res_files.proofs.Rewritten.{get_set}
+use Rattle.res_files.proofs.Stores.{get_set}
 use Rattle.res_files.proofs.Using.{mine}
 
 -- where nothing happened since, a start finds what it did

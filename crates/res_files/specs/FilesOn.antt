@@ -32,11 +32,15 @@ failures_at failures at stores = option_map_or failures (slice_get stores at) 0
 abbrev pub SomeFailed : {S : Type 0} → (S → ℕ) → List S → List S → Type 0
 SomeFailed failures before now = (at : ℕ) × (at < length before) × Rose (failures_at failures at before) (failures_at failures at now)
 
--- The row of an open file is this, but for its bytes. Where the disks are honest, its place has as many as these.
-pub record Shows (honest : Type 0) (row : Row Place) (shown : FileRow) : Type 0 where
+-- the store of the file of a number has failed: its count of failures rose
+abbrev pub FailedAt : {S : Type 0} → (S → ℕ) → ℕ → List S → List S → Type 0
+FailedAt failures number before now = (number - 1 < length before) × Rose (failures_at failures (number - 1) before) (failures_at failures (number - 1) now)
+
+-- The row of an open file is this, but for its bytes, and its place has as many as these.
+pub record Shows (row : Row Place) (shown : FileRow) : Type 0 where
   pub kind : row.resource.kind ≡ shown.resource.kind
   pub id : row.resource.id ≡ shown.resource.id
   pub name : row.resource.name ≡ shown.resource.name
   pub attributes : row.resource.attributes ≡ shown.resource.attributes
   pub handle : row.handle ≡ shown.handle
-  pub size : honest → row.resource.datum.length ≡ length shown.resource.datum
+  pub size : row.resource.datum.length ≡ length shown.resource.datum

@@ -83,7 +83,7 @@ impl<S: ForkStore> ResourceFiles<S> {
 
     /// The row at a place, with the place of its bytes.
     pub fn row(&self, place: RowPlace) -> Option<&Row<Place>>
-        ensures some { IfSome result (λ row. (shown : FileRow) × (row_at place self.now.files ≡ Some shown) × Shows (All S.is_honest self.now.stores) row.now shown) }
+        ensures some { IfSome result (λ row. (shown : FileRow) × (row_at place self.now.files ≡ Some shown) × Shows row.now shown) }
         ensures none { IfNone result (row_at place self.now.files ≡ None) }
     {
         self.chain.row(place)

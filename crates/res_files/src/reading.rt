@@ -2,7 +2,8 @@
 
 ghost use Rattle.std.specs.Prelude.{◌≡◌, length, map, All, IfSome, OnOk, MatchResult};
 ghost use Rattle.res_table.specs.OpenFiles.{row_at};
-ghost use Rattle.res_files.specs.FilesOn.{NoneFailed, SomeFailed};
+ghost use Rattle.res_calls.specs.Answered.{AnswersFor};
+ghost use Rattle.res_files.specs.FilesOn.{FailedAt, NoneFailed};
 
 use crate::files::ResourceFiles;
 use fork_disk::disk::DiskFault;
@@ -13,22 +14,22 @@ impl<S: ForkStore> ResourceFiles<S> {
     /// Reads the bytes that the row at a place has on the disk: none are read where it has none. After a fault the buffer holds any
     /// bytes.
     pub fn read(&mut self, place: RowPlace, buffer: &mut [u8]) -> Result<(), DiskFault>
-        requires long { All S.is_honest self.old.stores → IfSome (row_at place self.old.files) (λ r. length buffer.old ≡ length r.resource.datum) }
+        requires long { IfSome (row_at place self.old.files) (λ r. length buffer.old ≡ length r.resource.datum) }
         ensures read { All S.is_honest self.new.stores → OnOk result (IfSome (row_at place self.old.files) (λ r. buffer.new ≡ r.resource.datum)) }
         ensures length { length buffer.new ≡ length buffer.old }
-        ensures files { All S.is_honest self.new.stores → self.new.files ≡ self.old.files }
+        ensures files { AnswersFor (All S.is_honest self.new.stores) self.old.files self.new.files }
         ensures forks { All S.is_honest self.new.stores → map S.fork self.new.stores ≡ map S.fork self.old.stores }
         ensures loads { self.new.loads ≡ self.old.loads }
         ensures honest { All S.is_honest self.new.stores → All S.is_honest self.old.stores }
         ensures count { length self.new.stores ≡ length self.old.stores }
         ensures calm { All S.is_honest self.new.stores → map S.history self.new.stores ≡ map S.history self.old.stores }
-        ensures cause { MatchResult result (λ _. NoneFailed S.failures self.old.stores self.new.stores) (λ _. SomeFailed S.failures self.old.stores self.new.stores) }
+        ensures cause { MatchResult result (λ _. NoneFailed S.failures self.old.stores self.new.stores) (λ _. FailedAt S.failures place.file self.old.stores self.new.stores) }
     {
         let Some(row) = self.chain.row(place) else {
             return Ok(());
         };
         let bytes = row.resource.datum;
-        if bytes.length == 0 || buffer.len() != bytes.length as usize {
+        if bytes.length == 0 {
             return Ok(());
         }
         let store = &mut self.stores[place.file as usize - 1];

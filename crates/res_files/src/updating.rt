@@ -4,15 +4,15 @@ ghost use Rattle.std.specs.Prelude.{◌≡◌, ◌↔◌, List, ℕ, length, map
 ghost use Rattle.fork_bytes.specs.Fork.{StandsFor};
 ghost use Rattle.fork_bytes.specs.Written.{written};
 ghost use Rattle.res_table.specs.OpenFiles.{is_open, rows_changed, file_closed, table_of};
+ghost use Rattle.res_calls.specs.Answered.{AnswersFor};
 ghost use Rattle.res_calls.specs.Changes.{rows_of, saved_table};
 ghost use Rattle.res_calls.specs.Updates.{fits_fork};
 ghost use Rattle.res_update.specs.Selected.{updated, reads_lent};
 ghost use Rattle.fork_disk.specs.Crash.{AlwaysFinds, Finds, FoundBeforeOr};
 ghost use Rattle.res_files.specs.Crash.{history_of, OthersAreCalm};
-ghost use Rattle.res_files.specs.FilesOn.{fork_of, forks_with, NoneFailed, SomeFailed};
+ghost use Rattle.res_files.specs.FilesOn.{fork_of, forks_with, FailedAt, NoneFailed};
 
 use crate::files::ResourceFiles;
-use crate::known::{Known, learn};
 use crate::placing::place_rows;
 use fork_disk::store::{ForkStore, ReplaceFault};
 use fork_reader::place::Place;
@@ -49,27 +49,29 @@ impl<S: ForkStore> ResourceFiles<S> {
     ) -> Result<(), UpdateFault>
         requires open { IsTrue (is_open number self.old.files) }
         requires unlent { IsFalse (reads_lent (C.table contents.now) selection (rows_of number self.old.files)) }
-        ensures rows { All S.is_honest self.new.stores → OnOk result (IfSome (table_of number self.old.files) (λ table.
-            self.new.files ≡ rows_changed number (λ _. (updated (C.table contents.now) selection table).rows) self.old.files)) }
+        ensures rows { OnOk result (IfSome (table_of number self.old.files) (λ table.
+            AnswersFor (All S.is_honest self.new.stores) (rows_changed number (λ _. (updated (C.table contents.now) selection table).rows) self.old.files) self.new.files)) }
         ensures written { All S.is_honest self.new.stores → OnOk result (IfSome (table_of number self.old.files) (λ table.
             map S.fork self.new.stores ≡ forks_with S.fork number (written (saved_table (updated (C.table contents.now) selection table))) self.old.stores)) }
         ensures stands { All S.is_honest self.new.stores → OnOk result (IfSome (table_of number self.old.files) (λ table.
             StandsFor (fork_of S.fork number self.new.stores) (saved_table (updated (C.table contents.now) selection table)))) }
-        ensures too_big { All S.is_honest self.new.stores → IfSome (table_of number self.old.files) (λ table.
+        ensures too_big { IfSome (table_of number self.old.files) (λ table.
             IsErrOf result UpdateFault.TooBig ↔ IsFalse (fits_fork (updated (C.table contents.now) selection table))) }
         ensures untouched { IsErrOf result UpdateFault.TooBig → self.new ≡ self.old }
         ensures unasked { IsErrOf result UpdateFault.HostFull → self.new ≡ self.old }
-        ensures before { All S.is_honest self.new.stores → IsErrOf result (UpdateFault.Device ReplaceFault.BeforeFirstWrite)
-            → (self.new.files ≡ self.old.files) × (map S.fork self.new.stores ≡ map S.fork self.old.stores) }
+        ensures before { IsErrOf result (UpdateFault.Device ReplaceFault.BeforeFirstWrite) → AnswersFor (All S.is_honest self.new.stores) self.old.files self.new.files }
+        ensures before_forks { All S.is_honest self.new.stores → IsErrOf result (UpdateFault.Device ReplaceFault.BeforeFirstWrite)
+            → map S.fork self.new.stores ≡ map S.fork self.old.stores }
+        ensures closed { IsErrOf result (UpdateFault.Device ReplaceFault.Later) → self.new.files ≡ file_closed number self.old.files }
         ensures later { All S.is_honest self.new.stores → IsErrOf result (UpdateFault.Device ReplaceFault.Later) → IfSome (table_of number self.old.files) (λ table.
             (left : List ℕ) × S.may_leave (written (saved_table (updated (C.table contents.now) selection table))) (fork_of S.fork number self.old.stores) left
-            × (map S.fork self.new.stores ≡ forks_with S.fork number left self.old.stores) × (self.new.files ≡ file_closed number self.old.files)) }
+            × (map S.fork self.new.stores ≡ forks_with S.fork number left self.old.stores)) }
         ensures loads { self.new.loads ≡ self.old.loads }
         ensures honest { All S.is_honest self.new.stores → All S.is_honest self.old.stores }
         ensures count { length self.new.stores ≡ length self.old.stores }
         ensures none { OnOk result (NoneFailed S.failures self.old.stores self.new.stores) }
-        ensures cause { IsErrOf result (UpdateFault.Device ReplaceFault.BeforeFirstWrite) → SomeFailed S.failures self.old.stores self.new.stores }
-        ensures cause_later { IsErrOf result (UpdateFault.Device ReplaceFault.Later) → SomeFailed S.failures self.old.stores self.new.stores }
+        ensures cause { IsErrOf result (UpdateFault.Device ReplaceFault.BeforeFirstWrite) → FailedAt S.failures number self.old.stores self.new.stores }
+        ensures cause_later { IsErrOf result (UpdateFault.Device ReplaceFault.Later) → FailedAt S.failures number self.old.stores self.new.stores }
         // Whenever a crash comes, a start finds a fork that it might have found before or the new one; once this succeeded, the new one.
         ensures any_moment { All S.is_honest self.new.stores → IfSome (table_of number self.old.files) (λ table. AlwaysFinds S.may_find
             (FoundBeforeOr S.may_find (history_of S.history number self.old.stores) (written (saved_table (updated (C.table contents.now) selection table))))
@@ -80,17 +82,13 @@ impl<S: ForkStore> ResourceFiles<S> {
         ensures settled { All S.is_honest self.new.stores → S.has_journal → OnOk result
             (Finds S.may_find (λ found. found ≡ fork_of S.fork number self.new.stores) (history_of S.history number self.new.stores)) }
     {
-        self.saved = None;
-        let at = number as usize - 1;
-        learn(&mut self.known, at, Known::Nothing);
         let Some(table) = self.chain.table(number) else {
             return Ok(());
         };
-        let store = &mut self.stores[at];
+        let store = &mut self.stores[number as usize - 1];
         match write_table(self.alloc, store, table, selection, contents) {
             Ok(places) => {
                 place_rows(&mut self.chain, number, selection, &places);
-                self.saved = Some(number);
                 Ok(())
             }
             Err(fault) => {
