@@ -33,9 +33,6 @@ use Rattle.res_files.specs.Updating.{row_placed, rows_placed}
 grouped_like : (rows others : List fork.Row) → kinds_in rows ≡ kinds_in others → IsGrouped rows → IsGrouped others
 grouped_like rows others same grouped = subst (λ (types : List TypeCount). AllPairs (λ (a b : TypeCount). a.kind ≢ b.kind) types) (same_types rows others same) grouped
 
-pub none_grouped : IsGrouped []
-none_grouped = distinct_at counted [] tt
-
 -- one row is changed and keeps its type
 kinds_set : (rows : List (Row Place)) (at : ℕ) (r x : Row Place) → slice_get rows at ≡ Some r → x.resource.kind ≡ r.resource.kind → kinds_in (bare (set rows at x)) ≡ kinds_in (bare rows)
 kinds_set [] at r x is same = absurd (cc is)

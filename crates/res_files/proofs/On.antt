@@ -1,5 +1,5 @@
 -- The open files as they are seen, by the files with places: what is asked of them, and what changes them.
-use Rattle.std.proofs.Common.{◌≡◌, refl, sym, ap, ◌∙◌, subst, arith, ℕ, zero, suc, ◌<◌, List, [], length, map, Bool, true, false, Option, None, Some, Result, Ok, Err, IfNone, OnOk, OnErr, IsSome, IsTrue, All}
+use Rattle.std.proofs.Common.{◌≡◌, refl, sym, ap, ◌∙◌, subst, arith, ℕ, zero, suc, ◌<◌, List, [], length, map, Bool, true, false, Option, None, Some, Result, Ok, Err, IfNone, OnOk, OnErr, IsSome, IsTrue}
 use Rattle.std.specs.Prelude.{◌&&◌}
 use Rattle.std.specs.Option.{option_map, option_map_or, option_and_then}
 use Rattle.std.proofs.lemmas.Bool.{leb-true}

@@ -1,11 +1,11 @@
 -- The files stand on their stores: what follows of a row, and what keeps it.
-use Rattle.std.proofs.Common.{◌≡◌, refl, sym, ap, ◌∙◌, subst, arith, ℕ, zero, suc, ◌-◌, ◌<◌, ◌≤◌, List, [], ◌∷◌, ◌++◌, length, map, set, slice_get, get_or, Bool, true, false, not, cond, Option, None, Some, find, remove, IfSome, IsTrue, All, take, drop, unwrap_or, ◌||◌, if◌then◌else◌}
+use Rattle.std.proofs.Common.{◌≡◌, refl, sym, ap, ◌∙◌, subst, arith, ℕ, zero, suc, ◌-◌, ◌<◌, ◌≤◌, List, [], ◌∷◌, ◌++◌, length, map, set, slice_get, get_or, Bool, true, false, not, cond, Option, None, Some, find, remove, IfSome, IsTrue, All, take, drop, ◌||◌, if◌then◌else◌}
 use Rattle.std.specs.Prelude.{◌==◌, ◌&&◌}
 use Rattle.std.specs.List.{list_any, AllByRecursion}
 use Rattle.std.specs.Option.{option_map, option_or, option_map_or, option_and_then}
 use Rattle.std.proofs.lemmas.Bool.{eqb-true, eqb-false, eq-eqb, ne_eqb}
 use Rattle.std.proofs.lemmas.List.Elements.{All-set, All-cons, All-nil, All-append, All-take, All-drop, All-head, All-tail}
-use Rattle.std.proofs.lemmas.Option.{slice_get-map, slice_get_within, slice_get_read, get_or_from_slice_get, same_Some}
+use Rattle.std.proofs.lemmas.Option.{slice_get_within, slice_get_read, get_or_from_slice_get, same_Some}
 use Rattle.fork_bytes.specs.Fork.{max_rows}
 use Rattle.fork_reader.specs.declared.place.Place.{Place}
 use Rattle.res_table.specs.declared.row.Row.{Row}
@@ -15,7 +15,7 @@ use Rattle.res_table.specs.declared.chain.RowPlace.{RowPlace}
 use Rattle.res_table.specs.Rows.{is_of_type, has_handle, added, changed_at, removed_at, forgotten, forgetting, with_handle}
 use Rattle.res_table.specs.OpenFiles.{OpenFiles, is_numbered, is_open, table_in, table_of, row_at, with_rows, changed_file, rows_changed, without, last_number, is_current, file_closed, file_opened, file_used, file_forgotten, handle_forgotten}
 use Rattle.res_update.specs.Placed.{AreInside, IsInside, IsNear}
-use Rattle.res_files.specs.Standing.{fork_at, AreSmall, Holds, StandsOn, AreApart, StandOn, placed_rows, placed_rows_of}
+use Rattle.res_files.specs.Standing.{AreSmall, Holds, StandsOn, AreApart, StandOn, placed_rows, placed_rows_of}
 use Rattle.res_files.proofs.Grouped.{changed_grouped, removed_grouped, forgotten_grouped, added_grouped}
 
 -- a change of rows after which they stand where they stood

@@ -26,7 +26,7 @@ use Rattle.res_update.specs.Placed.{bytes_on, row_on, rows_on, table_on, AreInsi
 use Rattle.res_update.proofs.PlaceBytes.{on-inside}
 use Rattle.res_files.specs.Opening.{RefusesFile, code_of}
 use Rattle.res_files.specs.Standing.{AreSmall}
-use Rattle.res_files.proofs.Grouped.{none_grouped, opened_grouped}
+use Rattle.res_files.proofs.Grouped.{opened_grouped}
 
 -- a resource with the bytes at its place
 abbrev with_bytes : List ℕ → PlacedRow → fork.Row
@@ -84,12 +84,6 @@ no_bytes (b ∷ disk) none = absurd (omega (arith, none))
 
 pub reads_empty : (disk : List ℕ) → length disk ≡ 0 → Reads disk (Ok device.empty_table)
 reads_empty disk none = device.empty (no_bytes disk none)
-
-pub no_rows_small : AreSmall []
-no_rows_small = record { few = omega arith; grouped = none_grouped; near = All-nil (λ (r : Row Place). IsNear r.resource.datum) }
-
-pub no_rows_inside : (disk : List ℕ) → AreInside disk []
-no_rows_inside disk = All-nil (λ (r : Row Place). IsInside disk r.resource.datum)
 
 -- a fork that isn't opened is a file that isn't
 pub refused : (disk : List ℕ) (fault : OpenFault) → (length disk ≡ 0 → ⊥) → RefusesToOpen disk fault → RefusesFile disk fault

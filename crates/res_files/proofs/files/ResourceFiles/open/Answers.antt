@@ -1,4 +1,4 @@
-use Rattle.std.proofs.Common.{◌-◌, ◌∙◌, List, length, arith, refl, sym, ap, subst, map, set}
+use Rattle.std.proofs.Common.{◌-◌, ◌∙◌, length, sym, ap, subst, map, set}
 use Rattle.fork_reader.specs.declared.place.Place.{Place}
 use Rattle.res_table.specs.OpenFiles.{OpenFiles}
 use Rattle.res_files.specs.Standing.{StandOn, files_on}

@@ -1,4 +1,4 @@
-use Rattle.std.proofs.Common.{◌≡◌, ℕ, ◌<◌, ◌-◌, ◌∙◌, ap, subst, length, arith}
+use Rattle.std.proofs.Common.{◌≡◌, ℕ, ◌<◌, ◌-◌, ◌∙◌, ap, length, arith}
 use Rattle.fork_bytes.specs.Fork.{bytes_at}
 use Rattle.fork_disk.specs.Disk.{Rose}
 use Rattle.res_files.proofs.Crash.{all_calm}

@@ -1,4 +1,4 @@
-use Rattle.std.proofs.Common.{◌≡◌, ◌-◌, ◌∙◌, Ok, Err, length, set, sym, ap, subst, arith, List}
+use Rattle.std.proofs.Common.{◌≡◌, ◌-◌, ◌∙◌, Ok, Err, length, sym, ap, arith, List}
 use Rattle.std.specs.Prelude.{IsErrOf, IsFalse}
 use Rattle.std.proofs.lemmas.Bool.{false≢true}
 use Rattle.fork_bytes.specs.Written.{written}
@@ -14,7 +14,6 @@ use Rattle.res_update.specs.declared.fault.UpdateFault.{UpdateFault}
 use Rattle.res_update.specs.declared.fault.UpdateFault.TheVariants.{Device, HostFull, TooBig}
 use Rattle.res_files.specs.Updating.{rows_placed}
 use Rattle.res_files.proofs.Crash.{no_table, found_always, others_calm, this_calm, found_there}
-use Rattle.res_files.proofs.Found.{number_from, number_within}
 use Rattle.res_files.proofs.Rewritten.{low, within, of_table, small, unlent, held, fits_ok, fits_err, written_seen, stands_seen, rows_seen, closed_seen, left_seen, stand_written, stand_left, stand_unwritten, of_none, fault_as, rose}
 use Rattle.res_files.proofs.Using.{files_answer, same_forks, same_honest, none_failed, this_failed}
 use Rattle.std.proofs.lemmas.List.{length-set}
