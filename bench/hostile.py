@@ -320,8 +320,8 @@ RUNS = [
     ("eight files of 8,192 resources", [SHARED] * 8, [f"OpenResFile {it}" for it in range(2, 9)] + ["GetResource 'TEXT' 5000"] * LINES),
     ("eight files of 8,192 resources, and a handle of none", [SHARED] * 8, [f"OpenResFile {it}" for it in range(2, 9)] + ["h=NewHandle 4"] + ["GetResInfo h"] * LINES),
     ("eight files of 8,192 resources, and handles that come and go", [SHARED] * 8, [f"OpenResFile {it}" for it in range(2, 9)] + ["h=NewHandle 4", "DisposeHandle h"] * LINES),
-    ("a fork of 8,192 resources that is refused at each line", [b"", LATE], ["OpenResFile 2"] * LINES),
-    # (each closing and each update writes the whole file, and reads what it keeps of each resource: time by the lines)
+    # (each opening reads how many bytes each resource has; each closing and each update writes the whole file, and reads what it keeps of each: time by the lines)
+    ("a fork of 8,192 resources that is refused at 200 lines", [b"", LATE], ["OpenResFile 2"] * 200),
     ("a fork of 5,458 resources that is opened and closed at 4,000 lines", [b"", APART], ["OpenResFile 2", "CloseResFile 2"] * 2000),
     ("updates of 5,458 resources of one byte at 200 lines", [ONE_BYTE_EACH], ["UpdateResFile"] * 200),
     ("3,000 types of one resource", [ONE_EACH], ["CountTypes", "GetIndType 3000", "GetResource '2999' 1", "CountResources '2999'"] * LINES),

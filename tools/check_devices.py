@@ -55,30 +55,30 @@ OPENED = [
 ]  # fmt: skip
 
 
-# Files that are opened once more: the fork, the script, its calls, what it prints, and the fork behind it. What was read, refused or written isn't read again
+# Files that are opened once more: the fork, the script, its calls, what it prints, and the fork after it. Each opening reads the fork
 OPENED_AGAIN = [
-    ("closed", HI, "CloseResFile / OpenResFile 1 / h = GetResource 'TEXT' 128 / Peek h 0 2", "ssrrr" + "rwcy" + "r", ["..", '4 Peek "Hi" 0'], HI),
-    ("closed without resources", b"", "CloseResFile / OpenResFile 1 / CountTypes", "s" + "wcy", ["..", "3 CountTypes 0 0"], NONE),
+    ("closed", HI, "CloseResFile / OpenResFile 1 / h = GetResource 'TEXT' 128 / Peek h 0 2", "ssrrr" + "rwcy" + "ssrrr" + "r", ["..", '4 Peek "Hi" 0'], HI),
+    ("closed without resources", b"", "CloseResFile / OpenResFile 1 / CountTypes", "s" + "wcy" + "ssrr", ["..", "3 CountTypes 0 0"], NONE),
     # a changed resource, one whose edit nobody was told of, and one with other attributes
     (
         "changed and closed", fork_of(b"0"), "h = GetResource 'TEXT' 1 / SetHandleSize h 5 / Poke h 0 \"abcde\" / ChangedResource h / CloseResFile / OpenResFile 1 / k = GetResource 'TEXT' 1 / Peek k 0 5 / GetResAttrs k",
-        "ssrrr" + "r" + "wcy" + "r", ["..", '8 Peek "abcde" 0', "9 GetResAttrs 0 0"], fork_of(b"abcde"),
+        "ssrrr" + "r" + "wcy" + "ssrrr" + "r", ["..", '8 Peek "abcde" 0', "9 GetResAttrs 0 0"], fork_of(b"abcde"),
     ),
     (
         "edited and closed", HI, "h = GetResource 'TEXT' 128 / Poke h 0 \"No\" / CloseResFile / OpenResFile 1 / k = GetResource 'TEXT' 128 / Peek k 0 2",
-        "ssrrr" + "r" + "rwcy" + "r", ["..", '6 Peek "Hi" 0'], HI,
+        "ssrrr" + "r" + "rwcy" + "ssrrr" + "r", ["..", '6 Peek "Hi" 0'], HI,
     ),
     (
         "closed with other attributes", HI, "h = GetResource 'TEXT' 128 / SetResAttrs h 32 / CloseResFile / OpenResFile 1 / k = GetResource 'TEXT' 128 / HGetState k / GetResAttrs k",
-        "ssrrr" + "r" + "rwcy" + "r", ["..", "6 HGetState 96 0", "7 GetResAttrs 32 0"], changed(304, 32),
+        "ssrrr" + "r" + "rwcy" + "ssrrr" + "r", ["..", "6 HGetState 96 0", "7 GetResAttrs 32 0"], changed(304, 32),
     ),
-    # what is changed after an update and then updated with the file is read too
+    # and what is changed after an update and then updated with the file
     (
         "updated, changed and closed", HI, "h = GetResource 'TEXT' 128 / UpdateResFile / SetResAttrs h 32 / CloseResFile / OpenResFile 1 / k = GetResource 'TEXT' 128 / GetResAttrs k",
-        "ssrrr" + "r" + "rwcy" + "rwcy" + "r", ["..", "7 GetResAttrs 32 0"], changed(304, 32),
+        "ssrrr" + "r" + "rwcy" + "rwcy" + "ssrrr" + "r", ["..", "7 GetResAttrs 32 0"], changed(304, 32),
     ),
-    ("refused three times", HI[:300], "OpenResFile 1 / OpenResFile 1", "ssr", ["0 OpenResFile -199", "1 OpenResFile -199", "2 OpenResFile -199"], HI[:300]),
-    ("refused three times for a few bytes", HI[:10], "OpenResFile 1 / OpenResFile 1", "ss", ["0 OpenResFile -39", "1 OpenResFile -39", "2 OpenResFile -39"], HI[:10]),
+    ("refused three times", HI[:300], "OpenResFile 1 / OpenResFile 1", "ssr" * 3, ["0 OpenResFile -199", "1 OpenResFile -199", "2 OpenResFile -199"], HI[:300]),
+    ("refused three times for a few bytes", HI[:10], "OpenResFile 1 / OpenResFile 1", "ss" * 3, ["0 OpenResFile -39", "1 OpenResFile -39", "2 OpenResFile -39"], HI[:10]),
 ]  # fmt: skip
 
 
@@ -126,15 +126,15 @@ def opened(play):
 
 
 def opened_again(play):
-    """Each file is opened once more, without a journal and with one, which is recovered each time; so is a second file. One that an update left in part is read again."""
+    """Each file is opened once more, without a journal and with one, which is recovered each time; so is a second file. So is one that an update left in part."""
     for what, fork, script, calls, printed, left in OPENED_AGAIN:
         lines = script.split(" / ")
         yield f"opened again, {what}", play(fork, lines).fault(printed, calls, left)
         yield f"opened again, {what}, with a journal", play(fork, lines, b"").fault(printed, None, left, None)
     refused = play(HI[:300], ["OpenResFile 1", "OpenResFile 1"], b"")
-    yield "refused three times, with a journal", refused.fault(["0 OpenResFile -199", "1 OpenResFile -199", "2 OpenResFile -199"], "YS" + "ssr" + "YS" + "YS", HI[:300])
+    yield "refused three times, with a journal", refused.fault(["0 OpenResFile -199", "1 OpenResFile -199", "2 OpenResFile -199"], ("YS" + "ssr") * 3, HI[:300])
     second = play(b"", ["OpenResFile 2", "CloseResFile 2", "OpenResFile 2", "h = GetResource 'TEXT' 128", "Peek h 0 2"], second=HI)
-    yield "a second file opened again", second.fault(["..", '5 Peek "Hi" 0'], "s" + "ssrrr" + "rwcy" + "r", b"")
+    yield "a second file opened again", second.fault(["..", '5 Peek "Hi" 0'], "s" + "ssrrr" + "rwcy" + "ssrrr" + "r", b"")
     lines = ["h = GetResource 'TEXT' 128", "ChangedResource h", "CloseResFile", "OpenResFile 1"]
     for calls in ("w", "wc", "wcy"):
         left = play(HI, lines, DEVICE_FAIL=6 + len(calls))

@@ -13,15 +13,8 @@ use Rattle.res_table.specs.OpenFiles.{OpenFiles, is_numbered, table_in}
 use Rattle.res_files.specs.Crash.{history_of, OthersAreCalm}
 use Rattle.res_files.specs.FilesOn.{FilesOn, fork_of}
 use Rattle.res_files.proofs.On.{seen}
-use Rattle.res_files.proofs.Rewritten.{get_set}
+use Rattle.res_files.proofs.Stores.{get_set}
 use Rattle.res_files.proofs.Using.{mine}
-
--- where nothing happened since, a start finds what it did
-pub still_found : {S Event : Type 0} (is_honest : S → Type 0) (history : S → List Event) (may_find : List Event → List ℕ → Type 0) (old ready new : S)
-    → (is_honest old → AlwaysFinds may_find (may_find (history old)) (history old) (history ready)) → (is_honest old → is_honest ready) → (is_honest ready → history new ≡ history ready)
-    → is_honest old → AlwaysFinds may_find (may_find (history old)) (history old) (history new)
-still_found is_honest history may_find old ready new finds kept calm honest =
-    subst (λ (h : List _). AlwaysFinds may_find (may_find (history old)) (history old) h) (sym (calm (kept honest))) (finds honest)
 
 -- an open file has a table
 pub no_table : {D : Type 0} (k : ℕ) (files : List (OpenFile D)) → IfSome (option_map table_in (find (is_numbered k) files)) (λ _. ⊥) → IsTrue (list_any (is_numbered k) files) → ⊥

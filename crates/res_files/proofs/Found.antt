@@ -223,18 +223,6 @@ module _ {S : Type 0} (fork : S → List ℕ) (is_ready is_honest : S → Type 0
       by None open_now = tt
       by (Some k) open_now = subst IsTrue (asked fork chain loads stores now view_is (is_open k) (is_open k chain) (sym (open-mapped (bytes_in (map fork stores)) k chain))) open_now
 
-  -- an open file has a number from 1 on
-  pub number_from : (k : ℕ) → IsTrue (is_open k now.files) → 1 ≤ k
-  number_from k open_now = by chain.files stand.each (open_there fork chain loads stores now view_is k open_now)
-    where
-      by : (files : List (OpenFile Place)) → AllByRecursion (StandsOn fork is_ready is_honest stores) files → IsTrue (list_any (is_numbered k) files) → 1 ≤ k
-      by [] each any = absurd (cc any)
-      by (f ∷ files) each any = one (is_numbered k f) refl any (by files each.1)
-        where
-          one : (b : Bool) → is_numbered k f ≡ b → IsTrue (b || list_any (is_numbered k) files) → (IsTrue (list_any (is_numbered k) files) → 1 ≤ k) → 1 ≤ k
-          one true same some deeper = subst (λ (n : ℕ). 1 ≤ n) (eqb-true f.number k same) each.0.from_one
-          one false same some deeper = deeper some
-
   -- an open file has the number of a store
   pub number_within : (k : ℕ) → IsTrue (is_open k now.files) → k ≤ length now.stores
   number_within k open_now =

@@ -27,15 +27,11 @@ use Rattle.res_update.specs.Drafts.{is_selected, rows_with}
 use Rattle.res_update.specs.Placed.{table_on}
 use Rattle.res_update.specs.Selected.{updated}
 use Rattle.res_update.proofs.Saving.{final_bytes, final_is}
-use Rattle.res_files.specs.Known.{reopened_row}
 use Rattle.res_files.specs.Updating.{row_placed, rows_placed}
 
 -- rows of the same types
 grouped_like : (rows others : List fork.Row) → kinds_in rows ≡ kinds_in others → IsGrouped rows → IsGrouped others
 grouped_like rows others same grouped = subst (λ (types : List TypeCount). AllPairs (λ (a b : TypeCount). a.kind ≢ b.kind) types) (same_types rows others same) grouped
-
-pub none_grouped : IsGrouped []
-none_grouped = distinct_at counted [] tt
 
 -- one row is changed and keeps its type
 kinds_set : (rows : List (Row Place)) (at : ℕ) (r x : Row Place) → slice_get rows at ≡ Some r → x.resource.kind ≡ r.resource.kind → kinds_in (bare (set rows at x)) ≡ kinds_in (bare rows)
@@ -62,14 +58,6 @@ kinds_forgotten h (r ∷ rows) = by (has_handle h r) (kinds_forgotten h rows)
 
 pub forgotten_grouped : (h : ℕ) (rows : List (Row Place)) → IsGrouped (bare rows) → IsGrouped (bare (forgotten h rows))
 forgotten_grouped h rows grouped = grouped_like (bare rows) (bare (forgotten h rows)) (sym (kinds_forgotten h rows)) grouped
-
--- rows as they are read once they were written
-kinds_reopened : (rows : List (Row Place)) → kinds_in (bare (map reopened_row rows)) ≡ kinds_in (bare rows)
-kinds_reopened [] = refl
-kinds_reopened (r ∷ rows) = ap (λ (kinds : List (List ℕ)). r.resource.kind ∷ kinds) (kinds_reopened rows)
-
-pub reopened_grouped : (rows : List (Row Place)) → IsGrouped (bare rows) → IsGrouped (bare (map reopened_row rows))
-reopened_grouped rows grouped = grouped_like (bare rows) (bare (map reopened_row rows)) (sym (kinds_reopened rows)) grouped
 
 -- rows at new places
 kinds_placed : (selection : Selection) (at : ℕ) (rows : List (Row Place)) (places : List Place) → kinds_in (bare (rows_placed selection at rows places)) ≡ kinds_in (bare rows)

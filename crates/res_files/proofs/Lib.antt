@@ -1,5 +1,6 @@
 pub mod Grouped
 pub mod Mapped
+pub mod Blank
 pub mod Stands
 pub mod On
 pub mod Stores
@@ -15,6 +16,4 @@ pub mod Updated
 pub mod PlacedRows
 pub mod Rewritten
 pub mod Crash
-pub mod KnownForks
-pub mod ReopenedRows
 pub mod AmongHandles

@@ -1,9 +1,9 @@
 -- The open files as they are seen, by the files with places: what is asked of them, and what changes them.
-use Rattle.std.proofs.Common.{◌≡◌, refl, sym, ap, ◌∙◌, subst, arith, ℕ, zero, suc, ◌<◌, List, [], length, map, Bool, true, false, Option, None, Some, Result, Ok, Err, IfNone, OnOk, OnErr, IsSome, IsTrue, All}
+use Rattle.std.proofs.Common.{◌≡◌, refl, sym, ap, ◌∙◌, subst, arith, ℕ, zero, suc, ◌<◌, List, [], length, map, Bool, true, false, Option, None, Some, Result, Ok, Err, IfNone, OnOk, OnErr, IsSome, IsTrue}
 use Rattle.std.specs.Prelude.{◌&&◌}
 use Rattle.std.specs.Option.{option_map, option_map_or, option_and_then}
 use Rattle.std.proofs.lemmas.Bool.{leb-true}
-use Rattle.std.proofs.lemmas.List.{length-map, length-take, length-drop}
+use Rattle.std.proofs.lemmas.List.{length-map}
 use Rattle.fork_bytes.specs.Fork.{max_rows}
 use Rattle.fork_reader.specs.declared.place.Place.{Place}
 use Rattle.res_table.specs.declared.row.Row.{Row}
@@ -14,11 +14,12 @@ use Rattle.res_table.specs.Saved.{bare, saved_row}
 use Rattle.res_table.specs.OpenFiles.{OpenFiles, is_open, row_at, table_of}
 use Rattle.res_calls.specs.Changes.{Files, FileRow, FileTable, rows_of, current_rows, rows_in}
 use Rattle.res_calls.specs.Fitting.{rows_fit}
-use Rattle.res_update.specs.Placed.{bytes_on, row_on, IsInside}
+use Rattle.res_update.specs.Placed.{bytes_on, row_on}
+use Rattle.res_update.proofs.PlaceBytes.{length-on}
 use Rattle.res_files.specs.FilesOn.{FilesOn, Shows}
-use Rattle.res_files.specs.Standing.{fork_at, files_on, StandOn, placed_rows, placed_rows_of}
+use Rattle.res_files.specs.Standing.{fork_at, files_on, placed_rows, placed_rows_of}
 use Rattle.res_files.proofs.Mapped.{mapped_rows, mapped_table, table-mapped, row-mapped, open-mapped, index_of_ith-mapped}
-use Rattle.res_files.proofs.Stands.{row_inside, long_added}
+use Rattle.res_files.proofs.Stands.{long_added}
 
 -- the bytes at a place of the file of a number
 abbrev pub bytes_in : List (List ℕ) → ℕ → Place → List ℕ
@@ -81,20 +82,13 @@ module _ {S : Type 0} (fork : S → List ℕ) (chain : OpenFiles Place) (loads :
   open_there k open_now = subst IsTrue (sym (asked (is_open k) (is_open k chain) (sym (open-mapped (bytes_in (map fork stores)) k chain)))) open_now
 
   -- what a row is seen as
-  pub row_seen : (is_ready is_honest : S → Type 0) → StandOn fork is_ready is_honest stores chain → (place : RowPlace) (r : Row Place) → row_at place chain ≡ Some r
-      → (shown : FileRow) × (row_at place now.files ≡ Some shown) × Shows (All is_honest now.stores) r shown
-  row_seen is_ready is_honest stand place r is =
-      let shown = row_on (fork_at (map fork stores) place.file) r in
-      let there : Some shown ≡ row_at place (files_on (map fork stores) chain) =
-      sym (row-mapped (bytes_in (map fork stores)) place chain ∙ ap (option_map (row_on (fork_at (map fork stores) place.file))) is) in
-      let stores_are : now.stores ≡ stores = ap (λ (v : FilesOn S). v.stores) (sym view_is) in
-      let long : All is_honest now.stores → r.resource.datum.length ≡ length shown.resource.datum = λ honest.
-      let inside = row_inside fork is_ready is_honest stores place chain r stand is (subst (λ (xs : List S). All is_honest xs) stores_are honest) in
-      sym (as_long r.resource.datum (fork_at (map fork stores) place.file) inside) in
+  pub row_seen : (place : RowPlace) (r : Row Place) → row_at place chain ≡ Some r → (shown : FileRow) × (row_at place now.files ≡ Some shown) × Shows r shown
+  row_seen place r is =
+      let bytes = fork_at (map fork stores) place.file in
+      let shown = row_on bytes r in
+      let there : Some shown ≡ row_at place (files_on (map fork stores) chain) = sym (row-mapped (bytes_in (map fork stores)) place chain ∙ ap (option_map (row_on bytes)) is) in
+      let long = sym (length-on bytes r.resource.datum) in
       (shown, sym (asked (row_at place) (Some shown) there), record { kind = refl; id = refl; name = refl; attributes = refl; handle = refl; size = long })
-    where
-      as_long : (place : Place) (bytes : List ℕ) → IsInside bytes place → length (bytes_on bytes place) ≡ place.length
-      as_long place bytes inside = simp (length-take, length-drop) (omega (arith, inside))
 
   pub no_row_seen : (place : RowPlace) → row_at place chain ≡ None → row_at place now.files ≡ None
   no_row_seen place is =

@@ -1,8 +1,7 @@
 -- A file is opened on its store: how the files stand then, and how they are seen.
-use Rattle.std.proofs.Common.{◌≡◌, ◌≢◌, refl, sym, ap, ◌∙◌, subst, arith, ℕ, ◌-◌, ◌<◌, ◌≤◌, List, [], length, map, set, get_or, slice_get, unwrap_or, Bool, false, Option, Some, Result, Ok, Err, OnErr, All, ◌⊎◌, inl, inr}
+use Rattle.std.proofs.Common.{◌≡◌, refl, sym, ap, ◌∙◌, subst, arith, ℕ, ◌-◌, ◌<◌, ◌≤◌, List, [], length, map, set, get_or, slice_get, unwrap_or, Bool, false, Option, Some, Result, Ok, Err, OnErr, All, ◌⊎◌, inl, inr}
 use Rattle.std.specs.Prelude.{IsFalse}
 use Rattle.std.specs.Option.{option_map, option_map_or}
-use Rattle.std.proofs.Math.Seq.{map-set_same}
 use Rattle.std.proofs.lemmas.List.{length-set}
 use Rattle.std.proofs.lemmas.Option.{slice_get-map, slice_get_read}
 use Rattle.mac_base.specs.declared.error.OsErr.{OsErr}
@@ -12,19 +11,22 @@ use Rattle.fork_reader.specs.declared.place.Place.{Place}
 use Rattle.fork_rows.specs.declared.fault.OpenFault.{OpenFault}
 use Rattle.fork_rows.specs.Opening.{CountsFault}
 use Rattle.res_table.specs.declared.chain.ResourceTable.{ResourceTable}
+use Rattle.res_table.specs.declared.chain.OpenFile.{OpenFile}
 use Rattle.res_table.specs.OpenFiles.{OpenFiles, is_open, file_opened}
-use Rattle.res_calls.specs.Changes.{FileTable}
+use Rattle.res_calls.specs.Answered.{IsOpening}
+use Rattle.res_calls.specs.Changes.{Files, FileTable}
 use Rattle.res_calls.specs.Device.{Reads}
 use Rattle.res_update.specs.Placed.{table_on, AreInside}
-use Rattle.res_files.specs.FilesOn.{FilesOn, fork_of, NoneFailed, SomeFailed}
+use Rattle.res_files.specs.FilesOn.{FilesOn, FailedAt, NoneFailed, fork_of}
 use Rattle.res_files.specs.Opening.{RefusesFile, code_of}
 use Rattle.res_files.specs.Standing.{fork_at, files_on, AreSmall, Holds, StandOn}
-use Rattle.res_files.proofs.Mapped.{open-mapped, opened-mapped}
+use Rattle.res_files.proofs.Mapped.{open-mapped, opened-mapped, set-mapped}
 use Rattle.res_files.proofs.On.{seen, bytes_in, asked}
 use Rattle.res_files.proofs.Stands.{stand_opened}
-use Rattle.res_files.proofs.Stores.{new_set, stand_set}
-use Rattle.res_files.proofs.TablesRead.{caused_by_code, told_by_code}
-use Rattle.res_files.proofs.Using.{mine, same_forks, same_files, same_honest, none_failed, some_failed}
+use Rattle.res_files.proofs.Stores.{get_set, new_set, stand_set}
+use Rattle.res_files.proofs.TablesRead.{told_by_code}
+use Rattle.res_files.proofs.Written.{from_one, others_seen}
+use Rattle.res_files.proofs.Using.{mine, same_forks, same_honest, none_failed, this_failed}
 
 module _ {S : Type 0} (fork : S → List ℕ) (is_ready is_honest : S → Type 0) (chain : OpenFiles Place) (loads : Bool) (stores : List S) (now : FilesOn S) (view_is : seen fork chain loads stores ≡ now)
     (k : ℕ) (low : 1 ≤ k) (high : k ≤ length now.stores) (old new : S) (value : old ≡ get_or stores (k - 1) old)
@@ -59,9 +61,13 @@ module _ {S : Type 0} (fork : S → List ℕ) (is_ready is_honest : S → Type 0
   pub closed_there : IsFalse (is_open k now.files) → is_open k chain ≡ false
   closed_there closed = asked fork chain loads stores now view_is (is_open k) (is_open k chain) (sym (open-mapped (bytes_in (map fork stores)) k chain)) ∙ closed
 
-  -- the files that are open are seen as before
-  pub files_kept : All is_honest (set stores (k - 1) new) → files_on (map fork (set stores (k - 1) new)) chain ≡ now.files
-  files_kept = same_files fork is_honest chain loads stores now view_is (k - 1) within old new value forks
+  -- the files that are open are seen as before: none of them stands on this store
+  pub files_kept : StandOn fork is_ready is_honest stores chain → IsFalse (is_open k now.files) → files_on (map fork (set stores (k - 1) new)) chain ≡ now.files
+  files_kept stand closed =
+      ap (λ (forks : List (List ℕ)). files_on forks chain) (sym (set-mapped fork stores (k - 1) new))
+      ∙ ap (λ (files : List (OpenFile (List ℕ))). let all : Files = record { files = files; current = chain.current } in all)
+      (others_seen k low (map fork stores) (fork new) chain.files (from_one fork is_ready is_honest stores chain.files stand.each) (closed_there closed))
+      ∙ ap (λ (v : FilesOn S). v.files) view_is
 
   pub forks_kept : All is_honest (set stores (k - 1) new) → map fork (set stores (k - 1) new) ≡ map fork now.stores
   forks_kept = same_forks fork is_honest chain loads stores now view_is (k - 1) within old new value forks
@@ -72,44 +78,40 @@ module _ {S : Type 0} (fork : S → List ℕ) (is_ready is_honest : S → Type 0
   fork_is : fork_of fork k now.stores ≡ fork old
   fork_is = ap (λ (xs : List S). fork_of fork k xs) stores_are ∙ ap (λ (found : Option S). option_map_or fork found []) here
 
-  fork_there : fork_at (map fork stores) k ≡ fork old
-  fork_there = ap (λ (o : Option (List ℕ)). unwrap_or o []) (slice_get-map fork stores (k - 1) ∙ ap (option_map fork) here)
+  fork_there : fork_at (map fork (set stores (k - 1) new)) k ≡ fork new
+  fork_there = ap (λ (o : Option (List ℕ)). unwrap_or o []) (slice_get-map fork (set stores (k - 1) new) (k - 1) ∙ ap (option_map fork) (get_set stores (k - 1) new within))
 
   -- what is seen of the one that is opened
-  pub seen_more : (table : ResourceTable Place) (more : OpenFiles Place) → more ≡ file_opened k table chain → (is_honest new → Reads (fork old) (Ok (table_on (fork old) table))) → All is_honest (set stores (k - 1) new)
-      → (t : FileTable) × Reads (fork_of fork k now.stores) (Ok t) × (files_on (map fork (set stores (k - 1) new)) more ≡ file_opened k t now.files)
-  seen_more table more is reads honest =
-      let was = mine fork is_honest chain loads stores now view_is (k - 1) within old new value honest in
-      let kept = map-set_same fork stores (k - 1) new old (forks was ∙ ap fork value) in (
-        table_on (fork old) table,
-        subst (λ (bytes : List ℕ). Reads bytes (Ok (table_on (fork old) table))) (sym fork_is) (reads was),
-        ap (files_on (map fork (set stores (k - 1) new))) is
-            ∙ ap (λ (all : List (List ℕ)). files_on all (file_opened k table chain)) kept
-            ∙ sym (opened-mapped (bytes_in (map fork stores)) k table chain)
-            ∙ ap (λ (bytes : List ℕ). file_opened k (table_on bytes table) (files_on (map fork stores) chain)) fork_there
-            ∙ ap (λ (v : FilesOn S). file_opened k (table_on (fork old) table) v.files) view_is,
-      )
+  pub seen_more : (table : ResourceTable Place) (more : OpenFiles Place) → more ≡ file_opened k table chain → StandOn fork is_ready is_honest stores chain → IsFalse (is_open k now.files)
+      → ((bytes : List ℕ) → IsOpening (Ok (table_on bytes table))) → (is_honest new → Reads (fork old) (Ok (table_on (fork old) table)))
+      → (t : FileTable) × IsOpening (Ok t) × (All is_honest (set stores (k - 1) new) → Reads (fork_of fork k now.stores) (Ok t)) × (files_on (map fork (set stores (k - 1) new)) more ≡ file_opened k t now.files)
+  seen_more table more is stand closed opening reads = (
+    table_on (fork new) table,
+    opening (fork new),
+    (λ honest.
+        let was = mine fork is_honest chain loads stores now view_is (k - 1) within old new value honest in
+        subst (λ (bytes : List ℕ). Reads bytes (Ok (table_on (fork new) table))) (sym fork_is) (subst (λ (bytes : List ℕ). Reads (fork old) (Ok (table_on bytes table))) (sym (forks was)) (reads was))),
+    ap (files_on (map fork (set stores (k - 1) new))) is
+        ∙ sym (opened-mapped (bytes_in (map fork (set stores (k - 1) new))) k table chain)
+        ∙ ap (λ (bytes : List ℕ). file_opened k (table_on bytes table) (files_on (map fork (set stores (k - 1) new)) chain)) fork_there
+        ∙ ap (file_opened k (table_on (fork new) table)) (files_kept stand closed),
+  )
 
   -- what the code of a fault says
   pub seen_refused : (failures : S → ℕ) (fault : OpenFault) (c : OsErr) → Ok c ≡ code_of fault → (is_honest new → RefusesFile (fork old) fault) → CountsFault (failures old) (failures new) fault
-      → All is_honest (set stores (k - 1) new) → Reads (fork_of fork k now.stores) (Err c) ⊎ ((c ≡ IoErr) × SomeFailed failures now.stores (set stores (k - 1) new))
-  seen_refused failures fault c is told counts honest =
-      let was = mine fork is_honest chain loads stores now view_is (k - 1) within old new value honest in
-      by (told_by_code (fork old) (failures old) (failures new) fault c is (told was) counts)
+      → (IsOpening (Err c) × (All is_honest (set stores (k - 1) new) → Reads (fork_of fork k now.stores) (Err c)) × NoneFailed failures now.stores (set stores (k - 1) new))
+      ⊎ ((c ≡ IoErr) × FailedAt failures k now.stores (set stores (k - 1) new))
+  seen_refused failures fault c is told counts = by (told_by_code (is_honest new) (fork old) (failures old) (failures new) fault c is told counts)
     where
-      by : Reads (fork old) (Err c) ⊎ ((c ≡ IoErr) × Rose (failures old) (failures new)) → Reads (fork_of fork k now.stores) (Err c) ⊎ ((c ≡ IoErr) × SomeFailed failures now.stores (set stores (k - 1) new))
-      by (inl reads) = inl (subst (λ (bytes : List ℕ). Reads bytes (Err c)) (sym fork_is) reads)
-      by (inr failed) = inr (failed.0, some_failed fork is_honest chain loads stores now view_is (k - 1) within old new value failures failed.1)
-
-  -- a device failed where the code is ioErr, and only there
-  pub caused : (failures : S → ℕ) (fault : OpenFault) (c : OsErr) → Ok c ≡ code_of fault → CountsFault (failures old) (failures new) fault
-      → ((c ≡ IoErr) × SomeFailed failures now.stores (set stores (k - 1) new)) ⊎ ((c ≢ IoErr) × NoneFailed failures now.stores (set stores (k - 1) new))
-  caused failures fault c is counts = by (caused_by_code (failures old) (failures new) fault c is counts)
-    where
-      by : ((c ≡ IoErr) × Rose (failures old) (failures new)) ⊎ ((c ≢ IoErr) × (failures new ≡ failures old))
-          → ((c ≡ IoErr) × SomeFailed failures now.stores (set stores (k - 1) new)) ⊎ ((c ≢ IoErr) × NoneFailed failures now.stores (set stores (k - 1) new))
-      by (inl failed) = inl (failed.0, some_failed fork is_honest chain loads stores now view_is (k - 1) within old new value failures failed.1)
-      by (inr same) = inr (same.0, none_failed fork is_honest chain loads stores now view_is (k - 1) within old new value failures same.1)
+      by : (IsOpening (Err c) × (is_honest new → Reads (fork old) (Err c)) × (failures new ≡ failures old)) ⊎ ((c ≡ IoErr) × Rose (failures old) (failures new))
+          → (IsOpening (Err c) × (All is_honest (set stores (k - 1) new) → Reads (fork_of fork k now.stores) (Err c)) × NoneFailed failures now.stores (set stores (k - 1) new))
+          ⊎ ((c ≡ IoErr) × FailedAt failures k now.stores (set stores (k - 1) new))
+      by (inl refused) = inl (
+        refused.0,
+        (λ honest. subst (λ (bytes : List ℕ). Reads bytes (Err c)) (sym fork_is) (refused.1 (mine fork is_honest chain loads stores now view_is (k - 1) within old new value honest))),
+        none_failed fork is_honest chain loads stores now view_is (k - 1) within old new value failures refused.2,
+      )
+      by (inr failed) = inr (failed.0, this_failed fork is_honest chain loads stores now view_is (k - 1) within old new value failures failed.1)
 
 -- what holds in any case holds where there is an error
 pub on_err : {A E : Type 0} (r : Result A E) (P : Type 0) → P → OnErr r P

@@ -1,11 +1,11 @@
 -- The store of an open file is written anew: how the files stand then, and how they are seen.
-use Rattle.std.proofs.Common.{◌≡◌, refl, sym, ap, ◌∙◌, subst, arith, ℕ, zero, suc, ◌+◌, ◌-◌, ◌<◌, ◌≤◌, List, [], ◌∷◌, length, map, set, get_or, slice_get, unwrap_or, Bool, true, false, Option, None, Some, Result, Ok, Err, IfSome, All, IsTrue, find}
+use Rattle.std.proofs.Common.{◌≡◌, refl, sym, ap, ◌∙◌, subst, arith, ℕ, suc, ◌+◌, ◌-◌, ◌<◌, ◌≤◌, List, [], ◌∷◌, length, map, set, get_or, slice_get, unwrap_or, Bool, true, false, Option, None, Some, Result, Ok, Err, IfSome, All, IsTrue}
 use Rattle.std.specs.Prelude.{◌↔◌, ◌&&◌, IsFalse, IsErrOf, if◌then◌else◌}
 use Rattle.std.specs.List.{AllByRecursion}
 use Rattle.std.specs.Option.{option_map, option_map_or}
-use Rattle.std.proofs.lemmas.List.{length-set}
+use Rattle.std.proofs.lemmas.List.{length-map, length-set}
 use Rattle.std.proofs.lemmas.List.Elements.{All-cons, All-nil, All-head, All-tail}
-use Rattle.std.proofs.lemmas.Option.{slice_get-map, slice_get_read, same_Some}
+use Rattle.std.proofs.lemmas.Option.{slice_get-map, slice_get_read}
 use Rattle.mac_base.specs.HandleTable.{HandleTable}
 use Rattle.fork_bytes.specs.Fork.{max_rows, StandsFor}
 use Rattle.fork_bytes.specs.Laws.{IsGrouped}
@@ -17,12 +17,10 @@ use Rattle.fork_reader.specs.declared.place.Place.{Place}
 use Rattle.res_table.specs.declared.row.Row.{Row}
 use Rattle.res_table.specs.declared.chain.ResourceTable.{ResourceTable}
 use Rattle.res_table.specs.declared.chain.OpenFile.{OpenFile}
-use Rattle.res_table.specs.Rows.{is_changed, opened_row}
-use Rattle.res_table.specs.Saved.{saved_rows}
-use Rattle.res_table.specs.OpenFiles.{OpenFiles, is_open, is_numbered, table_in, table_of, with_rows, rows_changed, without, last_number, is_current, file_closed}
-use Rattle.res_calls.specs.Changes.{Files, FileRow, FileTable, rows_of, rows_in, saved_table, opened_table}
-use Rattle.res_calls.specs.Device.{Reads}
-use Rattle.res_calls.specs.Device as device
+use Rattle.res_table.specs.Rows.{is_changed}
+use Rattle.res_table.specs.OpenFiles.{OpenFiles, is_open, table_of, rows_changed, without, last_number, is_current, file_closed}
+use Rattle.res_calls.specs.Answered.{AnswersFor, blank_files}
+use Rattle.res_calls.specs.Changes.{Files, FileRow, FileTable, rows_of, rows_in, saved_table}
 use Rattle.res_calls.specs.Tests.{is_lent_row}
 use Rattle.res_update.specs.declared.fault.UpdateFault.{UpdateFault}
 use Rattle.res_update.specs.declared.fault.UpdateFault.TheVariants.{TooBig, HostFull, Device}
@@ -31,21 +29,18 @@ use Rattle.res_update.specs.declared.selection.Selection.TheVariants.{AllChanged
 use Rattle.res_update.specs.Drafts.{is_selected}
 use Rattle.res_update.specs.Placed.{bytes_on, rows_on, table_on, AreInside, IsInside, IsNear}
 use Rattle.res_update.specs.Selected.{updated, reads_lent, CountsUpdate}
-use Rattle.res_update.proofs.Saving.{itself}
 use Rattle.res_files.specs.FilesOn.{FilesOn, fork_of, forks_with}
-use Rattle.res_files.specs.Known.{IsSaved, reopened_table}
 use Rattle.res_files.specs.Standing.{fork_at, files_on, AreSmall, Holds, StandsOn, StandOn}
 use Rattle.res_files.specs.Updating.{row_placed, rows_placed}
+use Rattle.res_files.proofs.Blank.{same_blank}
 use Rattle.res_files.proofs.Grouped.{placed_grouped, updated_grouped}
-use Rattle.res_files.proofs.KnownForks.{rows_reopened}
 use Rattle.res_files.proofs.Mapped.{mapped_row, mapped_rows, mapped_table, any-mapped, get-mapped, set-mapped, table-mapped, without-mapped, closed-mapped}
 use Rattle.res_files.proofs.On.{seen, bytes_in}
-use Rattle.res_files.proofs.PlacedRows.{table_changed}
 use Rattle.res_files.proofs.Stands.{table_stands, stand_closed, any_changed, apart_changed}
-use Rattle.res_files.proofs.Stores.{new_set, stand_set}
+use Rattle.res_files.proofs.Stores.{get_set, stand_set}
 use Rattle.res_files.proofs.Updated.{all_placed, one_placed}
 use Rattle.res_files.proofs.Using.{mine}
-use Rattle.res_files.proofs.Written.{others_seen, one_seen, rest_seen, others_stand, one_stands, rest_stands}
+use Rattle.res_files.proofs.Written.{from_one, others_seen, one_seen, rest_seen, others_stand, one_stands, rest_stands}
 
 -- what is lent is told by handles and attributes
 lent-mapped : {D E : Type 0} (f : D → E) (t : HandleTable) (selection : Selection) (rows : List (Row D)) → reads_lent t selection (mapped_rows f rows) ≡ reads_lent t selection rows
@@ -55,12 +50,6 @@ lent-mapped {D} {E} f t (RowAt index) rows = ap (λ (found : Option (Row E)). op
     by : (found : Option (Row D)) → option_map_or (is_lent_row t) (option_map (mapped_row f) found) false ≡ option_map_or (is_lent_row t) found false
     by None = refl
     by (Some r) = refl
-
--- what was set is there
-pub get_set : {X : Type 0} (xs : List X) (i : ℕ) (y : X) → i < length xs → slice_get (set xs i y) i ≡ Some y
-get_set [] i y within = absurd (omega (arith, within))
-get_set (x ∷ xs) zero y within = refl
-get_set (x ∷ xs) (suc i) y within = get_set xs i y (omega (arith, within))
 
 -- rows at new places: as many, and what holds of the places holds of theirs
 long_placed : (selection : Selection) (at : ℕ) (rows : List (Row Place)) (places : List Place) → length (rows_placed selection at rows places) ≡ length rows
@@ -75,12 +64,6 @@ all_at_places P selection at (r ∷ rows) [] same all = absurd (cc same)
 all_at_places P selection at (r ∷ rows) (place ∷ places) same all =
     All-cons (λ r. P r.resource.datum) (row_placed (is_selected selection at r) place r) (rows_placed selection (at + 1) rows places) (All-head P place places all)
     (all_at_places P selection (at + 1) rows places (omega (arith, same)) (All-tail P place places all))
-
--- each number is 1 or more
-from_one : {S : Type 0} (fork : S → List ℕ) (is_ready is_honest : S → Type 0) (stores : List S) (files : List (OpenFile Place)) → AllByRecursion (StandsOn fork is_ready is_honest stores) files
-    → AllByRecursion (λ (f : OpenFile Place). 1 ≤ f.number) files
-from_one fork is_ready is_honest stores [] each = tt
-from_one fork is_ready is_honest stores (f ∷ files) each = (each.0.from_one, from_one fork is_ready is_honest stores files each.1)
 
 -- a fault of one result is that of another
 abbrev fault_or : {A E : Type 0} → Result A E → E → E
@@ -161,25 +144,25 @@ module _ {S : Type 0} (fork : S → List ℕ) (is_ready is_honest : S → Type 0
       honest_here = mine fork is_honest chain loads stores now view_is (k - 1) within old new value
 
       -- when no fork holds the table
-      pub fits_ok : {A B : Type 0} (a : A) (b : B) (P : FileTable → Type 0) → (is_honest new → IsErrOf {T = A} {E = UpdateFault} (Ok a) TooBig ↔ P (table_on (fork old) table))
-          → All is_honest (set stores (k - 1) new) → IfSome (table_of k now.files) (λ shown. IsErrOf {T = B} {E = UpdateFault} (Ok b) TooBig ↔ P shown)
-      fits_ok {A} {B} a b P is honest =
-          of_table (λ shown. IsErrOf {T = B} {E = UpdateFault} (Ok b) TooBig ↔ P shown) ((λ e. absurd (cc e)), (λ p. absurd (cc ((is (honest_here honest)).1 p))))
+      pub fits_ok : {A B : Type 0} (a : A) (b : B) (P : FileTable → Type 0) → IsErrOf {T = A} {E = UpdateFault} (Ok a) TooBig ↔ P (table_on (fork old) table)
+          → IfSome (table_of k now.files) (λ shown. IsErrOf {T = B} {E = UpdateFault} (Ok b) TooBig ↔ P shown)
+      fits_ok {A} {B} a b P is =
+          of_table (λ shown. IsErrOf {T = B} {E = UpdateFault} (Ok b) TooBig ↔ P shown) ((λ e. absurd (cc e)), (λ p. absurd (cc (is.1 p))))
 
-      pub fits_err : (A B : Type 0) (fault : UpdateFault) (P : FileTable → Type 0) → (is_honest new → IsErrOf {T = A} {E = UpdateFault} (Err fault) TooBig ↔ P (table_on (fork old) table))
-          → All is_honest (set stores (k - 1) new) → IfSome (table_of k now.files) (λ shown. IsErrOf {T = B} {E = UpdateFault} (Err fault) TooBig ↔ P shown)
-      fits_err A B fault P is honest =
-          let same = is (honest_here honest) in
-          of_table (λ shown. IsErrOf {T = B} {E = UpdateFault} (Err fault) TooBig ↔ P shown) ((λ e. same.0 (fault_as {A = B} {B = A} fault TooBig e)), (λ p. fault_as {A = A} {B = B} fault TooBig (same.1 p)))
+      pub fits_err : (A B : Type 0) (fault : UpdateFault) (P : FileTable → Type 0) → IsErrOf {T = A} {E = UpdateFault} (Err fault) TooBig ↔ P (table_on (fork old) table)
+          → IfSome (table_of k now.files) (λ shown. IsErrOf {T = B} {E = UpdateFault} (Err fault) TooBig ↔ P shown)
+      fits_err A B fault P is =
+          of_table (λ shown. IsErrOf {T = B} {E = UpdateFault} (Err fault) TooBig ↔ P shown) ((λ e. is.0 (fault_as {A = B} {B = A} fault TooBig e)), (λ p. fault_as {A = A} {B = B} fault TooBig (is.1 p)))
 
-      abbrev forks' : List (List ℕ)
-      forks' = set (map fork stores) (k - 1) (fork new)
+      -- the forks, with these bytes on the store
+      abbrev forks_now : List ℕ → List (List ℕ)
+      forks_now bytes = set (map fork stores) (k - 1) bytes
 
-      forks_set : map fork (set stores (k - 1) new) ≡ forks'
+      forks_set : map fork (set stores (k - 1) new) ≡ forks_now (fork new)
       forks_set = sym (set-mapped fork stores (k - 1) new)
 
-      fork_set : fork_at forks' k ≡ fork new
-      fork_set = ap (λ (o : Option (List ℕ)). unwrap_or o []) (ap (λ (xs : List (List ℕ)). slice_get xs (k - 1)) (sym forks_set) ∙ slice_get-map fork (set stores (k - 1) new) (k - 1) ∙ ap (option_map fork) (get_set stores (k - 1) new within))
+      fork_set : (bytes : List ℕ) → fork_at (forks_now bytes) k ≡ bytes
+      fork_set bytes = ap (λ (o : Option (List ℕ)). unwrap_or o []) (get_set (map fork stores) (k - 1) bytes (subst (λ (n : ℕ). k - 1 < n) (sym (length-map stores fork)) within))
 
       forks_seen : map fork (set stores (k - 1) new) ≡ forks_with fork k (fork new) now.stores
       forks_seen = forks_set ∙ ap (λ (xs : List S). set (map fork xs) (k - 1) (fork new)) (sym stores_are)
@@ -201,75 +184,45 @@ module _ {S : Type 0} (fork : S → List ℕ) (is_ready is_honest : S → Type 0
           of_table (λ shown. StandsFor (fork_of fork k (set stores (k - 1) new)) (saved_table (updated t selection shown)))
           (subst (λ (bytes : List ℕ). StandsFor bytes saved) (sym new_is) (is (honest_here honest) (updated_grouped t selection (fork old) table small.grouped)))
 
-      -- the rows at their places
-      placed_seen : (t : HandleTable) (selection : Selection) (places : List Place) → map (bytes_on (fork new)) places ≡ map (λ (r : FileRow). r.resource.datum) (updated t selection (table_on (fork old) table)).rows
-          → rows_on (fork new) (rows_placed selection 0 table.rows places) ≡ (updated t selection (table_on (fork old) table)).rows
-      placed_seen t AllChanged places is = all_placed t (fork old) (fork new) 0 table.rows places is
-      placed_seen t (RowAt index) places is =
+      -- the rows at their places in a fork
+      placed_seen : (t : HandleTable) (selection : Selection) (places : List Place) (bytes : List ℕ) → map (bytes_on bytes) places ≡ map (λ (r : FileRow). r.resource.datum) (updated t selection (table_on (fork old) table)).rows
+          → rows_on bytes (rows_placed selection 0 table.rows places) ≡ (updated t selection (table_on (fork old) table)).rows
+      placed_seen t AllChanged places bytes is = all_placed t (fork old) bytes 0 table.rows places is
+      placed_seen t (RowAt index) places bytes is =
           let same : index ≡ 0 + index = omega arith in
-          ap (λ (i : ℕ). rows_on (fork new) (rows_placed (RowAt i) 0 table.rows places)) same ∙ one_placed t (fork old) (fork new) index 0 table.rows places is
+          ap (λ (i : ℕ). rows_on bytes (rows_placed (RowAt i) 0 table.rows places)) same ∙ one_placed t (fork old) bytes index 0 table.rows places is
 
-      pub rows_seen : (t : HandleTable) (selection : Selection) (places : List Place) (more : OpenFiles Place) → more ≡ rows_changed k (λ rows. rows_placed selection 0 rows places) chain
-          → (is_honest new → map (bytes_on (fork new)) places ≡ map (λ (r : FileRow). r.resource.datum) (updated t selection (table_on (fork old) table)).rows)
-          → All is_honest (set stores (k - 1) new) → IfSome (table_of k now.files) (λ shown. files_on (map fork (set stores (k - 1) new)) more ≡ rows_changed k (λ _. (updated t selection shown).rows) now.files)
-      rows_seen t selection places more more_is is honest =
+      -- the files, with a fork in which they have the bytes of the update
+      rows_on_fork : (t : HandleTable) (selection : Selection) (places : List Place) (bytes : List ℕ) → map (bytes_on bytes) places ≡ map (λ (r : FileRow). r.resource.datum) (updated t selection (table_on (fork old) table)).rows
+          → files_on (forks_now bytes) (rows_changed k (λ rows. rows_placed selection 0 rows places) chain) ≡ rows_changed k (λ _. (updated t selection (table_on (fork old) table)).rows) now.files
+      rows_on_fork t selection places bytes is =
           let own : List (Row Place) → List (Row Place) = λ rows. rows_placed selection 0 rows places in
           let rows = (updated t selection (table_on (fork old) table)).rows in
-          let mine_is : rows_on (fork_at forks' k) (own table.rows) ≡ rows = ap (λ (bytes : List ℕ). rows_on bytes (own table.rows)) fork_set ∙ placed_seen t selection places (is (honest_here honest)) in
-          of_table (λ shown. files_on (map fork (set stores (k - 1) new)) more ≡ rows_changed k (λ _. (updated t selection shown).rows) now.files)
-          (ap (files_on (map fork (set stores (k - 1) new))) more_is
-          ∙ ap (λ (all : List (List ℕ)). files_on all (rows_changed k own chain)) forks_set
-          ∙ ap (λ (files : List (OpenFile (List ℕ))). let all : Files = record { files = files; current = chain.current } in all)
-          (one_seen k low (map fork stores) (fork new) own rows chain.files (from_one fork is_ready is_honest stores chain.files stand.each) stand.apart
-          (subst (λ (found : Option (ResourceTable Place)). IfSome found (λ (table : ResourceTable Place). rows_on (fork_at forks' k) (own table.rows) ≡ rows)) (sym here) mine_is))
-          ∙ ap (λ (v : FilesOn S). rows_changed k (λ _. rows) v.files) view_is)
+          let mine_is : rows_on (fork_at (forks_now bytes) k) (own table.rows) ≡ rows = ap (λ (all : List ℕ). rows_on all (own table.rows)) (fork_set bytes) ∙ placed_seen t selection places bytes is in
+          ap (λ (files : List (OpenFile (List ℕ))). let all : Files = record { files = files; current = chain.current } in all)
+          (one_seen k low (map fork stores) bytes own rows chain.files (from_one fork is_ready is_honest stores chain.files stand.each) stand.apart
+          (subst (λ (found : Option (ResourceTable Place)). IfSome found (λ (table : ResourceTable Place). rows_on (fork_at (forks_now bytes) k) (own table.rows) ≡ rows)) (sym here) mine_is))
+          ∙ ap (λ (v : FilesOn S). rows_changed k (λ _. rows) v.files) view_is
 
-      -- once the file is closed, what is read of it is what was written
-      updated_is : (t : HandleTable) (selection : Selection) (shown : FileTable) → updated t selection shown ≡ record { rows = (updated t selection shown).rows; extra = shown.extra; map_attributes = shown.map_attributes }
-      updated_is t AllChanged shown = refl
-      updated_is t (RowAt index) shown = refl
-
-      pub saved_written : (same : is_honest new → is_honest old) (t : HandleTable) (selection : Selection) (places : List Place) (more : OpenFiles Place) → more ≡ rows_changed k (λ rows. rows_placed selection 0 rows places) chain
-          → (is_honest new → map (bytes_on (fork new)) places ≡ map (λ (r : FileRow). r.resource.datum) (updated t selection (table_on (fork old) table)).rows)
-          → (is_honest new → IsGrouped (saved_table (updated t selection (table_on (fork old) table))).rows → StandsFor (fork new) (saved_table (updated t selection (table_on (fork old) table))))
-          → IsSaved fork is_honest (set stores (k - 1) new) more (Some k)
-      saved_written same t selection places more more_is bytes stands =
-          subst (λ (now : OpenFiles Place). IsSaved fork is_honest (set stores (k - 1) new) now (Some k)) (sym more_is)
-          (subst (λ (found : Option (ResourceTable Place)). IfSome found (λ table. IfSome (slice_get (set stores (k - 1) new) (k - 1)) (ReadsAs table))) (sym table_now) (new_set (ReadsAs placed) stores (k - 1) new reads_new))
-        where
-          ReadsAs : ResourceTable Place → S → Type 0
-          ReadsAs table store = is_honest store → Reads (fork store) (Ok (table_on (fork store) (reopened_table table)))
-
-          own : List (Row Place) → List (Row Place)
-          own rows = rows_placed selection 0 rows places
-
-          placed : ResourceTable Place
-          placed = record { rows = own table.rows; extra = table.extra; map_attributes = table.map_attributes }
-
-          table_now : table_of k (rows_changed k own chain) ≡ Some placed
-          table_now = ap (option_map table_in) (table_changed k own chain.files) ∙ by (find (is_numbered k) chain.files) here
-            where
-              by : (found : Option (OpenFile Place)) → option_map table_in found ≡ Some table → option_map table_in (option_map (with_rows own) found) ≡ Some placed
-              by None is = absurd (cc is)
-              by (Some f) is = ap (λ (t : ResourceTable Place). let now : ResourceTable Place = record { rows = own t.rows; extra = t.extra; map_attributes = t.map_attributes } in Some now) (same_Some f.table table is)
-
-          table_with : List FileRow → FileTable
-          table_with rows = record { rows = rows; extra = table.extra; map_attributes = table.map_attributes }
-
-          shown_is : is_honest new → opened_table (saved_table (updated t selection (table_on (fork old) table))) ≡ table_on (fork new) (reopened_table placed)
-          shown_is was =
-              ap (λ (shown : FileTable). opened_table (saved_table shown)) (updated_is t selection (table_on (fork old) table))
-              ∙ ap (λ (rows : List FileRow). table_with (map opened_row (saved_rows itself rows))) (sym (placed_seen t selection places (bytes was)))
-              ∙ ap table_with (rows_reopened (fork new) (own table.rows))
-
-          reads_new : ReadsAs placed new
-          reads_new honest =
-              let was = honest in
-              subst (λ (shown : FileTable). Reads (fork new) (Ok shown)) (shown_is was)
-              (device.fork (saved_table (updated t selection (table_on (fork old) table))) (stands was (updated_grouped t selection (fork old) table small.grouped)))
+      pub rows_seen : (t : HandleTable) (selection : Selection) (places : List Place) (more : OpenFiles Place) → more ≡ rows_changed k (λ rows. rows_placed selection 0 rows places) chain
+          → (is_honest new → fork new ≡ written (saved_table (updated t selection (table_on (fork old) table))))
+          → map (bytes_on (written (saved_table (updated t selection (table_on (fork old) table))))) places ≡ map (λ (r : FileRow). r.resource.datum) (updated t selection (table_on (fork old) table)).rows
+          → IfSome (table_of k now.files) (λ shown. AnswersFor (All is_honest (set stores (k - 1) new)) (rows_changed k (λ _. (updated t selection shown).rows) now.files) (files_on (map fork (set stores (k - 1) new)) more))
+      rows_seen t selection places more more_is written_is is =
+          let bytes = written (saved_table (updated t selection (table_on (fork old) table))) in
+          let placed = rows_changed k (λ rows. rows_placed selection 0 rows places) chain in
+          of_table (λ shown. AnswersFor (All is_honest (set stores (k - 1) new)) (rows_changed k (λ _. (updated t selection shown).rows) now.files) (files_on (map fork (set stores (k - 1) new)) more)) (
+            ap (λ (all : OpenFiles Place). blank_files (files_on (map fork (set stores (k - 1) new)) all)) more_is
+                ∙ same_blank (map fork (set stores (k - 1) new)) (forks_now bytes) placed
+                ∙ ap blank_files (rows_on_fork t selection places bytes is),
+            λ honest.
+                ap (files_on (map fork (set stores (k - 1) new))) more_is
+                ∙ ap (λ (all : List (List ℕ)). files_on all placed) (forks_set ∙ ap forks_now (written_is (honest_here honest)))
+                ∙ rows_on_fork t selection places bytes is,
+          )
 
       -- the others, once it is closed
-      closed_on : files_on forks' (file_closed k chain) ≡ files_on (map fork stores) (file_closed k chain)
+      closed_on : files_on (forks_now (fork new)) (file_closed k chain) ≡ files_on (map fork stores) (file_closed k chain)
       closed_on = by (is_open k chain) refl
         where
           from : AllByRecursion (λ (f : OpenFile Place). 1 ≤ f.number) chain.files
@@ -278,28 +231,32 @@ module _ {S : Type 0} (fork : S → List ℕ) (is_ready is_honest : S → Type 0
           current : Option ℕ
           current = if is_current k chain then last_number (without k chain.files) else chain.current
 
-          by : (b : Bool) → is_open k chain ≡ b → files_on forks' (if b then record { files = without k chain.files; current = current } else chain)
+          by : (b : Bool) → is_open k chain ≡ b → files_on (forks_now (fork new)) (if b then record { files = without k chain.files; current = current } else chain)
               ≡ files_on (map fork stores) (if b then record { files = without k chain.files; current = current } else chain)
           by true open_now = ap (λ (files : List (OpenFile (List ℕ))). let all : Files = record { files = files; current = current } in all)
               (rest_seen k low (map fork stores) (fork new) chain.files from stand.apart ∙ without-mapped (bytes_in (map fork stores)) k chain.files)
           by false none = ap (λ (files : List (OpenFile (List ℕ))). let all : Files = record { files = files; current = chain.current } in all) (others_seen k low (map fork stores) (fork new) chain.files from none)
 
-      pub left_seen : (may_leave : List ℕ → List ℕ → List ℕ → Type 0) (t : HandleTable) (selection : Selection) (more : OpenFiles Place) → more ≡ file_closed k chain
+      pub closed_seen : (more : OpenFiles Place) → more ≡ file_closed k chain → files_on (map fork (set stores (k - 1) new)) more ≡ file_closed k now.files
+      closed_seen more more_is =
+          ap (files_on (map fork (set stores (k - 1) new))) more_is
+          ∙ ap (λ (all : List (List ℕ)). files_on all (file_closed k chain)) forks_set
+          ∙ closed_on
+          ∙ sym (closed-mapped (bytes_in (map fork stores)) k chain)
+          ∙ ap (λ (v : FilesOn S). file_closed k v.files) view_is
+
+      -- what is left on the disk then
+      pub left_seen : (may_leave : List ℕ → List ℕ → List ℕ → Type 0) (t : HandleTable) (selection : Selection)
           → (is_honest new → may_leave (written (saved_table (updated t selection (table_on (fork old) table)))) (fork old) (fork new))
           → All is_honest (set stores (k - 1) new) → IfSome (table_of k now.files) (λ shown. (left : List ℕ) × may_leave (written (saved_table (updated t selection shown))) (fork_of fork k now.stores) left
-          × (map fork (set stores (k - 1) new) ≡ forks_with fork k left now.stores) × (files_on (map fork (set stores (k - 1) new)) more ≡ file_closed k now.files))
-      left_seen may_leave t selection more more_is is honest =
+          × (map fork (set stores (k - 1) new) ≡ forks_with fork k left now.stores))
+      left_seen may_leave t selection is honest =
           let new_bytes = written (saved_table (updated t selection (table_on (fork old) table))) in
           of_table (λ shown. (left : List ℕ) × may_leave (written (saved_table (updated t selection shown))) (fork_of fork k now.stores) left
-          × (map fork (set stores (k - 1) new) ≡ forks_with fork k left now.stores) × (files_on (map fork (set stores (k - 1) new)) more ≡ file_closed k now.files)) (
+          × (map fork (set stores (k - 1) new) ≡ forks_with fork k left now.stores)) (
             fork new,
             subst (λ (bytes : List ℕ). may_leave new_bytes bytes (fork new)) (sym fork_is) (is (honest_here honest)),
             forks_seen,
-            ap (files_on (map fork (set stores (k - 1) new))) more_is
-                ∙ ap (λ (all : List (List ℕ)). files_on all (file_closed k chain)) forks_set
-                ∙ closed_on
-                ∙ sym (closed-mapped (bytes_in (map fork stores)) k chain)
-                ∙ ap (λ (v : FilesOn S). file_closed k v.files) view_is,
           )
 
       -- the files stand, once it is written

@@ -1,11 +1,11 @@
 -- The files stand on their stores: what follows of a row, and what keeps it.
-use Rattle.std.proofs.Common.{◌≡◌, refl, sym, ap, ◌∙◌, subst, arith, ℕ, zero, suc, ◌-◌, ◌<◌, ◌≤◌, List, [], ◌∷◌, ◌++◌, length, map, set, slice_get, get_or, Bool, true, false, not, cond, Option, None, Some, find, remove, IfSome, IsTrue, All, take, drop, unwrap_or, ◌||◌, if◌then◌else◌}
+use Rattle.std.proofs.Common.{◌≡◌, refl, sym, ap, ◌∙◌, subst, arith, ℕ, zero, suc, ◌-◌, ◌<◌, ◌≤◌, List, [], ◌∷◌, ◌++◌, length, map, set, slice_get, get_or, Bool, true, false, not, cond, Option, None, Some, find, remove, IfSome, IsTrue, All, take, drop, ◌||◌, if◌then◌else◌}
 use Rattle.std.specs.Prelude.{◌==◌, ◌&&◌}
 use Rattle.std.specs.List.{list_any, AllByRecursion}
 use Rattle.std.specs.Option.{option_map, option_or, option_map_or, option_and_then}
 use Rattle.std.proofs.lemmas.Bool.{eqb-true, eqb-false, eq-eqb, ne_eqb}
 use Rattle.std.proofs.lemmas.List.Elements.{All-set, All-cons, All-nil, All-append, All-take, All-drop, All-head, All-tail}
-use Rattle.std.proofs.lemmas.Option.{slice_get-map, slice_get_within, slice_get_read, get_or_from_slice_get, same_Some}
+use Rattle.std.proofs.lemmas.Option.{slice_get_within, slice_get_read, get_or_from_slice_get, same_Some}
 use Rattle.fork_bytes.specs.Fork.{max_rows}
 use Rattle.fork_reader.specs.declared.place.Place.{Place}
 use Rattle.res_table.specs.declared.row.Row.{Row}
@@ -15,7 +15,7 @@ use Rattle.res_table.specs.declared.chain.RowPlace.{RowPlace}
 use Rattle.res_table.specs.Rows.{is_of_type, has_handle, added, changed_at, removed_at, forgotten, forgetting, with_handle}
 use Rattle.res_table.specs.OpenFiles.{OpenFiles, is_numbered, is_open, table_in, table_of, row_at, with_rows, changed_file, rows_changed, without, last_number, is_current, file_closed, file_opened, file_used, file_forgotten, handle_forgotten}
 use Rattle.res_update.specs.Placed.{AreInside, IsInside, IsNear}
-use Rattle.res_files.specs.Standing.{fork_at, AreSmall, Holds, StandsOn, AreApart, StandOn, placed_rows, placed_rows_of}
+use Rattle.res_files.specs.Standing.{AreSmall, Holds, StandsOn, AreApart, StandOn, placed_rows, placed_rows_of}
 use Rattle.res_files.proofs.Grouped.{changed_grouped, removed_grouped, forgotten_grouped, added_grouped}
 
 -- a change of rows after which they stand where they stood
@@ -401,38 +401,8 @@ module _ {S : Type 0} (fork : S → List ℕ) (is_ready is_honest : S → Type 0
       by None open_now = open_now
       by (Some n) open_now = subst IsTrue (sym (any_changed n k (added new) chain.files)) open_now
 
--- the bytes of a row stand at its place
-no_less : {X : Type 0} (xs : List X) (i : ℕ) → i < length xs → slice_get xs i ≡ None → ⊥
-no_less [] i within is = omega arith
-no_less (x ∷ xs) zero within is = cc is
-no_less (x ∷ xs) (suc i) within is = no_less xs i (omega arith) is
-
 module _ {S : Type 0} (fork : S → List ℕ) (is_ready is_honest : S → Type 0) (stores : List S) where
-  pub row_inside : (place : RowPlace) (chain : OpenFiles Place) (r : Row Place) → StandOn fork is_ready is_honest stores chain → row_at place chain ≡ Some r → All is_honest stores
-      → IsInside (fork_at (map fork stores) place.file) r.resource.datum
-  row_inside place chain r stand is honest = by (table_of place.file chain) refl is
-    where
-      at_row : (table : ResourceTable Place) (bytes : List ℕ) → slice_get table.rows place.index ≡ Some r → AreInside bytes table.rows → IsInside bytes r.resource.datum
-      at_row table bytes here inside =
-          let P : Row Place → Type 0 = λ x. IsInside bytes x.resource.datum in
-          subst P (get_or_from_slice_get table.rows place.index r r here) (inside place.index r (slice_get_within table.rows place.index r here))
-
-      on_store : (table : ResourceTable Place) → slice_get table.rows place.index ≡ Some r → (1 ≤ place.file) → (place.file ≤ length stores) → (found : Option S) → slice_get stores (place.file - 1) ≡ found
-          → IfSome found (Holds fork is_ready is_honest table.rows) → IsInside (fork_at (map fork stores) place.file) r.resource.datum
-      on_store table here low high None e held = absurd (no_less stores (place.file - 1) (omega (arith, low, high)) e)
-      on_store table here low high (Some s) e held =
-          let mine = subst is_honest (get_or_from_slice_get stores (place.file - 1) s s e) (honest (place.file - 1) s (slice_get_within stores (place.file - 1) s e)) in
-          let fork_is : fork_at (map fork stores) place.file ≡ fork s = ap (λ (o : Option (List ℕ)). unwrap_or o []) (slice_get-map fork stores (place.file - 1) ∙ ap (option_map fork) e) in
-          subst (λ (bytes : List ℕ). IsInside bytes r.resource.datum) (sym fork_is) (at_row table (fork s) here (held mine).1)
-
-      by : (found : Option (ResourceTable Place)) → table_of place.file chain ≡ found → option_and_then (λ (table : ResourceTable Place). slice_get table.rows place.index) found ≡ Some r
-          → IsInside (fork_at (map fork stores) place.file) r.resource.datum
-      by None e here = absurd (cc here)
-      by (Some table) e here =
-          let stands = table_stands fork is_ready is_honest stores place.file chain table stand e in
-          on_store table here stands.0 stands.1 (slice_get stores (place.file - 1)) refl stands.3
-
-  -- and where a row stands on its store
+  -- where a row stands on its store
   pub row_stands : (place : RowPlace) (chain : OpenFiles Place) (r : Row Place) → StandOn fork is_ready is_honest stores chain → row_at place chain ≡ Some r
       → (1 ≤ place.file) × (place.file ≤ length stores) × IfSome (slice_get stores (place.file - 1)) (λ s. is_honest s → is_ready s × IsInside (fork s) r.resource.datum)
   row_stands place chain r stand is = by (table_of place.file chain) refl is

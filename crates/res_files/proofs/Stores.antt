@@ -1,7 +1,6 @@
 -- One of the stores is another: what stays the same of all.
-use Rattle.std.proofs.Common.{◌≡◌, sym, subst, arith, ℕ, zero, suc, ◌-◌, ◌<◌, ◌≤◌, List, [], ◌∷◌, length, set, get_or, slice_get, IfSome, All}
+use Rattle.std.proofs.Common.{◌≡◌, refl, sym, subst, arith, ℕ, zero, suc, ◌-◌, ◌<◌, ◌≤◌, List, [], ◌∷◌, length, set, get_or, slice_get, Some, IfSome, All}
 use Rattle.std.specs.List.{AllByRecursion}
-use Rattle.std.specs.Option.{option_map_or}
 use Rattle.std.proofs.lemmas.List.{length-set}
 use Rattle.std.proofs.lemmas.List.Elements.{All-head, All-tail, All-from_recursion}
 use Rattle.fork_disk.specs.Disk.{Rose}
@@ -9,8 +8,14 @@ use Rattle.fork_reader.specs.declared.place.Place.{Place}
 use Rattle.res_table.specs.declared.chain.OpenFile.{OpenFile}
 use Rattle.res_table.specs.OpenFiles.{OpenFiles}
 use Rattle.res_update.specs.Placed.{AreInside}
-use Rattle.res_files.specs.FilesOn.{SomeFailed}
+use Rattle.res_files.specs.FilesOn.{failures_at}
 use Rattle.res_files.specs.Standing.{Holds, StandsOn, StandOn}
+
+-- what was set is there
+pub get_set : {X : Type 0} (xs : List X) (i : ℕ) (y : X) → i < length xs → slice_get (set xs i y) i ≡ Some y
+get_set [] i y within = absurd (omega (arith, within))
+get_set (x ∷ xs) zero y within = refl
+get_set (x ∷ xs) (suc i) y within = get_set xs i y (omega (arith, within))
 
 -- what holds at an index holds there still
 pub held_set : {S : Type 0} (P : S → Type 0) (xs : List S) (i n : ℕ) (y d : S) → (P (get_or xs i d) → P y) → IfSome (slice_get xs n) P → IfSome (slice_get (set xs i y) n) P
@@ -40,13 +45,10 @@ pub all_same : {S : Type 0} (P : S → Type 0) (xs : List S) (i : ℕ) (y d : S)
 all_same P xs i y d within same = λ all. All-from_recursion P xs (all_back P xs i y d within same (by_recursion P (set xs i y) all))
 
 -- a count of failures that rose
-pub one_failed : {S : Type 0} (failures : S → ℕ) (xs : List S) (i : ℕ) (y d : S) → i < length xs → Rose (failures (get_or xs i d)) (failures y) → SomeFailed failures xs (set xs i y)
-one_failed failures xs i y d within rose = (i, within, by xs i within rose)
-  where
-    by : (xs : List _) (i : ℕ) → i < length xs → Rose (failures (get_or xs i d)) (failures y) → Rose (option_map_or failures (slice_get xs i) 0) (option_map_or failures (slice_get (set xs i y) i) 0)
-    by [] i within rose = absurd (omega arith)
-    by (x ∷ xs) zero within rose = rose
-    by (x ∷ xs) (suc i) within rose = by xs i (omega arith) rose
+pub one_failed : {S : Type 0} (failures : S → ℕ) (xs : List S) (i : ℕ) (y d : S) → i < length xs → Rose (failures (get_or xs i d)) (failures y) → Rose (failures_at failures i xs) (failures_at failures i (set xs i y))
+one_failed failures [] i y d within rose = absurd (omega arith)
+one_failed failures (x ∷ xs) zero y d within rose = rose
+one_failed failures (x ∷ xs) (suc i) y d within rose = one_failed failures xs i y d (omega arith) rose
 
 -- the files stand on the stores still
 module _ {S : Type 0} (fork : S → List ℕ) (is_ready is_honest : S → Type 0) (stores : List S) (i : ℕ) (y d : S)

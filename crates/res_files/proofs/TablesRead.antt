@@ -1,5 +1,5 @@
 -- The table of a file that was read, and why it isn't.
-use Rattle.std.proofs.Common.{◌≡◌, ◌≢◌, refl, sym, ap, ◌∙◌, subst, arith, ℕ, ◌≤◌, ◌<◌, List, [], ◌∷◌, length, map, Result, Ok, Err, All, ◌⊎◌, inl, inr}
+use Rattle.std.proofs.Common.{◌≡◌, refl, sym, ap, ◌∙◌, subst, arith, ℕ, ◌≤◌, ◌<◌, List, [], ◌∷◌, length, map, replicate, Result, Ok, Err, All, ◌⊎◌, inl, inr}
 use Rattle.std.specs.List.{AllByRecursion}
 use Rattle.std.proofs.lemmas.List.{length-map}
 use Rattle.std.proofs.lemmas.List.Elements.{All-cons, All-nil}
@@ -8,6 +8,7 @@ use Rattle.mac_base.specs.declared.error.OsErr.{OsErr}
 use Rattle.mac_base.specs.declared.error.OsErr.TheVariants.{EofErr, MapReadErr, IoErr}
 use Rattle.fork_disk.specs.Disk.{Rose}
 use Rattle.fork_bytes.specs.Fork.{max_rows, StandsFor}
+use Rattle.fork_bytes.specs.Rows as fork
 use Rattle.fork_bytes.specs.declared.fault.ForkFault.TheVariants as bytes
 use Rattle.fork_reader.specs.declared.place.Place.{Place}
 use Rattle.fork_reader.specs.Reading.{PlacedRow, row_at, IsWithin}
@@ -17,25 +18,49 @@ use Rattle.fork_rows.specs.declared.table.PlacedTable.{PlacedTable}
 use Rattle.fork_rows.specs.Opening.{FitsInFork, AreGrouped, filled, RefusesToOpen, CountsFault}
 use Rattle.res_table.specs.declared.row.Row.{Row}
 use Rattle.res_table.specs.Rows.{opened_row}
-use Rattle.res_calls.specs.Changes.{FileRow}
+use Rattle.res_calls.specs.Answered.{IsOpening}
+use Rattle.res_calls.specs.Changes.{FileRow, FileTable}
 use Rattle.res_calls.specs.Device.{Reads}
 use Rattle.res_calls.specs.Device as device
-use Rattle.res_update.specs.Placed.{row_on, rows_on, table_on, AreInside, IsInside, IsNear}
+use Rattle.res_update.specs.Placed.{bytes_on, row_on, rows_on, table_on, AreInside, IsInside, IsNear}
+use Rattle.res_update.proofs.PlaceBytes.{on-inside}
 use Rattle.res_files.specs.Opening.{RefusesFile, code_of}
 use Rattle.res_files.specs.Standing.{AreSmall}
-use Rattle.res_files.proofs.Grouped.{none_grouped, opened_grouped}
+use Rattle.res_files.proofs.Grouped.{opened_grouped}
+
+-- a resource with the bytes at its place
+abbrev with_bytes : List ℕ → PlacedRow → fork.Row
+with_bytes bytes r = record { kind = r.kind; id = r.id; name = r.name; attributes = r.attributes; datum = bytes_on bytes r.datum }
 
 -- the rows that were read, with their bytes
-rows_read : (disk : List ℕ) (rows : List PlacedRow) → rows_on disk (map opened_row rows) ≡ map opened_row (map (row_at disk) rows)
-rows_read disk [] = refl
-rows_read disk (r ∷ rows) = ap (λ (rs : List FileRow). row_on disk (opened_row r) ∷ rs) (rows_read disk rows)
+rows_read : (disk : List ℕ) (rows : List PlacedRow) → AllByRecursion (IsWithin disk) rows → rows_on disk (map opened_row rows) ≡ map opened_row (map (row_at disk) rows)
+rows_read disk [] within = refl
+rows_read disk (r ∷ rows) within =
+    let row_of : List ℕ → FileRow = λ bytes. opened_row (record { kind = r.kind; id = r.id; name = r.name; attributes = r.attributes; datum = bytes }) in
+    ap (λ (bytes : List ℕ). row_of bytes ∷ rows_on disk (map opened_row rows)) (on-inside disk r.datum within.0)
+    ∙ ap (λ (rs : List FileRow). opened_row (row_at disk r) ∷ rs) (rows_read disk rows within.1)
 
 -- a fork is read
-pub reads_fork : (disk : List ℕ) (placed : PlacedTable) (rows : List (Row Place)) → rows ≡ map opened_row placed.rows → StandsFor disk (filled disk placed)
+pub reads_fork : (disk : List ℕ) (placed : PlacedTable) (rows : List (Row Place)) → rows ≡ map opened_row placed.rows → AllByRecursion (IsWithin disk) placed.rows → StandsFor disk (filled disk placed)
     → Reads disk (Ok (table_on disk (record { rows = rows; extra = placed.extra; map_attributes = placed.map_attributes })))
-reads_fork disk placed rows is stands =
+reads_fork disk placed rows is within stands =
     let P : List FileRow → Type 0 = λ rs. Reads disk (Ok (record { rows = rs; extra = placed.extra; map_attributes = placed.map_attributes })) in
-    subst P (sym (ap (rows_on disk) is ∙ rows_read disk placed.rows)) (device.fork (filled disk placed) stands)
+    subst P (sym (ap (rows_on disk) is ∙ rows_read disk placed.rows within)) (device.fork (filled disk placed) stands)
+
+-- whatever bytes stand at the places, the rows are such as an opening gives
+rows_opened : (fork : List ℕ) (rows : List PlacedRow) → rows_on fork (map opened_row rows) ≡ map opened_row (map (with_bytes fork) rows)
+rows_opened fork [] = refl
+rows_opened fork (r ∷ rows) = ap (λ (rs : List FileRow). row_on fork (opened_row r) ∷ rs) (rows_opened fork rows)
+
+pub opens : (fork : List ℕ) (placed : PlacedTable) (rows : List (Row Place)) → rows ≡ map opened_row placed.rows
+    → IsOpening (Ok (table_on fork (record { rows = rows; extra = placed.extra; map_attributes = placed.map_attributes })))
+opens fork placed rows is = (
+  record { rows = map (with_bytes fork) placed.rows; extra = placed.extra; map_attributes = placed.map_attributes },
+  ap (λ (rs : List FileRow). let table : FileTable = record { rows = rs; extra = placed.extra; map_attributes = placed.map_attributes } in table) (ap (rows_on fork) is ∙ rows_opened fork placed.rows),
+)
+
+pub opens_empty : (fork : List ℕ) → IsOpening (Ok device.empty_table)
+opens_empty fork = (record { rows = []; extra = replicate 240 0; map_attributes = 0 }, refl)
 
 -- what is said of the places of all that was read
 all_opened : (P : Place → Type 0) (rows : List PlacedRow) → AllByRecursion (λ (r : PlacedRow). P r.datum) rows → All (λ (r : Row Place). P r.resource.datum) (map opened_row rows)
@@ -60,12 +85,6 @@ no_bytes (b ∷ disk) none = absurd (omega (arith, none))
 pub reads_empty : (disk : List ℕ) → length disk ≡ 0 → Reads disk (Ok device.empty_table)
 reads_empty disk none = device.empty (no_bytes disk none)
 
-pub no_rows_small : AreSmall []
-no_rows_small = record { few = omega arith; grouped = none_grouped; near = All-nil (λ (r : Row Place). IsNear r.resource.datum) }
-
-pub no_rows_inside : (disk : List ℕ) → AreInside disk []
-no_rows_inside disk = All-nil (λ (r : Row Place). IsInside disk r.resource.datum)
-
 -- a fork that isn't opened is a file that isn't
 pub refused : (disk : List ℕ) (fault : OpenFault) → (length disk ≡ 0 → ⊥) → RefusesToOpen disk fault → RefusesFile disk fault
 refused disk (Fork bytes.EndOfFile) some told = device.short (more disk some) told
@@ -82,16 +101,13 @@ abbrev code : Result OsErr HostFull → OsErr → OsErr
 code (Ok c) other = c
 code (Err e) other = other
 
-pub told_by_code : (disk : List ℕ) (before now : ℕ) (fault : OpenFault) (c : OsErr) → Ok c ≡ code_of fault → RefusesFile disk fault → CountsFault before now fault
-    → Reads disk (Err c) ⊎ ((c ≡ IoErr) × Rose before now)
-told_by_code disk before now (Fork bytes.EndOfFile) c is told counts = inl (subst (λ (e : OsErr). Reads disk (Err e)) (sym (ap (λ r. code r IoErr) is)) told)
-told_by_code disk before now (Fork (bytes.BadMap condition)) c is told counts = inl (subst (λ (e : OsErr). Reads disk (Err e)) (sym (ap (λ r. code r IoErr) is)) told)
-told_by_code disk before now (Fork bytes.HostFull) c is told counts = absurd (cc is)
-told_by_code disk before now Device c is told counts = inr (ap (λ r. code r IoErr) is, counts)
-
--- the code of a fault is ioErr where the device failed, and only there
-pub caused_by_code : (before now : ℕ) (fault : OpenFault) (c : OsErr) → Ok c ≡ code_of fault → CountsFault before now fault → ((c ≡ IoErr) × Rose before now) ⊎ ((c ≢ IoErr) × (now ≡ before))
-caused_by_code before now (Fork bytes.EndOfFile) c is counts = inr (λ same. let e : EofErr ≡ IoErr = sym (ap (λ r. code r IoErr) is) ∙ same in absurd (cc e), counts)
-caused_by_code before now (Fork (bytes.BadMap condition)) c is counts = inr (λ same. let e : MapReadErr ≡ IoErr = sym (ap (λ r. code r IoErr) is) ∙ same in absurd (cc e), counts)
-caused_by_code before now (Fork bytes.HostFull) c is counts = absurd (cc is)
-caused_by_code before now Device c is counts = inl (ap (λ r. code r IoErr) is, counts)
+pub told_by_code : (honest : Type 0) (disk : List ℕ) (before now : ℕ) (fault : OpenFault) (c : OsErr) → Ok c ≡ code_of fault → (honest → RefusesFile disk fault) → CountsFault before now fault
+    → (IsOpening (Err c) × (honest → Reads disk (Err c)) × (now ≡ before)) ⊎ ((c ≡ IoErr) × Rose before now)
+told_by_code honest disk before now (Fork bytes.EndOfFile) c is told counts =
+    let same : c ≡ EofErr = ap (λ r. code r IoErr) is in
+    inl (inl same, λ h. subst (λ (e : OsErr). Reads disk (Err e)) (sym same) (told h), counts)
+told_by_code honest disk before now (Fork (bytes.BadMap condition)) c is told counts =
+    let same : c ≡ MapReadErr = ap (λ r. code r IoErr) is in
+    inl (inr same, λ h. subst (λ (e : OsErr). Reads disk (Err e)) (sym same) (told h), counts)
+told_by_code honest disk before now (Fork bytes.HostFull) c is told counts = absurd (cc is)
+told_by_code honest disk before now Device c is told counts = inr (ap (λ r. code r IoErr) is, counts)

@@ -5,8 +5,10 @@ use Rattle.std.proofs.Math.Seq.{map-set_same}
 use Rattle.fork_disk.specs.Disk.{Rose}
 use Rattle.fork_reader.specs.declared.place.Place.{Place}
 use Rattle.res_table.specs.OpenFiles.{OpenFiles}
-use Rattle.res_files.specs.FilesOn.{FilesOn, NoneFailed, SomeFailed}
+use Rattle.res_calls.specs.Answered.{AnswersFor, blank_files}
+use Rattle.res_files.specs.FilesOn.{FilesOn, NoneFailed, failures_at}
 use Rattle.res_files.specs.Standing.{files_on, StandOn}
+use Rattle.res_files.proofs.Blank.{same_blank}
 use Rattle.res_files.proofs.Stores.{all_same, one_failed, stand_set}
 use Rattle.res_files.proofs.On.{seen}
 
@@ -27,10 +29,12 @@ module _ {S : Type 0} (fork : S → List ℕ) (is_honest : S → Type 0) (chain 
   pub same_forks : (is_honest new → fork new ≡ fork old) → All is_honest (set stores at new) → map fork (set stores at new) ≡ map fork now.stores
   same_forks same honest = map-set_same fork stores at new old (same (mine honest) ∙ ap fork value) ∙ ap (map fork) (sym stores_are)
 
-  -- so are the files
-  pub same_files : (is_honest new → fork new ≡ fork old) → All is_honest (set stores at new) → files_on (map fork (set stores at new)) chain ≡ now.files
-  same_files same honest =
-      ap (λ (forks : List (List ℕ)). files_on forks chain) (map-set_same fork stores at new old (same (mine honest) ∙ ap fork value)) ∙ ap (λ (v : FilesOn S). v.files) view_is
+  -- the files are the same but for the bytes of rows, and where all stores are honest, these too
+  pub files_answer : (is_honest new → fork new ≡ fork old) → AnswersFor (All is_honest (set stores at new)) now.files (files_on (map fork (set stores at new)) chain)
+  files_answer same = (
+    same_blank (map fork (set stores at new)) (map fork stores) chain ∙ ap (λ (v : FilesOn S). blank_files v.files) view_is,
+    λ honest. ap (λ (forks : List (List ℕ)). files_on forks chain) (map-set_same fork stores at new old (same (mine honest) ∙ ap fork value)) ∙ ap (λ (v : FilesOn S). v.files) view_is,
+  )
 
   -- all were honest where all are
   pub same_honest : (is_honest new → is_honest old) → All is_honest (set stores at new) → All is_honest now.stores
@@ -46,7 +50,7 @@ module _ {S : Type 0} (fork : S → List ℕ) (is_honest : S → Type 0) (chain 
   pub none_failed : (failures : S → ℕ) → failures new ≡ failures old → NoneFailed failures now.stores (set stores at new)
   none_failed failures same = map-set_same failures stores at new old (same ∙ ap failures value) ∙ ap (map failures) (sym stores_are)
 
-  pub some_failed : (failures : S → ℕ) → Rose (failures old) (failures new) → SomeFailed failures now.stores (set stores at new)
-  some_failed failures rose =
+  pub this_failed : (failures : S → ℕ) → Rose (failures old) (failures new) → (at < length now.stores) × Rose (failures_at failures at now.stores) (failures_at failures at (set stores at new))
+  this_failed failures rose =
       let here = subst (λ (s : S). Rose (failures s) (failures new)) value rose in
-      subst (λ (xs : List S). SomeFailed failures xs (set stores at new)) (sym stores_are) (one_failed failures stores at new old within here)
+      subst (λ (xs : List S). (at < length xs) × Rose (failures_at failures at xs) (failures_at failures at (set stores at new))) (sym stores_are) (within, one_failed failures stores at new old within here)

@@ -27,6 +27,12 @@ get_other (x ∷ xs) (suc i) (suc j) y other = get_other xs i j y (λ same. othe
 other_index : (k n : ℕ) → 1 ≤ k → 1 ≤ n → (n ≡ k → ⊥) → n - 1 ≡ k - 1 → ⊥
 other_index k n low from other same = other (omega (arith, low, from, same))
 
+-- each number is 1 or more
+pub from_one : {S : Type 0} (fork : S → List ℕ) (is_ready is_honest : S → Type 0) (stores : List S) (files : List (OpenFile Place)) → AllByRecursion (StandsOn fork is_ready is_honest stores) files
+    → AllByRecursion (λ (f : OpenFile Place). 1 ≤ f.number) files
+from_one fork is_ready is_honest stores [] each = tt
+from_one fork is_ready is_honest stores (f ∷ files) each = (each.0.from_one, from_one fork is_ready is_honest stores files each.1)
+
 module _ (k : ℕ) (low : 1 ≤ k) where
   -- the file of a number that no other has
   only_here : (f : OpenFile Place) (files : List (OpenFile Place)) → is_numbered k f ≡ true → list_any (is_numbered f.number) files ≡ false → list_any (is_numbered k) files ≡ false

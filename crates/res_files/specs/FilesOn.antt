@@ -36,7 +36,7 @@ SomeFailed failures before now = (at : ℕ) × (at < length before) × Rose (fai
 abbrev pub FailedAt : {S : Type 0} → (S → ℕ) → ℕ → List S → List S → Type 0
 FailedAt failures number before now = (number - 1 < length before) × Rose (failures_at failures (number - 1) before) (failures_at failures (number - 1) now)
 
--- The row of an open file is this, but for its bytes, of which its place has as many.
+-- The row of an open file is this, but for its bytes, and its place has as many as these.
 pub record Shows (row : Row Place) (shown : FileRow) : Type 0 where
   pub kind : row.resource.kind ≡ shown.resource.kind
   pub id : row.resource.id ≡ shown.resource.id

@@ -9,8 +9,6 @@ ghost use Rattle.res_calls.specs.Fitting.{rows_fit};
 ghost use Rattle.res_calls.specs.Updates.{new_row};
 
 use crate::files::ResourceFiles;
-use crate::known::{Known, learn};
-use crate::reopened::reopened;
 use fork_disk::store::ForkStore;
 use fork_reader::place::Place;
 use mac_base::error::HostFull;
@@ -32,7 +30,6 @@ impl<S: ForkStore> ResourceFiles<S> {
         requires { IsSome (row_at place self.old.files) }
         ensures { self.new ≡ record self.old { files = row_changed place (with_handle handle) self.old.files } }
     {
-        self.saved = None;
         self.chain.set_handle(place, handle);
     }
 
@@ -41,7 +38,6 @@ impl<S: ForkStore> ResourceFiles<S> {
         requires { IsSome (row_at place self.old.files) }
         ensures { self.new ≡ record self.old { files = row_changed place (with_attributes attributes) self.old.files } }
     {
-        self.saved = None;
         self.chain.set_attributes(place, attributes);
     }
 
@@ -50,7 +46,6 @@ impl<S: ForkStore> ResourceFiles<S> {
         requires { IsSome (row_at place self.old.files) }
         ensures { self.new ≡ record self.old { files = rows_changed place.file (removed_at place.index) self.old.files } }
     {
-        self.saved = None;
         self.chain.remove(place);
     }
 
@@ -69,7 +64,6 @@ impl<S: ForkStore> ResourceFiles<S> {
         ensures added { OnOk result (self.new ≡ record self.old { files = rows_changed number (added (new_row handle kind id name)) self.old.files }) }
         ensures same { OnErr result (self.new ≡ self.old) }
     {
-        self.saved = None;
         self.chain.add(
             number,
             Row {
@@ -89,7 +83,6 @@ impl<S: ForkStore> ResourceFiles<S> {
     pub fn forget(&mut self, handle: Handle)
         ensures { self.new ≡ record self.old { files = handle_forgotten handle self.old.files } }
     {
-        self.saved = None;
         self.chain.forget(handle);
     }
 
@@ -98,7 +91,6 @@ impl<S: ForkStore> ResourceFiles<S> {
         requires { IsTrue (is_open number self.old.files) }
         ensures { self.new ≡ record self.old { files = file_used number self.old.files } }
     {
-        self.saved = None;
         self.chain.use_file(number);
     }
 
@@ -106,14 +98,6 @@ impl<S: ForkStore> ResourceFiles<S> {
     pub fn close(&mut self, number: u8)
         ensures { self.new ≡ record self.old { files = file_closed number self.old.files } }
     {
-        let was_saved = self.saved == Some(number);
-        self.saved = None;
-        let Some(table) = self.chain.close(number) else {
-            return;
-        };
-        if was_saved {
-            let at = number as usize - 1;
-            learn(&mut self.known, at, Known::Table(reopened(table)));
-        }
+        self.chain.close(number);
     }
 }

@@ -3,7 +3,6 @@
 ghost use Rattle.std.specs.Prelude.{◌≡◌, ℕ, ◌≤◌, length, true, IsTrue};
 ghost use Rattle.res_table.specs.OpenFiles.{no_files, is_open};
 
-use crate::known::{Known, nothing_known};
 use fork_disk::store::ForkStore;
 use fork_reader::place::Place;
 use res_table::chain::Chain;
@@ -16,10 +15,6 @@ pub struct ResourceFiles<S: ForkStore> {
     pub(crate) alloc: Global,
     pub(crate) chain: Chain<Place>,
     pub(crate) stores: Vec<S>,
-    /// What is known of the fork on each store, in their order.
-    pub(crate) known: [Known; 8],
-    /// The number of the open file that was written last, if nothing has changed since.
-    pub(crate) saved: Option<u8>,
     pub(crate) loads: bool,
 }
 
@@ -29,12 +24,11 @@ impl<S: ForkStore> Model for ResourceFiles<S> {
 
     ghost Value = { FilesOn S };
 
-    ghost use Rattle.res_files.specs.Standing.{files_on};
-    ghost use Rattle.res_files.specs.Known.{AreKept};
+    ghost use Rattle.res_files.specs.Standing.{files_on, StandOn};
 
     ghost view = { λ r. record { files = files_on (map S.fork r.stores.items) r.chain; loads = r.loads; stores = r.stores.items } };
 
-    ghost invariant = { λ r. AreKept S.fork S.is_ready S.is_honest r.stores.items r.chain r.known r.saved };
+    ghost invariant = { λ r. StandOn S.fork S.is_ready S.is_honest r.stores.items r.chain };
 }
 
 impl<S: ForkStore> ResourceFiles<S> {
@@ -47,8 +41,6 @@ impl<S: ForkStore> ResourceFiles<S> {
             alloc,
             chain: Chain::new(alloc),
             stores,
-            known: nothing_known(),
-            saved: None,
             loads: true,
         }
     }
@@ -61,12 +53,9 @@ impl<S: ForkStore> ResourceFiles<S> {
             alloc: _,
             chain,
             stores,
-            known,
-            saved: _,
             loads: _,
         } = self;
         drop(chain);
-        drop(known);
         stores
     }
 

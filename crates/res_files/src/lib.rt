@@ -6,12 +6,10 @@ mod current;
 mod files;
 mod fitting;
 mod handles;
-mod known;
 mod opening;
 mod placing;
 mod queries;
 mod reading;
-mod reopened;
 mod tables;
 mod updating;
 

@@ -2,15 +2,14 @@
 
 ghost use Rattle.std.specs.Prelude.{◌≡◌, ◌≤◌, ◌⊎◌, length, map, All, IsFalse, IfOk, IfErr, OnOk, OnErr, Ok, Err};
 ghost use Rattle.res_table.specs.OpenFiles.{is_open, file_opened};
+ghost use Rattle.res_calls.specs.Answered.{IsOpening};
 ghost use Rattle.res_calls.specs.Changes.{FileTable};
 ghost use Rattle.res_calls.specs.Device.{Reads};
 ghost use Rattle.fork_disk.specs.Crash.{AlwaysFinds, Finds};
 ghost use Rattle.res_files.specs.Crash.{history_of, OthersAreCalm};
-ghost use Rattle.res_files.specs.FilesOn.{FailedAt, fork_of, NoneFailed};
-ghost use Rattle.res_calls.specs.Answered.{IsOpening};
+ghost use Rattle.res_files.specs.FilesOn.{fork_of, FailedAt, NoneFailed};
 
 use crate::files::ResourceFiles;
-use crate::known::{known_by, learn, recall};
 use crate::tables::{code_of, read_table};
 use fork_disk::store::ForkStore;
 use mac_base::error::{HostFull, OsErr};
@@ -23,9 +22,12 @@ impl<S: ForkStore> ResourceFiles<S> {
         requires there { (1 ≤ number) × (number ≤ length self.old.stores) }
         requires closed { IsFalse (is_open number self.old.files) }
         ensures opened { IfOk result (λ done. OnOk done ((table : FileTable) × IsOpening (Ok table)
-            × (All S.is_honest self.new.stores → Reads (fork_of S.fork number self.old.stores) (Ok table)) × (self.new.files ≡ file_opened number table self.old.files))) }
-        ensures refused { IfOk result (λ done. IfErr done (λ code. (IsOpening (Err code) × (All S.is_honest self.new.stores → Reads (fork_of S.fork number self.old.stores) (Err code))
-            × NoneFailed S.failures self.old.stores self.new.stores) ⊎ ((code ≡ OsErr.IoErr) × FailedAt S.failures number self.old.stores self.new.stores))) }
+            × (All S.is_honest self.new.stores → Reads (fork_of S.fork number self.old.stores) (Ok table))
+            × (self.new.files ≡ file_opened number table self.old.files))) }
+        ensures refused { IfOk result (λ done. IfErr done (λ code.
+            (IsOpening (Err code) × (All S.is_honest self.new.stores → Reads (fork_of S.fork number self.old.stores) (Err code))
+            × NoneFailed S.failures self.old.stores self.new.stores)
+            ⊎ ((code ≡ OsErr.IoErr) × FailedAt S.failures number self.old.stores self.new.stores))) }
         ensures works { IfOk result (λ done. OnOk done (NoneFailed S.failures self.old.stores self.new.stores)) }
         ensures same { IfOk result (λ done. OnErr done (self.new.files ≡ self.old.files)) }
         ensures full { OnErr result (self.new.files ≡ self.old.files) }
@@ -40,16 +42,10 @@ impl<S: ForkStore> ResourceFiles<S> {
         ensures settled { All S.is_honest self.new.stores → S.has_journal → IfOk result (λ done. OnOk done
             (Finds S.may_find (λ found. found ≡ fork_of S.fork number self.new.stores) (history_of S.history number self.new.stores))) }
     {
-        let at = number as usize - 1;
-        self.saved = None;
-        let known = recall(&mut self.known, at);
-        let store = &mut self.stores[at];
-        let table = match read_table(self.alloc, store, known) {
+        let store = &mut self.stores[number as usize - 1];
+        let table = match read_table(self.alloc, store) {
             Ok(table) => table,
-            Err(fault) => {
-                learn(&mut self.known, at, known_by(fault));
-                return Ok(Err(code_of(fault)?));
-            }
+            Err(fault) => return Ok(Err(code_of(fault)?)),
         };
         self.chain.open(number, table)?;
         Ok(Ok(()))

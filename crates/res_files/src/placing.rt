@@ -19,7 +19,7 @@ use res_update::selection::Selection;
 const UNMARKED_BITS: u8 = 253;
 
 /// The attributes without resChanged.
-pub(crate) fn unmarked(attributes: ResAttrs) -> ResAttrs
+fn unmarked(attributes: ResAttrs) -> ResAttrs
     ensures { result ≡ unmarked attributes }
 {
     ResAttrs::from_bits_retain(attributes.bits() & UNMARKED_BITS)

@@ -2,8 +2,8 @@
 
 ghost use Rattle.std.specs.Prelude.{◌≡◌, length, map, All, IfSome, OnOk, MatchResult};
 ghost use Rattle.res_table.specs.OpenFiles.{row_at};
-ghost use Rattle.res_files.specs.FilesOn.{FailedAt, NoneFailed};
 ghost use Rattle.res_calls.specs.Answered.{AnswersFor};
+ghost use Rattle.res_files.specs.FilesOn.{FailedAt, NoneFailed};
 
 use crate::files::ResourceFiles;
 use fork_disk::disk::DiskFault;
@@ -29,7 +29,7 @@ impl<S: ForkStore> ResourceFiles<S> {
             return Ok(());
         };
         let bytes = row.resource.datum;
-        if bytes.length == 0 || buffer.len() != bytes.length as usize {
+        if bytes.length == 0 {
             return Ok(());
         }
         let store = &mut self.stores[place.file as usize - 1];

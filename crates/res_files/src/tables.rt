@@ -1,15 +1,14 @@
 //! The table of a file, read from its disk.
 
-ghost use Rattle.std.specs.Prelude.{◌≡◌, IfOk, IfErr, OnOk, Ok};
+ghost use Rattle.std.specs.Prelude.{◌≡◌, ℕ, List, IfOk, IfErr, OnOk, Ok};
 ghost use Rattle.fork_disk.specs.Crash.{AlwaysFinds};
 ghost use Rattle.fork_rows.specs.Opening.{CountsDevice};
+ghost use Rattle.res_calls.specs.Answered.{IsOpening};
 ghost use Rattle.res_calls.specs.Device.{Reads};
 ghost use Rattle.res_update.specs.Placed.{table_on, AreInside};
 ghost use Rattle.res_files.specs.Opening.{code_of, RefusesFile};
-ghost use Rattle.res_files.specs.Known.{IsKnown};
 ghost use Rattle.res_files.specs.Standing.{AreSmall};
 
-use crate::known::Known;
 use fork_bytes::fault::ForkFault;
 use fork_disk::store::ForkStore;
 use fork_reader::place::Place;
@@ -32,19 +31,24 @@ pub(crate) fn code_of(fault: OpenFault) -> Result<OsErr, HostFull>
     }
 }
 
-/// Reads the table of the file on a store that is ready: without bytes it has no resources.
-fn read_anew<S: ForkStore>(alloc: Global, store: &mut S) -> Result<ResourceTable<Place>, OpenFault>
-    requires { S.is_honest store.old → S.is_ready store.old }
+/// Makes a store ready, and reads the table of the file on it: without bytes it has no resources.
+pub(crate) fn read_table<S: ForkStore>(
+    alloc: Global,
+    store: &mut S,
+) -> Result<ResourceTable<Place>, OpenFault>
     ensures reads { S.is_honest store.new → IfOk result (λ table. Reads (S.fork store.old) (Ok (table_on (S.fork store.old) table))) }
+    ensures opening { IfOk result (λ table. (fork : List ℕ) → IsOpening (Ok (table_on fork table))) }
     ensures inside { S.is_honest store.new → IfOk result (λ table. AreInside (S.fork store.old) table.rows) }
     ensures small { IfOk result (λ table. AreSmall table.rows) }
     ensures refuses { S.is_honest store.new → IfErr result (RefusesFile (S.fork store.old)) }
     ensures same { S.is_honest store.new → S.fork store.new ≡ S.fork store.old }
-    ensures ready { S.is_honest store.new → S.is_ready store.new }
+    ensures ready { S.is_honest store.new → OnOk result (S.is_ready store.new) }
+    ensures still { S.is_honest store.new → S.is_ready store.old → S.is_ready store.new }
     ensures honest { S.is_honest store.new → S.is_honest store.old }
     ensures cause { CountsDevice (S.failures store.old) (S.failures store.new) result }
-    ensures calm { S.is_honest store.new → S.history store.new ≡ S.history store.old }
+    ensures any_moment { S.is_honest store.new → AlwaysFinds S.may_find (S.may_find (S.history store.old)) (S.history store.old) (S.history store.new) }
 {
+    store.recover()?;
     if store.len()? == 0 {
         return Ok(ResourceTable {
             rows: Rows::new(alloc),
@@ -61,30 +65,4 @@ fn read_anew<S: ForkStore>(alloc: Global, store: &mut S) -> Result<ResourceTable
         extra: table.extra,
         map_attributes: table.map_attributes,
     })
-}
-
-/// Makes a store ready, and gives the table of the file on it. It is read where nothing is known of the fork.
-pub(crate) fn read_table<S: ForkStore>(
-    alloc: Global,
-    store: &mut S,
-    known: Known,
-) -> Result<ResourceTable<Place>, OpenFault>
-    requires { IsKnown S.fork S.is_honest store.old known }
-    ensures reads { S.is_honest store.new → IfOk result (λ table. Reads (S.fork store.old) (Ok (table_on (S.fork store.old) table))) }
-    ensures inside { S.is_honest store.new → IfOk result (λ table. AreInside (S.fork store.old) table.rows) }
-    ensures small { IfOk result (λ table. AreSmall table.rows) }
-    ensures refuses { S.is_honest store.new → IfErr result (RefusesFile (S.fork store.old)) }
-    ensures same { S.is_honest store.new → S.fork store.new ≡ S.fork store.old }
-    ensures ready { S.is_honest store.new → OnOk result (S.is_ready store.new) }
-    ensures still { S.is_honest store.new → S.is_ready store.old → S.is_ready store.new }
-    ensures honest { S.is_honest store.new → S.is_honest store.old }
-    ensures cause { CountsDevice (S.failures store.old) (S.failures store.new) result }
-    ensures any_moment { S.is_honest store.new → AlwaysFinds S.may_find (S.may_find (S.history store.old)) (S.history store.old) (S.history store.new) }
-{
-    store.recover()?;
-    match known {
-        Known::Nothing => read_anew(alloc, store),
-        Known::Refused(why) => Err(OpenFault::Fork(why)),
-        Known::Table(table) => Ok(table),
-    }
 }

@@ -4,16 +4,15 @@ ghost use Rattle.std.specs.Prelude.{◌≡◌, ◌↔◌, List, ℕ, length, map
 ghost use Rattle.fork_bytes.specs.Fork.{StandsFor};
 ghost use Rattle.fork_bytes.specs.Written.{written};
 ghost use Rattle.res_table.specs.OpenFiles.{is_open, rows_changed, file_closed, table_of};
+ghost use Rattle.res_calls.specs.Answered.{AnswersFor};
 ghost use Rattle.res_calls.specs.Changes.{rows_of, saved_table};
 ghost use Rattle.res_calls.specs.Updates.{fits_fork};
 ghost use Rattle.res_update.specs.Selected.{updated, reads_lent};
 ghost use Rattle.fork_disk.specs.Crash.{AlwaysFinds, Finds, FoundBeforeOr};
 ghost use Rattle.res_files.specs.Crash.{history_of, OthersAreCalm};
-ghost use Rattle.res_files.specs.FilesOn.{FailedAt, fork_of, forks_with, NoneFailed};
-ghost use Rattle.res_calls.specs.Answered.{AnswersFor};
+ghost use Rattle.res_files.specs.FilesOn.{fork_of, forks_with, FailedAt, NoneFailed};
 
 use crate::files::ResourceFiles;
-use crate::known::{Known, learn};
 use crate::placing::place_rows;
 use fork_disk::store::{ForkStore, ReplaceFault};
 use fork_reader::place::Place;
@@ -83,17 +82,13 @@ impl<S: ForkStore> ResourceFiles<S> {
         ensures settled { All S.is_honest self.new.stores → S.has_journal → OnOk result
             (Finds S.may_find (λ found. found ≡ fork_of S.fork number self.new.stores) (history_of S.history number self.new.stores)) }
     {
-        self.saved = None;
-        let at = number as usize - 1;
-        learn(&mut self.known, at, Known::Nothing);
         let Some(table) = self.chain.table(number) else {
             return Ok(());
         };
-        let store = &mut self.stores[at];
+        let store = &mut self.stores[number as usize - 1];
         match write_table(self.alloc, store, table, selection, contents) {
             Ok(places) => {
                 place_rows(&mut self.chain, number, selection, &places);
-                self.saved = Some(number);
                 Ok(())
             }
             Err(fault) => {

@@ -1,3 +1,4 @@
+pub mod PlaceBytes
 pub mod Selecting
 pub mod Saving
 pub mod Shaping

@@ -1,5 +1,5 @@
 -- The bytes that a new fork keeps are put to their places in the draft, and are read there again.
-use Rattle.std.proofs.Common.{◌≡◌, refl, sym, ap, subst, ◌∙◌, arith, ℕ, suc, ◌+◌, ◌≤◌, List, [], ◌∷◌, ◌++◌, length, map, take, drop, Bool, true, false, if◌then◌else◌}
+use Rattle.std.proofs.Common.{◌≡◌, refl, sym, ap, subst, ◌∙◌, arith, ℕ, suc, ◌+◌, ◌≤◌, List, [], ◌∷◌, ◌++◌, length, map, take, drop, replicate, Bool, true, false, if◌then◌else◌}
 use Rattle.std.specs.Prelude.{All}
 use Rattle.std.specs.List.{AllByRecursion}
 use Rattle.std.proofs.lemmas.List.{length-append, length-replicate, append_assoc, take_at, drop_at}
@@ -24,8 +24,9 @@ use Rattle.res_update.specs.declared.selection.Selection.{Selection}
 use Rattle.res_update.specs.Drafts.{is_selected, row_bytes, draft_bytes, rows_with, draft_table, fits_as_fork, new_places, kept_ranges}
 use Rattle.res_update.specs.Placed.{bytes_on, table_on, AreInside, IsInside, IsNear}
 use Rattle.res_update.specs.Selected.{updated}
+use Rattle.res_update.proofs.PlaceBytes.{length-on, on-inside}
 use Rattle.res_update.proofs.Saving.{new_bytes, final_bytes, final_table, final_is, same_bytes}
-use Rattle.res_update.proofs.Shaping.{AreAlike, length-inside, are_alike, written_with, same_count, same_length, same_fits, same_places}
+use Rattle.res_update.proofs.Shaping.{AreAlike, are_alike, written_with, same_count, same_length, same_fits, same_places}
 
 -- the places of rows lie within a fork
 abbrev pub EachInside : List ℕ → List (Row Place) → Type 0
@@ -88,10 +89,11 @@ filled_is disk t s at start before after (r ∷ rows) long inside =
         ∙ sym (regroup before (big_bytes 4 n) bytes final after)
     by false filled =
         let zeros = row_bytes t false r in let n = length zeros in let bytes = new_bytes disk t false r in
-        let short : n ≡ length bytes = length-replicate r.resource.datum.length 0 ∙ sym (length-inside disk r.resource.datum inside.0) in
+        let short : n ≡ length bytes = length-replicate r.resource.datum.length 0 ∙ sym (length-on disk r.resource.datum) in
         let front : length (before ++ big_bytes 4 n) ≡ start + 4 = length-append before (big_bytes 4 n) ∙ (let four = length-big_bytes 4 n in omega arith) in
         let next : length ((before ++ big_bytes 4 n) ++ bytes) ≡ start + 4 + n = long_behind start before bytes n long ∙ ap (λ (m : ℕ). start + 4 + m) (sym short) in
-        ap (λ (fork : List ℕ). gathered disk (others n) (put_at (start + 4) bytes fork)) (regroup_old before (big_bytes 4 n) zeros drafted after)
+        ap (λ (kept_bytes : List ℕ). gathered disk (others n) (put_at (start + 4) kept_bytes (before ++ (((big_bytes 4 n ++ zeros) ++ drafted) ++ after)))) (sym (on-inside disk r.resource.datum inside.0))
+        ∙ ap (λ (fork : List ℕ). gathered disk (others n) (put_at (start + 4) bytes fork)) (regroup_old before (big_bytes 4 n) zeros drafted after)
         ∙ ap (gathered disk (others n)) (put_is (start + 4) (before ++ big_bytes 4 n) zeros bytes (drafted ++ after) front short)
         ∙ filled (start + 4 + n) ((before ++ big_bytes 4 n) ++ bytes) next
         ∙ sym (regroup before (big_bytes 4 n) bytes final after)
@@ -106,8 +108,9 @@ read_is start before after (r ∷ rows) whole long is =
     let next : whole ≡ ((before ++ size) ++ r.datum) ++ rest = is ∙ regroup before size r.datum (data_text rows) after in
     let front : length (before ++ size) ≡ start + 4 = length-append before size ∙ (let four = length-big_bytes 4 n in omega arith) in
     let here : bytes_on whole (record { offset = start + 4; length = n }) ≡ r.datum =
-    ap (λ (fork : List ℕ). take n (drop (start + 4) fork)) (is ∙ regroup_old before size r.datum (data_text rows) after)
-    ∙ ap (take n) (drop_at (before ++ size) (r.datum ++ rest) (start + 4) front) ∙ take_at r.datum rest n refl in
+    ap (λ (fork : List ℕ). take n (drop (start + 4) fork ++ replicate n 0)) (is ∙ regroup_old before size r.datum (data_text rows) after)
+    ∙ ap (λ (xs : List ℕ). take n (xs ++ replicate n 0)) (drop_at (before ++ size) (r.datum ++ rest) (start + 4) front)
+    ∙ ap (take n) (append_assoc r.datum rest (replicate n 0)) ∙ take_at r.datum (rest ++ replicate n 0) n refl in
     ap (λ (x : List ℕ). x ∷ map (bytes_on whole) (new_places (start + 4 + n) rows)) here
     ∙ ap (λ (xs : List (List ℕ)). r.datum ∷ xs) (read_is (start + 4 + n) ((before ++ size) ++ r.datum) after rows whole (long_behind start before r.datum n long) next)
 
@@ -204,9 +207,9 @@ module _ (t : HandleTable) (s : Selection) (table : ResourceTable Place) (draft 
   pub places_each : IsDraft t s table draft places kept → length places ≡ length table.rows
   places_each is = ap (λ (ps : List Place). length ps) is.places_are ∙ length-places 256 rows ∙ same_count (draft_bytes t s) 0 table.rows
 
-  module _ (disk : List ℕ) (inside : AreInside disk table.rows) where
+  module _ (disk : List ℕ) where
     alike : AreAlike (draft_bytes t s) (final_bytes disk t s) 0 table.rows
-    alike = are_alike disk t s table.rows 0 (each_inside disk table.rows inside)
+    alike = are_alike disk t s table.rows 0
 
     -- the table that is written, and its fork
     abbrev new_fork : List ℕ
@@ -217,15 +220,15 @@ module _ (t : HandleTable) (s : Selection) (table : ResourceTable Place) (draft 
     fits_is = same_fits (draft_bytes t s) (final_bytes disk t s) table alike ∙ ap fits_as_fork (sym (final_is disk t s table))
 
     -- what is kept is there
-    pub kept_found : IsDraft t s table draft places kept → All (λ (k : Kept). k.from + k.length ≤ length disk) kept
-    kept_found is =
+    pub kept_found : AreInside disk table.rows → IsDraft t s table draft places kept → All (λ (k : Kept). k.from + k.length ≤ length disk) kept
+    kept_found inside is =
         let P : List Kept → Type 0 = λ ks. All (λ (k : Kept). k.from + k.length ≤ length disk) ks in
         subst P (sym is.kept_are)
         (All-from_recursion (λ (k : Kept). k.from + k.length ≤ length disk) (kept_ranges s 0 table.rows places) (kept_there disk s 0 table.rows places (each_inside disk table.rows inside)))
 
     -- the draft becomes the fork of the updated table
-    pub gathered_is : IsDraft t s table draft places kept → gathered disk kept draft ≡ new_fork
-    gathered_is is =
+    pub gathered_is : AreInside disk table.rows → IsDraft t s table draft places kept → gathered disk kept draft ≡ new_fork
+    gathered_is inside is =
         let final = final_table disk t s table in
         ap (λ (ks : List Kept). gathered disk ks draft) (is.kept_are ∙ ap (kept_ranges s 0 table.rows) is.places_are)
         ∙ ap (gathered disk (kept_ranges s 0 table.rows (new_places 256 rows))) (is.bytes_are ∙ written_with (draft_bytes t s) (final_bytes disk t s) table alike)

@@ -13,9 +13,8 @@ use Rattle.res_table.specs.declared.chain.ResourceTable.{ResourceTable}
 use Rattle.res_calls.specs.Changes.{saved_table}
 use Rattle.res_update.specs.declared.selection.Selection.{Selection}
 use Rattle.res_update.specs.Drafts.{draft_bytes, draft_table, rows_with}
-use Rattle.res_update.specs.Placed.{table_on, AreInside}
+use Rattle.res_update.specs.Placed.{table_on}
 use Rattle.res_update.specs.Selected.{updated}
-use Rattle.res_update.proofs.Placing.{each_inside}
 use Rattle.res_update.proofs.Saving.{final_bytes, final_table, final_is}
 use Rattle.res_update.proofs.Shaping.{are_alike, same_types, same_count, same_offset, same_length}
 
@@ -29,7 +28,7 @@ names_too : (f g : ℕ → Row Place → List ℕ) (at next : ℕ) (rows : List 
 names_too f g at next [] fit = fit
 names_too f g at next (r ∷ rows) fit = (fit.0, names_too f g (at + 1) _ rows fit.1)
 
-module _ (t : HandleTable) (s : Selection) (table : ResourceTable Place) (disk : List ℕ) (inside : AreInside disk table.rows) where
+module _ (t : HandleTable) (s : Selection) (table : ResourceTable Place) (disk : List ℕ) where
   final_fits : Fits (draft_table t s table) → Fits (final_table disk t s table)
   final_fits fits =
       let f = draft_bytes t s in let g = final_bytes disk t s in record {
@@ -49,7 +48,7 @@ module _ (t : HandleTable) (s : Selection) (table : ResourceTable Place) (disk :
 
   final_small : length (written (draft_table t s table)) ≤ max_fork → length (written (final_table disk t s table)) ≤ max_fork
   final_small small =
-      subst (λ (n : ℕ). n ≤ max_fork) (same_length (draft_bytes t s) (final_bytes disk t s) table (are_alike disk t s table.rows 0 (each_inside disk table.rows inside))) small
+      subst (λ (n : ℕ). n ≤ max_fork) (same_length (draft_bytes t s) (final_bytes disk t s) table (are_alike disk t s table.rows 0)) small
 
   final_grouped : IsGrouped (final_table disk t s table).rows → IsGrouped (draft_table t s table).rows
   final_grouped grouped =

@@ -1,9 +1,8 @@
 -- Rows with bytes of the same lengths: their forks differ in the data alone.
 use Rattle.std.proofs.Common.{◌≡◌, refl, sym, ap, ◌∙◌, arith, ℕ, suc, ◌+◌, ◌*◌, List, [], ◌∷◌, ◌++◌, length, Bool, true, false, ◌&&◌}
 use Rattle.std.specs.Prelude.{nat_le}
-use Rattle.std.specs.List.{AllByRecursion}
 use Rattle.std.specs.Option.{option_map_or}
-use Rattle.std.proofs.lemmas.List.{length-append, length-replicate, length-drop, length-take-le}
+use Rattle.std.proofs.lemmas.List.{length-append, length-replicate}
 use Rattle.byteorder.specs.Endian.{big_bytes}
 use Rattle.mac_base.specs.HandleTable.{HandleTable}
 use Rattle.fork_bytes.specs.declared.layout.Header.{Header}
@@ -20,7 +19,7 @@ use Rattle.res_table.specs.Saved.{saved_row}
 use Rattle.res_calls.specs.Fitting.{rows_fit, names_fit}
 use Rattle.res_update.specs.declared.selection.Selection.{Selection}
 use Rattle.res_update.specs.Drafts.{is_selected, row_bytes, draft_bytes, rows_with, fits_as_fork, new_places}
-use Rattle.res_update.specs.Placed.{bytes_on, IsInside}
+use Rattle.res_update.proofs.PlaceBytes.{length-on}
 use Rattle.res_update.proofs.Saving.{new_bytes, final_bytes}
 
 -- the bytes of each row are as many by both, where the first row has this index
@@ -28,19 +27,14 @@ abbrev pub AreAlike : (ℕ → Row Place → List ℕ) → (ℕ → Row Place �
 AreAlike text other at [] = Unit {0}
 AreAlike text other at (r ∷ rows) = (length (text at r) ≡ length (other at r)) × AreAlike text other (at + 1) rows
 
--- bytes that lie within a fork are as many as are asked for
-pub length-inside : (fork : List ℕ) (p : Place) → IsInside fork p → length (bytes_on fork p) ≡ p.length
-length-inside fork p inside = let rest = length-drop p.offset fork in length-take-le p.length (_) (omega arith)
-
 -- zeros are as many as the bytes that are kept
-row_alike : (fork : List ℕ) (t : HandleTable) (r : Row Place) (b : Bool) → IsInside fork r.resource.datum → length (row_bytes t b r) ≡ length (new_bytes fork t b r)
-row_alike fork t r true inside = refl
-row_alike fork t r false inside = length-replicate r.resource.datum.length 0 ∙ sym (length-inside fork r.resource.datum inside)
+row_alike : (fork : List ℕ) (t : HandleTable) (r : Row Place) (b : Bool) → length (row_bytes t b r) ≡ length (new_bytes fork t b r)
+row_alike fork t r true = refl
+row_alike fork t r false = length-replicate r.resource.datum.length 0 ∙ sym (length-on fork r.resource.datum)
 
-pub are_alike : (fork : List ℕ) (t : HandleTable) (s : Selection) (rows : List (Row Place)) (at : ℕ) → AllByRecursion (λ r. IsInside fork r.resource.datum) rows
-    → AreAlike (draft_bytes t s) (final_bytes fork t s) at rows
-are_alike fork t s [] at inside = tt
-are_alike fork t s (r ∷ rows) at inside = (row_alike fork t r (is_selected s at r) inside.0, are_alike fork t s rows (at + 1) inside.1)
+pub are_alike : (fork : List ℕ) (t : HandleTable) (s : Selection) (rows : List (Row Place)) (at : ℕ) → AreAlike (draft_bytes t s) (final_bytes fork t s) at rows
+are_alike fork t s [] at = tt
+are_alike fork t s (r ∷ rows) at = (row_alike fork t r (is_selected s at r), are_alike fork t s rows (at + 1))
 
 -- what looks at no bytes
 pub same_types : (f g : ℕ → Row Place → List ℕ) (at : ℕ) (rows : List (Row Place)) → types_of (rows_with f at rows) ≡ types_of (rows_with g at rows)

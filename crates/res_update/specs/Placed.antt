@@ -1,5 +1,5 @@
 -- Rows that keep where their bytes stand in the fork, and the same rows with these bytes.
-use Rattle.std.specs.Prelude.{ℕ, ◌+◌, ◌≤◌, ◌++◌, List, drop, length, map, replicate, take, All}
+use Rattle.std.specs.Prelude.{ℕ, ◌+◌, ◌≤◌, ◌++◌, List, length, take, drop, replicate, map, All}
 use Rattle.fork_reader.specs.declared.place.Place.{Place}
 use Rattle.fork_bytes.specs.Fork.{max_fork}
 use Rattle.res_table.specs.declared.row.Row.{Row}

@@ -91,13 +91,14 @@ pub fn write_table<S: ForkStore, C: Contents>(
     ensures stands { S.is_honest store.new → OnOk result
         (IsGrouped (saved_table (updated (C.table contents.now) selection (table_on (S.fork store.old) table.now))).rows
         → StandsFor (S.fork store.new) (saved_table (updated (C.table contents.now) selection (table_on (S.fork store.old) table.now)))) }
-    ensures places { S.is_honest store.new → IfOk result (λ places. map (bytes_on (S.fork store.new)) places.items
+    // Whatever the store did, these are the places in the fork that was to be written.
+    ensures places { IfOk result (λ places. map (bytes_on (written (saved_table (updated (C.table contents.now) selection (table_on (S.fork store.old) table.now))))) places.items
         ≡ map (λ r. r.resource.datum) (updated (C.table contents.now) selection (table_on (S.fork store.old) table.now)).rows) }
     ensures inside { S.is_honest store.new → IfOk result (λ places. All (IsInside (S.fork store.new)) places.items) }
     ensures near { IfOk result (λ places. All IsNear places.items) }
     ensures each { IfOk result (λ places. length places.items ≡ length table.now.rows) }
-    ensures too_big { S.is_honest store.new → (IsErrOf result UpdateFault.TooBig
-        ↔ IsFalse (fits_fork (updated (C.table contents.now) selection (table_on (S.fork store.old) table.now)))) }
+    ensures too_big { IsErrOf result UpdateFault.TooBig
+        ↔ IsFalse (fits_fork (updated (C.table contents.now) selection (table_on (S.fork store.old) table.now))) }
     ensures untouched { IsErrOf result UpdateFault.TooBig → store.new ≡ store.old }
     ensures unasked { IsErrOf result UpdateFault.HostFull → store.new ≡ store.old }
     ensures before { S.is_honest store.new → IsErrOf result (UpdateFault.Device ReplaceFault.BeforeFirstWrite) → S.fork store.new ≡ S.fork store.old }

@@ -36,32 +36,28 @@ unfit_never fits fit unfit = absurd (cc (unfit, fit))
 
 pub returns-then-not-fits-clause-too_big : goal.returns-then-not-fits-clause-too_big
 returns-then-not-fits-clause-too_big g c =
-    let t = g.C.Contents.table c.args.contents.now in let s = c.args.selection in let table = c.args.table.now in let old = g.S.ForkStore.fork c.args.store.now in
-    λ honest. (
-      (λ _. sym (fits_is t s table [] [] [] old (c.requires.inside honest)) ∙ (sym c.fits.ensures ∙ c.if-not-fits.true)),
+    let t = g.C.Contents.table c.args.contents.now in let s = c.args.selection in let table = c.args.table.now in let old = g.S.ForkStore.fork c.args.store.now in (
+      (λ _. sym (fits_is t s table [] [] [] old) ∙ (sym c.fits.ensures ∙ c.if-not-fits.true)),
       (λ _. refl),
     )
 
 pub returns-in_default-clause-too_big : goal.returns-in_default-clause-too_big
 returns-in_default-clause-too_big g c =
     let t = g.C.Contents.table c.args.contents.now in let s = c.args.selection in let table = c.args.table.now in let old = g.S.ForkStore.fork c.args.store.now in
-    λ honest. (
-    let fit : fits_fork (updated t s (table_on old table)) ≡ true = sym (fits_is t s table [] [] [] old (c.requires.inside honest)) ∙ (sym c.fits.ensures ∙ c.if-not-fits.false) in
-    (host_full, unfit_never _ fit))
+    let fit : fits_fork (updated t s (table_on old table)) ≡ true = sym (fits_is t s table [] [] [] old) ∙ (sym c.fits.ensures ∙ c.if-not-fits.false) in
+    (host_full, unfit_never _ fit)
 
 pub returns-in-Ok-update-clause-too_big : goal.returns-in-Ok-update-clause-too_big
 returns-in-Ok-update-clause-too_big g c =
     let t = g.C.Contents.table c.args.contents.now in let s = c.args.selection in let table = c.args.table.now in let old = g.S.ForkStore.fork c.args.store.now in
-    λ honest. (
-    let fit : fits_fork (updated t s (table_on old table)) ≡ true = sym (fits_is t s table [] [] [] old (c.requires.inside (c.update.ensures.honest honest))) ∙ (sym c.fits.ensures ∙ c.if-not-fits.false) in
-    (no_fault _, unfit_never _ fit))
+    let fit : fits_fork (updated t s (table_on old table)) ≡ true = sym (fits_is t s table [] [] [] old) ∙ (sym c.fits.ensures ∙ c.if-not-fits.false) in
+    (no_fault _, unfit_never _ fit)
 
 pub returns-in-Err-clause-too_big : goal.returns-in-Err-clause-too_big
 returns-in-Err-clause-too_big g c =
     let t = g.C.Contents.table c.args.contents.now in let s = c.args.selection in let table = c.args.table.now in let old = g.S.ForkStore.fork c.args.store.now in
-    λ honest. (
-    let fit : fits_fork (updated t s (table_on old table)) ≡ true = sym (fits_is t s table [] [] [] old (c.requires.inside (c.update.ensures.honest honest))) ∙ (sym c.fits.ensures ∙ c.if-not-fits.false) in
-    (device_faults c.in-Err.fault, unfit_never _ fit))
+    let fit : fits_fork (updated t s (table_on old table)) ≡ true = sym (fits_is t s table [] [] [] old) ∙ (sym c.fits.ensures ∙ c.if-not-fits.false) in
+    (device_faults c.in-Err.fault, unfit_never _ fit)
 
 pub update-requires-clause-inside : goal.update-requires-clause-inside
 update-requires-clause-inside g c =
@@ -114,7 +110,7 @@ returns-in-Ok-update-clause-stands g c =
       kept_are = c.deref.ensures.value ∙ c.in-Ok.ensures.kept;
     } in
     let fits_fork_small : length (written (draft_table t s table)) ≤ max_fork = subst (λ (xs : List ℕ). length xs ≤ max_fork) c.in-Ok.ensures.fork c.in-Ok.ensures.small in
-    λ honest. stands_again t s table old (c.requires.inside (c.update.ensures.honest honest)) c.fork_laws.ensures.read_again c.in-Ok.ensures.table c.in-Ok.ensures.fits fits_fork_small (g.S.ForkStore.fork c.update.new.store) (c.in-Ok-update.ensures.replaced honest ∙ gathered_is t s table c.deref_mut.result.now c.in-Ok.draft.places.items c.deref.result.now old (c.requires.inside (c.update.ensures.honest honest)) is)
+    λ honest. stands_again t s table old c.fork_laws.ensures.read_again c.in-Ok.ensures.table c.in-Ok.ensures.fits fits_fork_small (g.S.ForkStore.fork c.update.new.store) (c.in-Ok-update.ensures.replaced honest ∙ gathered_is t s table c.deref_mut.result.now c.in-Ok.draft.places.items c.deref.result.now old (c.requires.inside (c.update.ensures.honest honest)) is)
 
 pub returns-in-Ok-update-clause-places : goal.returns-in-Ok-update-clause-places
 returns-in-Ok-update-clause-places g c =
@@ -127,9 +123,7 @@ returns-in-Ok-update-clause-places g c =
       places_are = c.in-Ok.ensures.places;
       kept_are = c.deref.ensures.value ∙ c.in-Ok.ensures.kept;
     } in
-    λ honest. (
-    ap (λ (fork : List ℕ). map (bytes_on fork) c.in-Ok.draft.places.items) (c.in-Ok-update.ensures.replaced honest ∙ gathered_is t s table c.deref_mut.result.now c.in-Ok.draft.places.items c.deref.result.now old (c.requires.inside (c.update.ensures.honest honest)) is)
-    ∙ places_read t s table c.deref_mut.result.now c.in-Ok.draft.places.items c.deref.result.now old (c.requires.inside (c.update.ensures.honest honest)) is)
+    places_read t s table c.deref_mut.result.now c.in-Ok.draft.places.items c.deref.result.now old is
 
 pub returns-in-Ok-update-clause-inside : goal.returns-in-Ok-update-clause-inside
 returns-in-Ok-update-clause-inside g c =
@@ -144,7 +138,7 @@ returns-in-Ok-update-clause-inside g c =
     } in
     λ honest. (
     let P : List ℕ → Type 0 = λ fork. All (IsInside fork) c.in-Ok.draft.places.items in
-    subst P (sym (c.in-Ok-update.ensures.replaced honest ∙ gathered_is t s table c.deref_mut.result.now c.in-Ok.draft.places.items c.deref.result.now old (c.requires.inside (c.update.ensures.honest honest)) is)) (places_within t s table c.deref_mut.result.now c.in-Ok.draft.places.items c.deref.result.now old (c.requires.inside (c.update.ensures.honest honest)) is))
+    subst P (sym (c.in-Ok-update.ensures.replaced honest ∙ gathered_is t s table c.deref_mut.result.now c.in-Ok.draft.places.items c.deref.result.now old (c.requires.inside (c.update.ensures.honest honest)) is)) (places_within t s table c.deref_mut.result.now c.in-Ok.draft.places.items c.deref.result.now old is))
 
 pub returns-in-Ok-update-clause-near : goal.returns-in-Ok-update-clause-near
 returns-in-Ok-update-clause-near g c =

@@ -15,19 +15,15 @@ pub add-requires : goal.add-requires
 add-requires g c = open_there g.S.ForkStore.fork c.self.inside.chain c.self.inside.loads c.self.inside.stores.items c.args.self.now c.self.view_is c.args.number c.requires.open
 
 pub invariant_of-self : goal.invariant_of-self
-invariant_of-self g c = record {
-  stand =
-      let row_with : ℤ → Row Place = λ z. record { resource = record { kind = c.args.kind; id = z; name = c.args.name; attributes = record { 0 = 2 }; datum = record { offset = 0; length = 0 } }; handle = Some c.args.handle } in
-      let new = row_with c.args.id in let with_id = λ (z : ℤ). rows_changed c.args.number (added (row_with z)) c.self.inside.chain in
-      let id = ap with_id (to_z-of_z w16 c.args.id c.ranges.id) in
-      let free = room g.S.ForkStore.fork c.self.inside.chain c.self.inside.loads c.self.inside.stores.items c.args.self.now c.self.view_is c.args.number (new_row c.args.handle c.args.kind c.args.id c.args.name) c.requires.fits in
-      either_way c.add.result (c.add.new.self ≡ with_id (to_z w16 (of_z w16 c.args.id))) (c.add.new.self ≡ c.self.inside.chain) (StandOn g.S.ForkStore.fork g.S.ForkStore.is_ready g.S.ForkStore.is_honest c.self.inside.stores.items c.add.new.self) c.add.ensures.added c.add.ensures.same
-      (λ is. subst (λ (chain : OpenFiles Place). StandOn g.S.ForkStore.fork g.S.ForkStore.is_ready g.S.ForkStore.is_honest c.self.inside.stores.items chain) (sym (is ∙ id))
-      (stand_added g.S.ForkStore.fork g.S.ForkStore.is_ready g.S.ForkStore.is_honest c.self.inside.stores.items c.args.number new (omega arith) (λ bytes. omega arith) c.self.inside.chain free c.self.invariant.stand))
-      (λ is. subst (λ (chain : OpenFiles Place). StandOn g.S.ForkStore.fork g.S.ForkStore.is_ready g.S.ForkStore.is_honest c.self.inside.stores.items chain) (sym is) c.self.invariant.stand);
-  tells = c.self.invariant.tells;
-  reads_back = tt;
-}
+invariant_of-self g c =
+    let row_with : ℤ → Row Place = λ z. record { resource = record { kind = c.args.kind; id = z; name = c.args.name; attributes = record { 0 = 2 }; datum = record { offset = 0; length = 0 } }; handle = Some c.args.handle } in
+    let new = row_with c.args.id in let with_id = λ (z : ℤ). rows_changed c.args.number (added (row_with z)) c.self.inside.chain in
+    let id = ap with_id (to_z-of_z w16 c.args.id c.ranges.id) in
+    let free = room g.S.ForkStore.fork c.self.inside.chain c.self.inside.loads c.self.inside.stores.items c.args.self.now c.self.view_is c.args.number (new_row c.args.handle c.args.kind c.args.id c.args.name) c.requires.fits in
+    either_way c.add.result (c.add.new.self ≡ with_id (to_z w16 (of_z w16 c.args.id))) (c.add.new.self ≡ c.self.inside.chain) (StandOn g.S.ForkStore.fork g.S.ForkStore.is_ready g.S.ForkStore.is_honest c.self.inside.stores.items c.add.new.self) c.add.ensures.added c.add.ensures.same
+    (λ is. subst (λ (chain : OpenFiles Place). StandOn g.S.ForkStore.fork g.S.ForkStore.is_ready g.S.ForkStore.is_honest c.self.inside.stores.items chain) (sym (is ∙ id))
+    (stand_added g.S.ForkStore.fork g.S.ForkStore.is_ready g.S.ForkStore.is_honest c.self.inside.stores.items c.args.number new (omega arith) (λ bytes. omega arith) c.self.inside.chain free c.self.invariant))
+    (λ is. subst (λ (chain : OpenFiles Place). StandOn g.S.ForkStore.fork g.S.ForkStore.is_ready g.S.ForkStore.is_honest c.self.inside.stores.items chain) (sym is) c.self.invariant)
 
 pub returns-clause-added : goal.returns-clause-added
 returns-clause-added g c =

@@ -8,7 +8,7 @@ use Rattle.res_files.proofs.files.ResourceFiles.count_of_type.Goals as goal
 
 pub overflow_cast-result : goal.overflow_cast-result
 overflow_cast-result g c =
-    let few = current_small g.S.ForkStore.fork g.S.ForkStore.is_ready g.S.ForkStore.is_honest c.self.inside.stores.items c.self.inside.chain c.self.invariant.stand in let same = ap (λ (rows : List (Row _)). length rows) c.in-Some.ensures.some in
+    let few = current_small g.S.ForkStore.fork g.S.ForkStore.is_ready g.S.ForkStore.is_honest c.self.inside.stores.items c.self.inside.chain c.self.invariant in let same = ap (λ (rows : List (Row _)). length rows) c.in-Some.ensures.some in
     let is = c.count_of_type.ensures in let less = few_of_type c.args.kind c.in-Some.rows.now in omega arith
 
 pub returns-in-Some : goal.returns-in-Some

@@ -10,7 +10,7 @@ use Rattle.res_files.proofs.files.ResourceFiles.count_types.Goals as goal
 
 pub overflow_cast-result : goal.overflow_cast-result
 overflow_cast-result g c =
-    let few = current_small g.S.ForkStore.fork g.S.ForkStore.is_ready g.S.ForkStore.is_honest c.self.inside.stores.items c.self.inside.chain c.self.invariant.stand in let same = ap (λ (rows : List (Row _)). length rows) c.in-Some.ensures.some in let less = c.count_types.ensures.few in omega arith
+    let few = current_small g.S.ForkStore.fork g.S.ForkStore.is_ready g.S.ForkStore.is_honest c.self.inside.stores.items c.self.inside.chain c.self.invariant in let same = ap (λ (rows : List (Row _)). length rows) c.in-Some.ensures.some in let less = c.count_types.ensures.few in omega arith
 
 pub returns-in-Some : goal.returns-in-Some
 returns-in-Some g c =

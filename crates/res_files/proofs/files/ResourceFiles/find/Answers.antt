@@ -15,5 +15,5 @@ returns-clause-value g c =
 pub returns-clause-there : goal.returns-clause-there
 returns-clause-there g c =
     let id = to_z-of_z w16 c.args.id c.ranges.id in
-    resource_there g.S.ForkStore.fork g.S.ForkStore.is_ready g.S.ForkStore.is_honest c.self.inside.chain c.self.inside.loads c.self.inside.stores.items c.args.self.now c.self.view_is c.self.invariant.stand
+    resource_there g.S.ForkStore.fork g.S.ForkStore.is_ready g.S.ForkStore.is_honest c.self.inside.chain c.self.inside.loads c.self.inside.stores.items c.args.self.now c.self.view_is c.self.invariant
     c.args.kind c.args.id c.find.result (c.find.ensures ∙ ap (λ z. place_of_resource c.args.kind z c.self.inside.chain) id)

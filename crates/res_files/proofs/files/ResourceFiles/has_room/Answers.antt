@@ -16,7 +16,7 @@ none = record { offset = 0; length = 0 }
 
 pub fits_with-requires : goal.fits_with-requires
 fits_with-requires g c =
-    subst (λ (rows : List (Row Place)). length rows ≤ max_rows) (sym c.in-Some.ensures.some) (current_small g.S.ForkStore.fork g.S.ForkStore.is_ready g.S.ForkStore.is_honest c.self.inside.stores.items c.self.inside.chain c.self.invariant.stand)
+    subst (λ (rows : List (Row Place)). length rows ≤ max_rows) (sym c.in-Some.ensures.some) (current_small g.S.ForkStore.fork g.S.ForkStore.is_ready g.S.ForkStore.is_honest c.self.inside.stores.items c.self.inside.chain c.self.invariant)
 
 pub returns-in-Some : goal.returns-in-Some
 returns-in-Some g c = λ r mine named.

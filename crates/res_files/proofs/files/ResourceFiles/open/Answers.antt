@@ -1,44 +1,21 @@
-use Rattle.std.proofs.Common.{◌-◌, ◌∙◌, List, length, arith, refl, sym, ap, subst, map, set}
+use Rattle.std.proofs.Common.{◌-◌, ◌∙◌, length, sym, ap, subst, map, set}
 use Rattle.fork_reader.specs.declared.place.Place.{Place}
 use Rattle.res_table.specs.OpenFiles.{OpenFiles}
 use Rattle.res_files.specs.Standing.{StandOn, files_on}
 use Rattle.res_files.proofs.Crash.{found_always, others_calm, found_there}
-use Rattle.res_files.specs.Known.{AreKnown}
-use Rattle.res_files.specs.declared.known.Known.{Known}
-use Rattle.res_files.specs.declared.known.Known.TheVariants.{Nothing}
-use Rattle.res_files.proofs.KnownForks.{known_set, nothing_of, recalled, refused_known}
-use Rattle.res_files.proofs.Opened.{here, caused, within, stand_kept, stand_more, closed_there, files_kept, forks_kept, honest_kept, seen_more, seen_refused, on_err}
+use Rattle.res_files.proofs.Opened.{within, stand_kept, stand_more, closed_there, files_kept, forks_kept, honest_kept, seen_more, seen_refused, on_err}
 use Rattle.res_files.proofs.Using.{none_failed}
 use Rattle.std.proofs.lemmas.List.{length-set}
 use Rattle.res_files.specs.FilesOn.{FilesOn}
 use Rattle.res_files.proofs.files.ResourceFiles.open.Goals as goal
 
-pub recall-known-requires : goal.recall-known-requires
-recall-known-requires g c =
-    let stores_are = ap (λ (on : FilesOn _). length on.stores) c.self.view_is in
-    omega (arith, c.requires.there.0, c.requires.there.1, stores_are, c.self.invariant.stand.few)
-
-pub learn-requires : goal.learn-requires
-learn-requires g c =
-    let stores_are = ap (λ (on : FilesOn _). length on.stores) c.self.view_is in
-    omega (arith, c.requires.there.0, c.requires.there.1, stores_are, c.self.invariant.stand.few)
-
-pub read_table-requires : goal.read_table-requires
-read_table-requires g c = recalled g.S.ForkStore.fork g.S.ForkStore.is_honest c.self.inside.stores.items c.self.inside.known (c.args.number - 1) c.index_mut-store.result.now c.recall-known.result c.self.invariant.tells (here g.S.ForkStore.fork g.S.ForkStore.is_ready g.S.ForkStore.is_honest c.self.inside.chain c.self.inside.loads c.self.inside.stores.items c.args.self.now c.self.view_is c.args.number c.requires.there.0 c.requires.there.1 c.index_mut-store.result.now c.index_mut-store.result.now c.index_mut-store.ensures.value (λ h. h) (λ _. refl)) c.recall-known.ensures.told
-
 pub invariant_of-self : goal.invariant_of-self
-invariant_of-self g c = record {
-  stand =
-      stand_kept g.S.ForkStore.fork g.S.ForkStore.is_ready g.S.ForkStore.is_honest c.self.inside.chain c.self.inside.loads c.self.inside.stores.items c.args.self.now c.self.view_is c.args.number c.requires.there.0 c.requires.there.1 c.index_mut-store.result.now c.read_table.new.store c.index_mut-store.ensures.value c.read_table.ensures.honest c.read_table.ensures.same c.read_table.ensures.still c.self.invariant.stand;
-  tells =
-      subst (AreKnown g.S.ForkStore.fork g.S.ForkStore.is_honest (set c.self.inside.stores.items (c.args.number - 1) c.read_table.new.store)) (sym (c.learn.ensures ∙ ap (λ (known : List Known). set known (c.args.number - 1) c.known_by.result) c.recall-known.ensures.forgotten))
-      (refused_known g.S.ForkStore.fork g.S.ForkStore.is_honest c.self.inside.stores.items c.self.inside.known (c.args.number - 1) c.index_mut-store.result.now c.read_table.new.store c.in-Err.fault c.known_by.result c.known_by.ensures c.read_table.ensures.same c.in-Err.ensures.refuses c.self.invariant.tells);
-  reads_back = tt;
-}
+invariant_of-self g c =
+    stand_kept g.S.ForkStore.fork g.S.ForkStore.is_ready g.S.ForkStore.is_honest c.self.inside.chain c.self.inside.loads c.self.inside.stores.items c.args.self.now c.self.view_is c.args.number c.requires.there.0 c.requires.there.1 c.index_mut-store.result.now c.read_table.new.store c.index_mut-store.ensures.value c.read_table.ensures.honest c.read_table.ensures.same c.read_table.ensures.still c.self.invariant
 
 pub returns-in_err-code_of-in-Err-clause-full : goal.returns-in_err-code_of-in-Err-clause-full
 returns-in_err-code_of-in-Err-clause-full g c =
-    λ honest. on_err c.from_residual.result _ (files_kept g.S.ForkStore.fork g.S.ForkStore.is_ready g.S.ForkStore.is_honest c.self.inside.chain c.self.inside.loads c.self.inside.stores.items c.args.self.now c.self.view_is c.args.number c.requires.there.0 c.requires.there.1 c.index_mut-store.result.now c.read_table.new.store c.index_mut-store.ensures.value c.read_table.ensures.honest c.read_table.ensures.same honest)
+    on_err c.from_residual.result _ (files_kept g.S.ForkStore.fork g.S.ForkStore.is_ready g.S.ForkStore.is_honest c.self.inside.chain c.self.inside.loads c.self.inside.stores.items c.args.self.now c.self.view_is c.args.number c.requires.there.0 c.requires.there.1 c.index_mut-store.result.now c.read_table.new.store c.index_mut-store.ensures.value c.read_table.ensures.honest c.read_table.ensures.same c.self.invariant c.requires.closed)
 
 pub returns-in_err-code_of-in-Err-clause-forks : goal.returns-in_err-code_of-in-Err-clause-forks
 returns-in_err-code_of-in-Err-clause-forks g c =
@@ -49,14 +26,8 @@ returns-in_err-code_of-in-Err-clause-honest g c =
     honest_kept g.S.ForkStore.fork g.S.ForkStore.is_ready g.S.ForkStore.is_honest c.self.inside.chain c.self.inside.loads c.self.inside.stores.items c.args.self.now c.self.view_is c.args.number c.requires.there.0 c.requires.there.1 c.index_mut-store.result.now c.read_table.new.store c.index_mut-store.ensures.value c.read_table.ensures.honest c.read_table.ensures.same
 
 pub invariant_of-self-in-Err : goal.invariant_of-self-in-Err
-invariant_of-self-in-Err g c = record {
-  stand =
-      stand_kept g.S.ForkStore.fork g.S.ForkStore.is_ready g.S.ForkStore.is_honest c.self.inside.chain c.self.inside.loads c.self.inside.stores.items c.args.self.now c.self.view_is c.args.number c.requires.there.0 c.requires.there.1 c.index_mut-store.result.now c.read_table.new.store c.index_mut-store.ensures.value c.read_table.ensures.honest c.read_table.ensures.same c.read_table.ensures.still c.self.invariant.stand;
-  tells =
-      subst (AreKnown g.S.ForkStore.fork g.S.ForkStore.is_honest (set c.self.inside.stores.items (c.args.number - 1) c.read_table.new.store)) (sym (c.learn.ensures ∙ ap (λ (known : List Known). set known (c.args.number - 1) c.known_by.result) c.recall-known.ensures.forgotten))
-      (refused_known g.S.ForkStore.fork g.S.ForkStore.is_honest c.self.inside.stores.items c.self.inside.known (c.args.number - 1) c.index_mut-store.result.now c.read_table.new.store c.in-Err.fault c.known_by.result c.known_by.ensures c.read_table.ensures.same c.in-Err.ensures.refuses c.self.invariant.tells);
-  reads_back = tt;
-}
+invariant_of-self-in-Err g c =
+    stand_kept g.S.ForkStore.fork g.S.ForkStore.is_ready g.S.ForkStore.is_honest c.self.inside.chain c.self.inside.loads c.self.inside.stores.items c.args.self.now c.self.view_is c.args.number c.requires.there.0 c.requires.there.1 c.index_mut-store.result.now c.read_table.new.store c.index_mut-store.ensures.value c.read_table.ensures.honest c.read_table.ensures.same c.read_table.ensures.still c.self.invariant
 
 pub returns-in-Err-clause-refused : goal.returns-in-Err-clause-refused
 returns-in-Err-clause-refused g c =
@@ -64,7 +35,7 @@ returns-in-Err-clause-refused g c =
 
 pub returns-in-Err-clause-same : goal.returns-in-Err-clause-same
 returns-in-Err-clause-same g c =
-    λ honest. files_kept g.S.ForkStore.fork g.S.ForkStore.is_ready g.S.ForkStore.is_honest c.self.inside.chain c.self.inside.loads c.self.inside.stores.items c.args.self.now c.self.view_is c.args.number c.requires.there.0 c.requires.there.1 c.index_mut-store.result.now c.read_table.new.store c.index_mut-store.ensures.value c.read_table.ensures.honest c.read_table.ensures.same honest
+    files_kept g.S.ForkStore.fork g.S.ForkStore.is_ready g.S.ForkStore.is_honest c.self.inside.chain c.self.inside.loads c.self.inside.stores.items c.args.self.now c.self.view_is c.args.number c.requires.there.0 c.requires.there.1 c.index_mut-store.result.now c.read_table.new.store c.index_mut-store.ensures.value c.read_table.ensures.honest c.read_table.ensures.same c.self.invariant c.requires.closed
 
 pub returns-in-Err-clause-forks : goal.returns-in-Err-clause-forks
 returns-in-Err-clause-forks g c =
@@ -75,17 +46,12 @@ returns-in-Err-clause-honest g c =
     honest_kept g.S.ForkStore.fork g.S.ForkStore.is_ready g.S.ForkStore.is_honest c.self.inside.chain c.self.inside.loads c.self.inside.stores.items c.args.self.now c.self.view_is c.args.number c.requires.there.0 c.requires.there.1 c.index_mut-store.result.now c.read_table.new.store c.index_mut-store.ensures.value c.read_table.ensures.honest c.read_table.ensures.same
 
 pub invariant_of-self-in_err-open : goal.invariant_of-self-in_err-open
-invariant_of-self-in_err-open g c = record {
-  stand =
-      subst (λ (chain : OpenFiles Place). StandOn g.S.ForkStore.fork g.S.ForkStore.is_ready g.S.ForkStore.is_honest (set c.self.inside.stores.items (c.args.number - 1) c.read_table.new.store) chain) (sym c.in_err-open.ensures.same) (stand_kept g.S.ForkStore.fork g.S.ForkStore.is_ready g.S.ForkStore.is_honest c.self.inside.chain c.self.inside.loads c.self.inside.stores.items c.args.self.now c.self.view_is c.args.number c.requires.there.0 c.requires.there.1 c.index_mut-store.result.now c.read_table.new.store c.index_mut-store.ensures.value c.read_table.ensures.honest c.read_table.ensures.same c.read_table.ensures.still c.self.invariant.stand);
-  tells =
-      subst (AreKnown g.S.ForkStore.fork g.S.ForkStore.is_honest (set c.self.inside.stores.items (c.args.number - 1) c.read_table.new.store)) (sym c.recall-known.ensures.forgotten) (known_set g.S.ForkStore.fork g.S.ForkStore.is_honest c.self.inside.stores.items c.self.inside.known (c.args.number - 1) c.read_table.new.store Nothing (nothing_of g.S.ForkStore.fork g.S.ForkStore.is_honest c.read_table.new.store) c.self.invariant.tells);
-  reads_back = tt;
-}
+invariant_of-self-in_err-open g c =
+    subst (λ (chain : OpenFiles Place). StandOn g.S.ForkStore.fork g.S.ForkStore.is_ready g.S.ForkStore.is_honest (set c.self.inside.stores.items (c.args.number - 1) c.read_table.new.store) chain) (sym c.in_err-open.ensures.same) (stand_kept g.S.ForkStore.fork g.S.ForkStore.is_ready g.S.ForkStore.is_honest c.self.inside.chain c.self.inside.loads c.self.inside.stores.items c.args.self.now c.self.view_is c.args.number c.requires.there.0 c.requires.there.1 c.index_mut-store.result.now c.read_table.new.store c.index_mut-store.ensures.value c.read_table.ensures.honest c.read_table.ensures.same c.read_table.ensures.still c.self.invariant)
 
 pub returns-in_err-open-clause-full : goal.returns-in_err-open-clause-full
 returns-in_err-open-clause-full g c =
-    λ honest. on_err _ _ (ap (files_on (map g.S.ForkStore.fork (set c.self.inside.stores.items (c.args.number - 1) c.read_table.new.store))) c.in_err-open.ensures.same ∙ files_kept g.S.ForkStore.fork g.S.ForkStore.is_ready g.S.ForkStore.is_honest c.self.inside.chain c.self.inside.loads c.self.inside.stores.items c.args.self.now c.self.view_is c.args.number c.requires.there.0 c.requires.there.1 c.index_mut-store.result.now c.read_table.new.store c.index_mut-store.ensures.value c.read_table.ensures.honest c.read_table.ensures.same honest)
+    on_err _ _ (ap (files_on (map g.S.ForkStore.fork (set c.self.inside.stores.items (c.args.number - 1) c.read_table.new.store))) c.in_err-open.ensures.same ∙ files_kept g.S.ForkStore.fork g.S.ForkStore.is_ready g.S.ForkStore.is_honest c.self.inside.chain c.self.inside.loads c.self.inside.stores.items c.args.self.now c.self.view_is c.args.number c.requires.there.0 c.requires.there.1 c.index_mut-store.result.now c.read_table.new.store c.index_mut-store.ensures.value c.read_table.ensures.honest c.read_table.ensures.same c.self.invariant c.requires.closed)
 
 pub returns-in_err-open-clause-forks : goal.returns-in_err-open-clause-forks
 returns-in_err-open-clause-forks g c =
@@ -96,18 +62,13 @@ returns-in_err-open-clause-honest g c =
     honest_kept g.S.ForkStore.fork g.S.ForkStore.is_ready g.S.ForkStore.is_honest c.self.inside.chain c.self.inside.loads c.self.inside.stores.items c.args.self.now c.self.view_is c.args.number c.requires.there.0 c.requires.there.1 c.index_mut-store.result.now c.read_table.new.store c.index_mut-store.ensures.value c.read_table.ensures.honest c.read_table.ensures.same
 
 pub invariant_of-self-2 : goal.invariant_of-self-2
-invariant_of-self-2 g c = record {
-  stand =
-      subst (λ (chain : OpenFiles Place). StandOn g.S.ForkStore.fork g.S.ForkStore.is_ready g.S.ForkStore.is_honest (set c.self.inside.stores.items (c.args.number - 1) c.read_table.new.store) chain) (sym c.in_ok-open.ensures.opened)
-      (stand_more g.S.ForkStore.fork g.S.ForkStore.is_ready g.S.ForkStore.is_honest c.self.inside.chain c.self.inside.loads c.self.inside.stores.items c.args.self.now c.self.view_is c.args.number c.requires.there.0 c.requires.there.1 c.index_mut-store.result.now c.read_table.new.store c.index_mut-store.ensures.value c.read_table.ensures.honest c.read_table.ensures.same c.in-Ok.table (closed_there g.S.ForkStore.fork g.S.ForkStore.is_ready g.S.ForkStore.is_honest c.self.inside.chain c.self.inside.loads c.self.inside.stores.items c.args.self.now c.self.view_is c.args.number c.requires.there.0 c.requires.there.1 c.index_mut-store.result.now c.read_table.new.store c.index_mut-store.ensures.value c.read_table.ensures.honest c.read_table.ensures.same c.requires.closed) c.in-Ok.ensures.small c.in-Ok.ensures.inside c.in-Ok.ensures.ready c.self.invariant.stand);
-  tells =
-      subst (AreKnown g.S.ForkStore.fork g.S.ForkStore.is_honest (set c.self.inside.stores.items (c.args.number - 1) c.read_table.new.store)) (sym c.recall-known.ensures.forgotten) (known_set g.S.ForkStore.fork g.S.ForkStore.is_honest c.self.inside.stores.items c.self.inside.known (c.args.number - 1) c.read_table.new.store Nothing (nothing_of g.S.ForkStore.fork g.S.ForkStore.is_honest c.read_table.new.store) c.self.invariant.tells);
-  reads_back = tt;
-}
+invariant_of-self-2 g c =
+    subst (λ (chain : OpenFiles Place). StandOn g.S.ForkStore.fork g.S.ForkStore.is_ready g.S.ForkStore.is_honest (set c.self.inside.stores.items (c.args.number - 1) c.read_table.new.store) chain) (sym c.in_ok-open.ensures.opened)
+    (stand_more g.S.ForkStore.fork g.S.ForkStore.is_ready g.S.ForkStore.is_honest c.self.inside.chain c.self.inside.loads c.self.inside.stores.items c.args.self.now c.self.view_is c.args.number c.requires.there.0 c.requires.there.1 c.index_mut-store.result.now c.read_table.new.store c.index_mut-store.ensures.value c.read_table.ensures.honest c.read_table.ensures.same c.in-Ok.table (closed_there g.S.ForkStore.fork g.S.ForkStore.is_ready g.S.ForkStore.is_honest c.self.inside.chain c.self.inside.loads c.self.inside.stores.items c.args.self.now c.self.view_is c.args.number c.requires.there.0 c.requires.there.1 c.index_mut-store.result.now c.read_table.new.store c.index_mut-store.ensures.value c.read_table.ensures.honest c.read_table.ensures.same c.requires.closed) c.in-Ok.ensures.small c.in-Ok.ensures.inside c.in-Ok.ensures.ready c.self.invariant)
 
 pub returns-clause-opened : goal.returns-clause-opened
 returns-clause-opened g c =
-    seen_more g.S.ForkStore.fork g.S.ForkStore.is_ready g.S.ForkStore.is_honest c.self.inside.chain c.self.inside.loads c.self.inside.stores.items c.args.self.now c.self.view_is c.args.number c.requires.there.0 c.requires.there.1 c.index_mut-store.result.now c.read_table.new.store c.index_mut-store.ensures.value c.read_table.ensures.honest c.read_table.ensures.same c.in-Ok.table c.open.new.self c.in_ok-open.ensures.opened c.in-Ok.ensures.reads
+    seen_more g.S.ForkStore.fork g.S.ForkStore.is_ready g.S.ForkStore.is_honest c.self.inside.chain c.self.inside.loads c.self.inside.stores.items c.args.self.now c.self.view_is c.args.number c.requires.there.0 c.requires.there.1 c.index_mut-store.result.now c.read_table.new.store c.index_mut-store.ensures.value c.read_table.ensures.honest c.read_table.ensures.same c.in-Ok.table c.open.new.self c.in_ok-open.ensures.opened c.self.invariant c.requires.closed c.in-Ok.ensures.opening c.in-Ok.ensures.reads
 
 pub returns-clause-forks : goal.returns-clause-forks
 returns-clause-forks g c =
@@ -158,9 +119,6 @@ returns-clause-count g c = length-set c.self.inside.stores.items (c.args.number 
 pub returns-in-Err-clause-count : goal.returns-in-Err-clause-count
 returns-in-Err-clause-count g c = length-set c.self.inside.stores.items (c.args.number - 1) c.read_table.new.store ∙ ap (λ (on : FilesOn _). length on.stores) c.self.view_is
 
-pub returns-clause-cause : goal.returns-clause-cause
-returns-clause-cause g c =
+pub returns-clause-works : goal.returns-clause-works
+returns-clause-works g c =
     none_failed g.S.ForkStore.fork g.S.ForkStore.is_honest c.self.inside.chain c.self.inside.loads c.self.inside.stores.items c.args.self.now c.self.view_is (c.args.number - 1) (within g.S.ForkStore.fork g.S.ForkStore.is_ready g.S.ForkStore.is_honest c.self.inside.chain c.self.inside.loads c.self.inside.stores.items c.args.self.now c.self.view_is c.args.number c.requires.there.0 c.requires.there.1 c.index_mut-store.result.now c.read_table.new.store c.index_mut-store.ensures.value c.read_table.ensures.honest c.read_table.ensures.same) c.index_mut-store.result.now c.read_table.new.store c.index_mut-store.ensures.value g.S.ForkStore.failures c.in-Ok.ensures.cause
-
-pub returns-in-Err-clause-cause : goal.returns-in-Err-clause-cause
-returns-in-Err-clause-cause g c = caused g.S.ForkStore.fork g.S.ForkStore.is_ready g.S.ForkStore.is_honest c.self.inside.chain c.self.inside.loads c.self.inside.stores.items c.args.self.now c.self.view_is c.args.number c.requires.there.0 c.requires.there.1 c.index_mut-store.result.now c.read_table.new.store c.index_mut-store.ensures.value c.read_table.ensures.honest c.read_table.ensures.same g.S.ForkStore.failures c.in-Err.fault c.in_ok-code_of-in-Err.field-0 c.in_ok-code_of-in-Err.ensures c.in-Err.ensures.cause

@@ -6,7 +6,7 @@ use Rattle.res_files.proofs.files.ResourceFiles.row.Goals as goal
 
 pub returns-clause-some : goal.returns-clause-some
 returns-clause-some g c =
-    IfSome_then c.row.result c.row.ensures.some (λ row is. row_seen g.S.ForkStore.fork c.self.inside.chain c.self.inside.loads c.self.inside.stores.items c.args.self.now c.self.view_is g.S.ForkStore.is_ready g.S.ForkStore.is_honest c.self.invariant.stand c.args.place row.now is)
+    IfSome_then c.row.result c.row.ensures.some (λ row is. row_seen g.S.ForkStore.fork c.self.inside.chain c.self.inside.loads c.self.inside.stores.items c.args.self.now c.self.view_is c.args.place row.now is)
 
 pub returns-clause-none : goal.returns-clause-none
 returns-clause-none g c =

@@ -9,4 +9,4 @@ pub returns-clause-value : goal.returns-clause-value
 returns-clause-value g c = asked g.S.ForkStore.fork c.self.inside.chain c.self.inside.loads c.self.inside.stores.items c.args.self.now c.self.view_is (place_of_handle c.args.handle) c.row_of_handle.result (c.row_of_handle.ensures ∙ sym (handle-mapped (bytes_in (map g.S.ForkStore.fork c.self.inside.stores.items)) c.args.handle c.self.inside.chain))
 
 pub returns-clause-there : goal.returns-clause-there
-returns-clause-there g c = handle_there g.S.ForkStore.fork g.S.ForkStore.is_ready g.S.ForkStore.is_honest c.self.inside.chain c.self.inside.loads c.self.inside.stores.items c.args.self.now c.self.view_is c.self.invariant.stand c.args.handle c.row_of_handle.result c.row_of_handle.ensures
+returns-clause-there g c = handle_there g.S.ForkStore.fork g.S.ForkStore.is_ready g.S.ForkStore.is_honest c.self.inside.chain c.self.inside.loads c.self.inside.stores.items c.args.self.now c.self.view_is c.self.invariant c.args.handle c.row_of_handle.result c.row_of_handle.ensures

@@ -13,14 +13,10 @@ pub set_handle-requires : goal.set_handle-requires
 set_handle-requires g c = row_there g.S.ForkStore.fork c.self.inside.chain c.self.inside.loads c.self.inside.stores.items c.args.self.now c.self.view_is c.args.place c.requires
 
 pub invariant_of-self : goal.invariant_of-self
-invariant_of-self g c = record {
-  stand =
-      subst (λ (chain : OpenFiles Place). StandOn g.S.ForkStore.fork g.S.ForkStore.is_ready g.S.ForkStore.is_honest c.self.inside.stores.items chain) (sym c.set_handle.ensures)
-      (stand_changed g.S.ForkStore.fork g.S.ForkStore.is_ready g.S.ForkStore.is_honest c.self.inside.stores.items c.args.place.file (changed_at c.args.place.index (with_handle c.args.handle)) c.self.inside.chain
-      (keeps_changed_at c.args.place.index (with_handle c.args.handle) (λ r. refl) (λ r. refl)) c.self.invariant.stand);
-  tells = c.self.invariant.tells;
-  reads_back = tt;
-}
+invariant_of-self g c =
+    subst (λ (chain : OpenFiles Place). StandOn g.S.ForkStore.fork g.S.ForkStore.is_ready g.S.ForkStore.is_honest c.self.inside.stores.items chain) (sym c.set_handle.ensures)
+    (stand_changed g.S.ForkStore.fork g.S.ForkStore.is_ready g.S.ForkStore.is_honest c.self.inside.stores.items c.args.place.file (changed_at c.args.place.index (with_handle c.args.handle)) c.self.inside.chain
+    (keeps_changed_at c.args.place.index (with_handle c.args.handle) (λ r. refl) (λ r. refl)) c.self.invariant)
 
 pub returns : goal.returns
 returns g c =
