@@ -78,7 +78,7 @@ saved-bytes disk table stands i d within =
     let there : i < length (map save table.rows) = omega (arith, within, length-map table.rows save) in
     inr (saved_table table, stands, (i, q, there, get_or-map save table.rows i d q within, (refl, refl, refl, refl)))
 
-read-bytes : (device : Device) (disk : Disk) (table : FileTable) → ReadsBy device disk (Ok table) → HaveBytes disk table.rows
+read-bytes : (device : Device) (disk : Disk) (table : FileTable) → ReadsBy (read_truly Anything) device disk (Ok table) → HaveBytes disk table.rows
 read-bytes DeviceWorks disk table (empty none) = All-nil (HasBytes disk)
 read-bytes DeviceWorks disk table (fork read stands) = All-map (HasBytes disk) opened_row read.rows (λ i d within.
     let q = get_or read.rows i d in inr (read, stands, (i, q, within, get_or_default read.rows i q d within, (refl, refl, refl, refl))))
@@ -263,7 +263,7 @@ module _ (state : ResState) where
 
   -- what opening reads
   opens-kept : (device : Device) (k : ℕ) → 1 ≤ k → is_open k state.files ≡ false → Kept state
-      → (read : Result FileTable OsErr) → ReadsBy device (disk_of k state) read → Kept (opened_end k state read).state
+      → (read : Result FileTable OsErr) → ReadsBy (read_truly Anything) device (disk_of k state) read → Kept (opened_end k state read).state
   opens-kept device k low closed kept (Ok table) reads =
       let rows = read-bytes device (disk_of k state) table reads in
       opened-kept (IsKept state) (record { number = k; table = table }) (low, rows) state.files.files closed kept
