@@ -58,12 +58,6 @@ pub trait ForkStore {
     /// How many bytes of a fork a recovery copies by way of the host's memory.
     ghost copied: { Self → ℕ };
 
-    /// A crash leaves something: a start may find the fork that is there now.
-    ghost crash_leaves: { (store : Self) → has_journal → is_honest store → may_find (history store) (fork store) };
-
-    /// Where a crash would leave a store's fork, a start finds no other.
-    ghost stable_finds: { (store : Self) → has_journal → is_honest store → is_stable store → Finds may_find (λ found. found ≡ fork store) (history store) };
-
     /// Where a store is ready, a start finds the fork that is read.
     ghost ready_finds: { (store : Self) → has_journal → is_honest store → is_ready store → Finds may_find (λ found. found ≡ fork store) (history store) };
 
@@ -119,6 +113,12 @@ pub trait ForkStore {
         ensures any_moment { is_honest self.new
             → AlwaysFinds may_find (FoundBeforeOr may_find (history self.old) new.now) (history self.old) (history self.new) }
         ensures calm { is_honest self.new → IsErrOf result ReplaceFault.BeforeFirstWrite → history self.new ≡ history self.old };
+
+    /// A crash leaves something: a start may find the fork that is there now.
+    ghost crash_leaves: { (store : Self) → has_journal → is_honest store → may_find (history store) (fork store) };
+
+    /// Where a crash would leave a store's fork, a start finds no other.
+    ghost stable_finds: { (store : Self) → has_journal → is_honest store → is_stable store → Finds may_find (λ found. found ≡ fork store) (history store) };
 }
 
 /// A fork on a disk of its own.

@@ -141,10 +141,6 @@ recovers contents fork side bytes start mid same new outcome settles is calm sec
 pub settled_read : (was now : Contents) (fork : Bytes) → now ≡ was → is_usable now.journal ≡ true → fork ≡ fork_in (drop 1 now.journal) → settled_fork was ≡ fork
 settled_read was now fork same usable is = ap settled_fork (sym same) ∙ settled_usable now usable ∙ sym is
 
-pub refuses : (contents : Contents) (after : Bytes) (start new : History) → IsReady contents start → new ≡ start → AlwaysLeaves (IsBeforeOrAfter (settled_fork contents) after) start new
-refuses contents after start new ready same =
-    along_weaker _ _ start new (λ c gives. inl (gives ∙ sym (settled_unusable contents ready.unusable))) (rests contents start new ready same)
-
 -- a recovery that has one choice
 pub one_fork : (contents : Contents) (start new : History) → IsStable contents start → AlwaysLeaves (IsSameChoice start) start new → AlwaysLeaves (λ c. settled_fork c ≡ settled_fork contents) start new
 one_fork contents start new stable always = along_weaker _ _ start new (λ c same. same.2 ∙ stable same.0 same.1) always

@@ -1,6 +1,9 @@
-use Rattle.std.proofs.Common.{sym, ap, ◌∙◌}
+use Rattle.std.proofs.Common.{◌≤◌, sym, ap, ◌∙◌, subst}
+use Rattle.std.proofs.lemmas.Result.{err_from_is_err_and}
+use Rattle.fork_disk.proofs.Passing.{passed_on}
 use Rattle.fork_journal.specs.Crash.{Contents}
 use Rattle.fork_journal.specs.Form.{is_usable}
+use Rattle.fork_journal.specs.Recovery.{copied_length}
 use Rattle.fork_journal.proofs.Along.{leaves_now}
 use Rattle.fork_journal.proofs.Readying.{leaves_journal, readies}
 use Rattle.fork_journal.proofs.Updating.{chooses, syncs, recovers, settled_read, one_fork}
@@ -73,3 +76,9 @@ returns-in_default-clause-ready g c honest =
     readies (g.P.PairDisk.contents c.args.pair.now) (g.P.PairDisk.contents c.usable_fork.new.pair) _ _
     (c.usable_fork.ensures.calm honest ∙ c.in_ok-sync.ensures.durable h1) (c.usable_fork.ensures.same honest ∙ c.sync.ensures.same h1) (c.requires h0)
     (ap (λ (d : Contents). is_usable d.journal) (c.usable_fork.ensures.same honest) ∙ rw c.in_default.is at (c.in_ok-fork.ensures.value honest))
+
+pub returns-in_err-fork-clause-memory : goal.returns-in_err-fork-clause-memory
+returns-in_err-fork-clause-memory g c honest full =
+    let h1 = c.usable_fork.ensures.honest honest in
+    let p = err_from_is_err_and c.from_residual-in_err-fork.result c.from_residual-in_err-fork.ensures.1 in
+    subst (λ (d : Contents). 1 ≤ copied_length d) (c.sync.ensures.same h1) (c.usable_fork.ensures.memory honest (passed_on _ _ _ _ c.in_err-fork.was p.1 p.2 full))
