@@ -97,14 +97,7 @@ fn updates_long_forks(rt: HostRuntime) -> Result<(), AllocError> {
     };
     let old = one_row(rt.alloc())?;
     let new = bytes_of(rt.alloc(), LONG)?;
-    for (calls, choice) in [
-        (5, filled),
-        (8, lost),
-        (9, lost),
-        (10, filled),
-        (11, lost),
-        (14, lost),
-    ] {
+    for (calls, choice) in [(8, lost), (10, filled)] {
         check_stop(&rt, rt.alloc(), (&old, &new), calls, choice)?;
     }
     let mut store = started(rt.alloc(), &old, &[], MANY)?;
