@@ -7,7 +7,7 @@ The calls are letters: s asks for the file's length, r reads, w writes, c cuts, 
 call that fails isn't made: the line that made it answers ioErr, and no further call is made for it. Where it came before the first write of an
 update the file keeps its bytes and stays open; else the file is closed. The lines behind it answer as on a device that works again. With a
 journal the next start, or the next OpenResFile, finds the fork from before the update where the gate wasn't opened yet, and else the new
-one. Needs a C compiler: `cc`, or $CC.
+one; but after a sync that failed each OpenResFile of that run answers ioErr. Needs a C compiler: `cc`, or $CC.
 """
 import os
 import subprocess
@@ -232,7 +232,8 @@ def updated(play):
 
 
 def journalled(play):
-    """Each update is made with each of these journals, and each call of it fails in turn. Then the next OpenResFile finds the old fork or the new one, and so does the next start."""
+    """Each update is made with each of these journals, and each call of it fails in turn. Then the next start finds the old fork or the new one, and so does the next OpenResFile, but
+    after a sync that failed."""
     for update in UPDATES:
         name, number, old, new = update.lines[-1].split(" ")[0], len(update.lines), update.fork, update.new
         for which, journal, start, gate in UNUSED:
@@ -248,7 +249,12 @@ def journalled(play):
                 fork = found(made, calls, old, new)
                 yield f"{what}, call {turn}, the next start", next_start(play, ended, fork)
                 again = play(old, [*update.lines, "OpenResFile 1"], journal, DEVICE_FAIL=len(before) + turn)
-                yield f"{what}, call {turn}, opened again", again.fault([*printed[:2], f"{number + 1} OpenResFile 1 0"], None, fork, None)
+                reply, left = ("-36", torn(made, old, new)) if is_sync(calls[turn - 1]) else ("1 0", fork)
+                yield f"{what}, call {turn}, opened again", again.fault([*printed[:2], f"{number + 1} OpenResFile {reply}"], None, left, None)
+
+
+def is_sync(call):
+    return call in "yY"
 
 
 def next_start(play, ended, fork):
@@ -259,7 +265,7 @@ def next_start(play, ended, fork):
 
 
 def recovered(play):
-    """A start recovers a fork that is half written, and each call of it fails in turn. Then the next OpenResFile recovers it, and so does the next start."""
+    """A start recovers a fork that is half written, and each call of it fails in turn. Then the next start recovers it, and so does the next OpenResFile, but after a sync that failed."""
     half, journal = HI[:100], journal_of(1, HI)
     whole = play(half, ["CountTypes"], journal)
     yield "a recovery", whole.fault(["1 CountTypes 1 0"], "YSRR" + "wcy" + "WY" + "ssrrr", HI, journal_of(0, HI))
@@ -269,7 +275,10 @@ def recovered(play):
         yield f"a recovery, call {turn}", ended.fault(["0 OpenResFile -36"], whole.calls[:turn], left, None)
         yield f"a recovery, call {turn}, the next start", next_start(play, ended, HI)
         again = play(half, ["OpenResFile 1"], journal, DEVICE_FAIL=turn)
-        yield f"a recovery, call {turn}, opened again", again.fault(["0 OpenResFile -36", "1 OpenResFile 1 0"], None, HI, journal_of(0, HI))
+        if is_sync(whole.calls[turn - 1]):
+            yield f"a recovery, call {turn}, opened again", again.fault(["0 OpenResFile -36", "1 OpenResFile -36"], None, left, None)
+        else:
+            yield f"a recovery, call {turn}, opened again", again.fault(["0 OpenResFile -36", "1 OpenResFile 1 0"], None, HI, journal_of(0, HI))
 
 
 def in_rows(play):

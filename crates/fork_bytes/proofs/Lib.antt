@@ -10,7 +10,6 @@ mod ReadRows
 mod ReadAgain
 pub mod Grouped
 mod ReadWhole
-mod Blank
 pub mod Lengths
 mod Sized
 pub mod Plain

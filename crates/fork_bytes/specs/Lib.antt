@@ -3,4 +3,3 @@ pub mod Fork
 pub mod Written
 pub mod Laws
 pub mod Sizes
-pub mod Frame

@@ -3,13 +3,11 @@
 
 pub mod datum;
 pub mod fault;
-pub mod frame;
 mod laws;
 pub mod layout;
 mod sizes;
 pub mod table;
 mod write;
 
-pub use frame::write_frame;
 pub use laws::fork_laws;
 pub use write::{write_fork, write_rows};

@@ -20,7 +20,7 @@ const MAX_NAME_OFFSET: usize = 65534;
 const MAX_OFFSET: usize = 65535;
 
 /// Where the data stand in a fork that is written: behind the header and the extra bytes.
-pub(crate) const DATA_OFFSET: u32 = 256;
+const DATA_OFFSET: u32 = 256;
 
 /// Where the rows end that have the type of the row at `start` and stand together with it.
 pub(crate) fn run_end<D>(rows: &[Resource<D>], start: usize) -> usize

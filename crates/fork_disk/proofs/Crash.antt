@@ -1,5 +1,5 @@
 -- What a start finds behind a crash, where little happened.
-use Rattle.std.proofs.Common.{◌≡◌, inl, inr, ℕ, List, refl, sym, subst}
+use Rattle.std.proofs.Common.{◌≡◌, inl, ℕ, List, sym, subst}
 use Rattle.fork_disk.specs.Crash.{AlwaysFinds, FoundBeforeOr, at_first}
 
 -- where nothing happened, a start finds what it might have found before

@@ -1,8 +1,8 @@
 -- The premise of a real file can be met: a file that does what it answers, and answers what it holds, is honest.
-use Rattle.std.proofs.Common.{◌≡◌, ◌+◌, ◌≤◌, ℕ, zero, suc, max, min, Bool, true, false, List, [], ◌∷◌, length, take, refl, arith}
-use Rattle.std.specs.Prelude.{⊤, IsTrue}
+use Rattle.std.proofs.Common.{◌≡◌, ℕ, zero, suc, Bool, true, false, List, [], ◌∷◌, length, take, refl, arith}
+use Rattle.std.specs.Prelude.{⊤}
 use Rattle.fork_disk.specs.Disk.{bytes_at, put_at, Torn, CutShort}
-use Rattle.fork_disk.specs.Record.{Event, call_of, number_of, is_done, Fits, Settles, IsStable, IsHonest}
+use Rattle.fork_disk.specs.Record.{Event, call_of, number_of, is_done, Fits, Settles, IsHonest}
 
 -- what such a file holds behind a call: a write or a cut that failed has done nothing
 abbrev pub stepped : ℕ → ℕ → Bool → List ℕ → List ℕ → List ℕ

@@ -1,2 +1,3 @@
 pub mod Crash
 pub mod Honest
+pub mod Passing

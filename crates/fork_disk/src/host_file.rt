@@ -1,6 +1,6 @@
 //! A file of the system, and how often it has failed.
 
-ghost use Rattle.std.specs.Prelude.{◌≡◌, length};
+ghost use Rattle.std.specs.Prelude.{◌≡◌, true, false, length, OnOk, OnErr};
 ghost use Rattle.fork_disk.specs.Disk.{Counts};
 
 use crate::disk::DiskFault;
@@ -15,6 +15,8 @@ use std::path::AsPath;
 pub struct HostFile {
     file: File,
     pub(crate) failures: Failures,
+    /// A sync of `settle` has failed.
+    is_spent: bool,
 }
 
 /// Counts a fault of the system.
@@ -38,12 +40,14 @@ impl HostFile {
         Ok(HostFile {
             file,
             failures: Failures::new(),
+            is_spent: false,
         })
     }
 
     /// How many bytes there are.
     pub fn len(&mut self) -> Result<u64, DiskFault>
-        ensures { Counts self.old.failures self.new.failures result }
+        ensures cause { Counts self.old.failures self.new.failures result }
+        ensures spent { self.new.is_spent ≡ self.old.is_spent }
     {
         match self.file.metadata() {
             Ok(metadata) => Ok(metadata.len()),
@@ -55,28 +59,47 @@ impl HostFile {
     pub fn read_at(&mut self, at: u64, buffer: &mut [u8]) -> Result<(), DiskFault>
         ensures cause { Counts self.old.failures self.new.failures result }
         ensures long { length buffer.new ≡ length buffer.old }
+        ensures spent { self.new.is_spent ≡ self.old.is_spent }
     {
         counted(&mut self.failures, self.file.read_exact_at(buffer, at))
     }
 
     /// Writes over what is there, and past the end.
     pub fn write_at(&mut self, at: u64, bytes: &[u8]) -> Result<(), DiskFault>
-        ensures { Counts self.old.failures self.new.failures result }
+        ensures cause { Counts self.old.failures self.new.failures result }
+        ensures spent { self.new.is_spent ≡ self.old.is_spent }
     {
         counted(&mut self.failures, self.file.write_all_at(bytes, at))
     }
 
     /// Cuts the bytes to a length, or grows them to it.
     pub fn cut(&mut self, len: u64) -> Result<(), DiskFault>
-        ensures { Counts self.old.failures self.new.failures result }
+        ensures cause { Counts self.old.failures self.new.failures result }
+        ensures spent { self.new.is_spent ≡ self.old.is_spent }
     {
         counted(&mut self.failures, self.file.set_len(len))
     }
 
     /// Makes what was written stable.
     pub fn sync(&mut self) -> Result<(), DiskFault>
-        ensures { Counts self.old.failures self.new.failures result }
+        ensures cause { Counts self.old.failures self.new.failures result }
+        ensures spent { self.new.is_spent ≡ self.old.is_spent }
     {
         counted(&mut self.failures, self.file.sync_all())
+    }
+
+    /// The same, for one who counts on all that was written so far. Where a sync fails, the system may drop what waited for it, and
+    /// still answer the next one as done. So after one that failed each fails, and no call of the system is made.
+    pub fn settle(&mut self) -> Result<(), DiskFault>
+        ensures cause { Counts self.old.failures self.new.failures result }
+        ensures trusted { OnOk result (self.old.is_spent ≡ false) }
+        ensures spent { OnErr result (self.new.is_spent ≡ true) }
+    {
+        if self.is_spent {
+            return Err(self.failures.count());
+        }
+        let answer = self.sync();
+        self.is_spent = answer.is_err();
+        answer
     }
 }

@@ -1,6 +1,6 @@
 //! Where the fork of a resource file is kept.
 
-ghost use Rattle.std.specs.Prelude.{◌≡◌, ◌+◌, ◌≤◌, ⊤, List, [], ℕ, length, IfOk, OnOk, IsErrOf};
+ghost use Rattle.std.specs.Prelude.{◌≡◌, ◌+◌, ◌<◌, ◌≤◌, ◌^◌, ⊤, List, [], ℕ, length, IfOk, OnOk, IsErrOf};
 ghost use Rattle.fork_disk.specs.Crash.{AlwaysFinds, Finds, FoundBeforeOr};
 ghost use Rattle.fork_disk.specs.Disk.{bytes_at, Counts};
 ghost use Rattle.fork_disk.specs.Faults.{CountsDevice};
@@ -55,11 +55,15 @@ pub trait ForkStore {
     /// The forks that a start may find where a crash came behind such a history, once the store was made ready.
     ghost may_find: { List Event → List ℕ → Type 0 };
 
+    /// How many bytes of a fork a recovery copies by way of the host's memory.
+    ghost copied: { Self → ℕ };
+
     /// Where a store is ready, a start finds the fork that is read.
     ghost ready_finds: { (store : Self) → has_journal → is_honest store → is_ready store → Finds may_find (λ found. found ≡ fork store) (history store) };
 
     /// Makes the fork ready: a store with a journal finishes, or drops, what a crash or a failed replacement left. The fork is the
-    /// same. Whenever a crash comes, a start finds a fork that it might have found before.
+    /// same. Whenever a crash comes, a start finds a fork that it might have found before. The host's memory is asked for only where
+    /// a fork is copied.
     fn recover(&mut self) -> Result<(), RecoverFault>
         ensures same { is_honest self.new → fork self.new ≡ fork self.old }
         ensures ready { is_honest self.new → OnOk result (is_ready self.new) }
@@ -67,6 +71,7 @@ pub trait ForkStore {
         ensures stable { is_honest self.new → is_stable self.old → is_stable self.new }
         ensures honest { is_honest self.new → is_honest self.old }
         ensures cause { CountsDevice (failures self.old) (failures self.new) result }
+        ensures memory { is_honest self.new → IsErrOf result RecoverFault.Host → 1 ≤ copied self.old }
         ensures any_moment { is_honest self.new → AlwaysFinds may_find (may_find (history self.old)) (history self.old) (history self.new) };
 
     /// How many bytes the fork has.
@@ -92,10 +97,11 @@ pub trait ForkStore {
         ensures cause { Counts (failures self.old) (failures self.new) result }
         ensures calm { is_honest self.new → history self.new ≡ history self.old };
 
-    /// Puts another fork in the place of the one that is there. Where it succeeds, a crash leaves the new one. Whenever a crash
-    /// comes, a start finds a fork that it might have found before, or the new one.
+    /// Puts another fork, whose length four bytes hold, in the place of the one that is there. Where it succeeds, a crash leaves the
+    /// new one. Whenever a crash comes, a start finds a fork that it might have found before, or the new one.
     fn replace(&mut self, new: &[u8]) -> Result<(), ReplaceFault>
-        requires { is_honest self.old → is_ready self.old }
+        requires ready { is_honest self.old → is_ready self.old }
+        requires short { length new.now < 2 ^ 32 }
         ensures replaced { is_honest self.new → OnOk result (fork self.new ≡ new.now) }
         ensures before { is_honest self.new → IsErrOf result ReplaceFault.BeforeFirstWrite → fork self.new ≡ fork self.old }
         ensures left { is_honest self.new → IsErrOf result ReplaceFault.Later → may_leave new.now (fork self.old) (fork self.new) }
@@ -107,6 +113,12 @@ pub trait ForkStore {
         ensures any_moment { is_honest self.new
             → AlwaysFinds may_find (FoundBeforeOr may_find (history self.old) new.now) (history self.old) (history self.new) }
         ensures calm { is_honest self.new → IsErrOf result ReplaceFault.BeforeFirstWrite → history self.new ≡ history self.old };
+
+    /// A crash leaves something: a start may find the fork that is there now.
+    ghost crash_leaves: { (store : Self) → has_journal → is_honest store → may_find (history store) (fork store) };
+
+    /// Where a crash would leave a store's fork, a start finds no other.
+    ghost stable_finds: { (store : Self) → has_journal → is_honest store → is_stable store → Finds may_find (λ found. found ≡ fork store) (history store) };
 }
 
 /// A fork on a disk of its own.
@@ -135,6 +147,12 @@ impl<D: ForkDisk> ForkStore for PlainStore<D> {
     ghost history = { λ _. [] };
 
     ghost may_find = { λ _ _. ⊤ };
+
+    ghost copied = { λ _. 0 };
+
+    ghost crash_leaves = { λ _ journalled. absurd journalled };
+
+    ghost stable_finds = { λ _ journalled. absurd journalled };
 
     ghost ready_finds = { λ _ journalled. absurd journalled };
 

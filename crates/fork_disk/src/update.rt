@@ -1,6 +1,6 @@
 //! A fork that is put in the place of another.
 
-ghost use Rattle.std.specs.Prelude.{◌≡◌, ◌+◌, ◌≤◌, length, All, OnOk, OnErr, IsErrOf};
+ghost use Rattle.std.specs.Prelude.{◌≡◌, ◌+◌, ◌<◌, ◌≤◌, ◌^◌, length, All, OnOk, OnErr, IsErrOf};
 ghost use Rattle.fork_disk.specs.Crash.{AlwaysFinds, FoundBeforeOr};
 ghost use Rattle.fork_disk.specs.Disk.{bytes_at, put_at, Counts};
 ghost use Rattle.fork_disk.specs.Fork.{gathered, IsPartly};
@@ -66,6 +66,7 @@ pub fn update<S: ForkStore>(
     kept: &[Kept],
 ) -> Result<(), ReplaceFault>
     requires ready { S.is_honest store.old → S.is_ready store.old }
+    requires short { length fork.old < 2 ^ 32 }
     requires inside { All (λ k. k.to + k.length ≤ length fork.old) kept.now }
     requires there { S.is_honest store.old → All (λ k. k.from + k.length ≤ length (S.fork store.old)) kept.now }
     ensures gathered { S.is_honest store.new → OnOk result (fork.new ≡ gathered (S.fork store.old) kept.now fork.old) }

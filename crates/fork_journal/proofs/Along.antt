@@ -1,9 +1,9 @@
 -- How what a crash may leave goes on from call to call.
-use Rattle.std.proofs.Common.{◌≡◌, inl, inr, ℕ, List, ◌∷◌, refl, sym, ◌∙◌, subst}
+use Rattle.std.proofs.Common.{◌≡◌, inl, inr, ℕ, false, List, ◌∷◌, refl, sym, ◌∙◌, subst}
 use Rattle.fork_journal.specs.declared.pair.Side.{Side}
 use Rattle.fork_journal.specs.declared.pair.Side.TheVariants.{Fork, Journal}
 use Rattle.fork_disk.specs.Disk.{Torn, CutShort}
-use Rattle.fork_journal.specs.Crash.{Contents, Event, Wrote, Cut, Synced, History, side_of, OnSide, MayLeave, Follows, AlwaysLeaves, at_first, and_then, LeftWith, Settles}
+use Rattle.fork_journal.specs.Crash.{Contents, Event, Wrote, Cut, Synced, Failed, History, side_of, has_failed, OnSide, MayLeave, Follows, AlwaysLeaves, at_first, and_then, LeftWith, Settles}
 
 abbrev pub Bytes : Type 0
 Bytes = List ℕ
@@ -48,6 +48,9 @@ module _ (P : Contents → Type 0) where
   along_sync side bytes old mid new so_far is =
       along_event (Synced side bytes) old mid new so_far (inl is) (λ c left. leaves_now old mid so_far c left.0)
 
+  pub along_failed : (side : Side) (old mid new : History) → AlwaysLeaves P old mid → Follows (Failed side) mid new → AlwaysLeaves P old new
+  along_failed side old mid new so_far event = along_event (Failed side) old mid new so_far event (leaves_now old mid so_far)
+
   -- two stretches in a row
   pub along_then : (old mid new : History) → AlwaysLeaves P old mid → AlwaysLeaves P mid new → AlwaysLeaves P old new
   along_then old mid new first (at_first here) = first
@@ -73,8 +76,8 @@ module _ (side : Side) (R : Bytes → Bytes → Type 0) (start : History) where
   cuts n mid new joins so_far event =
       along_cut P side n start mid new so_far event (λ d c was step. (was.0, was.1, on_side_then side R (CutShort n) R joins was.0 d c was.2 step))
 
-  pub settles : (bytes was_read : Bytes) (mid new : History) → AlwaysLeaves P start mid → new ≡ Synced side was_read ∷ mid → was_read ≡ bytes → Settles side bytes start new
-  settles bytes was_read mid new so_far is same c left =
+  pub settles : (bytes was_read : Bytes) (mid new : History) → AlwaysLeaves P start mid → has_failed side mid ≡ false → new ≡ Synced side was_read ∷ mid → was_read ≡ bytes → Settles side bytes start new
+  settles bytes was_read mid new so_far trusted is same c left =
       let here : MayLeave (Synced side was_read ∷ mid) c = subst (λ (h : History). MayLeave h c) is left in
       let was = leaves_now P start mid so_far c here.0 in
-      (was.0, was.1, on_side_to side R bytes was.0 c was.2 (here.1 ∙ same))
+      (was.0, was.1, on_side_to side R bytes was.0 c was.2 (here.1 trusted ∙ same))

@@ -7,7 +7,7 @@ use Rattle.fork_journal.specs.declared.pair.Side.{Side}
 use Rattle.fork_journal.specs.declared.pair.Side.TheVariants.{Fork, Journal}
 use Rattle.fork_journal.specs.declared.mem_pair.Call.{Call}
 use Rattle.fork_journal.specs.declared.mem_pair.Call.TheVariants as calls
-use Rattle.fork_journal.specs.Crash.{Contents, Found, Wrote, Cut, Synced, History, MayLeave, side_of}
+use Rattle.fork_journal.specs.Crash.{Contents, Found, Wrote, Cut, Synced, Failed, History, has_failed, MayLeave, side_of}
 use Rattle.fork_journal.specs.Record.{Kept, after_call, after_calls, found}
 use Rattle.fork_journal.specs.Leaving.{is_on, read_behind, read_after, IsLeft, IsLeftOn, AreLeft}
 use Rattle.fork_journal.specs.Outcome.{write_outcome, cut_outcome}
@@ -28,10 +28,12 @@ SideLeft Fork (Cut Fork n ∷ past) bytes = (d : Bytes) × SideLeft Fork past d 
 SideLeft Fork (Cut Journal n ∷ past) bytes = SideLeft Fork past bytes
 SideLeft Journal (Cut Fork n ∷ past) bytes = SideLeft Journal past bytes
 SideLeft Journal (Cut Journal n ∷ past) bytes = (d : Bytes) × SideLeft Journal past d × CutShort n d bytes
-SideLeft Fork (Synced Fork was ∷ past) bytes = SideLeft Fork past bytes × (bytes ≡ was)
+SideLeft Fork (Synced Fork was ∷ past) bytes = SideLeft Fork past bytes × (has_failed Fork past ≡ false → bytes ≡ was)
 SideLeft Fork (Synced Journal was ∷ past) bytes = SideLeft Fork past bytes
 SideLeft Journal (Synced Fork was ∷ past) bytes = SideLeft Journal past bytes
-SideLeft Journal (Synced Journal was ∷ past) bytes = SideLeft Journal past bytes × (bytes ≡ was)
+SideLeft Journal (Synced Journal was ∷ past) bytes = SideLeft Journal past bytes × (has_failed Journal past ≡ false → bytes ≡ was)
+SideLeft Fork (Failed failed ∷ past) bytes = SideLeft Fork past bytes
+SideLeft Journal (Failed failed ∷ past) bytes = SideLeft Journal past bytes
 
 both_left : (history : History) (fork journal : Bytes) → SideLeft Fork history fork → SideLeft Journal history journal → MayLeave history (record { fork = fork; journal = journal })
 both_left [] fork journal first second = first
@@ -42,6 +44,7 @@ both_left (Cut Fork n ∷ past) fork journal first second = (record { fork = fir
 both_left (Cut Journal n ∷ past) fork journal first second = (record { fork = fork; journal = second.0 }, both_left past fork second.0 first second.1, (second.2, refl))
 both_left (Synced Fork was ∷ past) fork journal first second = (both_left past fork journal first.0 second, first.1)
 both_left (Synced Journal was ∷ past) fork journal first second = (both_left past fork journal first second.0, second.1)
+both_left (Failed failed ∷ past) fork journal first second = both_left past fork journal first second
 
 -- one call more
 stays : (side : Side) (history : History) (old left : Bytes) → SideLeft side history old → left ≡ old → SideLeft side history left
@@ -54,14 +57,14 @@ module _ (kept : Kept) (old left : Bytes) where
   step_left Fork (calls.Write Journal at bytes) reads before step = stays Fork kept.history old left before (step.other refl)
   step_left Fork (calls.Cut Fork n) reads before step = (old, before, step.own refl)
   step_left Fork (calls.Cut Journal n) reads before step = stays Fork kept.history old left before (step.other refl)
-  step_left Fork (calls.Sync Fork) reads before step = (stays Fork kept.history kept.contents.fork left reads (step.own refl), step.own refl)
+  step_left Fork (calls.Sync Fork) reads before step = (stays Fork kept.history kept.contents.fork left reads (step.own refl), λ _. step.own refl)
   step_left Fork (calls.Sync Journal) reads before step = stays Fork kept.history old left before (step.other refl)
   step_left Journal (calls.Write Fork at bytes) reads before step = stays Journal kept.history old left before (step.other refl)
   step_left Journal (calls.Write Journal at bytes) reads before step = (old, before, step.own refl)
   step_left Journal (calls.Cut Fork n) reads before step = stays Journal kept.history old left before (step.other refl)
   step_left Journal (calls.Cut Journal n) reads before step = (old, before, step.own refl)
   step_left Journal (calls.Sync Fork) reads before step = stays Journal kept.history old left before (step.other refl)
-  step_left Journal (calls.Sync Journal) reads before step = (stays Journal kept.history kept.contents.journal left reads (step.own refl), step.own refl)
+  step_left Journal (calls.Sync Journal) reads before step = (stays Journal kept.history kept.contents.journal left reads (step.own refl), λ _. step.own refl)
 
 is_own : (side : Side) (call : Call) (read old left : Bytes) → is_on side call ≡ true → IsLeft call read old left → IsLeftOn side call read old left
 is_own side call read old left own step = record { own = λ _. step; other = λ not. never (is_on side call) own not }

@@ -1,5 +1,5 @@
 -- One call more in the record of a pair in memory.
-use Rattle.std.proofs.Common.{◌≡◌, inl, inr, ℕ, ◌+◌, ◌≤◌, nat_le, Bool, true, if◌then◌else◌, List, [], ◌∷◌, ◌++◌, length, take, drop, refl, sym, ◌∙◌, ap, arith, Vec, Global, Result, Ok, Err}
+use Rattle.std.proofs.Common.{◌≡◌, inl, inr, ℕ, ◌+◌, ◌≤◌, nat_le, Bool, true, false, if◌then◌else◌, List, [], ◌∷◌, ◌++◌, length, take, drop, refl, sym, ◌∙◌, ap, arith, Vec, Global, Result, Ok, Err}
 use Rattle.std.specs.declared.alloc.AllocError.{AllocError}
 use Rattle.std.specs.Prelude.{OnOk, OnErr}
 use Rattle.std.proofs.lemmas.Bool.Decides.{nat_tests}
@@ -7,7 +7,7 @@ use Rattle.fork_journal.specs.declared.pair.Side.{Side}
 use Rattle.fork_journal.specs.declared.pair.Side.TheVariants.{Fork, Journal}
 use Rattle.fork_journal.specs.declared.mem_pair.Call.{Call}
 use Rattle.fork_journal.specs.declared.mem_pair.Call.TheVariants as calls
-use Rattle.fork_journal.specs.Crash.{Contents, Wrote, Cut, Synced, History, Follows, side_of}
+use Rattle.fork_journal.specs.Crash.{Contents, Wrote, Cut, Synced, History, Follows, side_of, has_failed}
 use Rattle.fork_journal.specs.Record.{overwritten, Kept, after_call, after_calls, after_calls-push}
 
 abbrev Bytes : Type 0
@@ -93,3 +93,10 @@ within_fork Journal fork journal at is within = absurd (cc)
 pub within_journal : (side : Side) (fork journal : Bytes) (at : ℕ) → side ≡ Journal → at ≤ length (side_of side (record { fork = fork; journal = journal })) → at ≤ length journal
 within_journal Journal fork journal at is within = within
 within_journal Fork fork journal at is within = absurd (cc)
+
+-- no sync of a pair in memory fails and is noted
+pub never_fails : (side : Side) (list : List Call) (kept : Kept) → has_failed side kept.history ≡ false → has_failed side (after_calls list kept).history ≡ false
+never_fails side [] kept none = none
+never_fails side (calls.Write other at bytes ∷ later) kept none = never_fails side later (after_call (calls.Write other at bytes) kept) none
+never_fails side (calls.Cut other n ∷ later) kept none = never_fails side later (after_call (calls.Cut other n) kept) none
+never_fails side (calls.Sync other ∷ later) kept none = never_fails side later (after_call (calls.Sync other) kept) none

@@ -3,10 +3,10 @@ use Rattle.std.proofs.Common.{◌≡◌, inl, inr, ⊎_elim, ℕ, ◌<◌, ◌�
 use Rattle.std.specs.Prelude.{⊤}
 use Rattle.fork_journal.specs.declared.pair.Side.{Side}
 use Rattle.fork_journal.specs.declared.pair.Side.TheVariants.{Fork, Journal}
-use Rattle.fork_journal.specs.Crash.{Contents, History, MayLeave, Synced, Leaves, AlwaysLeaves, LeftWith, Settles, at_first}
+use Rattle.fork_journal.specs.Crash.{Contents, History, MayLeave, Synced, Failed, Follows, Leaves, AlwaysLeaves, LeftWith, Settles, at_first}
 use Rattle.fork_journal.specs.Form.{text_of, is_whole, fork_in, is_usable, must_shut}
 use Rattle.fork_journal.specs.Recovery.{settled_fork, IsReady, IsRecoverable, IsBeforeOrAfter, IsSameChoice, IsStable, IsShut}
-use Rattle.fork_journal.proofs.Along.{along_weaker, along_then, along_same, along_sync, leaves_now}
+use Rattle.fork_journal.proofs.Along.{along_weaker, along_then, along_same, along_sync, along_failed, leaves_now}
 use Rattle.fork_journal.proofs.Settling.{settled_at, settled_usable, settled_both, settled_one, settled_unusable, unusable_shut, unusable_short, short_where_open, shut_behind, text_whole, text_fork, never}
 
 abbrev pub Bytes : Type 0
@@ -126,8 +126,11 @@ replaces before was after start mid new is first second =
     along_then _ start mid new (stays before after start mid first) (along_weaker _ _ mid new (λ c gives. ⊎_elim (λ old. inl (old ∙ is)) (λ now. inr now) gives) second)
 
 -- a recovery keeps the choice
-pub chooses : (start new : History) → new ≡ start → AlwaysLeaves (IsSameChoice start) start new
+chooses : (start new : History) → new ≡ start → AlwaysLeaves (IsSameChoice start) start new
 chooses start new same = along_same _ start start new (at_first (λ c left. (c, left, refl))) same
+
+pub fails : (side : Side) (start new : History) → Follows (Failed side) start new → AlwaysLeaves (IsSameChoice start) start new
+fails side start new failed = along_failed _ side start start new (chooses start start refl) failed
 
 pub syncs : (side : Side) (bytes : Bytes) (start mid new : History) → mid ≡ Synced side bytes ∷ start → new ≡ mid → AlwaysLeaves (IsSameChoice start) start new
 syncs side bytes start mid new is same =
@@ -140,10 +143,6 @@ recovers contents fork side bytes start mid same new outcome settles is calm sec
 
 pub settled_read : (was now : Contents) (fork : Bytes) → now ≡ was → is_usable now.journal ≡ true → fork ≡ fork_in (drop 1 now.journal) → settled_fork was ≡ fork
 settled_read was now fork same usable is = ap settled_fork (sym same) ∙ settled_usable now usable ∙ sym is
-
-pub refuses : (contents : Contents) (after : Bytes) (start new : History) → IsReady contents start → new ≡ start → AlwaysLeaves (IsBeforeOrAfter (settled_fork contents) after) start new
-refuses contents after start new ready same =
-    along_weaker _ _ start new (λ c gives. inl (gives ∙ sym (settled_unusable contents ready.unusable))) (rests contents start new ready same)
 
 -- a recovery that has one choice
 pub one_fork : (contents : Contents) (start new : History) → IsStable contents start → AlwaysLeaves (IsSameChoice start) start new → AlwaysLeaves (λ c. settled_fork c ≡ settled_fork contents) start new

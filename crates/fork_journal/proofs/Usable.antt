@@ -1,7 +1,7 @@
 -- Whether a journal is usable, read off its first bytes and its length.
-use Rattle.std.proofs.Common.{◌≡◌, ◌≢◌, ℕ, ◌+◌, ◌≤◌, ◌<◌, ◌==◌, ◌&&◌, ◌||◌, Bool, true, false, List, [], ◌∷◌, length, take, drop, get_or, refl, sym, ◌∙◌, ap, arith}
+use Rattle.std.proofs.Common.{◌≡◌, ◌≢◌, ℕ, ◌+◌, ◌≤◌, ◌<◌, ◌==◌, ◌&&◌, ◌||◌, Bool, true, false, if◌then◌else◌, List, [], ◌∷◌, length, take, drop, get_or, refl, sym, ◌∙◌, ap, arith}
 use Rattle.std.proofs.lemmas.Bool.Decides.{nat_tests}
-use Rattle.std.proofs.lemmas.List.{drop-drop, length-drop}
+use Rattle.std.proofs.lemmas.List.{drop-drop, length-drop, length-take-le}
 use Rattle.fork_disk.specs.Disk.{bytes_at}
 use Rattle.byteorder.specs.Endian.{big_number}
 use Rattle.fork_journal.specs.Form.{is_whole, fork_in, is_open, is_usable, must_shut}
@@ -77,3 +77,10 @@ module _ (journal head : Bytes) (n told : ℕ) (is : n ≡ length journal) (enou
 
   pub fork_read : bytes_at told 5 journal ≡ fork_in (drop 1 journal)
   fork_read = taken journal told tells_so
+
+  -- a fork of some bytes is copied
+  pub some_copied : 5 + told ≤ n → get_or head 0 0 ≡ 1 → 1 ≤ told → 1 ≤ (if is_usable journal then length (fork_in (drop 1 journal)) else 0)
+  some_copied long gate some =
+      let copied = ap (λ (b : Bool). if b then length (fork_in (drop 1 journal)) else 0) (usable_whole long gate) in
+      let all : length (bytes_at told 5 journal) ≡ told = length-take-le told (drop 5 journal) (omega (arith, length-drop 5 journal)) in
+      omega (arith, copied, all, ap length fork_read)

@@ -5,7 +5,7 @@ use Rattle.fork_disk.specs.Disk.{bytes_at, put_at, Torn, CutShort}
 use Rattle.fork_disk.specs.Record as files
 use Rattle.fork_journal.specs.declared.pair.Side.{Side}
 use Rattle.fork_journal.specs.declared.pair.Side.TheVariants.{Fork, Journal}
-use Rattle.fork_journal.specs.Crash.{Contents, History, Found, Wrote, Cut, Synced, MayLeave, OnSide, side_of}
+use Rattle.fork_journal.specs.Crash.{Contents, History, Found, Wrote, Cut, Synced, Failed, MayLeave, OnSide, side_of}
 
 -- the side of a number, as it is noted
 abbrev pub side_at : ℕ → Side
@@ -36,7 +36,7 @@ happened (suc zero) side at ok bytes old past = past
 happened (suc (suc zero)) side at ok bytes old past = Wrote side at (length bytes) ∷ past
 happened (suc (suc (suc zero))) side len ok bytes old past = Cut side len ∷ past
 happened (suc (suc (suc (suc more)))) side n true bytes old past = Synced side (side_of side old) ∷ past
-happened (suc (suc (suc (suc more)))) side n false bytes old past = past
+happened (suc (suc (suc (suc more)))) side n false bytes old past = Failed side ∷ past
 
 -- what happened to the pair since a start
 abbrev pub history_of : (List files.Event → Contents) → List files.Event → History
@@ -52,7 +52,7 @@ step_outcome zero side n ok bytes old new past may fits = same_outcome past old 
 step_outcome (suc zero) side at ok bytes old new past may fits = same_outcome past old new fits.0 may
 step_outcome (suc (suc zero)) side at ok bytes old new past may fits = (old, may, fits.0)
 step_outcome (suc (suc (suc zero))) side len ok bytes old new past may fits = (old, may, fits.0)
-step_outcome (suc (suc (suc (suc more)))) side n true bytes old new past may fits = (same_outcome past old new fits may, ap (λ (c : Contents). side_of side c) fits)
+step_outcome (suc (suc (suc (suc more)))) side n true bytes old new past may fits = (same_outcome past old new fits may, λ _. ap (λ (c : Contents). side_of side c) fits)
 step_outcome (suc (suc (suc (suc more)))) side n false bytes old new past may fits = same_outcome past old new fits may
 
 -- an honest pair reads as a crash may leave it

@@ -2,16 +2,10 @@
 use Rattle.std.specs.Prelude.{◌≡◌, ℕ, Bool, true, false, if◌then◌else◌, List, [], ◌∷◌, length, take}
 use Rattle.fork_disk.specs.Disk.{Torn, CutShort}
 use Rattle.fork_journal.specs.declared.pair.Side.{Side}
-use Rattle.fork_journal.specs.declared.pair.Side.TheVariants.{Fork, Journal}
 use Rattle.fork_journal.specs.declared.mem_pair.Call.{Call}
 use Rattle.fork_journal.specs.declared.mem_pair.Call.TheVariants as calls
+use Rattle.fork_journal.specs.Crash.{is_same}
 use Rattle.fork_journal.specs.Record.{overwritten}
-
-abbrev pub is_same : Side → Side → Bool
-is_same Fork Fork = true
-is_same Journal Journal = true
-is_same Fork Journal = false
-is_same Journal Fork = false
 
 -- the call was one of this side
 abbrev pub is_on : Side → Call → Bool

@@ -45,7 +45,7 @@ call_outcome : (call : Call) (kept : Kept) → MayLeave kept.history kept.conten
 call_outcome (calls.Write side at bytes) kept now =
     (kept.contents, now, on_side side (Torn at (length bytes.items)) _ kept.contents (write_outcome at bytes.items (side_of side kept.contents) (nat_le at (length (side_of side kept.contents))) refl))
 call_outcome (calls.Cut side n) kept now = (kept.contents, now, on_side side (CutShort n) _ kept.contents (cut_outcome n (side_of side kept.contents)))
-call_outcome (calls.Sync side) kept now = (now, refl)
+call_outcome (calls.Sync side) kept now = (now, λ _. refl)
 
 calls_outcome : (list : List Call) (kept : Kept) → MayLeave kept.history kept.contents → MayLeave (after_calls list kept).history (after_calls list kept).contents
 calls_outcome [] kept now = now

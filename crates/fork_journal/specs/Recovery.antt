@@ -11,6 +11,10 @@ recovered c = if is_usable c.journal then record { fork = fork_in (drop 1 c.jour
 abbrev pub settled_fork : Contents → List ℕ
 settled_fork c = if is_usable c.journal then fork_in (drop 1 c.journal) else c.fork
 
+-- how many bytes of a fork a recovery copies from the journal
+abbrev pub copied_length : Contents → ℕ
+copied_length c = if is_usable c.journal then length (fork_in (drop 1 c.journal)) else 0
+
 -- recovered, it is the fork before an update or the one after it
 abbrev pub IsBeforeOrAfter : List ℕ → List ℕ → Contents → Type 0
 IsBeforeOrAfter before after c = (settled_fork c ≡ before) ⊎ (settled_fork c ≡ after)

@@ -1,6 +1,8 @@
 //! A fork and its journal that are two files.
 
-ghost use Rattle.std.specs.Prelude.{◌≡◌, ◌+◌, []};
+ghost use Rattle.std.specs.Prelude.{◌≡◌, ◌+◌, false, []};
+ghost use Rattle.fork_journal.specs.Crash.{has_failed};
+ghost use Rattle.fork_journal.specs.declared.pair.Side.TheVariants.{Fork, Journal};
 ghost use Rattle.fork_journal.specs.Files.{IsHonest, history_of, reads_outcome, side_at};
 
 use crate::pair::{PairDisk, Side};
@@ -21,7 +23,8 @@ const SYNCED: u64 = 4;
 
 /// A fork and its journal that are two files. Each call of the system is noted with its answer, in one record for both, that only
 /// clauses read. The pair is honest where these answers are those of the files that its world tells of, so that nobody else wrote them.
-/// The two are one device: their faults are one count, and a machine that stops, stops both.
+/// The two are one device: their faults are one count, and a machine that stops, stops both. After a sync that failed, each sync of that
+/// file fails.
 #[derive(Drop)]
 pub struct FilePair<W: PairWorld> {
     fork: HostFile,
@@ -30,6 +33,8 @@ pub struct FilePair<W: PairWorld> {
     number: u64,
     log: Record,
     world: PhantomData<W>,
+    ghost fork_trusted: { fork.is_spent ≡ false → has_failed Fork (history_of (W.held number) log.events) ≡ false },
+    ghost journal_trusted: { journal.is_spent ≡ false → has_failed Journal (history_of (W.held number) log.events) ≡ false },
 }
 
 impl<W: PairWorld> FilePair<W> {
@@ -120,8 +125,8 @@ impl<W: PairWorld> PairDisk for FilePair<W> {
 
     fn sync(&mut self, side: Side) -> Result<(), DiskFault> {
         let answer = match side {
-            Side::Fork => self.fork.sync(),
-            Side::Journal => self.journal.sync(),
+            Side::Fork => self.fork.settle(),
+            Side::Journal => self.journal.settle(),
         };
         self.log
             .note(&[SYNCED, 0, u64::from(answer.is_ok()), noted(side)], &[]);

@@ -1,13 +1,13 @@
 //! The fork of a resource file that has a journal.
 
-ghost use Rattle.std.specs.Prelude.{◌≡◌, ◌+◌, ◌≤◌, ◌<◌, ◌^◌, ◌⊎◌, ⊤, [], ◌∷◌, length, IfOk, OnOk, IsErrOf};
-ghost use Rattle.std.proofs.Common.{◌∙◌, ap};
+ghost use Rattle.std.specs.Prelude.{◌≡◌, ◌+◌, ◌≤◌, ◌<◌, ◌^◌, ⊤, [], ◌∷◌, length, IfOk, OnOk, IsErrOf};
+ghost use Rattle.std.proofs.Common.{refl, ◌∙◌, ap};
 ghost use Rattle.fork_disk.specs.Crash.{AlwaysFinds, FoundBeforeOr};
-ghost use Rattle.fork_disk.specs.Disk.{bytes_at, Counts, Rose};
+ghost use Rattle.fork_disk.specs.Disk.{bytes_at, Counts};
 ghost use Rattle.fork_disk.specs.Faults.{CountsDevice};
-ghost use Rattle.fork_journal.specs.Crash.{AlwaysLeaves, Event, Found};
+ghost use Rattle.fork_journal.specs.Crash.{AlwaysLeaves, Event, Found, History, MayLeave};
 ghost use Rattle.fork_journal.specs.Form.{text_of};
-ghost use Rattle.fork_journal.specs.Recovery.{recovered, settled_fork, IsReady, IsRecoverable, IsStable, IsBeforeOrAfter, IsSameChoice, IsEither, MayFind};
+ghost use Rattle.fork_journal.specs.Recovery.{copied_length, recovered, settled_fork, IsReady, IsRecoverable, IsStable, IsBeforeOrAfter, IsSameChoice, IsEither, MayFind};
 
 use crate::pair::{PairDisk, Side};
 use crate::{recovery, update};
@@ -17,13 +17,11 @@ use fork_disk::store::{ForkStore, ReplaceFault};
 use std::alloc::Global;
 
 /// A fork that is replaced by way of its journal, so that whenever a crash comes, the old fork or the new one is there once the pair is
-/// recovered. A fork of 2 to the 32 bytes or more, whose length no journal holds, is refused. That is counted as a failure of the device,
-/// and nothing has changed then.
+/// recovered. Its failures are those of the pair.
 #[derive(Drop)]
 pub struct Journal<P: PairDisk> {
     alloc: Global,
     pair: P,
-    refusals: u64,
     ghost recoverable: { P.is_honest pair → IsRecoverable (P.contents pair) (P.history pair) },
 }
 
@@ -32,13 +30,12 @@ impl<P: PairDisk> Journal<P> {
     pub fn new(alloc: Global, pair: P) -> Journal<P>
         requires { P.is_honest pair → P.history pair ≡ Found (P.contents pair) ∷ [] }
         ensures pair { result.pair ≡ pair }
+        ensures failures { P.failures result.pair ≡ P.failures pair }
         ensures stable { P.is_honest pair → IsStable (P.contents pair) (P.history pair) }
+        // Its fork is one that a start may find after each history of which a crash left this pair.
+        ensures found { (history : History) → MayLeave history (P.contents pair) → MayFind history (settled_fork (P.contents result.pair)) }
     {
-        Journal {
-            alloc,
-            pair,
-            refusals: 0,
-        }
+        Journal { alloc, pair }
     }
 
     /// The pair inside.
@@ -46,14 +43,6 @@ impl<P: PairDisk> Journal<P> {
         ensures { result.now ≡ self.now.pair }
     {
         &self.pair
-    }
-
-    /// Counts what the store itself refuses.
-    fn refuse(&mut self)
-        ensures pair { self.new.pair ≡ self.old.pair }
-        ensures rose { Rose self.old.refusals self.new.refusals }
-    {
-        self.refusals = self.refusals.saturating_add(1);
     }
 }
 
@@ -66,7 +55,7 @@ impl<P: PairDisk> ForkStore for Journal<P> {
 
     ghost is_honest = { λ store. P.is_honest store.pair };
 
-    ghost failures = { λ store. P.failures store.pair + store.refusals };
+    ghost failures = { λ store. P.failures store.pair };
 
     ghost may_leave = { IsEither };
 
@@ -78,6 +67,12 @@ impl<P: PairDisk> ForkStore for Journal<P> {
 
     ghost may_find = { MayFind };
 
+    ghost copied = { λ store. copied_length (P.contents store.pair) };
+
+    ghost crash_leaves = { λ store journal honest. (P.contents store.pair, P.reads_is_outcome store.pair honest, refl) };
+
+    ghost stable_finds = { λ store journal honest stable found may. may.2 ∙ stable may.0 may.1 };
+
     ghost ready_finds = { λ store journal honest ready found may. may.2 ∙ ap settled_fork (ready.settled may.0 may.1) };
 
     /// Makes the fork ready. Where the host has no memory for the journal's fork, only the journal was synced.
@@ -87,7 +82,8 @@ impl<P: PairDisk> ForkStore for Journal<P> {
         ensures still { P.is_honest self.new.pair → IsReady (P.contents self.old.pair) (P.history self.old.pair) → IsReady (P.contents self.new.pair) (P.history self.new.pair) }
         ensures stable { P.is_honest self.new.pair → IsStable (P.contents self.old.pair) (P.history self.old.pair) → IsStable (P.contents self.new.pair) (P.history self.new.pair) }
         ensures honest { P.is_honest self.new.pair → P.is_honest self.old.pair }
-        ensures cause { CountsDevice (P.failures self.old.pair + self.old.refusals) (P.failures self.new.pair + self.new.refusals) result }
+        ensures cause { CountsDevice (P.failures self.old.pair) (P.failures self.new.pair) result }
+        ensures memory { P.is_honest self.new.pair → IsErrOf result RecoverFault.Host → 1 ≤ copied_length (P.contents self.old.pair) }
         ensures any_moment { P.is_honest self.new.pair → AlwaysFinds MayFind (MayFind (P.history self.old.pair)) (P.history self.old.pair) (P.history self.new.pair) }
         // A crash at any moment of the call leaves a choice that was there before it.
         ensures leaves { P.is_honest self.new.pair → AlwaysLeaves (IsSameChoice (P.history self.old.pair)) (P.history self.old.pair) (P.history self.new.pair) }
@@ -106,7 +102,7 @@ impl<P: PairDisk> ForkStore for Journal<P> {
         ensures ready { P.is_honest self.new.pair → IsReady (P.contents self.new.pair) (P.history self.new.pair) }
         ensures stable { P.is_honest self.new.pair → IsStable (P.contents self.old.pair) (P.history self.old.pair) → IsStable (P.contents self.new.pair) (P.history self.new.pair) }
         ensures honest { P.is_honest self.new.pair → P.is_honest self.old.pair }
-        ensures cause { Counts (P.failures self.old.pair + self.old.refusals) (P.failures self.new.pair + self.new.refusals) result }
+        ensures cause { Counts (P.failures self.old.pair) (P.failures self.new.pair) result }
         ensures contents { P.is_honest self.new.pair → P.contents self.new.pair ≡ P.contents self.old.pair }
         ensures calm { P.is_honest self.new.pair → P.history self.new.pair ≡ P.history self.old.pair }
     {
@@ -121,7 +117,7 @@ impl<P: PairDisk> ForkStore for Journal<P> {
         ensures ready { P.is_honest self.new.pair → IsReady (P.contents self.new.pair) (P.history self.new.pair) }
         ensures stable { P.is_honest self.new.pair → IsStable (P.contents self.old.pair) (P.history self.old.pair) → IsStable (P.contents self.new.pair) (P.history self.new.pair) }
         ensures honest { P.is_honest self.new.pair → P.is_honest self.old.pair }
-        ensures cause { Counts (P.failures self.old.pair + self.old.refusals) (P.failures self.new.pair + self.new.refusals) result }
+        ensures cause { Counts (P.failures self.old.pair) (P.failures self.new.pair) result }
         ensures contents { P.is_honest self.new.pair → P.contents self.new.pair ≡ P.contents self.old.pair }
         ensures calm { P.is_honest self.new.pair → P.history self.new.pair ≡ P.history self.old.pair }
     {
@@ -130,7 +126,8 @@ impl<P: PairDisk> ForkStore for Journal<P> {
 
     /// Puts another fork in the place of the one that is there. Where it succeeds, a crash leaves the new one.
     fn replace(&mut self, new: &[u8]) -> Result<(), ReplaceFault>
-        requires { P.is_honest self.old.pair → IsReady (P.contents self.old.pair) (P.history self.old.pair) }
+        requires ready { P.is_honest self.old.pair → IsReady (P.contents self.old.pair) (P.history self.old.pair) }
+        requires short { length new.now < 2 ^ 32 }
         ensures replaced { P.is_honest self.new.pair → OnOk result (settled_fork (P.contents self.new.pair) ≡ new.now) }
         ensures before { P.is_honest self.new.pair → IsErrOf result ReplaceFault.BeforeFirstWrite → settled_fork (P.contents self.new.pair) ≡ settled_fork (P.contents self.old.pair) }
         ensures left { P.is_honest self.new.pair → IsErrOf result ReplaceFault.Later → IsEither new.now (settled_fork (P.contents self.old.pair)) (settled_fork (P.contents self.new.pair)) }
@@ -138,7 +135,7 @@ impl<P: PairDisk> ForkStore for Journal<P> {
         ensures still { P.is_honest self.new.pair → IsErrOf result ReplaceFault.BeforeFirstWrite → IsReady (P.contents self.new.pair) (P.history self.new.pair) }
         ensures stable { P.is_honest self.new.pair → OnOk result (IsStable (P.contents self.new.pair) (P.history self.new.pair)) }
         ensures honest { P.is_honest self.new.pair → P.is_honest self.old.pair }
-        ensures cause { Counts (P.failures self.old.pair + self.old.refusals) (P.failures self.new.pair + self.new.refusals) result }
+        ensures cause { Counts (P.failures self.old.pair) (P.failures self.new.pair) result }
         ensures any_moment { P.is_honest self.new.pair
             → AlwaysFinds MayFind (FoundBeforeOr MayFind (P.history self.old.pair) new.now) (P.history self.old.pair) (P.history self.new.pair) }
         // A crash at any moment of the call leaves the fork from before it or the new one, and so does a fault.
@@ -148,10 +145,6 @@ impl<P: PairDisk> ForkStore for Journal<P> {
         ensures same { P.is_honest self.new.pair → IsErrOf result ReplaceFault.BeforeFirstWrite → P.contents self.new.pair ≡ P.contents self.old.pair }
         ensures calm { P.is_honest self.new.pair → IsErrOf result ReplaceFault.BeforeFirstWrite → P.history self.new.pair ≡ P.history self.old.pair }
     {
-        if new.len() > u32::MAX as usize {
-            self.refuse();
-            return Err(ReplaceFault::BeforeFirstWrite);
-        }
         update::replace(&mut self.pair, new)
     }
 }

@@ -1,8 +1,8 @@
 //! A fork and its journal, as one device with one clock.
 
-ghost use Rattle.std.specs.Prelude.{◌≡◌, ◌+◌, ◌≤◌, ◌∷◌, List, ℕ, length, take, IfOk, OnOk, OnErr};
+ghost use Rattle.std.specs.Prelude.{◌≡◌, ◌+◌, ◌≤◌, ◌∷◌, false, List, ℕ, length, take, IfOk, OnOk, OnErr};
 ghost use Rattle.fork_disk.specs.Disk.{bytes_at, put_at, Torn, CutShort, Counts};
-ghost use Rattle.fork_journal.specs.Crash.{Contents, History, Wrote, Cut, Synced, side_of, OnSide, MayLeave, Follows};
+ghost use Rattle.fork_journal.specs.Crash.{Contents, History, Wrote, Cut, Synced, Failed, side_of, has_failed, OnSide, MayLeave, Follows};
 
 use fork_disk::disk::DiskFault;
 
@@ -70,11 +70,12 @@ pub trait PairDisk {
         ensures honest { is_honest self.new → is_honest self.old }
         ensures cause { Counts (failures self.old) (failures self.new) result };
 
-    /// Makes a side stable, so that a crash leaves what it reads. A sync that failed makes nothing stable. The bytes are the same
-    /// either way.
+    /// Makes a side stable, so that a crash leaves what it reads. A sync that failed makes nothing stable, and may have dropped what
+    /// waited for it: after one, each sync of that side fails. The bytes are the same either way.
     fn sync(&mut self, side: Side) -> Result<(), DiskFault>
         ensures durable { is_honest self.new → OnOk result (history self.new ≡ Synced side (side_of side (contents self.old)) ∷ history self.old) }
-        ensures unstable { is_honest self.new → OnErr result (history self.new ≡ history self.old) }
+        ensures trusted { is_honest self.new → OnOk result (has_failed side (history self.old) ≡ false) }
+        ensures unstable { is_honest self.new → OnErr result (Follows (Failed side) (history self.old) (history self.new)) }
         ensures same { is_honest self.new → contents self.new ≡ contents self.old }
         ensures honest { is_honest self.new → is_honest self.old }
         ensures cause { Counts (failures self.old) (failures self.new) result };

@@ -1,10 +1,11 @@
 //! What a journal says.
 
-ghost use Rattle.std.specs.Prelude.{◌≡◌, ◌+◌, ◌<◌, ◌≤◌, ◌^◌, true, false, length, drop, IfOk, MatchOption};
+ghost use Rattle.std.specs.Prelude.{◌≡◌, ◌+◌, ◌<◌, ◌≤◌, ◌^◌, true, false, length, drop, IfOk, IsErrOf, MatchOption};
 ghost use Rattle.byteorder.specs.Endian.{big_number};
 ghost use Rattle.fork_disk.specs.Disk.{bytes_at, Counts};
 ghost use Rattle.fork_disk.specs.Faults.{CountsDevice};
 ghost use Rattle.fork_journal.specs.Form.{is_usable, must_shut, fork_in};
+ghost use Rattle.fork_journal.specs.Recovery.{copied_length};
 
 use crate::pair::{PairDisk, Side};
 use byteorder::{BigEndian, ByteOrder};
@@ -36,7 +37,7 @@ fn told_length(head: &[u8; 5]) -> u64
     BigEndian::read_u32(&head[1..]) as u64
 }
 
-/// So many bytes of the journal.
+/// So many bytes of the journal. Memory is asked for only where there are some.
 fn read_journal<P: PairDisk>(
     alloc: Global,
     pair: &mut P,
@@ -49,7 +50,11 @@ fn read_journal<P: PairDisk>(
     ensures calm { P.is_honest pair.new → P.history pair.new ≡ P.history pair.old }
     ensures honest { P.is_honest pair.new → P.is_honest pair.old }
     ensures cause { CountsDevice (P.failures pair.old) (P.failures pair.new) result }
+    ensures memory { IsErrOf result RecoverFault.Host → 1 ≤ len }
 {
+    if len == 0 {
+        return Ok(Vec::new(alloc));
+    }
     let mut bytes = vec![in alloc; 0; len as usize]?;
     pair.read_at(Side::Journal, at, &mut bytes)?;
     Ok(bytes)
@@ -66,6 +71,7 @@ pub(crate) fn usable_fork<P: PairDisk>(
     ensures calm { P.is_honest pair.new → P.history pair.new ≡ P.history pair.old }
     ensures honest { P.is_honest pair.new → P.is_honest pair.old }
     ensures cause { CountsDevice (P.failures pair.old) (P.failures pair.new) result }
+    ensures memory { P.is_honest pair.new → IsErrOf result RecoverFault.Host → 1 ≤ copied_length (P.contents pair.old) }
 {
     let len = pair.len(Side::Journal)?;
     if len < 5 {

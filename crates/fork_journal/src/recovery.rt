@@ -1,11 +1,11 @@
 //! A fork and its journal are made whole again behind a crash or a fault.
 
-ghost use Rattle.std.specs.Prelude.{◌≡◌, ◌∷◌, true, drop, OnOk};
+ghost use Rattle.std.specs.Prelude.{◌≡◌, ◌≤◌, ◌∷◌, true, drop, OnOk, IsErrOf};
 ghost use Rattle.fork_disk.specs.Disk.{Counts};
 ghost use Rattle.fork_disk.specs.Faults.{CountsDevice};
 ghost use Rattle.fork_journal.specs.Crash.{AlwaysLeaves, Leaves};
 ghost use Rattle.fork_journal.specs.Form.{fork_in, is_usable};
-ghost use Rattle.fork_journal.specs.Recovery.{recovered, settled_fork, IsReady, IsRecoverable, IsStable, IsSameChoice};
+ghost use Rattle.fork_journal.specs.Recovery.{copied_length, recovered, settled_fork, IsReady, IsRecoverable, IsStable, IsSameChoice};
 
 use crate::pair::{PairDisk, Side};
 use crate::reading::usable_fork;
@@ -48,6 +48,8 @@ pub fn recover<P: PairDisk>(alloc: Global, pair: &mut P) -> Result<(), RecoverFa
     ensures recoverable { P.is_honest pair.new → IsRecoverable (P.contents pair.new) (P.history pair.new) }
     ensures honest { P.is_honest pair.new → P.is_honest pair.old }
     ensures cause { CountsDevice (P.failures pair.old) (P.failures pair.new) result }
+    // The host's memory is asked for only where the journal holds a fork that has bytes.
+    ensures memory { P.is_honest pair.new → IsErrOf result RecoverFault.Host → 1 ≤ copied_length (P.contents pair.old) }
 {
     pair.sync(Side::Journal)?;
     let Some(fork) = usable_fork(alloc, pair)? else {

@@ -1,13 +1,10 @@
 //! Crashes at each moment: what a start then finds is the fork before the update or the one after it.
 
-use crate::forks::{front, is_replaced, journal_of, one_row, started, two_rows};
+use crate::forks::{MANY, front, is_replaced, journal_of, one_row, started, two_rows};
 use fork_disk::store::ForkStore;
-use fork_journal::{Call, Choice, CrashPair, Fate, Journal, MemPair};
+use fork_journal::{Call, Choice, CrashPair, Fate, Journal, MemPair, Side};
 use std::alloc::{AllocError, Global};
 use std::process::Abort;
-
-/// More writes, cuts and syncs than an update or a recovery makes.
-const MANY: u64 = 20;
 
 /// What a crash may leave of a write, the n-th of six: lost, kept or filled, at the old length or the new one.
 fn of_write(n: u64) -> Choice {
@@ -31,48 +28,63 @@ fn of_cut(n: u64) -> Choice {
     })
 }
 
-/// How many calls there are up to the last sync, with it.
-fn count_synced(calls: &[Call]) -> usize {
-    let mut count = 0;
-    for (index, call) in calls.iter().enumerate() {
-        if matches!(call, Call::Sync(_)) {
-            count = index + 1;
+/// Whether a call is on this side.
+fn is_on(side: Side, call: &Call) -> bool {
+    let (Call::Write(other, ..) | Call::Cut(other, _) | Call::Sync(other)) = call;
+    matches!(
+        (side, other),
+        (Side::Fork, Side::Fork) | (Side::Journal, Side::Journal)
+    )
+}
+
+/// Whether a call is a sync, or one of its side comes after it.
+fn is_settled(calls: &[Call], index: usize, call: &Call) -> bool {
+    for later in calls.iter().skip(index) {
+        if let Call::Sync(side) = later
+            && is_on(*side, call)
+        {
+            return true;
         }
     }
-    count
+    false
 }
 
-/// How many outcomes a crash may have by what was done behind the last sync.
+/// In how many ways a crash may leave what a call did.
+fn count_ways(calls: &[Call], index: usize, call: &Call) -> u64 {
+    if is_settled(calls, index, call) {
+        1
+    } else if matches!(call, Call::Write(..)) {
+        6
+    } else {
+        3
+    }
+}
+
+/// How many outcomes a crash may have.
 fn count_outcomes(calls: &[Call]) -> u64 {
     let mut count: u64 = 1;
-    for call in calls.iter().skip(count_synced(calls)) {
-        let ways = if matches!(call, Call::Write(..)) {
-            6
-        } else {
-            3
-        };
-        count = count.saturating_mul(ways);
+    for (index, call) in calls.iter().enumerate() {
+        count = count.saturating_mul(count_ways(calls, index, call));
     }
     count
 }
 
-/// What the n-th outcome has of a call, and which of the others it is for the calls behind it.
-fn pick(call: &Call, n: u64) -> (Choice, u64) {
-    if matches!(call, Call::Write(..)) {
-        (of_write(n % 6), n / 6)
-    } else {
-        (of_cut(n % 3), n / 3)
+/// What the n-th outcome has of a call that may be left in so many ways, and which of the others it is for the calls after it.
+fn pick(ways: u64, n: u64) -> (Choice, u64) {
+    match ways {
+        6 => (of_write(n % 6), n / 6),
+        3 => (of_cut(n % 3), n / 3),
+        _ => (Choice::WHOLE, n),
     }
 }
 
 /// The n-th of these outcomes.
 fn outcome(alloc: Global, pair: &CrashPair, n: u64) -> Result<MemPair, AllocError> {
     let calls = pair.pair().calls();
-    let synced = count_synced(calls);
     let mut rest = n;
-    let mut picked = vec![in alloc; Choice::WHOLE; synced]?;
-    for call in calls.iter().skip(synced) {
-        let (choice, more) = pick(call, rest);
+    let mut picked = Vec::new(alloc);
+    for (index, call) in calls.iter().enumerate() {
+        let (choice, more) = pick(count_ways(calls, index, call), rest);
         picked.push(choice)?;
         rest = more;
     }
@@ -84,7 +96,7 @@ fn copied(alloc: Global, store: &Journal<CrashPair>) -> Result<Vec<u8>, AllocErr
     store.pair().pair().fork().to_vec(alloc)
 }
 
-/// The fork behind a start that nothing stops.
+/// The fork after a start that nothing stops.
 fn recovered(rt: &impl Abort, alloc: Global, found: &MemPair) -> Result<Vec<u8>, AllocError> {
     let mut store = started(alloc, found.fork(), found.journal(), MANY)?;
     assert!(rt; store.recover().is_ok());
@@ -231,6 +243,6 @@ fn leaves_the_fork_before_or_after(rt: HostRuntime) -> Result<(), AllocError> {
     let forth = stop_forth(&rt, rt.alloc(), &first, &second)?;
     let back = stop_back(&rt, rt.alloc(), &first, &second)?;
     let seen = forth.saturating_add(back);
-    assert!(rt; seen >= 5000, "{seen} outcomes");
+    assert!(rt; seen >= 6_000, "{seen} outcomes");
     Ok(())
 }

@@ -4,6 +4,9 @@ use fork_disk::store::ForkStore;
 use fork_journal::{CrashPair, Journal, MemPair, PairDisk};
 use std::alloc::{AllocError, Global};
 
+/// More writes, cuts and syncs than an update or a recovery makes.
+pub const MANY: u64 = 20;
+
 /// A header, 240 bytes of zeros, and what follows.
 fn fork_of(alloc: Global, header: &[u8; 16], rest: &[u8]) -> Result<Vec<u8>, AllocError> {
     let mut fork = header.to_vec(alloc)?;
@@ -62,10 +65,10 @@ pub fn front(bytes: &[u8], count: usize) -> &[u8] {
     bytes.get(..count).unwrap_or(bytes)
 }
 
-/// Whether a recovery and then an update were answered as done.
+/// Whether a recovery and then an update were answered as done. A fork is too long whose length four bytes don't hold.
 pub fn is_replaced<P: PairDisk>(store: &mut Journal<P>, new: &[u8]) -> bool {
     match store.recover() {
-        Ok(()) => store.replace(new).is_ok(),
+        Ok(()) => new.len() <= u32::MAX as usize && store.replace(new).is_ok(),
         Err(_) => false,
     }
 }

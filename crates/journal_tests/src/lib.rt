@@ -5,3 +5,7 @@
 mod crashes;
 #[cfg(test)]
 mod forks;
+#[cfg(test)]
+mod lengths;
+#[cfg(test)]
+mod sides;

@@ -2,10 +2,9 @@ use Rattle.std.proofs.Common.{rules, ◌≡◌, ◌<◌, ◌++◌, List, ℕ, le
 use Rattle.fork_bytes.specs.Fork.{StandsFor}
 use Rattle.fork_bytes.specs.Laws.{IsTable}
 use Rattle.fork_bytes.specs.Written.{written, plain_table}
-use Rattle.fork_bytes.proofs.Blank.{not_too_big}
 use Rattle.fork_bytes.proofs.Plain.{plain_header, plain_small, plain_fits, plain_big, plain_each}
 use Rattle.fork_bytes.proofs.ReadAgain.{read_again}
-use Rattle.fork_bytes.proofs.Sized.{none_at}
+use Rattle.fork_bytes.proofs.Sized.{none_at, not_too_big}
 use Rattle.fork_bytes.proofs.write.write_rows.Goals as goal
 
 pub returns-in_default-clause-too_big : goal.returns-in_default-clause-too_big

@@ -30,7 +30,7 @@ returns-in_err-put_gate-clause-recoverable g c honest =
     let h1 = c.put_gate.ensures.honest honest in
     let h0 = c.put_text.ensures.honest h1 in
     let one = front_of _ (c.requires.shut h0 _ (g.met.P.PairDisk.reads_is_outcome c.args.pair.now h0)).has_gate in
-    opens_recoverable _ c.args.fork.now _ _ _ (c.requires.shut h0) c.requires.short _ one (c.in_ok-put_text.ensures.stable h1) (c.put_gate.ensures.any_moment honest) (g.P.PairDisk.contents c.put_gate.new.pair) (c.put_gate.ensures.kept honest ∙ c.put_text.ensures.kept h1)
+    opens_recoverable _ c.args.fork.now (g.P.PairDisk.history c.args.pair.now) _ _ (c.requires.shut h0) c.requires.short _ one (c.in_ok-put_text.ensures.stable h1) (c.put_gate.ensures.any_moment honest) (g.P.PairDisk.contents c.put_gate.new.pair) (c.put_gate.ensures.kept honest ∙ c.put_text.ensures.kept h1)
 
 pub returns-clause-any_moment : goal.returns-clause-any_moment
 returns-clause-any_moment g c honest =
@@ -44,4 +44,4 @@ returns-clause-recoverable g c honest =
     let h1 = c.put_gate.ensures.honest honest in
     let h0 = c.put_text.ensures.honest h1 in
     let one = front_of _ (c.requires.shut h0 _ (g.met.P.PairDisk.reads_is_outcome c.args.pair.now h0)).has_gate in
-    opens_recoverable _ c.args.fork.now _ _ _ (c.requires.shut h0) c.requires.short _ one (c.in_ok-put_text.ensures.stable h1) (c.put_gate.ensures.any_moment honest) (g.P.PairDisk.contents c.put_gate.new.pair) (c.put_gate.ensures.kept honest ∙ c.put_text.ensures.kept h1)
+    opens_recoverable _ c.args.fork.now (g.P.PairDisk.history c.args.pair.now) _ _ (c.requires.shut h0) c.requires.short _ one (c.in_ok-put_text.ensures.stable h1) (c.put_gate.ensures.any_moment honest) (g.P.PairDisk.contents c.put_gate.new.pair) (c.put_gate.ensures.kept honest ∙ c.put_text.ensures.kept h1)
