@@ -6,13 +6,16 @@ use Rattle.std.proofs.lemmas.List.{append-nil, take_more, take-append-drop}
 use Rattle.std.proofs.lemmas.Option.{get_or_from_slice_get, slice_get_within}
 use Rattle.fork_disk.specs.declared.store.ForkStore.{Ghosts}
 use Rattle.script_lines.specs.declared.line.Line.{Line}
+use Rattle.script_lines.specs.declared.line.Statement.{Statement}
+use Rattle.script_lines.specs.declared.line.Statement.TheVariants.{Answer}
+use Rattle.script_lines.specs.declared.line.WrittenAnswer.{WrittenAnswer}
 use Rattle.script_text.specs.Script.{IsScript, IsFaultAt}
 use Rattle.reply_text.specs.Text.{fault_text, no_memory_text}
 use Rattle.script_run.specs.declared.end.RunEnd.{RunEnd}
 use Rattle.script_run.specs.declared.end.RunEnd.TheVariants.{Finished, ScriptFault, NoMemory, WriteFault}
 use Rattle.script_run.specs.declared.machine.Machine.{Machine}
 use Rattle.script_run.specs.Line.{LineDoes}
-use Rattle.script_run.specs.Run.{AreRun, IsRun, Ran, LacksMemory, at_start, IsProperFront, Ends, Tells, stores_of}
+use Rattle.script_run.specs.Run.{AreRun, IsRun, Ran, LacksMemory, at_start, IsProperFront, Ends, TakesMemory, Tells, stores_of}
 use Rattle.script_run.proofs.Opening.{same_forks}
 
 pub concat-push : (texts : List (List ℕ)) (text : List ℕ) → concat (texts ++ text ∷ []) ≡ concat texts ++ text
@@ -43,7 +46,7 @@ module _ {S : Type 0} (store : Ghosts S) where
 
 module _ {S : Type 0} (store : Ghosts S) (start : Machine S) (input : List ℕ) where
   -- a run that came so far in a script
-  pub ran_of : (lines : List Line) (count : ℕ) (texts : List (List ℕ)) (last : Machine S) → IsScript input lines → IsRun store start (take count lines) texts last → Ran store start input
+  abbrev pub ran_of : (lines : List Line) (count : ℕ) (texts : List (List ℕ)) (last : Machine S) → IsScript input lines → IsRun store start (take count lines) texts last → Ran store start input
   ran_of lines count texts last is run = record {
     lines = take count lines;
     rest = drop count lines;
@@ -84,3 +87,7 @@ module _ {S : Type 0} (store : Ghosts S) (start : Machine S) (input : List ℕ) 
     fault_told line end written is (inl (inr cut)) = subst (λ (e : RunEnd). Ends store start input e written left) (sym cut.0)
         (ScriptFault line, fault_text line ∷ [], (is, refl, same), ([], fault_text line, written, refl, cut.1, refl))
     fault_told line end written is (inr told) = none_at_start end written told
+
+-- an answer takes memory where it is queued
+pub takes_answer : {S : Type 0} (store : Ghosts S) (old new : Machine S) (statement : Statement) (answer : WrittenAnswer) → statement ≡ Answer answer → TakesMemory store old statement new
+takes_answer store old new statement answer is = subst (λ (s : Statement). TakesMemory store old s new) (sym is) tt

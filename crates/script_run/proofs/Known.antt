@@ -1,9 +1,9 @@
 -- What several reads and writes give and take.
-use Rattle.std.proofs.Common.{◌≡◌, ℕ, ◌-◌, ◌<◌, ◌≤◌, arith, Bool, take, drop, length, length-drop, List, [], ◌++◌, Option, Some, None, Result, Ok, Err, unwrap_or, refl, sym, ap, ◌∙◌, append_assoc, length-append}
-use Rattle.std.specs.Io.KnownBytes.{Appends, Keeps, Consumes, IsAtEnd, WriteAppends}
+use Rattle.std.proofs.Common.{◌≡◌, ℕ, ◌-◌, ◌<◌, ◌≤◌, arith, Bool, take, drop, length, length-drop, List, [], ◌++◌, Option, Some, None, unwrap_or, refl, sym, ap, ◌∙◌, append_assoc, length-append}
+use Rattle.std.specs.Io.KnownBytes.{Appends, Consumes, IsAtEnd}
 use Rattle.script_text.specs.Script.{max_script}
 use Rattle.std.specs.Prelude.{◌&&◌, ◌==◌, not}
-use Rattle.script_run.specs.Counting.{Counting, Gave, Took, counted, is_empty, passed_by}
+use Rattle.script_run.specs.Counting.{Counting, Gave, Took, counted, is_empty}
 use Rattle.std.proofs.lemmas.Bool.{ne_eqb}
 use Rattle.std.proofs.lemmas.List.{append-nil, take-append-drop}
 use Rattle.std.proofs.Math.Seq.{take-length}
@@ -17,17 +17,6 @@ Appends-then None b c x y p q = tt
 Appends-then (Some xs) None c x y p q = absurd p
 Appends-then (Some xs) (Some ys) None x y p q = absurd q
 Appends-then (Some xs) (Some ys) (Some zs) x y p q = q ∙ ap (λ (t : List ℕ). t ++ y) p ∙ append_assoc xs x y
-
-Appends-keeps : (a b : Option (List ℕ)) → Keeps a b → Appends a b []
-Appends-keeps None b q = tt
-Appends-keeps (Some xs) None q = absurd q
-Appends-keeps (Some xs) (Some ys) q = q ∙ sym (append-nil xs)
-
--- what a write did: the writer took the bytes that passed
-pub write_took : {W E : Type 0} (contents : W → Option (List ℕ)) (old new : Counting W) (result : Result ℕ E) (bytes : List ℕ)
-    → new.passed ≡ old.passed ++ passed_by result bytes → WriteAppends (contents old.inner) (contents new.inner) result bytes → Took contents old (passed_by result bytes) new
-write_took contents old new (Ok n) bytes passed appends = record { passed = passed; bytes = appends }
-write_took contents old new (Err e) bytes passed keeps = record { passed = passed; bytes = Appends-keeps (contents old.inner) (contents new.inner) keeps }
 
 -- nothing
 pub Took-none : {W : Type 0} (contents : W → Option (List ℕ)) (writer : Counting W) → Took contents writer [] writer
@@ -50,11 +39,6 @@ Consumes-then (Some xs) None c x y p q = absurd p
 Consumes-then (Some xs) (Some ys) None x y p q = absurd q
 Consumes-then (Some xs) (Some ys) (Some zs) x y p q = p ∙ ap (λ (t : List ℕ). x ++ t) q ∙ sym (append_assoc x y zs)
 
-Consumes-keeps : (a b : Option (List ℕ)) → Keeps a b → Consumes a b []
-Consumes-keeps None b q = tt
-Consumes-keeps (Some xs) None q = absurd q
-Consumes-keeps (Some xs) (Some ys) q = sym q
-
 -- nothing was given
 pub Gave-none : {R : Type 0} (remaining : R → Option (List ℕ)) (reader : Counting R) → Gave remaining reader [] reader
 Gave-none remaining reader = record { passed = sym (append-nil reader.passed); bytes = Consumes-none (remaining reader.inner) }
@@ -65,10 +49,6 @@ Gave-then remaining old mid new x y one other = record {
   passed = other.passed ∙ ap (λ (t : List ℕ). t ++ y) one.passed ∙ append_assoc old.passed x y;
   bytes = Consumes-then (remaining old.inner) (remaining mid.inner) (remaining new.inner) x y one.bytes other.bytes;
 }
-
--- a read that failed gave nothing
-pub Gave-keeps : {R : Type 0} (remaining : R → Option (List ℕ)) (old new : Counting R) → new.passed ≡ old.passed ++ [] → Keeps (remaining old.inner) (remaining new.inner) → Gave remaining old [] new
-Gave-keeps remaining old new passed keeps = record { passed = passed; bytes = Consumes-keeps (remaining old.inner) (remaining new.inner) keeps }
 
 -- a text is its front and what `&text[n..]` gives
 pub front_and_rest : (a text : List ℕ) (n : ℕ) → n ≤ length text → a ++ text ≡ (a ++ take n text) ++ take (length text - n) (drop n text)

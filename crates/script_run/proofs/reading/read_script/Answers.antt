@@ -2,7 +2,7 @@ use Rattle.std.proofs.Common.{◌≡◌, ◌≤◌, ◌<◌, ◌++◌, ℕ, List
 use Rattle.std.proofs.lemmas.List.{append-nil}
 use Rattle.script_text.specs.Script.{max_script}
 use Rattle.script_run.specs.Counting.{Gave}
-use Rattle.script_run.proofs.Known.{read_all, read_more, Gave-none, Gave-then, Gave-keeps}
+use Rattle.script_run.proofs.Known.{read_all, read_more, Gave-none, Gave-then}
 use Rattle.script_run.proofs.reading.read_script.Goals as goal
 
 pub loop-init : goal.loop-init
@@ -15,9 +15,11 @@ returns-then-count-eq0-clause-read g c =
     let room : 0 < length c.read.new.buf = omega (arith, c.read.auto.buf) in
     let nothing : take c.in-Ok.count c.read.new.buf ≡ [] = rw c.if-count-eq0.true refl in
     let both = Gave-then _ _ _ _ _ _ c.loop.invariant.read (record { passed = h.passed; bytes = h.bytes.0 }) in
-    let whole = read_all _ _ _ text (take c.in-Ok.count c.read.new.buf) c.loop.invariant.read.bytes h.bytes.0 nothing (h.bytes.1 c.if-count-eq0.true room) in
-    (text, subst (λ (t : List ℕ). Gave g.R.Read.remaining c.args.reader.now t c.read.new.self) (ap (λ (t : List ℕ). text ++ t) nothing ∙ append-nil text) both,
-        (whole, subst (λ (t : List ℕ). length t ≤ max_script) whole c.loop.invariant.small))
+    let whole = read_all _ _ _ text (take c.in-Ok.count c.read.new.buf) c.loop.invariant.read.bytes h.bytes.0 nothing (h.bytes.1 c.if-count-eq0.true room) in (
+      text,
+      subst (λ (t : List ℕ). Gave g.R.Read.remaining c.args.reader.now t c.read.new.self) (ap (λ (t : List ℕ). text ++ t) nothing ∙ append-nil text) both,
+      (whole, subst (λ (t : List ℕ). length t ≤ max_script) whole c.loop.invariant.small),
+    )
 
 pub returns-then-len-gt-MAX_SCRIPT-clause-read : goal.returns-then-len-gt-MAX_SCRIPT-clause-read
 returns-then-len-gt-MAX_SCRIPT-clause-read g c =

@@ -26,7 +26,7 @@ loop-line-init g c =
     let w = c.if-not-write_whole.ensures.written in
     let text = c.open_first.new.text.items in
     let whole : w.0 ≡ text ++ [] = w.2 ∙ c.deref.ensures.value ∙ sym (append-nil text) in
-    (text ∷ [], subst (λ (t : List ℕ). Took g.W.Write.contents c.args.writer.now t _) whole w.1, 0, sym c.lines-lines.ensures, (c.open_first.new.self, c.in-Ok.ensures.opens, refl), c.if-not-write_whole.ensures.failures)
+    (text ∷ [], subst (λ (t : List ℕ). Took g.W.Write.contents c.args.writer.now t c.write_whole.new.writer) whole w.1, 0, sym c.lines-lines.ensures, (c.open_first.new.self, c.in-Ok.ensures.opens, refl), c.if-not-write_whole.ensures.failures)
 
 pub returns-in_default-run_line-clause-ends : goal.returns-in_default-run_line-clause-ends
 returns-in_default-run_line-clause-ends g c =
@@ -37,7 +37,7 @@ returns-in_default-run_line-clause-ends g c =
       Took-then _ _ _ _ _ _ i.1 told.1,
       λ input is. none_told g.S.ForkStore c.args.machine.now input _ i.0 _ told.0
           (at_line (ran_of g.S.ForkStore c.args.machine.now input c.args.script.now i.2 i.0 c.loop-line.machine is i.4) c.in-Some.line _ c.run_line.new.self
-              (i.3 ∙ c.in-Some.ensures.some) refl stopped.stops stopped.memory refl) told.2,
+          (i.3 ∙ c.in-Some.ensures.some) refl stopped.stops stopped.memory refl) told.2,
     )
 
 pub returns-in_default-run_line-clause-write_fault : goal.returns-in_default-run_line-clause-write_fault
@@ -75,7 +75,7 @@ loop-line-preserved g c =
     let run = IsRun-step g.S.ForkStore c.args.machine.now c.args.script.now i.2 i.0 c.loop-line.machine c.in-Some.line text c.run_line.new.self at i.4 c.in-Ok-run_line.ensures.does in
     let both : concat i.0 ++ w.0 ≡ concat (i.0 ++ text ∷ []) = rw whole (sym (concat-push i.0 text)) in (
       i.0 ++ text ∷ [],
-      subst (λ (t : List ℕ). Took g.W.Write.contents c.args.writer.now t _) both (Took-then _ _ _ _ _ _ i.1 w.1),
+      subst (λ (t : List ℕ). Took g.W.Write.contents c.args.writer.now t c.write_whole-in-Some.new.writer) both (Took-then _ _ _ _ _ _ i.1 w.1),
       i.2 + 1,
       left_behind c.args.script.now _ i.2 c.in-Some.line left,
       run,

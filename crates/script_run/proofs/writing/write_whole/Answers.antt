@@ -1,5 +1,5 @@
 use Rattle.std.proofs.Common.{◌++◌, take, ◌∙◌, [], refl}
-use Rattle.script_run.proofs.Known.{Took-none, Took-then, write_took, front_and_rest, taken-counts}
+use Rattle.script_run.proofs.Known.{Took-none, Took-then, front_and_rest, taken-counts}
 use Rattle.script_run.proofs.writing.write_whole.Goals as goal
 
 pub loop-rest-init : goal.loop-rest-init
