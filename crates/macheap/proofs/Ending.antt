@@ -7,6 +7,7 @@ use Rattle.fork_disk.specs.declared.store.ForkStore.{Ghosts}
 use Rattle.mac_base.specs.ZoneSizes.{ZoneSizes}
 use Rattle.script_run.specs.declared.end.RunEnd.{RunEnd}
 use Rattle.script_run.specs.declared.end.RunEnd.TheVariants.{Finished, ScriptFault, NoMemory, ReadFault, WriteFault}
+use Rattle.script_run.specs.Counting.{Rose}
 use Rattle.script_run.specs.End.{status_of}
 use Rattle.script_run.specs.Line.{start_of}
 use Rattle.script_run.specs.Run.{Ends, IsProperFront, no_memory_text, Tells as EndTells}
@@ -17,7 +18,7 @@ use Rattle.macheap.specs.declared.asked.NotAsked.TheVariants.{Words, TooManyFork
 use Rattle.macheap.specs.declared.stores.NoStores.{NoStores}
 use Rattle.macheap.specs.declared.stores.NoStores.TheVariants as why
 use Rattle.macheap.specs.Asking.{Asks}
-use Rattle.macheap.specs.Program.{Parts, Done, Told, Answers, AsksForNothing, NoStoresEnd, Refuses, ProgramEnds, Because, RunEnds, RunsOn, RunsOver, Wrote, over_plain, over_journalled, unopened, no_stores, ran, helped, refused, full_words}
+use Rattle.macheap.specs.Program.{Parts, Done, Told, Answers, AsksForNothing, NoStoresEnd, Refuses, ProgramEnds, Because, RunEnds, RunsOn, RunsOver, TellsBadWords, TellsNoMemory, Wrote, lacks_memory, over_plain, over_journalled, unopened, no_stores, ran, helped, refused, full_words}
 use Rattle.macheap.specs.Stores.{ArePlain, AreJournalled, IsOpened, Opening}
 use Rattle.macheap.proofs.Opening.{cant_widen, some_widen}
 
@@ -48,6 +49,38 @@ pub no_memory_told : (end : RunEnd) (status : ℕ) (written : List ℕ) (Failed 
 no_memory_told end status written Failed (inl told) failed is = (is ∙ ap status_of told.0, inl told.1)
 no_memory_told end status written Failed (inr cut) failed is = (is ∙ ap status_of cut.0, inr (cut.1, failed cut.0))
 
+-- a text has a byte
+pub some_text : (byte : ℕ) (text : List ℕ) → byte ∷ text ≢ []
+some_text byte text none = cc
+
+pub some_line : (text : List ℕ) → text ++ 10 ∷ [] ≢ []
+some_line [] none = cc
+some_line (byte ∷ text) none = cc
+
+-- a failure after a write that didn't fail
+pub failed_after : (whole : Bool) (before mid now : ℕ) → mid ≡ before → MatchBool whole (now ≡ mid) (Rose mid now) → MatchBool whole (now ≡ before) (Rose before now)
+failed_after whole before mid now same failed = subst (λ (n : ℕ). MatchBool whole (now ≡ n) (Rose n now)) same failed
+
+-- it was told what is wrong with the words
+pub words_told : (error : NotAsked) (told : Told) → lacks_memory error ≡ false → TellsBadWords told → Refuses error told
+words_told (Words fault) told no tells = tells
+words_told TooManyForks told no tells = tells
+words_told OtherJournals told no tells = tells
+words_told (NoNumber option) told no tells = tells
+words_told (Mode mode) told no tells = tells
+words_told (Spec fault) told no tells = tells
+words_told HostFull told no tells = cc
+
+-- or that the host has no memory for them
+pub full_told : (error : NotAsked) (told : Told) → lacks_memory error ≡ true → TellsNoMemory told → Refuses error told
+full_told HostFull told is tells = tells
+full_told (Words fault) told is tells = cc
+full_told TooManyForks told is tells = cc
+full_told OtherJournals told is tells = cc
+full_told (NoNumber option) told is tells = cc
+full_told (Mode mode) told is tells = cc
+full_told (Spec fault) told is tells = cc
+
 module _ {F S J : Type 0} (parts : Parts F S J) (words : List Text) (openings : List (Opening F)) (done : Done) where
   -- what was asked for was done
   pub answered : (asked : Asked) → Asks words (Ok asked) → Answers parts asked openings done → ProgramEnds parts words openings done
@@ -74,7 +107,7 @@ because (ScriptFault line) read_failed write_failed read write = tt
 module _ {S : Type 0} (store : Ghosts S) (sizes : ZoneSizes) (done : Done) where
   -- a run over the stores that were opened
   pub ran_over : (stores left : List S) (end : RunEnd) → (end ≡ ReadFault → done.read_failed) → (end ≡ WriteFault → done.told.write_failed) → Ends store (start_of sizes stores) done.input end done.told.written left
-      → done.told.status ≡ status_of end → done.told.said ≡ [] → RunsOver store sizes stores done
+      → done.told.status ≡ status_of end → done.told.silent → RunsOver store sizes stores done
   ran_over stores left end read write ends status silent = record { left = left; end = end; ends = ends; because = because end done.read_failed done.told.write_failed read write; status = status; silent = silent }
 
   pub ran_on : (stores : Result (Vec S Global) NoStores) (opened : Vec S Global) → stores ≡ Ok opened → RunsOver store sizes opened.items done → RunsOn store sizes stores done

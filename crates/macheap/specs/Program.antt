@@ -1,5 +1,5 @@
 -- What the program does with its words and its input.
-use Rattle.std.specs.Prelude.{◌≡◌, ◌≢◌, ℕ, ◌⊎◌, List, [], ◌∷◌, ◌++◌, map, codes, Option, unwrap_or, Result, Ok, Err, Vec, ⊤}
+use Rattle.std.specs.Prelude.{◌≡◌, ◌≢◌, ℕ, ◌⊎◌, Bool, true, false, List, [], ◌∷◌, ◌++◌, map, codes, Option, unwrap_or, Result, Ok, Err, Vec, ⊤}
 use Rattle.std.specs.Global.{Global}
 use Rattle.clap.specs.Words.{Text}
 use Rattle.fork_disk.specs.declared.store.ForkStore.{Ghosts}
@@ -28,11 +28,13 @@ Because Finished read_failed write_failed = ⊤
 Because NoMemory read_failed write_failed = ⊤
 Because (ScriptFault line) read_failed write_failed = ⊤
 
--- What the program told: its status, what it wrote to its output and to its messages, and that a write of the one or the other failed.
+-- What the program told: its status, what it wrote to its output and to its messages, that it made no call on the latter, and that a write
+-- of the one or the other failed.
 pub record Told : Type 1 where
   pub status : ℕ
   pub written : List ℕ
   pub said : List ℕ
+  pub silent : Type 0
   pub write_failed : Type 0
   pub tell_failed : Type 0
 
@@ -50,6 +52,7 @@ Tells contents notes output output_now messages messages_now status So = (writte
       status = status;
       written = written;
       said = said;
+      silent = messages_now ≡ messages;
       write_failed = Rose output.failures output_now.failures;
       tell_failed = Rose messages.failures messages_now.failures;
     })
@@ -71,7 +74,7 @@ Wrote text failed written = (written ≡ text) ⊎ (IsProperFront written text �
 
 -- It was told that the host has no memory.
 abbrev pub TellsNoMemory : Told → Type 0
-TellsNoMemory told = (told.status ≡ 1) × Wrote no_memory_text told.write_failed told.written × (told.said ≡ [])
+TellsNoMemory told = (told.status ≡ 1) × Wrote no_memory_text told.write_failed told.written × told.silent
 
 -- the lines that the help text begins with
 abbrev pub about_text : List ℕ
@@ -85,7 +88,7 @@ pub data HelpEnds (write_failed : Type 0) (status : ℕ) (written : List ℕ) : 
 
 -- that, and no message
 abbrev pub ShowsHelp : Told → Type 0
-ShowsHelp told = HelpEnds told.write_failed told.status told.written × (told.said ≡ [])
+ShowsHelp told = HelpEnds told.write_failed told.status told.written × told.silent
 
 -- A message tells what is wrong with the words, and nothing was written.
 pub record TellsBadWords (told : Told) : Type 0 where
@@ -94,6 +97,11 @@ pub record TellsBadWords (told : Told) : Type 0 where
   pub text : List ℕ
   pub some : text ≢ []
   pub says : Wrote text told.tell_failed told.said
+
+-- whether the words ask for nothing since the host has no memory for them
+abbrev pub lacks_memory : NotAsked → Bool
+lacks_memory HostFull = true
+lacks_memory other = false
 
 -- It was told why the words ask for nothing.
 abbrev pub Refuses : NotAsked → Told → Type 0
@@ -122,7 +130,7 @@ pub record RunsOver {S : Type 0} (store : Ghosts S) (sizes : ZoneSizes) (stores 
   pub ends : Ends store (start_of sizes stores) done.input end done.told.written left
   pub because : Because end done.read_failed done.told.write_failed
   pub status : done.told.status ≡ status_of end
-  pub silent : done.told.said ≡ []
+  pub silent : done.told.silent
 
 -- A run on a zone of these sizes and the stores that opening them gave, if any.
 abbrev pub RunsOn : {S : Type 0} → Ghosts S → ZoneSizes → Result (Vec S Global) NoStores → Done → Type 0

@@ -2,7 +2,7 @@
 
 ghost use Rattle.std.specs.Prelude.{◌≡◌, ◌≢◌, ◌≤◌, ◌++◌, [], ℕ, List, IfOk, length, map};
 ghost use Rattle.script_run.specs.Counting.{Rose, Took};
-ghost use Rattle.macheap.specs.Program.{Answers, Did, HelpEnds, NoStoresEnd, ProgramEnds, Refuses, RunEnds, RunsOn, Tells, Wrote};
+ghost use Rattle.macheap.specs.Program.{Answers, Did, HelpEnds, NoStoresEnd, ProgramEnds, Refuses, RunEnds, RunsOn, Tells, Wrote, lacks_memory};
 ghost use Rattle.macheap.specs.Stores.{Opening};
 
 use crate::asked::{Asked, NotAsked, asked_by};
@@ -172,17 +172,20 @@ fn refuse<W: Write, M: Write>(
     ensures ends { Tells W.contents M.contents output.old output.new messages.old messages.new result (Refuses error.now) }
     ensures no_write_failed { result ≢ 1 → output.new.failures ≡ output.old.failures }
 {
+    if lacks_memory(error) {
+        return status(tell_no_memory(output));
+    }
+    tell_error(alloc, error, messages);
+    BAD_WORDS
+}
+
+/// Whether the words ask for nothing since the host has no memory for them.
+fn lacks_memory(error: &NotAsked) -> bool
+    ensures { result ≡ lacks_memory error.now }
+{
     match error {
-        NotAsked::HostFull => status(tell_no_memory(output)),
-        NotAsked::Words(_)
-        | NotAsked::TooManyForks
-        | NotAsked::OtherJournals
-        | NotAsked::NoNumber(_)
-        | NotAsked::Mode(_)
-        | NotAsked::Spec(_) => {
-            tell_error(alloc, error, messages);
-            BAD_WORDS
-        }
+        NotAsked::HostFull => true,
+        _ => false,
     }
 }
 
