@@ -1,54 +1,101 @@
 -- How what was asked for makes the program's end.
-use Rattle.std.proofs.Common.{◌≡◌, ◌≢◌, ◌⊎◌, ℕ, List, [], ◌∷◌, length, arith, Option, Some, None, Result, Ok, Err, Vec, Global, map, refl, sym, ap, subst, ◌∙◌, inl, inr}
+use Rattle.std.proofs.Common.{◌≡◌, ◌≢◌, ◌⊎◌, ℕ, Bool, true, false, List, [], ◌∷◌, ◌++◌, length, arith, Result, Ok, Err, Vec, Global, map, refl, sym, ap, subst, ◌∙◌, inl, inr, append_assoc}
 use Rattle.std.proofs.lemmas.List.{length-map}
-use Rattle.std.specs.Prelude.{IfOk, IfSome, IsErrOf}
+use Rattle.std.specs.Prelude.{MatchBool}
 use Rattle.clap.specs.Words.{Text, kind_of}
+use Rattle.fork_disk.specs.declared.store.ForkStore.{Ghosts}
+use Rattle.mac_base.specs.ZoneSizes.{ZoneSizes}
+use Rattle.script_run.specs.declared.end.RunEnd.{RunEnd}
+use Rattle.script_run.specs.declared.end.RunEnd.TheVariants.{Finished, ScriptFault, NoMemory, ReadFault, WriteFault}
+use Rattle.script_run.specs.Counting.{Rose}
+use Rattle.script_run.specs.End.{status_of}
+use Rattle.script_run.specs.Line.{start_of}
+use Rattle.script_run.specs.Run.{Ends, IsProperFront, no_memory_text, Tells as EndTells}
 use Rattle.macheap.specs.declared.asked.Asked.{Asked}
 use Rattle.macheap.specs.declared.asked.Asked.TheVariants.{Run, Help}
 use Rattle.macheap.specs.declared.asked.NotAsked.{NotAsked}
 use Rattle.macheap.specs.declared.asked.NotAsked.TheVariants.{Words, TooManyForks, OtherJournals, NoNumber, Mode, Spec, HostFull}
 use Rattle.macheap.specs.declared.stores.NoStores.{NoStores}
 use Rattle.macheap.specs.declared.stores.NoStores.TheVariants as why
-use Rattle.fork_disk.specs.declared.store.ForkStore.{Ghosts}
 use Rattle.macheap.specs.Asking.{Asks}
-use Rattle.macheap.specs.Program.{Parts, Answers, AskForNoFile, HasNoFile, NoStoresEnd, Refuses, ProgramEnds, Because, RunEnds, RunsOn, RunsOver, over_plain, over_journalled, unopened, no_stores, ran, helped, told, full}
-use Rattle.macheap.specs.Stores.{Opening, ArePlain, AreJournalled, CantBeOpened, OneCantBeOpened}
-use Rattle.mac_base.specs.ZoneSizes.{ZoneSizes}
-use Rattle.script_run.specs.declared.end.RunEnd.{RunEnd}
-use Rattle.script_run.specs.declared.end.RunEnd.TheVariants.{Finished, ScriptFault, NoMemory, ReadFault, WriteFault}
-use Rattle.script_run.specs.End.{status_of}
-use Rattle.script_run.specs.Line.{start_of}
-use Rattle.script_run.specs.Run.{Ends}
+use Rattle.macheap.specs.Program.{Parts, Done, Told, Answers, AsksForNothing, NoStoresEnd, Refuses, ProgramEnds, Because, RunEnds, RunsOn, RunsOver, TellsBadWords, TellsNoMemory, Wrote, lacks_memory, over_plain, over_journalled, unopened, no_stores, ran, helped, refused, full_words}
+use Rattle.macheap.specs.Stores.{ArePlain, AreJournalled, IsOpened, Opening}
+use Rattle.macheap.proofs.Opening.{cant_widen, some_widen}
 
--- what follows from a known input
-pub known : {P Q : List ℕ → Type 0} (input : Option (List ℕ)) → ((script : List ℕ) → P script → Q script) → IfSome input P → IfSome input Q
-known None follows holds = tt
-known (Some script) follows holds = follows script holds
+-- what one write wrote
+pub wrote : (whole : Bool) (text written : List ℕ) (Same Failed : Type 0) → MatchBool whole (written ≡ text) (IsProperFront written text) → MatchBool whole Same Failed → Wrote text Failed written
+wrote true text written Same Failed is failures = inl is
+wrote false text written Same Failed is failures = inr (is, failures)
 
-module _ {F S J : Type 0} (parts : Parts F S J) (words : List Text) (read_failed write_failed : Type 0) (status : ℕ) (written : List ℕ) where
+some_more : (rest more : List ℕ) → rest ≢ [] → rest ++ more ≢ []
+some_more [] more some none = some refl
+some_more (x ∷ rest) more some none = cc
+
+-- a proper front of a text is one of a longer text
+pub front_of_more : (front text more : List ℕ) → IsProperFront front text → IsProperFront front (text ++ more)
+front_of_more front text more is = (is.0 ++ more, ap (λ (t : List ℕ). t ++ more) is.1 ∙ append_assoc front is.0 more, some_more is.0 more is.2)
+
+-- and so is a text with a proper front of what follows
+pub front_after : (text front more : List ℕ) → IsProperFront front more → IsProperFront (text ++ front) (text ++ more)
+front_after text front more is = (is.0, ap (λ (t : List ℕ). text ++ t) is.1 ∙ sym (append_assoc text front is.0), is.2)
+
+-- after a whole text, what one more write wrote
+pub wrote_after : (text written more last : List ℕ) (Failed : Type 0) → written ≡ text → Wrote more Failed last → Wrote (text ++ more) Failed (written ++ last)
+wrote_after text written more last Failed whole (inl is) = inl (rw (whole, is) refl)
+wrote_after text written more last Failed whole (inr cut) = inr (subst (λ (t : List ℕ). IsProperFront (t ++ last) (text ++ more)) (sym whole) (front_after text last more cut.0), cut.1)
+
+-- it was told that the host has no memory
+pub no_memory_told : (end : RunEnd) (status : ℕ) (written : List ℕ) (Failed : Type 0) → EndTells NoMemory no_memory_text end written → (end ≡ WriteFault → Failed) → status ≡ status_of end → (status ≡ 1) × Wrote no_memory_text Failed written
+no_memory_told end status written Failed (inl told) failed is = (is ∙ ap status_of told.0, inl told.1)
+no_memory_told end status written Failed (inr cut) failed is = (is ∙ ap status_of cut.0, inr (cut.1, failed cut.0))
+
+-- a text has a byte
+pub some_text : (byte : ℕ) (text : List ℕ) → byte ∷ text ≢ []
+some_text byte text none = cc
+
+pub some_line : (text : List ℕ) → text ++ 10 ∷ [] ≢ []
+some_line [] none = cc
+some_line (byte ∷ text) none = cc
+
+-- a failure after a write that didn't fail
+pub failed_after : (whole : Bool) (before mid now : ℕ) → mid ≡ before → MatchBool whole (now ≡ mid) (Rose mid now) → MatchBool whole (now ≡ before) (Rose before now)
+failed_after whole before mid now same failed = subst (λ (n : ℕ). MatchBool whole (now ≡ n) (Rose n now)) same failed
+
+-- it was told what is wrong with the words
+pub words_told : (error : NotAsked) (told : Told) → lacks_memory error ≡ false → TellsBadWords told → Refuses error told
+words_told (Words fault) told no tells = tells
+words_told TooManyForks told no tells = tells
+words_told OtherJournals told no tells = tells
+words_told (NoNumber option) told no tells = tells
+words_told (Mode mode) told no tells = tells
+words_told (Spec fault) told no tells = tells
+words_told HostFull told no tells = cc
+
+-- or that the host has no memory for them
+pub full_told : (error : NotAsked) (told : Told) → lacks_memory error ≡ true → TellsNoMemory told → Refuses error told
+full_told HostFull told is tells = tells
+full_told (Words fault) told is tells = cc
+full_told TooManyForks told is tells = cc
+full_told OtherJournals told is tells = cc
+full_told (NoNumber option) told is tells = cc
+full_told (Mode mode) told is tells = cc
+full_told (Spec fault) told is tells = cc
+
+module _ {F S J : Type 0} (parts : Parts F S J) (words : List Text) (openings : List (Opening F)) (done : Done) where
   -- what was asked for was done
-  pub answered : (asked : Asked) → Asks words (Ok asked) → (input : List ℕ) → Answers parts asked read_failed write_failed input status written → ProgramEnds parts words read_failed write_failed input status written
-  answered (Run sizes files) asks input answers = ran sizes (map (λ name. name.now) files.forks.items) (map (λ name. name.now) files.journals.items) asks answers
-  answered (Help text) asks input answers = helped asks.0 answers
+  pub answered : (asked : Asked) → Asks words (Ok asked) → Answers parts asked openings done → ProgramEnds parts words openings done
+  answered (Run sizes files) asks answers = ran sizes (map (λ name. name.now) files.forks.items) (map (λ name. name.now) files.journals.items) asks answers
+  answered (Help text) asks answers = helped asks.0 answers.0 answers.1
 
   -- it was told why nothing was asked for
-  pub refused : (error : NotAsked) → Asks words (Err error) → Refuses error write_failed status written → (input : List ℕ) → ProgramEnds parts words read_failed write_failed input status written
-  refused (Words fault) asks refuses input = told (inl (kind_of fault, asks.0, asks.1)) refuses.0 refuses.1
-  refused TooManyForks asks refuses input = told (inr (inl asks)) refuses.0 refuses.1
-  refused OtherJournals asks refuses input = told (inr (inr (inl asks))) refuses.0 refuses.1
-  refused (NoNumber option) asks refuses input = told (inr (inr (inr (inl (option.now, asks))))) refuses.0 refuses.1
-  refused (Mode mode) asks refuses input = told (inr (inr (inr (inr (inl (mode, asks)))))) refuses.0 refuses.1
-  refused (Spec fault) asks refuses input = told (inr (inr (inr (inr (inr (fault, asks)))))) refuses.0 refuses.1
-  refused HostFull asks refuses input = full refuses.0 refuses.1
-
-no_file_asked : {F : Type 0} (gives : Opening F) (words : List Text) (asked : Asked) → Asks words (Ok asked) → HasNoFile gives asked → AskForNoFile gives words
-no_file_asked gives words (Run sizes files) asks none = (sizes, map (λ name. name.now) files.forks.items, map (λ name. name.now) files.journals.items, asks, none)
-no_file_asked gives words (Help text) asks none = absurd none
-
--- and where that is told, the words ask for it
-pub no_file_told : {F : Type 0} (gives : Opening F) (words : List Text) (asked : Asked) {Quiet Status : Type 0} → Asks words (Ok asked) → Quiet ⊎ (Status × HasNoFile gives asked) → Quiet ⊎ (Status × AskForNoFile gives words)
-no_file_told gives words asked asks (inl quiet) = inl quiet
-no_file_told gives words asked asks (inr says) = inr (says.0, no_file_asked gives words asked asks says.1)
+  pub was_refused : (error : NotAsked) → Asks words (Err error) → AsksForNothing openings done → Refuses error done.told → ProgramEnds parts words openings done
+  was_refused (Words fault) asks nothing refuses = refused (inl (kind_of fault, asks.0, asks.1)) nothing refuses
+  was_refused TooManyForks asks nothing refuses = refused (inr (inl asks)) nothing refuses
+  was_refused OtherJournals asks nothing refuses = refused (inr (inr (inl asks))) nothing refuses
+  was_refused (NoNumber option) asks nothing refuses = refused (inr (inr (inr (inl (option.now, asks))))) nothing refuses
+  was_refused (Mode mode) asks nothing refuses = refused (inr (inr (inr (inr (inl (mode, asks)))))) nothing refuses
+  was_refused (Spec fault) asks nothing refuses = refused (inr (inr (inr (inr (inr (fault, asks)))))) nothing refuses
+  was_refused HostFull asks nothing refuses = full_words nothing refuses
 
 because : (end : RunEnd) (read_failed write_failed : Type 0) → (end ≡ ReadFault → read_failed) → (end ≡ WriteFault → write_failed) → Because end read_failed write_failed
 because ReadFault read_failed write_failed read write = read refl
@@ -57,52 +104,48 @@ because Finished read_failed write_failed read write = tt
 because NoMemory read_failed write_failed read write = tt
 because (ScriptFault line) read_failed write_failed read write = tt
 
--- a run over the stores that were opened
-pub ran_over : {S : Type 0} (store : Ghosts S) (sizes : ZoneSizes) (stores left : List S) (end : RunEnd) (read_failed write_failed : Type 0) (input : Option (List ℕ)) (written : List ℕ)
-    → (end ≡ ReadFault → read_failed) → (end ≡ WriteFault → write_failed) → IfSome input (λ script. Ends store (start_of sizes stores) script end written left) → IfSome input (λ script. RunsOver store sizes stores read_failed write_failed script (status_of end) written)
-ran_over store sizes stores left end read_failed write_failed input written read write ends = known input (λ script is. (left, end, is, because end read_failed write_failed read write, refl)) ends
+module _ {S : Type 0} (store : Ghosts S) (sizes : ZoneSizes) (done : Done) where
+  -- a run over the stores that were opened
+  pub ran_over : (stores left : List S) (end : RunEnd) → (end ≡ ReadFault → done.read_failed) → (end ≡ WriteFault → done.told.write_failed) → Ends store (start_of sizes stores) done.input end done.told.written left
+      → done.told.status ≡ status_of end → done.told.silent → RunsOver store sizes stores done
+  ran_over stores left end read write ends status silent = record { left = left; end = end; ends = ends; because = because end done.read_failed done.told.write_failed read write; status = status; silent = silent }
 
-no_names : {B : Type 0} (now : B → Text) (names : List B) → length names ≡ 0 → map now names ≡ []
+  pub ran_on : (stores : Result (Vec S Global) NoStores) (opened : Vec S Global) → stores ≡ Ok opened → RunsOver store sizes opened.items done → RunsOn store sizes stores done
+  ran_on stores opened is runs = subst (λ (s : Result (Vec S Global) NoStores). RunsOn store sizes s done) (sym is) runs
+
+  -- it was told why there are no stores
+  pub none_opened : (stores : Result (Vec S Global) NoStores) (fault : NoStores) → stores ≡ Err fault → NoStoresEnd fault done.told → RunsOn store sizes stores done
+  none_opened stores fault is ends = subst (λ (s : Result (Vec S Global) NoStores). RunsOn store sizes s done) (sym is) ends
+
+pub no_names : {B : Type 0} (now : B → Text) (names : List B) → length names ≡ 0 → map now names ≡ []
 no_names now [] none = refl
 no_names now (name ∷ names) none = absurd (omega (arith, none))
 
-some_names : {B : Type 0} (now : B → Text) (names : List B) → length names ≢ 0 → map now names ≢ []
+pub some_names : {B : Type 0} (now : B → Text) (names : List B) → length names ≢ 0 → map now names ≢ []
 some_names now names some none = some (sym (length-map names now) ∙ ap length none)
 
--- it was told why there are no stores
-pub none_opened : {S : Type 0} (store : Ghosts S) (sizes : ZoneSizes) (stores : Result (Vec S Global) NoStores) (fault : NoStores) (read_failed write_failed : Type 0) (status : ℕ) (written : List ℕ) (input : Option (List ℕ)) → stores ≡ Err fault → NoStoresEnd fault write_failed status written
-    → IfSome input (λ script. RunsOn store sizes stores read_failed write_failed script status written)
-none_opened store sizes stores fault read_failed write_failed status written None is ends = tt
-none_opened {S = S} store sizes stores fault read_failed write_failed status written (Some script) is ends = subst (λ (s : Result (Vec S Global) NoStores). RunsOn store sizes s read_failed write_failed script status written) (sym is) ends
+module _ {F S J B : Type 0} (parts : Parts F S J) (sizes : ZoneSizes) (now : B → Text) (forks journals : List B) (openings : List (Opening F)) (done : Done) where
+  abbrev Ran : Type 0
+  Ran = RunEnds parts sizes (map now forks) (map now journals) openings done
 
-module _ {F S J B : Type 0} (parts : Parts F S J) (sizes : ZoneSizes) (now : B → Text) (forks journals : List B) (read_failed write_failed : Type 0) (status : ℕ) (written : List ℕ) where
-  abbrev Ran : List ℕ → Type 0
-  Ran script = RunEnds parts sizes (map now forks) (map now journals) read_failed write_failed script status written
+  over_forks : (stores : Result (Vec S Global) NoStores) → map now journals ≡ [] → IsOpened (map now forks) openings (ArePlain parts.store parts.plain (map now forks) openings) stores → RunsOn parts.store sizes stores done → Ran
+  over_forks (Ok stores) none are runs = over_plain stores.items none are runs
+  over_forks (Err why.CannotOpen) none cant runs = unopened (cant_widen (map now forks) (map now journals) openings cant) runs
+  over_forks (Err why.HostFull) none some runs = no_stores (some_widen (map now forks) (map now journals) openings some) runs
 
-  over_forks : (stores : Result (Vec S Global) NoStores) → map now journals ≡ [] → IfOk stores (λ stores. ArePlain parts.store parts.gives parts.plain (map now forks) stores.items) → (IsErrOf stores why.CannotOpen → CantBeOpened parts.gives (map now forks))
-      → (script : List ℕ) → RunsOn parts.store sizes stores read_failed write_failed script status written → Ran script
-  over_forks (Ok stores) none are cant script runs = over_plain stores.items none are runs
-  over_forks (Err why.CannotOpen) none are cant script runs = unopened (inl (cant refl)) runs.0 runs.1
-  over_forks (Err why.HostFull) none are cant script runs = no_stores runs.0 runs.1
-
-  over_pairs : (stores : Result (Vec J Global) NoStores) → map now journals ≢ [] → IfOk stores (λ stores. AreJournalled parts.gives parts.pairs (map now forks) (map now journals) stores.items)
-      → (IsErrOf stores why.CannotOpen → OneCantBeOpened parts.gives (map now forks) (map now journals)) → (script : List ℕ) → RunsOn parts.with_journal sizes stores read_failed write_failed script status written → Ran script
-  over_pairs (Ok stores) some are cant script runs = over_journalled stores.items some are runs
-  over_pairs (Err why.CannotOpen) some are cant script runs = unopened (cant refl) runs.0 runs.1
-  over_pairs (Err why.HostFull) some are cant script runs = no_stores runs.0 runs.1
+  over_pairs : (stores : Result (Vec J Global) NoStores) → map now journals ≢ [] → IsOpened (map now forks ++ map now journals) openings (AreJournalled parts.pairs (map now forks ++ map now journals) openings) stores → RunsOn parts.with_journal sizes stores done → Ran
+  over_pairs (Ok stores) some are runs = over_journalled stores.items some are runs
+  over_pairs (Err why.CannotOpen) some cant runs = unopened cant runs
+  over_pairs (Err why.HostFull) some few runs = no_stores few runs
 
   -- a run over forks alone
-  pub plain_ran : (names : List B) (stores : Result (Vec S Global) NoStores) → names ≡ forks → length journals ≡ 0 → IfOk stores (λ stores. ArePlain parts.store parts.gives parts.plain (map now names) stores.items) → (IsErrOf stores why.CannotOpen → CantBeOpened parts.gives (map now names))
-      → (script : List ℕ) → RunsOn parts.store sizes stores read_failed write_failed script status written → Ran script
-  plain_ran names stores same none = subst (λ (fs : List B). IfOk stores (λ stores. ArePlain parts.store parts.gives parts.plain (map now fs) stores.items) → (IsErrOf stores why.CannotOpen → CantBeOpened parts.gives (map now fs)) → (script : List ℕ)
-      → RunsOn parts.store sizes stores read_failed write_failed script status written → Ran script) (sym same) (over_forks stores (no_names now journals none))
+  pub plain_ran : (names : List B) (stores : Result (Vec S Global) NoStores) → names ≡ forks → length journals ≡ 0 → IsOpened (map now names) openings (ArePlain parts.store parts.plain (map now names) openings) stores
+      → RunsOn parts.store sizes stores done → Ran
+  plain_ran names stores same none opened = over_forks stores (no_names now journals none) (subst (λ (fs : List B). IsOpened (map now fs) openings (ArePlain parts.store parts.plain (map now fs) openings) stores) same opened)
 
   -- a run over forks with journals
   pub journalled_ran : (names journal_names : List B) (stores : Result (Vec J Global) NoStores) → names ≡ forks → journal_names ≡ journals → length journals ≢ 0
-      → IfOk stores (λ stores. AreJournalled parts.gives parts.pairs (map now names) (map now journal_names) stores.items) → (IsErrOf stores why.CannotOpen → OneCantBeOpened parts.gives (map now names) (map now journal_names)) → (script : List ℕ)
-      → RunsOn parts.with_journal sizes stores read_failed write_failed script status written → Ran script
-  journalled_ran names journal_names stores same theirs some =
-      subst (λ (fs : List B). IfOk stores (λ stores. AreJournalled parts.gives parts.pairs (map now fs) (map now journal_names) stores.items) → (IsErrOf stores why.CannotOpen → OneCantBeOpened parts.gives (map now fs) (map now journal_names)) → (script : List ℕ)
-      → RunsOn parts.with_journal sizes stores read_failed write_failed script status written → Ran script) (sym same)
-      (subst (λ (js : List B). IfOk stores (λ stores. AreJournalled parts.gives parts.pairs (map now forks) (map now js) stores.items) → (IsErrOf stores why.CannotOpen → OneCantBeOpened parts.gives (map now forks) (map now js)) → (script : List ℕ)
-      → RunsOn parts.with_journal sizes stores read_failed write_failed script status written → Ran script) (sym theirs) (over_pairs stores (some_names now journals some)))
+      → IsOpened (map now names ++ map now journal_names) openings (AreJournalled parts.pairs (map now names ++ map now journal_names) openings) stores → RunsOn parts.with_journal sizes stores done → Ran
+  journalled_ran names journal_names stores same theirs some opened = over_pairs stores (some_names now journals some)
+      (subst (λ (js : List B). IsOpened (map now forks ++ map now js) openings (AreJournalled parts.pairs (map now forks ++ map now js) openings) stores) theirs
+      (subst (λ (fs : List B). IsOpened (map now fs ++ map now journal_names) openings (AreJournalled parts.pairs (map now fs ++ map now journal_names) openings) stores) same opened))

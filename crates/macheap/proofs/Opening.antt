@@ -1,50 +1,85 @@
--- The stores of files, opened one after the other.
-use Rattle.std.proofs.Common.{◌≡◌, ◌+◌, ◌<◌, ◌≤◌, arith, zero, suc, ℕ, List, [], ◌∷◌, ◌++◌, Some, None, take, length, get_or, map, refl, ap, sym, subst, ◌∙◌, inl, inr, length-append}
-use Rattle.std.proofs.lemmas.List.{length-map, take_all, take_more, map-append}
-use Rattle.std.proofs.Math.Seq.{split_at}
+-- The files of a run, opened one after the other, and their stores.
+use Rattle.std.proofs.Common.{◌≡◌, ◌≢◌, Result, Ok, Err, Vec, Global, ◌+◌, ◌<◌, ◌≤◌, arith, zero, suc, ℕ, List, [], ◌∷◌, ◌++◌, Option, Some, None, take, drop, length, get_or, map, refl, ap, sym, subst, ◌∙◌, append_assoc, length-append}
+use Rattle.std.proofs.lemmas.List.{append-nil, length-map, take_all, take_more, map-append, take-append-drop}
+use Rattle.std.specs.Prelude.{IfOk, IfErr}
 use Rattle.clap.specs.Words.{Text}
-use Rattle.macheap.specs.Stores.{AreOf, AreOn, ArePaired, no_fork, one_fork, CantBeOpened, Opening}
+use Rattle.fork_disk.specs.declared.store.ForkStore.{Ghosts}
+use Rattle.macheap.specs.declared.stores.NoStores.{NoStores}
+use Rattle.macheap.specs.declared.stores.NoStores.TheVariants.{CannotOpen, HostFull}
+use Rattle.macheap.specs.Stores.{AreOn, ArePaired, ArePlain, Asked, IsOpened, OneCantBeOpened, Opening, SomeOpened}
 
-AreOf-push : {S : Type 0} (gives : Opening S) (names : List Text) (stores : List S) (name : Text) (store : S) → AreOf gives names stores → gives name (Some store) → AreOf gives (names ++ name ∷ []) (stores ++ store ∷ [])
-AreOf-push gives [] [] name store are one = (one, tt)
-AreOf-push gives (n ∷ names) (s ∷ stores) name store are one = (are.0, AreOf-push gives names stores name store are.1 one)
-AreOf-push gives [] (s ∷ stores) name store are one = absurd are
-AreOf-push gives (n ∷ names) [] name store are one = absurd are
+-- one more file is asked for
+pub asked_next : {F : Type 0} (paths : List Text) (files : List (Option F)) (openings : List (Opening F)) (path : Text) (file : Option F) → Asked paths files openings → Asked (paths ++ path ∷ []) (files ++ file ∷ []) (openings ++ (path, file) ∷ [])
+asked_next {F = F} paths files openings path file asked = record {
+  paths_are = map-append (λ (o : Opening F). o.0) openings ((path, file) ∷ []) ∙ ap (λ (t : List Text). t ++ path ∷ []) asked.paths_are;
+  files_are = map-append (λ (o : Opening F). o.1) openings ((path, file) ∷ []) ∙ ap (λ (t : List (Option F)). t ++ file ∷ []) asked.files_are;
+}
 
--- one more file is opened
-pub AreOf-step : {S B : Type 0} (gives : Opening S) (names : List B) (now : B → Text) (at : ℕ) (name : B) (stores : List S) (store : S) → at < length names → name ≡ get_or names at name → AreOf gives (map now (take at names)) stores → gives (now name) (Some store)
-    → AreOf gives (map now (take (at + 1) names)) (stores ++ store ∷ [])
-AreOf-step {B = B} gives names now at name stores store lt is are one =
-    subst (λ (ns : List Text). AreOf gives ns (stores ++ store ∷ []))
-    (sym (map-append now (take at names) (name ∷ [])) ∙ ap (λ (l : List B). map now l) (ap (λ (b : B). take at names ++ b ∷ []) is ∙ sym (take_more names at name lt)))
-    (AreOf-push gives (map now (take at names)) stores (now name) store are one)
+-- a run whose first files can't be opened, or for which there is no memory, is one whose files can't be
+pub cant_widen : {F : Type 0} (paths more : List Text) (openings : List (Opening F)) → OneCantBeOpened paths openings → OneCantBeOpened (paths ++ more) openings
+cant_widen paths more openings (first, others, files, whole, asked) = (first, others ++ more, files, ap (λ (t : List Text). t ++ more) whole ∙ append_assoc first others more, asked)
 
--- there are as many stores as files
-pub AreOf-length : {S : Type 0} (gives : Opening S) (names : List Text) (stores : List S) → AreOf gives names stores → length stores ≡ length names
-AreOf-length gives [] [] are = refl
-AreOf-length gives (n ∷ names) (s ∷ stores) are = rw (AreOf-length gives names stores are.1) refl
-AreOf-length gives [] (s ∷ stores) are = absurd are
-AreOf-length gives (n ∷ names) [] are = absurd are
+pub some_widen : {F : Type 0} (paths more : List Text) (openings : List (Opening F)) → SomeOpened paths openings → SomeOpened (paths ++ more) openings
+some_widen paths more openings (first, others, files, whole, asked) = (first, others ++ more, files, ap (λ (t : List Text). t ++ more) whole ∙ append_assoc first others more, asked)
 
-cant-append : {S : Type 0} (gives : Opening S) (xs : List Text) (y : Text) (zs : List Text) → gives y None → CantBeOpened gives (xs ++ y ∷ zs)
-cant-append gives [] y zs none = inl none
-cant-append gives (x ∷ xs) y zs none = inr (cant-append gives xs y zs none)
+module _ {B : Type 0} (before : List Text) (names : List B) (now : B → Text) where
+  -- the paths up to the next one
+  next_paths : (at : ℕ) (name : B) → at < length names → name ≡ get_or names at name → before ++ map now (take (at + 1) names) ≡ (before ++ map now (take at names)) ++ now name ∷ []
+  next_paths at name lt is =
+      ap (λ (l : List B). before ++ map now l) (take_more names at name lt ∙ ap (λ (b : B). take at names ++ b ∷ []) (sym is))
+      ∙ ap (λ (t : List Text). before ++ t) (map-append now (take at names) (name ∷ []))
+      ∙ sym (append_assoc before (map now (take at names)) (now name ∷ []))
 
--- one of the files can't be opened
-pub cant_at : {S B : Type 0} (gives : Opening S) (names : List B) (now : B → Text) (at : ℕ) (name : B) → at < length names → name ≡ get_or names at name → gives (now name) None → CantBeOpened gives (map now names)
-cant_at {B = B} gives names now at name lt is none =
-    subst (CantBeOpened gives) (sym (ap (map now) (split_at names at name lt) ∙ map-append now (take at names) _))
-    (cant-append gives (map now (take at names)) (now (get_or names at name)) _ (subst (λ (b : B). gives (now b) None) is none))
+  whole_paths : (at : ℕ) → before ++ map now names ≡ (before ++ map now (take at names)) ++ map now (drop at names)
+  whole_paths at =
+      ap (λ (l : List B). before ++ map now l) (sym (take-append-drop at names))
+      ∙ ap (λ (t : List Text). before ++ t) (map-append now (take at names) (drop at names))
+      ∙ sym (append_assoc before (map now (take at names)) (map now (drop at names)))
+
+module _ {F B : Type 0} (before : List Text) (names : List B) (now : B → Text) where
+  -- one more file is opened
+  pub asked_more : (at : ℕ) (name : B) (files : List F) (file : F) (openings : List (Opening F)) → at < length names → name ≡ get_or names at name → Asked (before ++ map now (take at names)) (map Some files) openings
+      → Asked (before ++ map now (take (at + 1) names)) (map Some (files ++ file ∷ [])) (openings ++ (now name, Some file) ∷ [])
+  asked_more at name files file openings lt is asked =
+      subst (λ (fs : List (Option F)). Asked (before ++ map now (take (at + 1) names)) fs (openings ++ (now name, Some file) ∷ [])) (sym (map-append Some files (file ∷ [])))
+      (subst (λ (ps : List Text). Asked ps (map Some files ++ Some file ∷ []) (openings ++ (now name, Some file) ∷ [])) (sym (next_paths before names now at name lt is))
+      (asked_next (before ++ map now (take at names)) (map Some files) openings (now name) (Some file) asked))
+
+  -- the next one can't be opened
+  pub cant_next : (at : ℕ) (name : B) (files : List F) (openings : List (Opening F)) → at < length names → name ≡ get_or names at name → Asked (before ++ map now (take at names)) (map Some files) openings
+      → OneCantBeOpened (before ++ map now names) (openings ++ (now name, None) ∷ [])
+  cant_next at name files openings lt is asked = (
+    before ++ map now (take (at + 1) names),
+    map now (drop (at + 1) names),
+    files,
+    whole_paths before names now (at + 1),
+    subst (λ (ps : List Text). Asked ps (map Some files ++ None ∷ []) (openings ++ (now name, None) ∷ [])) (sym (next_paths before names now at name lt is))
+        (asked_next (before ++ map now (take at names)) (map Some files) openings (now name) None asked),
+  )
+
+  -- some first ones were opened
+  pub some_first : (at : ℕ) (files : List F) (openings : List (Opening F)) → Asked (before ++ map now (take at names)) (map Some files) openings → SomeOpened (before ++ map now names) openings
+  some_first at files openings asked = (before ++ map now (take at names), map now (drop at names), files, whole_paths before names now at, asked)
+
+  -- and all
+  pub all_asked : (at : ℕ) (files : List F) (openings : List (Opening F)) → length names ≤ at → Asked (before ++ map now (take at names)) (map Some files) openings → Asked (before ++ map now names) (map Some files) openings
+  all_asked at files openings le asked = subst (λ (l : List B). Asked (before ++ map now l) (map Some files) openings) (take_all at names le) asked
+
+  -- none of these yet
+  pub asked_none : (files : List F) (openings : List (Opening F)) → Asked before (map Some files) openings → Asked (before ++ map now (take 0 names)) (map Some (files ++ [])) openings
+  asked_none files openings asked = subst (λ (ps : List Text). Asked ps (map Some (files ++ [])) openings) (sym (append-nil before)) (subst (λ (fs : List F). Asked before (map Some fs) openings) (sym (append-nil files)) asked)
+
+-- as many files as paths
+pub asked_length : {F B : Type 0} (names : List B) (now : B → Text) (files : List F) (openings : List (Opening F)) → Asked (map now names) (map Some files) openings → length files ≡ length names
+asked_length names now files openings asked =
+    sym (length-map files Some) ∙ ap length (sym asked.files_are) ∙ length-map openings (λ o. o.1)
+    ∙ sym (length-map openings (λ o. o.0)) ∙ ap length asked.paths_are ∙ length-map names now
 
 -- what stands at an index that is there
 pub same_default : {B : Type 0} (xs : List B) (at : ℕ) (d e : B) → at < length xs → get_or xs at d ≡ get_or xs at e
 same_default [] at d e lt = absurd (omega (arith, lt))
 same_default (x ∷ xs) zero d e lt = refl
 same_default (x ∷ xs) (suc at) d e lt = same_default xs at d e (omega (arith, lt))
-
--- as many stores as files, once all are opened
-pub all_opened : {S B : Type 0} (gives : Opening S) (names : List B) (now : B → Text) (at : ℕ) (stores : List S) → length names ≤ at → AreOf gives (map now (take at names)) stores → length stores ≡ length names
-all_opened gives names now at stores le are = AreOf-length gives (map now (take at names)) stores are ∙ length-map (take at names) now ∙ ap length (take_all at names le)
 
 -- before a fork there are fewer than all
 pub fewer : {F : Type 0} (yielded items all rest : List F) (fork : F) → yielded ++ items ≡ all → items ≡ fork ∷ rest → length yielded < length all
@@ -60,18 +95,35 @@ AreOn-push plain from number (f ∷ files) (s ∷ stores) file store are is one 
 AreOn-push plain from number [] (s ∷ stores) file store are is one = absurd are
 AreOn-push plain from number (f ∷ files) [] file store are is one = absurd are
 
-ArePaired-push : {F J : Type 0} (gives : Opening F) (pairs : ℕ → F → F → J → Type 0) (number : ℕ) (fork journal : F) (name : Text) (store : J) {from : ℕ} {forks : List F} {names : List Text} {stores : List J} → ArePaired gives pairs from forks names stores
-    → number ≡ from + length forks → gives name (Some journal) → pairs number fork journal store → ArePaired gives pairs from (forks ++ fork ∷ []) (names ++ name ∷ []) (stores ++ store ∷ [])
-ArePaired-push gives pairs number fork journal name store no_fork is given paired = one_fork journal given (subst (λ n. pairs n fork journal store) (is ∙ omega arith) paired) no_fork
-ArePaired-push gives pairs number fork journal name store (one_fork j g p others) is given paired = one_fork j g p (ArePaired-push gives pairs number fork journal name store others (is ∙ omega arith) given paired)
-
 -- one more fork has its journal
-pub ArePaired-step : {F J B : Type 0} (gives : Opening F) (pairs : ℕ → F → F → J → Type 0) (forks : List F) (names : List B) (now : B → Text) (stores : List J) (number : ℕ) (fork journal : F) (name : B) (store : J) → length forks < length names → name ≡ get_or names (length forks) name
-    → ArePaired gives pairs 0 forks (map now (take (length forks) names)) stores → number ≡ length forks → gives (now name) (Some journal) → pairs number fork journal store
-    → ArePaired gives pairs 0 (forks ++ fork ∷ []) (map now (take (length (forks ++ fork ∷ [])) names)) (stores ++ store ∷ [])
-ArePaired-step {B = B} gives pairs forks names now stores number fork journal name store lt is are same given paired =
-    let next : take (length (forks ++ fork ∷ [])) names ≡ take (length forks) names ++ name ∷ [] =
-    ap (λ (n : ℕ). take n names) (length-append forks (fork ∷ [])) ∙ take_more names (length forks) name lt ∙ ap (λ (b : B). take (length forks) names ++ b ∷ []) (sym is) in
-    subst (λ (ns : List Text). ArePaired gives pairs 0 (forks ++ fork ∷ []) ns (stores ++ store ∷ []))
-    (sym (ap (λ (l : List B). map now l) next ∙ map-append now (take (length forks) names) (name ∷ [])))
-    (ArePaired-push gives pairs number fork journal (now name) store are (same ∙ omega arith) given paired)
+pub ArePaired-push : {F J : Type 0} (pairs : ℕ → F → F → J → Type 0) (from number : ℕ) (forks journals : List F) (stores : List J) (fork journal : F) (store : J) → ArePaired pairs from forks journals stores
+    → number ≡ from + length forks → pairs number fork journal store → ArePaired pairs from (forks ++ fork ∷ []) (journals ++ journal ∷ []) (stores ++ store ∷ [])
+ArePaired-push pairs from number [] [] [] fork journal store are is one = (subst (λ n. pairs n fork journal store) (is ∙ omega arith) one, tt)
+ArePaired-push pairs from number (f ∷ forks) (j ∷ journals) (s ∷ stores) fork journal store are is one = (are.0, ArePaired-push pairs (suc from) number forks journals stores fork journal store are.1 (is ∙ omega arith) one)
+ArePaired-push pairs from number [] [] (s ∷ stores) fork journal store are is one = absurd are
+ArePaired-push pairs from number [] (j ∷ journals) stores fork journal store are is one = absurd are
+ArePaired-push pairs from number (f ∷ forks) [] stores fork journal store are is one = absurd are
+ArePaired-push pairs from number (f ∷ forks) (j ∷ journals) [] fork journal store are is one = absurd are
+
+-- why files weren't opened is why more of them weren't
+pub fault_widen : {F T U : Type 0} (paths more : List Text) (openings : List (Opening F)) (fault : NoStores) (One : List T → Type 0) (Other : List U → Type 0) → IsOpened paths openings One (Err fault) → IsOpened (paths ++ more) openings Other (Err fault)
+fault_widen paths more openings CannotOpen One Other cant = cant_widen paths more openings cant
+fault_widen paths more openings HostFull One Other some = some_widen paths more openings some
+
+module _ {F S : Type 0} (store : Ghosts S) (plain : ℕ → F → S → Type 0) where
+  one_opened : (result : Result (Vec S Global) NoStores) → IfOk result (λ stores. ArePlain store plain [] [] stores.items) → IfErr result (λ fault. fault ≡ HostFull) → IsOpened {F = F} [] [] (ArePlain store plain [] []) result
+  one_opened (Ok stores) are full = are
+  one_opened (Err CannotOpen) are full = cc
+  one_opened (Err HostFull) are full = ([], [], [], refl, record { paths_are = refl; files_are = refl })
+
+  -- no path, and so a store in memory
+  pub none_given : (paths : List Text) → paths ≡ [] → (result : Result (Vec S Global) NoStores) → IfOk result (λ stores. ArePlain store plain [] [] stores.items) → IfErr result (λ fault. fault ≡ HostFull) → IsOpened {F = F} paths [] (ArePlain store plain paths []) result
+  none_given paths none result are full = subst (λ (ps : List Text). IsOpened {F = F} ps [] (ArePlain store plain ps []) result) (sym none) (one_opened result are full)
+
+  -- the stores of the files that were opened
+  pub plain_opened : (paths : List Text) (files : List F) (openings : List (Opening F)) → paths ≢ [] → Asked paths (map Some files) openings → (result : Result (Vec S Global) NoStores) → IfOk result (λ stores. AreOn plain 0 files stores.items) → IfErr result (λ fault. fault ≡ HostFull)
+      → IsOpened paths openings (ArePlain store plain paths openings) result
+  plain_opened [] files openings some asked result are full = absurd (some refl)
+  plain_opened (path ∷ paths) files openings some asked (Ok stores) are full = (files, asked, are)
+  plain_opened (path ∷ paths) files openings some asked (Err CannotOpen) are full = cc
+  plain_opened (path ∷ paths) files openings some asked (Err HostFull) are full = (path ∷ paths, [], files, sym (append-nil (path ∷ paths)), asked)

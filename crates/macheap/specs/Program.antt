@@ -1,5 +1,5 @@
 -- What the program does with its words and its input.
-use Rattle.std.specs.Prelude.{◌≡◌, ◌≢◌, ℕ, ◌⊎◌, List, [], map, Result, Ok, Err, Vec, ⊤}
+use Rattle.std.specs.Prelude.{◌≡◌, ◌≢◌, ℕ, ◌⊎◌, Bool, true, false, List, [], ◌∷◌, ◌++◌, map, codes, Option, unwrap_or, Result, Ok, Err, Vec, ⊤}
 use Rattle.std.specs.Global.{Global}
 use Rattle.clap.specs.Words.{Text}
 use Rattle.fork_disk.specs.declared.store.ForkStore.{Ghosts}
@@ -7,9 +7,10 @@ use Rattle.mac_base.specs.ZoneSizes.{ZoneSizes}
 use Rattle.mac_base.specs.declared.zone_spec.BadSpec.{BadSpec}
 use Rattle.script_run.specs.declared.end.RunEnd.{RunEnd}
 use Rattle.script_run.specs.declared.end.RunEnd.TheVariants.{Finished, ScriptFault, NoMemory, ReadFault, WriteFault}
+use Rattle.script_run.specs.Counting.{Counting, Gave, Rose, Took}
 use Rattle.script_run.specs.End.{status_of}
 use Rattle.script_run.specs.Line.{start_of}
-use Rattle.script_run.specs.Run.{Ends, IsFront, no_memory_text}
+use Rattle.script_run.specs.Run.{Ends, IsProperFront, no_memory_text}
 use Rattle.macheap.specs.declared.asked.Asked.{Asked}
 use Rattle.macheap.specs.declared.asked.Asked.TheVariants.{Run, Help}
 use Rattle.macheap.specs.declared.asked.NotAsked.{NotAsked}
@@ -17,7 +18,7 @@ use Rattle.macheap.specs.declared.asked.NotAsked.TheVariants.{HostFull}
 use Rattle.macheap.specs.Asking.{AsksForRun, AsksForHelp, DontMatch, NamesTooMany, JournalsDontFit, GivesNoNumber, GivesNoMode, GivesNoZone}
 use Rattle.macheap.specs.declared.stores.NoStores.{NoStores}
 use Rattle.macheap.specs.declared.stores.NoStores.TheVariants as why
-use Rattle.macheap.specs.Stores.{Opening, ArePlain, AreJournalled, OneCantBeOpened}
+use Rattle.macheap.specs.Stores.{Opening, ArePlain, AreJournalled, OneCantBeOpened, SomeOpened}
 
 -- What must have failed where a run ended so: a read, a write, or nothing.
 abbrev pub Because : RunEnd → Type 0 → Type 0 → Type 0
@@ -27,75 +28,150 @@ Because Finished read_failed write_failed = ⊤
 Because NoMemory read_failed write_failed = ⊤
 Because (ScriptFault line) read_failed write_failed = ⊤
 
--- That the host has no memory was written, or as much of it as the output took before a write failed.
-abbrev pub TellsNoMemory : Type 0 → List ℕ → Type 0
-TellsNoMemory write_failed written = (written ≡ no_memory_text) ⊎ (IsFront written no_memory_text × write_failed)
+-- What the program told: its status, what it wrote to its output and to its messages, that it made no call on the latter, and that a write
+-- of the one or the other failed.
+pub record Told : Type 1 where
+  pub status : ℕ
+  pub written : List ℕ
+  pub said : List ℕ
+  pub silent : Type 0
+  pub write_failed : Type 0
+  pub tell_failed : Type 0
 
--- A help text was written; or not all of it, since a write failed; or that the host has no memory for it.
-abbrev pub HelpEnds : Type 0 → ℕ → List ℕ → Type 0
-HelpEnds write_failed status written = (status ≡ 0) ⊎ ((status ≡ 1) × (write_failed ⊎ TellsNoMemory write_failed written))
+-- What it did: the input, how much of it it read, that a read failed, and what it told.
+pub record Done : Type 1 where
+  pub input : List ℕ
+  pub given : List ℕ
+  pub read_failed : Type 0
+  pub told : Told
 
--- A run on a zone of these sizes and these stores ends with this status, with this written.
-abbrev pub RunsOver : {S : Type 0} → Ghosts S → ZoneSizes → List S → Type 0 → Type 0 → List ℕ → ℕ → List ℕ → Type 0
-RunsOver {S = S} store sizes stores read_failed write_failed input status written = (left : List S) × (end : RunEnd)
-    × Ends store (start_of sizes stores) input end written left × Because end read_failed write_failed × (status ≡ status_of end)
+-- with its output, its messages and this status the program told so
+abbrev pub Tells : {W M : Type 0} → (W → Option (List ℕ)) → (M → Option (List ℕ)) → Counting W → Counting W → Counting M → Counting M → ℕ → (Told → Type 0) → Type 0
+Tells contents notes output output_now messages messages_now status So = (written : List ℕ) × (said : List ℕ) × Took contents output written output_now × Took notes messages said messages_now
+    × So (record {
+      status = status;
+      written = written;
+      said = said;
+      silent = messages_now ≡ messages;
+      write_failed = Rose output.failures output_now.failures;
+      tell_failed = Rose messages.failures messages_now.failures;
+    })
 
--- Where there are no stores, the program ends with this status, with this written: a file can't be opened, or the host has no memory.
-abbrev pub NoStoresEnd : NoStores → Type 0 → ℕ → List ℕ → Type 0
-NoStoresEnd why.CannotOpen write_failed status written = (status ≡ 1) × (written ≡ [])
-NoStoresEnd why.HostFull write_failed status written = (status ≡ 1) × TellsNoMemory write_failed written
+-- With its three streams and this status the program did so. The input is the bytes that the reader tells; of one that doesn't tell, those
+-- that it gave.
+abbrev pub Did : {R W M : Type 0} → (R → Option (List ℕ)) → (W → Option (List ℕ)) → (M → Option (List ℕ)) → Counting R → Counting R → Counting W → Counting W → Counting M → Counting M → ℕ → (Done → Type 0) → Type 0
+Did remaining contents notes input input_now output output_now messages messages_now status So = (given : List ℕ) × Gave remaining input given input_now
+    × Tells contents notes output output_now messages messages_now status (λ told. So (record {
+      input = unwrap_or (remaining input.inner) given;
+      given = given;
+      read_failed = Rose input.failures input_now.failures;
+      told = told;
+    }))
+
+-- This text was written, or a proper front of it before a write failed.
+abbrev pub Wrote : List ℕ → Type 0 → List ℕ → Type 0
+Wrote text failed written = (written ≡ text) ⊎ (IsProperFront written text × failed)
+
+-- It was told that the host has no memory.
+abbrev pub TellsNoMemory : Told → Type 0
+TellsNoMemory told = (told.status ≡ 1) × Wrote no_memory_text told.write_failed told.written × told.silent
+
+-- the lines that the help text begins with
+abbrev pub about_text : List ℕ
+about_text = codes "Runs the script of standard input on a new heap zone, and writes each call's reply\n\n"
+
+-- With this status a help text was written, which begins so; or a proper front of it, since a write failed; or that the host has no memory.
+pub data HelpEnds (write_failed : Type 0) (status : ℕ) (written : List ℕ) : Type 0 where
+  shown : (options : List ℕ) → status ≡ 0 → written ≡ about_text ++ options → HelpEnds write_failed status written
+  cut : (options : List ℕ) → status ≡ 1 → IsProperFront written (about_text ++ options) → write_failed → HelpEnds write_failed status written
+  full : status ≡ 1 → Wrote no_memory_text write_failed written → HelpEnds write_failed status written
+
+-- that, and no message
+abbrev pub ShowsHelp : Told → Type 0
+ShowsHelp told = HelpEnds told.write_failed told.status told.written × told.silent
+
+-- A message tells what is wrong with the words, and nothing was written.
+pub record TellsBadWords (told : Told) : Type 0 where
+  pub status : told.status ≡ 2
+  pub unwritten : told.written ≡ []
+  pub text : List ℕ
+  pub some : text ≢ []
+  pub says : Wrote text told.tell_failed told.said
+
+-- whether the words ask for nothing since the host has no memory for them
+abbrev pub lacks_memory : NotAsked → Bool
+lacks_memory HostFull = true
+lacks_memory other = false
+
+-- It was told why the words ask for nothing.
+abbrev pub Refuses : NotAsked → Told → Type 0
+Refuses HostFull told = TellsNoMemory told
+Refuses other told = TellsBadWords told
+
+-- what is told where a file can't be opened
+abbrev pub cannot_open_text : List ℕ
+cannot_open_text = codes "cannot open\n"
+
+-- A message tells that a file can't be opened, and nothing was written.
+pub record TellsCannotOpen (told : Told) : Type 0 where
+  pub status : told.status ≡ 1
+  pub unwritten : told.written ≡ []
+  pub says : Wrote cannot_open_text told.tell_failed told.said
+
+-- There are no stores: a file can't be opened, or the host has no memory.
+abbrev pub NoStoresEnd : NoStores → Told → Type 0
+NoStoresEnd why.CannotOpen told = TellsCannotOpen told
+NoStoresEnd why.HostFull told = TellsNoMemory told
+
+-- A run on a zone of these sizes and these stores ended so.
+pub record RunsOver {S : Type 0} (store : Ghosts S) (sizes : ZoneSizes) (stores : List S) (done : Done) : Type 0 where
+  pub left : List S
+  pub end : RunEnd
+  pub ends : Ends store (start_of sizes stores) done.input end done.told.written left
+  pub because : Because end done.read_failed done.told.write_failed
+  pub status : done.told.status ≡ status_of end
+  pub silent : done.told.silent
 
 -- A run on a zone of these sizes and the stores that opening them gave, if any.
-abbrev pub RunsOn : {S : Type 0} → Ghosts S → ZoneSizes → Result (Vec S Global) NoStores → Type 0 → Type 0 → List ℕ → ℕ → List ℕ → Type 0
-RunsOn store sizes (Ok stores) read_failed write_failed input status written = RunsOver store sizes stores.items read_failed write_failed input status written
-RunsOn store sizes (Err fault) read_failed write_failed input status written = NoStoresEnd fault write_failed status written
+abbrev pub RunsOn : {S : Type 0} → Ghosts S → ZoneSizes → Result (Vec S Global) NoStores → Done → Type 0
+RunsOn store sizes (Ok stores) done = RunsOver store sizes stores.items done
+RunsOn store sizes (Err fault) done = NoStoresEnd fault done.told
 
--- What a run is made of: what its stores do, alone and with a journal, what opening a file may give, and which stores are made of files.
+-- What a run is made of: what its stores do, alone and with a journal, and which stores are made of files.
 pub record Parts (F S J : Type 0) : Type 1 where
   pub store : Ghosts S
   pub with_journal : Ghosts J
-  pub gives : Opening F
   pub plain : ℕ → F → S → Type 0
   pub pairs : ℕ → F → F → J → Type 0
 
--- A run on a zone of these sizes over the files of these names may end with this status, with this written: each fork alone, or each with
--- its journal. Or one of the files can't be opened, or the host has no memory for the stores.
-pub data RunEnds {F S J : Type 0} (parts : Parts F S J) (sizes : ZoneSizes) (forks journals : List Text) (read_failed write_failed : Type 0) (input : List ℕ) (status : ℕ) (written : List ℕ) : Type 0 where
-  over_plain : (stores : List S) → journals ≡ [] → ArePlain parts.store parts.gives parts.plain forks stores → RunsOver parts.store sizes stores read_failed write_failed input status written → RunEnds parts sizes forks journals read_failed write_failed input status written
-  over_journalled : (stores : List J) → journals ≢ [] → AreJournalled parts.gives parts.pairs forks journals stores → RunsOver parts.with_journal sizes stores read_failed write_failed input status written → RunEnds parts sizes forks journals read_failed write_failed input status written
-  unopened : OneCantBeOpened parts.gives forks journals → status ≡ 1 → written ≡ [] → RunEnds parts sizes forks journals read_failed write_failed input status written
-  no_stores : status ≡ 1 → TellsNoMemory write_failed written → RunEnds parts sizes forks journals read_failed write_failed input status written
+-- A run on a zone of these sizes over the files of these names, of which these were asked for, ended so: each fork alone, or each with its
+-- journal. Or one of the files can't be opened, or the host has no memory for the stores.
+pub data RunEnds {F S J : Type 0} (parts : Parts F S J) (sizes : ZoneSizes) (forks journals : List Text) (openings : List (Opening F)) (done : Done) : Type 0 where
+  over_plain : (stores : List S) → journals ≡ [] → ArePlain parts.store parts.plain forks openings stores → RunsOver parts.store sizes stores done → RunEnds parts sizes forks journals openings done
+  over_journalled : (stores : List J) → journals ≢ [] → AreJournalled parts.pairs (forks ++ journals) openings stores → RunsOver parts.with_journal sizes stores done → RunEnds parts sizes forks journals openings done
+  unopened : OneCantBeOpened (forks ++ journals) openings → TellsCannotOpen done.told → RunEnds parts sizes forks journals openings done
+  no_stores : SomeOpened (forks ++ journals) openings → TellsNoMemory done.told → RunEnds parts sizes forks journals openings done
 
--- What was asked for may end with this status, with this written: a run on a zone, or a help text.
-abbrev pub Answers : {F S J : Type 0} → Parts F S J → Asked → Type 0 → Type 0 → List ℕ → ℕ → List ℕ → Type 0
-Answers parts (Run sizes files) read_failed write_failed input status written = RunEnds parts sizes (map (λ name. name.now) files.forks.items) (map (λ name. name.now) files.journals.items) read_failed write_failed input status written
-Answers parts (Help text) read_failed write_failed input status written = HelpEnds write_failed status written
+-- no file was asked for, and nothing was read
+abbrev pub AsksForNothing : {F : Type 0} → List (Opening F) → Done → Type 0
+AsksForNothing openings done = (openings ≡ []) × (done.given ≡ [])
 
--- a file that was asked for can't be opened
-abbrev pub HasNoFile : {F : Type 0} → Opening F → Asked → Type 0
-HasNoFile gives (Run sizes files) = OneCantBeOpened gives (map (λ name. name.now) files.forks.items) (map (λ name. name.now) files.journals.items)
-HasNoFile gives (Help text) = ⊥
-
--- the words ask for a run over files of which one can't be opened
-abbrev pub AskForNoFile : {F : Type 0} → Opening F → List Text → Type 0
-AskForNoFile gives words = (sizes : ZoneSizes) × (forks : List Text) × (journals : List Text) × AsksForRun words sizes forks journals × OneCantBeOpened gives forks journals
-
--- Why the words ask for nothing is told with this status, with this written to the output.
-abbrev pub Refuses : NotAsked → Type 0 → ℕ → List ℕ → Type 0
-Refuses HostFull write_failed status written = (status ≡ 1) × TellsNoMemory write_failed written
-Refuses other write_failed status written = (status ≡ 2) × (written ≡ [])
+-- What was asked for was done: a run on a zone, or a help text, for which nothing is read.
+abbrev pub Answers : {F S J : Type 0} → Parts F S J → Asked → List (Opening F) → Done → Type 0
+Answers parts (Run sizes files) openings done = RunEnds parts sizes (map (λ name. name.now) files.forks.items) (map (λ name. name.now) files.journals.items) openings done
+Answers parts (Help text) openings done = AsksForNothing openings done × ShowsHelp done.told
 
 -- the words are bad, name too many files, or journals that don't fit them, or give numbers of which there is no mode or no zone
 abbrev pub AreBad : List Text → Type 0
 AreBad words = DontMatch words ⊎ (NamesTooMany words ⊎ (JournalsDontFit words ⊎ (((option : Text) × GivesNoNumber words option) ⊎ (((mode : ℕ) × GivesNoMode words mode) ⊎ ((fault : BadSpec) × GivesNoZone words fault)))))
 
--- With these words and this input, the program may end with this status, having written this to its output, where a run is made of these parts, this says that a read failed, and this that a write did.
-pub data ProgramEnds {F S J : Type 0} (parts : Parts F S J) (words : List Text) (read_failed write_failed : Type 0) (input : List ℕ) (status : ℕ) (written : List ℕ) : Type 0 where
+-- With these words the program may ask for these files and do so, where a run is made of these parts.
+pub data ProgramEnds {F S J : Type 0} (parts : Parts F S J) (words : List Text) (openings : List (Opening F)) (done : Done) : Type 0 where
   -- a run on the zone that the words give, over the files that they name
-  ran : (sizes : ZoneSizes) (forks journals : List Text) → AsksForRun words sizes forks journals → RunEnds parts sizes forks journals read_failed write_failed input status written → ProgramEnds parts words read_failed write_failed input status written
+  ran : (sizes : ZoneSizes) (forks journals : List Text) → AsksForRun words sizes forks journals → RunEnds parts sizes forks journals openings done → ProgramEnds parts words openings done
   -- a help text, or as much of it as the output took
-  helped : AsksForHelp words → HelpEnds write_failed status written → ProgramEnds parts words read_failed write_failed input status written
-  -- nothing, since the words are bad
-  told : AreBad words → status ≡ 2 → written ≡ [] → ProgramEnds parts words read_failed write_failed input status written
+  helped : AsksForHelp words → AsksForNothing openings done → ShowsHelp done.told → ProgramEnds parts words openings done
+  -- a message, since the words are bad
+  refused : AreBad words → AsksForNothing openings done → TellsBadWords done.told → ProgramEnds parts words openings done
   -- that the host has no memory for the words
-  full : status ≡ 1 → TellsNoMemory write_failed written → ProgramEnds parts words read_failed write_failed input status written
+  full_words : AsksForNothing openings done → TellsNoMemory done.told → ProgramEnds parts words openings done

@@ -1,16 +1,27 @@
--- The stores of a run.
-use Rattle.std.specs.Prelude.{◌≡◌, ℕ, suc, ⊤, List, [], ◌∷◌, ◌⊎◌, Option, Some, None, map}
-use Rattle.std.specs.List.{AllZip}
+-- The stores of a run, and the files that are opened for them.
+use Rattle.std.specs.Prelude.{◌≡◌, ℕ, suc, ⊤, List, [], ◌∷◌, ◌++◌, Option, Some, None, Result, Ok, Err, Vec, map}
+use Rattle.std.specs.Global.{Global}
 use Rattle.clap.specs.Words.{Text}
 use Rattle.fork_disk.specs.declared.store.ForkStore.{Ghosts}
+use Rattle.macheap.specs.declared.stores.NoStores.{NoStores}
+use Rattle.macheap.specs.declared.stores.NoStores.TheVariants.{CannotOpen, HostFull}
 
--- what opening the file of a name may give: the file, or none where it can't be opened
-abbrev pub Opening : Type 0 → Type 1
-Opening F = Text → Option F → Type 0
+-- a file that was asked for: its path, and the file, or none where it can't be opened
+abbrev pub Opening : Type 0 → Type 0
+Opening F = Text × Option F
 
--- opening the files of these names gave these, in order
-abbrev pub AreOf : {F : Type 0} → Opening F → List Text → List F → Type 0
-AreOf gives names files = AllZip (λ name file. gives name (Some file)) names files
+-- the files of these paths were asked for, each once and in order, and this is what each gave
+pub record Asked {F : Type 0} (paths : List Text) (files : List (Option F)) (openings : List (Opening F)) : Type 0 where
+  pub paths_are : map (λ opening. opening.0) openings ≡ paths
+  pub files_are : map (λ opening. opening.1) openings ≡ files
+
+-- some first ones of these paths were opened, and the next one can't be
+abbrev pub OneCantBeOpened : {F : Type 0} → List Text → List (Opening F) → Type 0
+OneCantBeOpened {F = F} paths openings = (first : List Text) × (others : List Text) × (files : List F) × (paths ≡ first ++ others) × Asked first (map Some files ++ None ∷ []) openings
+
+-- some first ones of these paths were opened
+abbrev pub SomeOpened : {F : Type 0} → List Text → List (Opening F) → Type 0
+SomeOpened {F = F} paths openings = (first : List Text) × (others : List Text) × (files : List F) × (paths ≡ first ++ others) × Asked first (map Some files) openings
 
 -- a store whose device is honest, and whose fork has no bytes
 pub record IsEmpty {S : Type 0} (store : Ghosts S) (s : S) : Type 0 where
@@ -25,26 +36,23 @@ AreOn plain from (file ∷ files) (s ∷ stores) = plain from file s × AreOn pl
 AreOn plain from [] (s ∷ stores) = ⊥
 AreOn plain from (file ∷ files) [] = ⊥
 
--- the stores of a run over the forks in the files of these names: where there are none, an empty one
-abbrev pub ArePlain : {F S : Type 0} → Ghosts S → Opening F → (ℕ → F → S → Type 0) → List Text → List S → Type 0
-ArePlain {S = S} store gives plain [] stores = (s : S) × (stores ≡ s ∷ []) × IsEmpty store s
-ArePlain {F = F} store gives plain (name ∷ names) stores = (files : List F) × AreOf gives (name ∷ names) files × AreOn plain 0 files stores
+-- the stores of a run over the forks in the files of these paths: where there are none, an empty one
+abbrev pub ArePlain : {F S : Type 0} → Ghosts S → (ℕ → F → S → Type 0) → List Text → List (Opening F) → List S → Type 0
+ArePlain {S = S} store plain [] openings stores = (s : S) × (stores ≡ s ∷ []) × IsEmpty store s × (openings ≡ [])
+ArePlain {F = F} store plain (path ∷ paths) openings stores = (files : List F) × Asked (path ∷ paths) (map Some files) openings × AreOn plain 0 files stores
 
--- the stores of the forks in these files, each with a journal in the file of a name, of which the first store has this number, and each other one the next
-pub data ArePaired {F J : Type 0} (gives : Opening F) (pairs : ℕ → F → F → J → Type 0) : ℕ → List F → List Text → List J → Type 0 where
-  no_fork : {from : ℕ} → ArePaired gives pairs from [] [] []
-  one_fork : {from : ℕ} {fork : F} {forks : List F} {name : Text} {names : List Text} {store : J} {stores : List J} (journal : F) → gives name (Some journal) → pairs from fork journal store
-      → ArePaired gives pairs (suc from) forks names stores → ArePaired gives pairs from (fork ∷ forks) (name ∷ names) (store ∷ stores)
+-- the stores of the forks in these files, each with a journal in one of those, numbered as above
+abbrev pub ArePaired : {F J : Type 0} → (ℕ → F → F → J → Type 0) → ℕ → List F → List F → List J → Type 0
+ArePaired pairs from [] [] [] = ⊤
+ArePaired pairs from (fork ∷ forks) (journal ∷ journals) (s ∷ stores) = pairs from fork journal s × ArePaired pairs (suc from) forks journals stores
+ArePaired pairs from _ _ _ = ⊥
 
--- the stores of a run over the forks and the journals in the files of these names
-abbrev pub AreJournalled : {F J : Type 0} → Opening F → (ℕ → F → F → J → Type 0) → List Text → List Text → List J → Type 0
-AreJournalled {F = F} gives pairs names journals stores = (forks : List F) × AreOf gives names forks × ArePaired gives pairs 0 forks journals stores
+-- the stores of a run over the forks and the journals in the files of these paths: all forks are opened first
+abbrev pub AreJournalled : {F J : Type 0} → (ℕ → F → F → J → Type 0) → List Text → List (Opening F) → List J → Type 0
+AreJournalled {F = F} pairs paths openings stores = (forks : List F) × (journals : List F) × Asked paths (map Some (forks ++ journals)) openings × ArePaired pairs 0 forks journals stores
 
--- one of the files of these names can't be opened
-abbrev pub CantBeOpened : {F : Type 0} → Opening F → List Text → Type 0
-CantBeOpened gives [] = ⊥
-CantBeOpened gives (name ∷ names) = gives name None ⊎ CantBeOpened gives names
-
--- one of the files with forks or of those with journals can't be opened
-abbrev pub OneCantBeOpened : {F : Type 0} → Opening F → List Text → List Text → Type 0
-OneCantBeOpened gives names journals = CantBeOpened gives names ⊎ CantBeOpened gives journals
+-- What is made of the files of these paths, or why it isn't: one of them can't be opened, or the host has no memory.
+abbrev pub IsOpened : {F T : Type 0} → List Text → List (Opening F) → (List T → Type 0) → Result (Vec T Global) NoStores → Type 0
+IsOpened paths openings AreMade (Ok made) = AreMade made.items
+IsOpened paths openings AreMade (Err CannotOpen) = OneCantBeOpened paths openings
+IsOpened paths openings AreMade (Err HostFull) = SomeOpened paths openings

@@ -109,7 +109,6 @@ fn command<'a>(alloc: Global) -> Result<Command<'a>, AllocError>
     let journal_help =
         "A file for the journal of the k-th --fork, made where it is missing; as often as --fork, or not at all (default: none)";
     Command::new(alloc, "macheap")
-        .about("Runs the script of standard input on a new heap zone, and writes each call's reply")
         .arg(number_option(alloc, "zone", zone_help))?
         .arg(number_option(alloc, "limit", limit_help))?
         .arg(number_option(alloc, "base", base_help))?

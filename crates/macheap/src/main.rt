@@ -4,6 +4,7 @@
 mod asked;
 mod disk;
 mod files;
+mod opened;
 mod program;
 mod stores;
 
@@ -32,13 +33,13 @@ fn run_on_host<W: World, V: PairWorld>(rt: &HostRuntime) -> ExitCode {
     };
     let mut input = Counted::new(rt.stdin());
     let mut output = Counted::new(rt.stdout());
-    let mut messages = rt.stderr();
+    let mut messages = Counted::new(rt.stderr());
     let words = words.as_slice();
-    let opener: HostDisks<'_, W, V> = HostDisks::new(rt);
+    let mut opener: HostDisks<'_, W, V> = HostDisks::new(rt);
     ExitCode::from(program(
         alloc,
         words,
-        &opener,
+        &mut opener,
         &mut input,
         &mut output,
         &mut messages,

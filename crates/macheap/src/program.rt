@@ -1,10 +1,9 @@
 //! What the program does with its words, its input and its output.
 
-ghost use Rattle.std.specs.Prelude.{◌≡◌, ◌≢◌, ◌≤◌, ◌⊎◌, ℕ, List, IfOk, IfSome, IsErrOf, length, map};
-ghost use Rattle.std.specs.Io.KnownBytes.{Appends};
-ghost use Rattle.script_run.specs.Counting.{Rose};
-ghost use Rattle.macheap.specs.Program.{ProgramEnds, Answers, AskForNoFile, HasNoFile, NoStoresEnd, RunEnds, RunsOn, Refuses, HelpEnds};
-ghost use Rattle.macheap.specs.Stores.{OneCantBeOpened};
+ghost use Rattle.std.specs.Prelude.{◌≡◌, ◌≢◌, ◌≤◌, ◌++◌, [], ℕ, List, IfOk, length, map};
+ghost use Rattle.script_run.specs.Counting.{Rose, Took};
+ghost use Rattle.macheap.specs.Program.{Answers, Did, HelpEnds, NoStoresEnd, ProgramEnds, Refuses, RunEnds, RunsOn, Tells, Wrote, lacks_memory};
+ghost use Rattle.macheap.specs.Stores.{Opening};
 
 use crate::asked::{Asked, NotAsked, asked_by};
 use crate::files::Files;
@@ -22,9 +21,13 @@ pub const BAD_WORDS: u8 = 2;
 /// The exit status where a file can't be opened.
 const CANNOT_OPEN: u8 = 1;
 
+/// What the help text begins with.
+const ABOUT: &[u8] =
+    b"Runs the script of standard input on a new heap zone, and writes each call's reply\n\n";
+
 /// Does what the words ask for, of which the first is the program's name, and gives the exit status. A run reads its
 /// script from `input` and writes to `output`, over the stores of the files that `opener` opens; what is wrong with the words or
-/// the files is written to `messages`. Where files have journals, what the run leaves behind a crash is what their stores promise of
+/// the files is written to `messages`. Where files have journals, what the run leaves after a crash is what their stores promise of
 /// each call: the opening of each file recovers it, and an update is there as a whole or not at all.
 pub fn program<
     T: AsStr,
@@ -38,23 +41,21 @@ pub fn program<
 >(
     alloc: Global,
     words: &[T],
-    opener: &O,
+    opener: &mut O,
     input: &mut Counted<R>,
     output: &mut Counted<W>,
-    messages: &mut M,
+    messages: &mut Counted<M>,
 ) -> u8
-    ensures ends { (written : List ℕ) × Appends (W.contents output.old.inner) (W.contents output.new.inner) written
-        × IfSome (R.remaining input.old.inner) (λ script. ProgramEnds (record { store = S.ForkStore; with_journal = J.ForkStore; gives = O.gives opener.now; plain = O.plain; pairs = O.pairs })
-        (map T.text words.now) (Rose input.old.failures input.new.failures) (Rose output.old.failures output.new.failures) script result written) }
+    ensures ends { (openings : List (Opening F)) × (O.openings opener.new ≡ O.openings opener.old ++ openings)
+        × Did R.remaining W.contents M.contents input.old input.new output.old output.new messages.old messages.new result
+        (ProgramEnds (record { store = S.ForkStore; with_journal = J.ForkStore; plain = O.plain; pairs = O.pairs }) (map T.text words.now) openings) }
     // Where something failed, the status says so.
     ensures no_read_failed { result ≢ 1 → input.new.failures ≡ input.old.failures }
     ensures no_write_failed { result ≢ 1 → output.new.failures ≡ output.old.failures }
-    // Messages are of bad words and of files that can't be opened.
-    ensures quiet { result ≢ 2 → (messages.new ≡ messages.old) ⊎ ((result ≡ 1) × AskForNoFile (O.gives opener.now) (map T.text words.now)) }
 {
     match asked_by(alloc, words) {
         Ok(asked) => answer(alloc, opener, asked, input, output, messages),
-        Err(error) => refuse(&error, output, messages),
+        Err(error) => refuse(alloc, &error, output, messages),
     }
 }
 
@@ -69,18 +70,17 @@ fn answer<
     M: Write,
 >(
     alloc: Global,
-    opener: &O,
+    opener: &mut O,
     asked: Asked<'_>,
     input: &mut Counted<R>,
     output: &mut Counted<W>,
-    messages: &mut M,
+    messages: &mut Counted<M>,
 ) -> u8
-    ensures ends { (written : List ℕ) × Appends (W.contents output.old.inner) (W.contents output.new.inner) written
-        × IfSome (R.remaining input.old.inner) (λ script. Answers (record { store = S.ForkStore; with_journal = J.ForkStore; gives = O.gives opener.now; plain = O.plain; pairs = O.pairs })
-        asked.entry (Rose input.old.failures input.new.failures) (Rose output.old.failures output.new.failures) script result written) }
+    ensures ends { (openings : List (Opening F)) × (O.openings opener.new ≡ O.openings opener.old ++ openings)
+        × Did R.remaining W.contents M.contents input.old input.new output.old output.new messages.old messages.new result
+        (Answers (record { store = S.ForkStore; with_journal = J.ForkStore; plain = O.plain; pairs = O.pairs }) asked.entry openings) }
     ensures no_read_failed { result ≢ 1 → input.new.failures ≡ input.old.failures }
     ensures no_write_failed { result ≢ 1 → output.new.failures ≡ output.old.failures }
-    ensures quiet { (messages.new ≡ messages.old) ⊎ ((result ≡ 1) × HasNoFile (O.gives opener.now) asked.entry) }
 {
     match asked {
         Asked::Run(spec, files) => run_over(alloc, opener, spec, &files, input, output, messages),
@@ -99,20 +99,19 @@ fn run_over<
     M: Write,
 >(
     alloc: Global,
-    opener: &O,
+    opener: &mut O,
     spec: ZoneSpec,
     files: &Files<'_>,
     input: &mut Counted<R>,
     output: &mut Counted<W>,
-    messages: &mut M,
+    messages: &mut Counted<M>,
 ) -> u8
-    ensures ends { (written : List ℕ) × Appends (W.contents output.old.inner) (W.contents output.new.inner) written
-        × IfSome (R.remaining input.old.inner) (λ script. RunEnds (record { store = S.ForkStore; with_journal = J.ForkStore; gives = O.gives opener.now; plain = O.plain; pairs = O.pairs })
-        spec (map (λ name. name.now) files.now.forks.items) (map (λ name. name.now) files.now.journals.items)
-        (Rose input.old.failures input.new.failures) (Rose output.old.failures output.new.failures) script result written) }
+    ensures ends { (openings : List (Opening F)) × (O.openings opener.new ≡ O.openings opener.old ++ openings)
+        × Did R.remaining W.contents M.contents input.old input.new output.old output.new messages.old messages.new result
+        (RunEnds (record { store = S.ForkStore; with_journal = J.ForkStore; plain = O.plain; pairs = O.pairs })
+        spec (map (λ name. name.now) files.now.forks.items) (map (λ name. name.now) files.now.journals.items) openings) }
     ensures no_read_failed { result ≢ 1 → input.new.failures ≡ input.old.failures }
     ensures no_write_failed { result ≢ 1 → output.new.failures ≡ output.old.failures }
-    ensures quiet { (messages.new ≡ messages.old) ⊎ ((result ≡ 1) × OneCantBeOpened (O.gives opener.now) (map (λ name. name.now) files.now.forks.items) (map (λ name. name.now) files.now.journals.items)) }
 {
     if files.journals().is_empty() {
         let stores = plain_stores(alloc, opener, files.forks());
@@ -129,15 +128,12 @@ fn run_on<S: ForkStore + Drop, R: Read, W: Write, M: Write>(
     stores: Result<Vec<S>, NoStores>,
     input: &mut Counted<R>,
     output: &mut Counted<W>,
-    messages: &mut M,
+    messages: &mut Counted<M>,
 ) -> u8
     requires { IfOk stores (λ stores. length stores.items ≤ 8) }
-    ensures ends { (written : List ℕ) × Appends (W.contents output.old.inner) (W.contents output.new.inner) written
-        × IfSome (R.remaining input.old.inner) (λ script. RunsOn S.ForkStore spec stores
-        (Rose input.old.failures input.new.failures) (Rose output.old.failures output.new.failures) script result written) }
+    ensures ends { Did R.remaining W.contents M.contents input.old input.new output.old output.new messages.old messages.new result (RunsOn S.ForkStore spec stores) }
     ensures no_read_failed { result ≢ 1 → input.new.failures ≡ input.old.failures }
     ensures no_write_failed { result ≢ 1 → output.new.failures ≡ output.old.failures }
-    ensures quiet { (messages.new ≡ messages.old) ⊎ ((result ≡ 1) × IsErrOf stores NoStores.CannotOpen) }
 {
     let stores = match stores {
         Ok(stores) => stores,
@@ -152,55 +148,76 @@ fn run_on<S: ForkStore + Drop, R: Read, W: Write, M: Write>(
 fn tell_no_stores<W: Write, M: Write>(
     fault: NoStores,
     output: &mut Counted<W>,
-    messages: &mut M,
+    messages: &mut Counted<M>,
 ) -> u8
-    ensures ends { (written : List ℕ) × Appends (W.contents output.old.inner) (W.contents output.new.inner) written
-        × NoStoresEnd fault (Rose output.old.failures output.new.failures) result written }
+    ensures ends { Tells W.contents M.contents output.old output.new messages.old messages.new result (NoStoresEnd fault) }
     ensures failed { result ≡ 1 }
-    ensures quiet { (messages.new ≡ messages.old) ⊎ (fault ≡ NoStores.CannotOpen) }
 {
     match fault {
         NoStores::HostFull => status(tell_no_memory(output)),
         NoStores::CannotOpen => {
-            let _ = writeln!(messages, "cannot open");
+            let _ = write_whole(messages, b"cannot open\n");
             CANNOT_OPEN
         }
     }
 }
 
 /// Says why the words ask for nothing, and gives the exit status.
-fn refuse<W: Write, M: Write>(error: &NotAsked, output: &mut Counted<W>, messages: &mut M) -> u8
-    ensures ends { (written : List ℕ) × Appends (W.contents output.old.inner) (W.contents output.new.inner) written
-        × Refuses error.now (Rose output.old.failures output.new.failures) result written }
+fn refuse<W: Write, M: Write>(
+    alloc: Global,
+    error: &NotAsked,
+    output: &mut Counted<W>,
+    messages: &mut Counted<M>,
+) -> u8
+    ensures ends { Tells W.contents M.contents output.old output.new messages.old messages.new result (Refuses error.now) }
     ensures no_write_failed { result ≢ 1 → output.new.failures ≡ output.old.failures }
-    ensures quiet { result ≢ 2 → messages.new ≡ messages.old }
+{
+    if lacks_memory(error) {
+        return status(tell_no_memory(output));
+    }
+    tell_error(alloc, error, messages);
+    BAD_WORDS
+}
+
+/// Whether the words ask for nothing since the host has no memory for them.
+fn lacks_memory(error: &NotAsked) -> bool
+    ensures { result ≡ lacks_memory error.now }
 {
     match error {
-        NotAsked::HostFull => status(tell_no_memory(output)),
-        NotAsked::Words(_)
-        | NotAsked::TooManyForks
-        | NotAsked::OtherJournals
-        | NotAsked::NoNumber(_)
-        | NotAsked::Mode(_)
-        | NotAsked::Spec(_) => {
-            let _ = writeln!(messages, "{error}");
-            BAD_WORDS
-        }
+        NotAsked::HostFull => true,
+        _ => false,
     }
+}
+
+/// Writes what is wrong with the words.
+fn tell_error<M: Write>(alloc: Global, error: &NotAsked, messages: &mut Counted<M>)
+    ensures { (text : List ℕ) × (text ≢ []) × (said : List ℕ) × Took M.contents messages.old said messages.new
+        × Wrote text (Rose messages.old.failures messages.new.failures) said }
+{
+    let Ok(text) = format!(in alloc; "{error}") else {
+        let _ = write_whole(messages, b"error: the words are bad\n");
+        return;
+    };
+    if !write_whole(messages, text.as_bytes()) {
+        return;
+    }
+    let _ = write_whole(messages, b"\n");
 }
 
 /// Writes the help text, and gives the exit status.
 fn show_help<W: Write>(alloc: Global, output: &mut Counted<W>, text: &clap::Error) -> u8
-    ensures ends { (written : List ℕ) × Appends (W.contents output.old.inner) (W.contents output.new.inner) written
+    ensures ends { (written : List ℕ) × Took W.contents output.old written output.new
         × HelpEnds (Rose output.old.failures output.new.failures) result written }
     ensures no_write_failed { result ≢ 1 → output.new.failures ≡ output.old.failures }
 {
     let Ok(text) = format!(in alloc; "{text}") else {
         return status(tell_no_memory(output));
     };
-    if write_whole(output, text.as_bytes()) {
-        0
-    } else {
-        status(RunEnd::WriteFault)
+    if !write_whole(output, ABOUT) {
+        return status(RunEnd::WriteFault);
     }
+    if !write_whole(output, text.as_bytes()) {
+        return status(RunEnd::WriteFault);
+    }
+    0
 }

@@ -1,9 +1,10 @@
 //! The stores of a run.
 
-ghost use Rattle.std.specs.Prelude.{◌≡◌, ◌≤◌, [], ⊤, List, ℕ, Option, length, map, IfOk, IfErr, IfSome, IsErrOf};
-ghost use Rattle.macheap.specs.Stores.{AreJournalled, AreOf, AreOn, ArePlain, CantBeOpened, OneCantBeOpened};
+ghost use Rattle.std.specs.Prelude.{◌≡◌, ◌≤◌, ◌++◌, ◌∷◌, [], List, ℕ, Option, Some, length, map, IfOk, IfErr};
+ghost use Rattle.macheap.specs.Stores.{AreJournalled, AreOn, ArePlain, Asked, IsOpened, Opening};
 
 use crate::disk::Disk;
+use crate::opened::OpenedFiles;
 use fork_disk::store::{ForkStore, PlainStore};
 use fork_disk::{FileDisk, HostFile, MemDisk, World};
 use fork_journal::{FilePair, Journal, PairWorld};
@@ -12,8 +13,8 @@ use std::marker::PhantomData;
 
 /// What opens the files of a run, and makes stores of them: `S` of a fork alone, and `J` of a fork with its journal.
 pub trait Opens<F, S: ForkStore, J: ForkStore> {
-    /// What opening the file of a name may give: the file, or none where it can't be opened.
-    ghost gives: { Self → List ℕ → Option F → Type 0 };
+    /// The files that were asked for so far, in order: the path of each, and the file, or none where it can't be opened.
+    ghost openings: { Self → List (List ℕ × Option F) };
 
     /// What is a store of this number of a fork, which is this file.
     ghost plain: { ℕ → F → S → Type 0 };
@@ -21,9 +22,9 @@ pub trait Opens<F, S: ForkStore, J: ForkStore> {
     /// What is a store of this number of a fork and its journal, which are these files.
     ghost pairs: { ℕ → F → F → J → Type 0 };
 
-    /// The file of a name, which is made where it is missing. None where it can't be opened.
-    fn open(&self, name: &str) -> Option<F>
-        ensures { gives self.now name.now result };
+    /// The file of a path, which is made where it is missing. None where it can't be opened.
+    fn open(&mut self, path: &str) -> Option<F>
+        ensures { openings self.new ≡ openings self.old ++ (path.now, result) ∷ [] };
 
     /// A store in memory, without bytes.
     fn in_memory(&self) -> S
@@ -40,10 +41,12 @@ pub trait Opens<F, S: ForkStore, J: ForkStore> {
         ensures { pairs number fork journal result };
 }
 
-/// Opens the host's files, and disks in its memory. What the files hold is told by `W` of forks alone, and by `V` of those with journals.
+/// Opens the host's files, and disks in its memory. What the files hold is told by `W` of forks alone, and by `V` of those with
+/// journals. Each file that is asked for is noted, in a list that only clauses read.
 #[derive(Drop)]
 pub struct HostDisks<'a, W: World, V: PairWorld> {
     runtime: &'a HostRuntime,
+    opened: OpenedFiles,
     world: PhantomData<W>,
     pair_world: PhantomData<V>,
 }
@@ -53,6 +56,7 @@ impl<'a, W: World, V: PairWorld> HostDisks<'a, W, V> {
     pub fn new(runtime: &'a HostRuntime) -> HostDisks<'a, W, V> {
         HostDisks {
             runtime,
+            opened: OpenedFiles::new(),
             world: PhantomData,
             pair_world: PhantomData,
         }
@@ -63,15 +67,17 @@ impl<W: World, V: PairWorld> Opens<HostFile, PlainStore<Disk<W>>, Journal<FilePa
     for HostDisks<'_, W, V> {
     ghost use Rattle.macheap.specs.Disks.{IsFile};
 
-    ghost gives = { λ _ _ _. ⊤ };
+    ghost openings = { λ opener. opener.opened.files };
 
     ghost plain = { λ number fork store. IsFile number fork store.disk };
 
     ghost pairs = { λ number fork journal store. (store.pair.fork ≡ fork) × (store.pair.journal ≡ journal)
         × (store.pair.number ≡ number) × (store.pair.log.events ≡ []) };
 
-    fn open(&self, name: &str) -> Option<HostFile> {
-        HostFile::open(self.runtime, name).ok()
+    fn open(&mut self, path: &str) -> Option<HostFile> {
+        let file = HostFile::open(self.runtime, path).ok();
+        self.opened.note(path.as_bytes(), &file);
+        file
     }
 
     fn in_memory(&self) -> PlainStore<Disk<W>> {
@@ -122,24 +128,39 @@ impl<S: Drop> From<AllocFailed<S>> for NoStores {
     }
 }
 
-/// The stores of the forks in the files of these names: where there are none, one in memory.
+/// The stores of the forks in the files of these paths: where there are none, one in memory.
 pub fn plain_stores<F: Drop, S: ForkStore + Drop, J: ForkStore, O: Opens<F, S, J>>(
     alloc: Global,
-    opener: &O,
-    names: &[&str],
+    opener: &mut O,
+    paths: &[&str],
 ) -> Result<Vec<S>, NoStores>
-    requires { length names.now ≤ 8 }
-    ensures stores { IfOk result (λ stores. ArePlain S.ForkStore (O.gives opener.now) O.plain (map (λ name. name.now) names.now) stores.items) }
+    requires { length paths.now ≤ 8 }
+    ensures stores { (openings : List (Opening F)) × (O.openings opener.new ≡ O.openings opener.old ++ openings)
+        × IsOpened (map (λ path. path.now) paths.now) openings (ArePlain S.ForkStore O.plain (map (λ path. path.now) paths.now) openings) result }
     ensures few { IfOk result (λ stores. length stores.items ≤ 8) }
-    ensures unopened { IsErrOf result NoStores.CannotOpen → CantBeOpened (O.gives opener.now) (map (λ name. name.now) names.now) }
 {
-    if names.is_empty() {
-        let mut stores = Vec::new(alloc);
-        stores.push(opener.in_memory())?;
-        return Ok(stores);
+    if paths.is_empty() {
+        return one_in_memory(alloc, opener);
     }
-    let forks = opened(alloc, opener, names)?;
+    let forks = match opened(alloc, opener, paths) {
+        Ok(forks) => forks,
+        Err(fault) => return Err(fault),
+    };
     stores_on(alloc, opener, forks)
+}
+
+/// One store in memory.
+fn one_in_memory<F: Drop, S: ForkStore + Drop, J: ForkStore, O: Opens<F, S, J>>(
+    alloc: Global,
+    opener: &O,
+) -> Result<Vec<S>, NoStores>
+    ensures stores { IfOk result (λ stores. ArePlain S.ForkStore O.plain [] [] stores.items) }
+    ensures few { IfOk result (λ stores. length stores.items ≤ 8) }
+    ensures full { IfErr result (λ fault. fault ≡ NoStores.HostFull) }
+{
+    let mut stores = Vec::new(alloc);
+    stores.push(opener.in_memory())?;
+    Ok(stores)
 }
 
 /// The stores of the forks in these files, numbered as they come.
@@ -160,46 +181,56 @@ fn stores_on<F: Drop, S: ForkStore + Drop, J: ForkStore, O: Opens<F, S, J>>(
     Ok(stores)
 }
 
-/// The stores of the forks and the journals in the files of these names.
+/// The stores of the forks and the journals in the files of these paths. All forks are opened first.
 pub fn journalled_stores<F: Drop, S: ForkStore, J: ForkStore + Drop, O: Opens<F, S, J>>(
     alloc: Global,
-    opener: &O,
-    names: &[&str],
+    opener: &mut O,
+    paths: &[&str],
     journals: &[&str],
 ) -> Result<Vec<J>, NoStores>
-    requires { length journals.now ≡ length names.now }
-    ensures stores { IfOk result (λ stores. AreJournalled (O.gives opener.now) O.pairs (map (λ name. name.now) names.now) (map (λ name. name.now) journals.now) stores.items) }
-    ensures count { IfOk result (λ stores. length stores.items ≡ length names.now) }
-    ensures unopened { IsErrOf result NoStores.CannotOpen → OneCantBeOpened (O.gives opener.now) (map (λ name. name.now) names.now) (map (λ name. name.now) journals.now) }
+    requires { length journals.now ≡ length paths.now }
+    ensures stores { (openings : List (Opening F)) × (O.openings opener.new ≡ O.openings opener.old ++ openings)
+        × (let all = map (λ path. path.now) paths.now ++ map (λ path. path.now) journals.now in IsOpened all openings (AreJournalled O.pairs all openings) result) }
+    ensures count { IfOk result (λ stores. length stores.items ≡ length paths.now) }
 {
-    let forks = opened(alloc, opener, names)?;
+    let forks = match opened(alloc, opener, paths) {
+        Ok(forks) => forks,
+        Err(fault) => return Err(fault),
+    };
     let mut stores = Vec::new(alloc);
     for fork in forks {
         let number = stores.len();
         let Some(journal) = opener.open(journals[number]) else {
             return Err(NoStores::CannotOpen);
         };
-        stores.push(opener.journalled(fork, journal, number as u64))?;
+        let store = opener.journalled(fork, journal, number as u64);
+        match stores.push(store) {
+            Ok(()) => {}
+            Err(_) => return Err(NoStores::HostFull),
+        }
     }
     Ok(stores)
 }
 
-/// The files of these names.
+/// The files of these paths.
 fn opened<F: Drop, S: ForkStore, J: ForkStore, O: Opens<F, S, J>>(
     alloc: Global,
-    opener: &O,
-    names: &[&str],
+    opener: &mut O,
+    paths: &[&str],
 ) -> Result<Vec<F>, NoStores>
-    ensures files { IfOk result (λ files. AreOf (O.gives opener.now) (map (λ name. name.now) names.now) files.items) }
-    ensures count { IfOk result (λ files. length files.items ≡ length names.now) }
-    ensures unopened { IsErrOf result NoStores.CannotOpen → CantBeOpened (O.gives opener.now) (map (λ name. name.now) names.now) }
+    ensures files { (openings : List (Opening F)) × (O.openings opener.new ≡ O.openings opener.old ++ openings)
+        × IsOpened (map (λ path. path.now) paths.now) openings (λ files. Asked (map (λ path. path.now) paths.now) (map Some files) openings) result }
+    ensures count { IfOk result (λ files. length files.items ≡ length paths.now) }
 {
     let mut files = Vec::new(alloc);
-    for name in names {
-        let Some(file) = opener.open(name) else {
+    for path in paths {
+        let Some(file) = opener.open(path) else {
             return Err(NoStores::CannotOpen);
         };
-        files.push(file)?;
+        match files.push(file) {
+            Ok(()) => {}
+            Err(_) => return Err(NoStores::HostFull),
+        }
     }
     Ok(files)
 }

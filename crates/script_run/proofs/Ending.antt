@@ -1,48 +1,26 @@
 -- How the parts of a run make its end.
-use Rattle.std.proofs.Common.{◌≡◌, ℕ, ◌+◌, ◌<◌, ◌≤◌, List, [], ◌∷◌, ◌++◌, Option, Some, None, take, length, refl, sym, ap, subst, ◌∙◌, append_assoc, inl, inr}
-use Rattle.std.specs.Prelude.{IfSome, slice_get}
+use Rattle.std.proofs.Common.{◌≡◌, ℕ, ◌+◌, List, [], ◌∷◌, ◌++◌, Some, take, drop, refl, sym, ap, subst, ◌∙◌, append_assoc, ◌⊎◌, inl, inr}
+use Rattle.std.specs.Prelude.{slice_get}
 use Rattle.std.specs.List.{concat}
-use Rattle.std.proofs.lemmas.List.{append-nil, take_more, take_all}
+use Rattle.std.proofs.lemmas.List.{append-nil, take_more, take-append-drop}
 use Rattle.std.proofs.lemmas.Option.{get_or_from_slice_get, slice_get_within}
+use Rattle.fork_disk.specs.declared.store.ForkStore.{Ghosts}
 use Rattle.script_lines.specs.declared.line.Line.{Line}
-use Rattle.script_text.specs.Script.{IsScript, IsFaultAt, max_script}
+use Rattle.script_lines.specs.declared.line.Statement.{Statement}
+use Rattle.script_lines.specs.declared.line.Statement.TheVariants.{Answer}
+use Rattle.script_lines.specs.declared.line.WrittenAnswer.{WrittenAnswer}
+use Rattle.script_text.specs.Script.{IsScript, IsFaultAt}
 use Rattle.reply_text.specs.Text.{fault_text, no_memory_text}
 use Rattle.script_run.specs.declared.end.RunEnd.{RunEnd}
-use Rattle.script_run.specs.declared.end.RunEnd.TheVariants.{Finished, ScriptFault, NoMemory, ReadFault, WriteFault}
+use Rattle.script_run.specs.declared.end.RunEnd.TheVariants.{Finished, ScriptFault, NoMemory, WriteFault}
 use Rattle.script_run.specs.declared.machine.Machine.{Machine}
-use Rattle.fork_disk.specs.declared.store.ForkStore.{Ghosts}
-use Rattle.script_run.specs.Line.{LineDoes, SameForks}
+use Rattle.script_run.specs.Line.{LineDoes}
+use Rattle.script_run.specs.Run.{AreRun, IsRun, Ran, LacksMemory, at_start, IsProperFront, Ends, TakesMemory, Tells, stores_of}
 use Rattle.script_run.proofs.Opening.{same_forks}
-use Rattle.script_run.specs.Run.{AreRun, IsRun, EndsBehind, IsFront, replies, fault, no_memory, Ends, FaultEnds, LinesEnd, LinesMayWrite, LinesStop, MayWrite, NoMemoryEnds}
 
--- what holds of the text that was read holds of the input
-pub with_input : (known : Option (List ℕ)) (text : List ℕ) (P : List ℕ → Type 0) → IfSome known (λ input. (text ≡ input) × (length input ≤ max_script)) → P text → IfSome known P
-with_input None text P read holds = tt
-with_input (Some input) text P read holds = subst P read.0 holds
-
-pub for_all : (known : Option (List ℕ)) (P : List ℕ → Type 0) → ((input : List ℕ) → P input) → IfSome known P
-for_all None P holds = tt
-for_all (Some input) P holds = holds input
-
-pub too_long : (known : Option (List ℕ)) (P : List ℕ → Type 0) → IfSome known (λ input. max_script < length input) → ((input : List ℕ) → max_script < length input → P input) → IfSome known P
-too_long None P long holds = tt
-too_long (Some input) P long holds = holds input long
-
-pub fault_ends : {S : Type 0} (store : Ghosts S) (start : Machine S) (input : List ℕ) (line : ℕ) (end : RunEnd) (written : List ℕ) (left : List S) → IsFaultAt input line → FaultEnds line end written → left ≡ start.toolbox.resources.stores → Ends store start input end written left
-fault_ends store start input line (ScriptFault named) written left is ends same = (subst (λ n. IsFaultAt input n) (sym ends.0) is, ends.1 ∙ ap fault_text (sym ends.0), same)
-fault_ends store start input line NoMemory written left is ends same = ([], inl (refl, same_forks store start.toolbox.resources.stores left same), ends)
-fault_ends store start input line WriteFault written left is (inl front) same = (fault_text line, fault line is refl same, front)
-fault_ends store start input line WriteFault written left is (inr front) same = (no_memory_text, no_memory [] (inl (refl, same_forks store start.toolbox.resources.stores left same)) refl, front)
-fault_ends store start input line Finished written left is ends same = absurd ends
-fault_ends store start input line ReadFault written left is ends same = absurd ends
-
--- before any line was run, the host had no memory
-pub no_memory_ends : {S : Type 0} (store : Ghosts S) (start : Machine S) (input : List ℕ) (end : RunEnd) (written : List ℕ) (left : List S) → left ≡ start.toolbox.resources.stores → NoMemoryEnds end written → Ends store start input end written left
-no_memory_ends store start input NoMemory written left same ends = ([], inl (refl, same_forks store start.toolbox.resources.stores left same), ends)
-no_memory_ends store start input WriteFault written left same ends = (no_memory_text, no_memory [] (inl (refl, same_forks store start.toolbox.resources.stores left same)) refl, ends)
-no_memory_ends store start input Finished written left same ends = absurd ends
-no_memory_ends store start input ReadFault written left same ends = absurd ends
-no_memory_ends store start input (ScriptFault line) written left same ends = absurd ends
+pub concat-push : (texts : List (List ℕ)) (text : List ℕ) → concat (texts ++ text ∷ []) ≡ concat texts ++ text
+concat-push [] text = append-nil text
+concat-push (t ∷ texts) text = ap (λ (rest : List ℕ). t ++ rest) (concat-push texts text) ∙ sym (append_assoc t (concat texts) text)
 
 module _ {S : Type 0} (store : Ghosts S) where
   -- a run goes on by one line
@@ -66,53 +44,50 @@ module _ {S : Type 0} (store : Ghosts S) where
       (ap (λ (l : Line). take count lines ++ l ∷ []) is ∙ sym (take_more lines count line lt))
       (IsRun-push start (take count lines) texts mid line text new run one)
 
-  -- all lines have run
-  pub all_run : (start : Machine S) (lines : List Line) (texts : List (List ℕ)) (last : Machine S) (count : ℕ) → length lines ≤ count → IsRun store start (take count lines) texts last → IsRun store start lines texts last
-  all_run start lines texts last count all run = subst (λ (ls : List Line). IsRun store start ls texts last) (take_all count lines all) run
+module _ {S : Type 0} (store : Ghosts S) (start : Machine S) (input : List ℕ) where
+  -- a run that came so far in a script
+  abbrev pub ran_of : (lines : List Line) (count : ℕ) (texts : List (List ℕ)) (last : Machine S) → IsScript input lines → IsRun store start (take count lines) texts last → Ran store start input
+  ran_of lines count texts last is run = record {
+    lines = take count lines;
+    rest = drop count lines;
+    script = subst (λ (ls : List Line). IsScript input ls) (sym (take-append-drop count lines)) is;
+    texts = texts;
+    last = last;
+    run = run;
+  }
 
-  -- what was told behind some lines that host memory has ended
-  pub told_behind : (start : Machine S) (lines : List Line) (printed : List ℕ) (new : Machine S) (end : RunEnd) (written : List ℕ) → LinesStop store start lines printed new → NoMemoryEnds end written → LinesEnd store start lines end (printed ++ written) new
-  told_behind start lines printed new NoMemory written stop ends = (printed, stop, ap (λ (t : List ℕ). printed ++ t) ends)
-  told_behind start lines printed new WriteFault written stop ends =
-      (printed ++ no_memory_text, inr (printed, stop, refl), (ends.0, ap (λ (t : List ℕ). printed ++ t) ends.1 ∙ sym (append_assoc printed written ends.0)))
-  told_behind start lines printed new Finished written stop ends = absurd ends
-  told_behind start lines printed new ReadFault written stop ends = absurd ends
-  told_behind start lines printed new (ScriptFault line) written stop ends = absurd ends
+module _ {S : Type 0} (store : Ghosts S) (start : Machine S) (input : List ℕ) (left : List S) where
+  -- all replies were written
+  pub all_told : (ran : Ran store start input) → ran.rest ≡ [] → left ≡ stores_of ran.last → Ends store start input Finished (concat ran.texts) left
+  all_told ran none same = (ran.texts, (ran, none, refl, same), refl)
 
-  module _ (start : Machine S) (input : List ℕ) (lines : List Line) (new : Machine S) (left : List S) (is : IsScript input lines) (same : left ≡ new.toolbox.resources.stores) where
-    stopped : (printed : List ℕ) → LinesStop store start lines printed new → EndsBehind store start input printed left
-    stopped printed (inl at_once) = inl (at_once.0, subst (λ (l : List S). SameForks store start.toolbox.resources.stores l) (sym same) at_once.1)
-    stopped printed (inr (count, line, next, texts, last, run, front, stops)) = inr (record {
-      lines = lines;
-      script = is;
-      count = count;
-      line = line;
-      next = next;
-      texts = texts;
-      last = last;
-      run = run;
-      front = front;
-      after = new;
-      stops = stops;
-      stores = same;
-    })
+  -- of the last reply a front was written
+  pub reply_cut : (ran : Ran store start input) (whole : List (List ℕ)) (last front : List ℕ) → ran.texts ≡ whole ++ last ∷ [] → left ≡ stores_of ran.last → IsProperFront front last
+      → Ends store start input WriteFault (concat whole ++ front) left
+  reply_cut ran whole last front are same is = (WriteFault, ran.texts, (ran, refl, same), (whole, last, front, are, is, refl))
 
-    may_write : (text : List ℕ) → LinesMayWrite store start lines text new → MayWrite store start input text left
-    may_write text (inl (count, texts, run, front)) = replies (record { lines = lines; script = is; count = count; texts = texts; last = new; run = run; front = front; stores = same })
-    may_write text (inr (printed, stop, whole)) = no_memory printed (stopped printed stop) whole
+  -- it was told that host memory ended
+  pub none_told : (replies : List (List ℕ)) (end : RunEnd) (written : List ℕ) → LacksMemory store start input replies left → Tells NoMemory no_memory_text end written
+      → Ends store start input end (concat replies ++ written) left
+  none_told replies end written lacks (inl told) = subst (λ (e : RunEnd). Ends store start input e (concat replies ++ written) left) (sym told.0)
+      (replies ++ no_memory_text ∷ [], (replies, lacks, refl), ap (λ (t : List ℕ). concat replies ++ t) told.1 ∙ sym (concat-push replies no_memory_text))
+  none_told replies end written lacks (inr cut) = subst (λ (e : RunEnd). Ends store start input e (concat replies ++ written) left) (sym cut.0)
+      (NoMemory, replies ++ no_memory_text ∷ [], (replies, lacks, refl), (replies, no_memory_text, written, refl, cut.1, refl))
 
-    -- how the lines of a script end, the run ends
-    pub script_ends : (end : RunEnd) (written : List ℕ) → LinesEnd store start lines end written new → Ends store start input end written left
-    script_ends Finished written ends = record { lines = lines; script = is; texts = ends.0; last = new; run = ends.1; whole = ends.2; stores = same }
-    script_ends NoMemory written ends = (ends.0, stopped ends.0 ends.1, ends.2)
-    script_ends WriteFault written ends = (ends.0, may_write ends.0 ends.1, ends.2)
-    script_ends (ScriptFault line) written ends = absurd ends
-    script_ends ReadFault written ends = absurd ends
+  module _ (same : left ≡ stores_of start) where
+    -- before any line was run, the host had no memory
+    pub none_at_start : (end : RunEnd) (written : List ℕ) → Tells NoMemory no_memory_text end written → Ends store start input end written left
+    none_at_start end written told = none_told [] end written (at_start refl (same_forks store (stores_of start) left same)) told
 
-pub concat-push : (texts : List (List ℕ)) (text : List ℕ) → concat (texts ++ text ∷ []) ≡ concat texts ++ text
-concat-push [] text = append-nil text
-concat-push (t ∷ texts) text = ap (λ (rest : List ℕ). t ++ rest) (concat-push texts text) ∙ sym (append_assoc t (concat texts) text)
+    -- it was told which line is none
+    pub fault_told : (line : ℕ) (end : RunEnd) (written : List ℕ) → IsFaultAt input line → Tells (ScriptFault line) (fault_text line) end written ⊎ Tells NoMemory no_memory_text end written
+        → Ends store start input end written left
+    fault_told line end written is (inl (inl told)) = subst (λ (e : RunEnd). Ends store start input e written left) (sym told.0)
+        (fault_text line ∷ [], (is, refl, same), told.1 ∙ sym (append-nil (fault_text line)))
+    fault_told line end written is (inl (inr cut)) = subst (λ (e : RunEnd). Ends store start input e written left) (sym cut.0)
+        (ScriptFault line, fault_text line ∷ [], (is, refl, same), ([], fault_text line, written, refl, cut.1, refl))
+    fault_told line end written is (inr told) = none_at_start end written told
 
--- one more text, of which a front was written
-pub front_behind : (texts : List (List ℕ)) (text written : List ℕ) → IsFront written text → IsFront (concat texts ++ written) (concat (texts ++ text ∷ []))
-front_behind texts text written front = (front.0, concat-push texts text ∙ ap (λ (t : List ℕ). concat texts ++ t) front.1 ∙ sym (append_assoc (concat texts) written front.0))
+-- an answer takes memory where it is queued
+pub takes_answer : {S : Type 0} (store : Ghosts S) (old new : Machine S) (statement : Statement) (answer : WrittenAnswer) → statement ≡ Answer answer → TakesMemory store old statement new
+takes_answer store old new statement answer is = subst (λ (s : Statement). TakesMemory store old s new) (sym is) tt

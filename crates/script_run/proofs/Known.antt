@@ -1,10 +1,9 @@
--- What several reads and writes do to the known bytes.
-use Rattle.std.proofs.Common.{◌≡◌, ℕ, ◌-◌, ◌<◌, ◌≤◌, arith, Bool, take, drop, length, length-drop, List, [], ◌++◌, Option, Some, None, refl, sym, ap, ◌∙◌, append_assoc, length-append}
-use Rattle.std.specs.Prelude.{IfSome}
-use Rattle.std.specs.Io.KnownBytes.{Appends, Keeps, Consumes, IsAtEnd}
+-- What several reads and writes give and take.
+use Rattle.std.proofs.Common.{◌≡◌, ℕ, ◌-◌, ◌<◌, ◌≤◌, arith, Bool, take, drop, length, length-drop, List, [], ◌++◌, Option, Some, None, unwrap_or, refl, sym, ap, ◌∙◌, append_assoc, length-append}
+use Rattle.std.specs.Io.KnownBytes.{Appends, Consumes, IsAtEnd}
 use Rattle.script_text.specs.Script.{max_script}
 use Rattle.std.specs.Prelude.{◌&&◌, ◌==◌, not}
-use Rattle.script_run.specs.Counting.{counted, is_empty}
+use Rattle.script_run.specs.Counting.{Counting, Gave, Took, counted, is_empty}
 use Rattle.std.proofs.lemmas.Bool.{ne_eqb}
 use Rattle.std.proofs.lemmas.List.{append-nil, take-append-drop}
 use Rattle.std.proofs.Math.Seq.{take-length}
@@ -19,21 +18,37 @@ Appends-then (Some xs) None c x y p q = absurd p
 Appends-then (Some xs) (Some ys) None x y p q = absurd q
 Appends-then (Some xs) (Some ys) (Some zs) x y p q = q ∙ ap (λ (t : List ℕ). t ++ y) p ∙ append_assoc xs x y
 
-pub Appends-keeps : (a b c : Option (List ℕ)) (x : List ℕ) → Appends a b x → Keeps b c → Appends a c x
-Appends-keeps None b c x p q = tt
-Appends-keeps (Some xs) None c x p q = absurd p
-Appends-keeps (Some xs) (Some ys) None x p q = absurd q
-Appends-keeps (Some xs) (Some ys) (Some zs) x p q = q ∙ p
+-- nothing
+pub Took-none : {W : Type 0} (contents : W → Option (List ℕ)) (writer : Counting W) → Took contents writer [] writer
+Took-none contents writer = record { passed = sym (append-nil writer.passed); bytes = Appends-none (contents writer.inner) }
 
-pub Consumes-none : (a : Option (List ℕ)) → Consumes a a []
+-- some bytes, and others after them
+pub Took-then : {W : Type 0} (contents : W → Option (List ℕ)) (old mid new : Counting W) (x y : List ℕ) → Took contents old x mid → Took contents mid y new → Took contents old (x ++ y) new
+Took-then contents old mid new x y one other = record {
+  passed = other.passed ∙ ap (λ (t : List ℕ). t ++ y) one.passed ∙ append_assoc old.passed x y;
+  bytes = Appends-then (contents old.inner) (contents mid.inner) (contents new.inner) x y one.bytes other.bytes;
+}
+
+Consumes-none : (a : Option (List ℕ)) → Consumes a a []
 Consumes-none None = tt
 Consumes-none (Some xs) = refl
 
-pub Consumes-then : (a b c : Option (List ℕ)) (x y : List ℕ) → Consumes a b x → Consumes b c y → Consumes a c (x ++ y)
+Consumes-then : (a b c : Option (List ℕ)) (x y : List ℕ) → Consumes a b x → Consumes b c y → Consumes a c (x ++ y)
 Consumes-then None b c x y p q = tt
 Consumes-then (Some xs) None c x y p q = absurd p
 Consumes-then (Some xs) (Some ys) None x y p q = absurd q
 Consumes-then (Some xs) (Some ys) (Some zs) x y p q = p ∙ ap (λ (t : List ℕ). x ++ t) q ∙ sym (append_assoc x y zs)
+
+-- nothing was given
+pub Gave-none : {R : Type 0} (remaining : R → Option (List ℕ)) (reader : Counting R) → Gave remaining reader [] reader
+Gave-none remaining reader = record { passed = sym (append-nil reader.passed); bytes = Consumes-none (remaining reader.inner) }
+
+-- some bytes, and others after them
+pub Gave-then : {R : Type 0} (remaining : R → Option (List ℕ)) (old mid new : Counting R) (x y : List ℕ) → Gave remaining old x mid → Gave remaining mid y new → Gave remaining old (x ++ y) new
+Gave-then remaining old mid new x y one other = record {
+  passed = other.passed ∙ ap (λ (t : List ℕ). t ++ y) one.passed ∙ append_assoc old.passed x y;
+  bytes = Consumes-then (remaining old.inner) (remaining mid.inner) (remaining new.inner) x y one.bytes other.bytes;
+}
 
 -- a text is its front and what `&text[n..]` gives
 pub front_and_rest : (a text : List ℕ) (n : ℕ) → n ≤ length text → a ++ text ≡ (a ++ take n text) ++ take (length text - n) (drop n text)
@@ -42,18 +57,17 @@ front_and_rest a text n le =
     rw (whole, append_assoc, take-append-drop) refl
 
 -- what was read up to the end is all
-pub read_all : (a b c : Option (List ℕ)) (text none : List ℕ) → length text ≤ max_script → Consumes a b text → Consumes b c none → none ≡ [] → IsAtEnd c → IfSome a (λ input. (text ≡ input) × (length input ≤ max_script))
-read_all None b c text none small p q e done = tt
-read_all (Some xs) None c text none small p q e done = absurd p
-read_all (Some xs) (Some ys) None text none small p q e done = absurd q
-read_all (Some xs) (Some ys) (Some zs) text none small p q e done =
+pub read_all : (a b c : Option (List ℕ)) (text none : List ℕ) → Consumes a b text → Consumes b c none → none ≡ [] → IsAtEnd c → text ≡ unwrap_or a text
+read_all None b c text none p q e done = refl
+read_all (Some xs) None c text none p q e done = absurd p
+read_all (Some xs) (Some ys) None text none p q e done = absurd q
+read_all (Some xs) (Some ys) (Some zs) text none p q e done =
     let nothing : ys ≡ [] = q ∙ ap (λ (t : List ℕ). t ++ zs) e ∙ done in
-    let whole : xs ≡ text = p ∙ ap (λ (t : List ℕ). text ++ t) nothing ∙ append-nil text in
-    (sym whole, rw whole small)
+    sym (p ∙ ap (λ (t : List ℕ). text ++ t) nothing ∙ append-nil text)
 
 -- and what was read is no more than all
-pub read_more : (a b : Option (List ℕ)) (text : List ℕ) → max_script < length text → Consumes a b text → IfSome a (λ input. max_script < length input)
-read_more None b text long p = tt
+pub read_more : (a b : Option (List ℕ)) (text : List ℕ) → max_script < length text → Consumes a b text → max_script < length (unwrap_or a text)
+read_more None b text long p = long
 read_more (Some xs) None text long p = absurd p
 read_more (Some xs) (Some ys) text long p = rw p (omega (arith, length-append text ys))
 

@@ -1,5 +1,5 @@
 -- What is left of a list.
-use Rattle.std.proofs.Common.{◌≡◌, ℕ, ◌+◌, ◌<◌, ◌≤◌, List, [], ◌∷◌, Some, length, drop, get_or, get_or-drop, length-drop, add-zero, subst, refl, sym, ap, ◌∙◌, arith}
+use Rattle.std.proofs.Common.{◌≡◌, ℕ, ◌+◌, ◌<◌, List, [], ◌∷◌, Some, length, drop, get_or, get_or-drop, length-drop, add-zero, subst, refl, sym, ap, ◌∙◌, arith}
 use Rattle.std.specs.Prelude.{slice_get}
 use Rattle.std.proofs.lemmas.List.{drop-drop}
 use Rattle.std.proofs.lemmas.Option.{slice_get_read}
@@ -13,7 +13,3 @@ next_at {X = X} xs rest count x left =
 -- and those behind it
 pub left_behind : {X : Type 0} (xs rest : List X) (count : ℕ) (x : X) → drop count xs ≡ x ∷ rest → drop (count + 1) xs ≡ rest
 left_behind xs rest count x left = sym (drop-drop 1 count xs) ∙ ap (drop 1) left
-
--- none is left
-pub all_gone : {X : Type 0} (xs : List X) (count : ℕ) → drop count xs ≡ [] → length xs ≤ count
-all_gone xs count left = omega (arith, ap length left, length-drop count xs)

@@ -1,10 +1,12 @@
--- Counts of failures.
-use Rattle.std.specs.Prelude.{◌≡◌, ℕ, ◌+◌, ◌-◌, ◌^◌, ◌==◌, ◌&&◌, not, min, Bool, true, false, if◌then◌else◌, List, [], ◌∷◌, Result, Ok, Err}
+-- What a reader gave or a writer took, and how often it failed.
+use Rattle.std.specs.Prelude.{◌≡◌, ℕ, ◌+◌, ◌-◌, ◌^◌, ◌==◌, ◌&&◌, not, min, Bool, true, false, if◌then◌else◌, List, [], ◌∷◌, ◌++◌, take, Option, Result, Ok, Err}
+use Rattle.std.specs.Io.KnownBytes.{Appends, Consumes}
 
--- a reader or a writer, and how often it has failed
+-- a reader or a writer, how often it has failed, and the bytes that it gave or took so far
 pub record Counting (T : Type 0) : Type 0 where
   pub inner : T
   pub failures : ℕ
+  pub passed : List ℕ
 
 -- the count after a call: one more where it failed, up to the last value, and else the same
 abbrev pub counted : Bool → ℕ → ℕ
@@ -20,6 +22,21 @@ abbrev pub takes_nothing : {E : Type 0} → Result ℕ E → List ℕ → Bool
 takes_nothing (Ok n) bytes = n == 0 && not (is_empty bytes)
 takes_nothing (Err e) bytes = true
 
--- the count rose by one, so one call failed, and no other was made behind it that might have failed as well; at its last value it stays
+-- the bytes of a buffer that a read gave or a write took
+abbrev pub passed_by : {E : Type 0} → Result ℕ E → List ℕ → List ℕ
+passed_by (Ok n) buffer = take n buffer
+passed_by (Err e) buffer = []
+
+-- the count rose by one, so one call failed, and no other was made after it that might have failed as well; at its last value it stays
 abbrev pub Rose : ℕ → ℕ → Type 0
 Rose before now = now ≡ counted true before
+
+-- a reader gave these bytes, so it has them no more where it tells its bytes
+pub record Gave {R : Type 0} (remaining : R → Option (List ℕ)) (old : Counting R) (given : List ℕ) (new : Counting R) : Type 0 where
+  pub passed : new.passed ≡ old.passed ++ given
+  pub bytes : Consumes (remaining old.inner) (remaining new.inner) given
+
+-- a writer took these bytes, so it holds them where it tells its bytes
+pub record Took {W : Type 0} (contents : W → Option (List ℕ)) (old : Counting W) (written : List ℕ) (new : Counting W) : Type 0 where
+  pub passed : new.passed ≡ old.passed ++ written
+  pub bytes : Appends (contents old.inner) (contents new.inner) written

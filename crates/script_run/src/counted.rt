@@ -1,20 +1,22 @@
 //! Readers and writers that count their failures.
 
-ghost use Rattle.std.specs.Prelude.{◌≡◌, ◌==◌, length, is_err, true, false};
+ghost use Rattle.std.specs.Prelude.{◌≡◌, ◌==◌, ◌++◌, [], length, is_err, true, false};
 ghost use Rattle.std.specs.Io.{ReadsAtMost, WritesAtMost};
 ghost use Rattle.std.specs.Io.KnownBytes.{Keeps, ReadConsumes, WriteAppends};
-ghost use Rattle.script_run.specs.Counting.{counted, takes_nothing};
+ghost use Rattle.script_run.specs.Counting.{counted, passed_by, takes_nothing};
 
+use crate::passed::Passed;
 use std::io;
 use std::io::{Read, Write};
 use std::marker::Model;
 
-/// A reader or a writer that counts its failures. A contract sees what is counted and the count, which stays at its
-/// last value.
+/// A reader or a writer that counts its failures. A contract sees what is counted, the count, which stays at its last
+/// value, and the bytes that were given or taken so far, which no memory holds.
 #[derive(Drop)]
 pub struct Counted<T> {
     inner: T,
     failures: u64,
+    passed: Passed,
 }
 
 impl<T> Model for Counted<T> {
@@ -22,16 +24,21 @@ impl<T> Model for Counted<T> {
 
     ghost Value = { Counting T };
 
-    ghost view = { λ c. record { inner = c.inner; failures = c.failures } };
+    ghost view = { λ c. record { inner = c.inner; failures = c.failures; passed = c.passed.bytes } };
 }
 
 impl<T> Counted<T> {
-    /// Nothing has failed yet.
+    /// Nothing has passed or failed yet.
     pub fn new(inner: T) -> Counted<T>
         ensures inner { result.inner ≡ inner }
         ensures failures { result.failures ≡ 0 }
+        ensures passed { result.passed ≡ [] }
     {
-        Counted { inner, failures: 0 }
+        Counted {
+            inner,
+            failures: 0,
+            passed: Passed::new(),
+        }
     }
 
     /// What is counted.
@@ -64,10 +71,12 @@ impl<R: Read> Read for Counted<R> {
         ensures bound { ReadsAtMost result buf.new }
         ensures bytes { ReadConsumes (R.remaining self.old.inner) (R.remaining self.new.inner) result buf.new }
         ensures count { self.new.failures ≡ counted (is_err result) self.old.failures }
+        ensures passed { self.new.passed ≡ self.old.passed ++ passed_by result buf.new }
     {
         let result = self.inner.read(buf);
-        if result.is_err() {
-            self.failures = self.failures.saturating_add(1);
+        match &result {
+            Ok(count) => self.passed.note(&buf[..*count]),
+            Err(_) => self.failures = self.failures.saturating_add(1),
         }
         result
     }
@@ -81,8 +90,12 @@ impl<W: Write> Write for Counted<W> {
         ensures bound { WritesAtMost result buf.now }
         ensures bytes { WriteAppends (W.contents self.old.inner) (W.contents self.new.inner) result buf.now }
         ensures count { self.new.failures ≡ counted (takes_nothing result buf.now) self.old.failures }
+        ensures passed { self.new.passed ≡ self.old.passed ++ passed_by result buf.now }
     {
         let result = self.inner.write(buf);
+        if let Ok(count) = &result {
+            self.passed.note(&buf[..*count]);
+        }
         let has_failed = match &result {
             Ok(count) => *count == 0 && !buf.is_empty(),
             Err(_) => true,
@@ -96,6 +109,7 @@ impl<W: Write> Write for Counted<W> {
     fn flush(&mut self) -> io::Result<()>
         ensures bytes { Keeps (W.contents self.old.inner) (W.contents self.new.inner) }
         ensures count { self.new.failures ≡ counted (is_err result) self.old.failures }
+        ensures passed { self.new.passed ≡ self.old.passed }
     {
         let result = self.inner.flush();
         if result.is_err() {

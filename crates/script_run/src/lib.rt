@@ -4,6 +4,7 @@
 mod counted;
 mod end;
 mod machine;
+mod passed;
 mod reading;
 mod running;
 mod writing;

@@ -4,6 +4,7 @@ ghost use Rattle.std.specs.Prelude.{◌≡◌, ◌≤◌, ◌⊎◌, [], length,
 ghost use Rattle.mac_base.specs.Heap.{new_heap};
 ghost use Rattle.mac_base.specs.ZoneSizes.{ZoneSizes, shape_of};
 ghost use Rattle.script_run.specs.Line.{start_of, assigned, CallDoes, IsMade, LineDoes, OpensFirst, SameForks, StopsAt};
+ghost use Rattle.script_run.specs.Run.{IsUnmade, TakesMemory};
 ghost use Rattle.script_lines.specs.declared.line.Statement.TheVariants as statement;
 
 use fork_disk::store::ForkStore;
@@ -73,6 +74,7 @@ impl<S: ForkStore> Machine<S> {
     pub fn run_line(&mut self, line: &Line<'_>, text: &mut Vec<u8>) -> Result<(), HostFull>
         ensures does { OnOk result (LineDoes S.ForkStore self.old line.now text.new.items self.new) }
         ensures stops { OnErr result (StopsAt S.ForkStore self.old line.now self.new) }
+        ensures memory { OnErr result (TakesMemory S.ForkStore self.old line.now.statement self.new) }
     {
         text.clear();
         match &line.statement {
@@ -92,6 +94,7 @@ impl<S: ForkStore> Machine<S> {
         ensures does { OnOk result (CallDoes S.ForkStore self.old number line.now text.new.items self.new) }
         ensures stops { OnErr result (SameForks S.ForkStore self.old.toolbox.resources.stores self.new.toolbox.resources.stores
             ⊎ IsMade S.ForkStore self.old (statement.Call line.now) self.new) }
+        ensures memory { OnErr result (IsUnmade S.ForkStore self.old line.now self.new ⊎ IsMade S.ForkStore self.old (statement.Call line.now) self.new) }
     {
         let call = resolve(line, &self.variables);
         let reply = self.toolbox.step_queued(&call, &mut self.answers)?;

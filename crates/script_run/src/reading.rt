@@ -1,8 +1,8 @@
 //! Reading a script.
 
-ghost use Rattle.std.specs.Prelude.{◌≡◌, ◌≢◌, ◌<◌, ◌≤◌, length, Err, IfOk, IfSome, IsErrOf};
-ghost use Rattle.script_text.specs.Script.{max_script};
-ghost use Rattle.script_run.specs.Counting.{Rose};
+ghost use Rattle.std.specs.Prelude.{◌≡◌, ◌≢◌, ℕ, List, Err, IsErrOf, unwrap_or};
+ghost use Rattle.script_run.specs.Counting.{Gave, Rose};
+ghost use Rattle.script_run.specs.Run.{Reads};
 ghost use Rattle.script_run.specs.declared.reading.ReadEnd.TheVariants.{Memory};
 
 use crate::counted::Counted;
@@ -31,10 +31,9 @@ impl From<AllocError> for ReadEnd {
 
 /// All that the reader gives, in at most two reads more than a script may have bytes.
 pub fn read_script<R: Read>(alloc: Global, reader: &mut Counted<R>) -> Result<Vec<u8>, ReadEnd>
-    ensures text { IfOk result (λ text. IfSome (R.remaining reader.old.inner)
-        (λ input. (text.items ≡ input) × (length input ≤ max_script))) }
-    ensures long { IsErrOf result ReadEnd.TooLong
-        → IfSome (R.remaining reader.old.inner) (λ input. max_script < length input) }
+    // The input is the bytes that the reader tells; of one that doesn't tell, those that it gave.
+    ensures read { (given : List ℕ) × Gave R.remaining reader.old given reader.new
+        × Reads (unwrap_or (R.remaining reader.old.inner) given) result }
     ensures fault { IsErrOf result ReadEnd.Fault → Rose reader.old.failures reader.new.failures }
     ensures no_fault { result ≢ Err ReadEnd.Fault → reader.new.failures ≡ reader.old.failures }
 {

@@ -1,12 +1,13 @@
 //! Runs a script.
 
-ghost use Rattle.std.specs.Prelude.{◌≡◌, ◌≢◌, ◌≤◌, ℕ, List, length, IfSome};
-ghost use Rattle.std.specs.Io.KnownBytes.{Appends};
-ghost use Rattle.script_run.specs.Counting.{Rose};
+ghost use Rattle.std.specs.Prelude.{◌≡◌, ◌≢◌, ◌≤◌, ◌⊎◌, ℕ, List, length, unwrap_or};
+ghost use Rattle.script_text.specs.Script.{IsScript};
+ghost use Rattle.reply_text.specs.Text.{fault_text, no_memory_text};
+ghost use Rattle.script_run.specs.Counting.{Gave, Rose, Took};
 ghost use Rattle.script_run.specs.Exact.{RunsAgree};
 ghost use Rattle.script_run.specs.Headline.{RunShows};
 ghost use Rattle.script_run.specs.Line.{start_of};
-ghost use Rattle.script_run.specs.Run.{Ends, FaultEnds, LinesEnd, NoMemoryEnds};
+ghost use Rattle.script_run.specs.Run.{Ends, Tells, stores_of};
 
 use crate::counted::Counted;
 use crate::end::RunEnd;
@@ -32,9 +33,10 @@ pub fn run<S: ForkStore, R: Read, W: Write>(
     stores: Vec<S>,
 ) -> (RunEnd, Vec<S>)
     requires { length stores.items ≤ 8 }
-    // What was written is what the input's lines print from a new zone on, as far as the run came, and the stores are as they left them.
-    ensures ends { (written : List ℕ) × Appends (W.contents writer.old.inner) (W.contents writer.new.inner) written
-        × IfSome (R.remaining reader.old.inner) (λ input. Ends S.ForkStore (start_of spec stores.items) input result.0 written result.1.items) }
+    // The input is the bytes that the reader tells; of one that doesn't tell, those that it gave. What was written is what the input's
+    // lines print from a new zone on, as far as the run came, and the stores are as they left them.
+    ensures ends { (given : List ℕ) × (written : List ℕ) × Gave R.remaining reader.old given reader.new × Took W.contents writer.old written writer.new
+        × Ends S.ForkStore (start_of spec stores.items) (unwrap_or (R.remaining reader.old.inner) given) result.0 written result.1.items }
 
     // Whatever lines print is the replies of calls over which every handle and pointer shows the bytes last put there, pointers and
     // locked handles stay where they are, and blocks are lost and memFullErr is given only where they may.
@@ -80,8 +82,8 @@ fn run_lines<S: ForkStore, W: Write>(
     script: &Script,
     writer: &mut Counted<W>,
 ) -> RunEnd
-    ensures ends { (written : List ℕ) × Appends (W.contents writer.old.inner) (W.contents writer.new.inner) written
-        × LinesEnd S.ForkStore machine.old script.now result written machine.new }
+    ensures ends { (written : List ℕ) × Took W.contents writer.old written writer.new
+        × ((input : List ℕ) → IsScript input script.now → Ends S.ForkStore machine.old input result written (stores_of machine.new)) }
     ensures no_read_fault { result ≢ RunEnd.ReadFault }
     ensures write_fault { result ≡ RunEnd.WriteFault → Rose writer.old.failures writer.new.failures }
     ensures no_write_failed { result ≢ RunEnd.WriteFault → writer.new.failures ≡ writer.old.failures }
@@ -107,8 +109,8 @@ fn run_lines<S: ForkStore, W: Write>(
 
 /// Writes which line is the first that is none.
 fn tell_fault<W: Write>(alloc: Global, writer: &mut Counted<W>, line: u32) -> RunEnd
-    ensures ends { (written : List ℕ) × Appends (W.contents writer.old.inner) (W.contents writer.new.inner) written
-        × FaultEnds line result written }
+    ensures ends { (written : List ℕ) × Took W.contents writer.old written writer.new
+        × (Tells (RunEnd.ScriptFault line) (fault_text line) result written ⊎ Tells RunEnd.NoMemory no_memory_text result written) }
     ensures no_read_fault { result ≢ RunEnd.ReadFault }
     ensures write_fault { result ≡ RunEnd.WriteFault → Rose writer.old.failures writer.new.failures }
     ensures no_write_failed { result ≢ RunEnd.WriteFault → writer.new.failures ≡ writer.old.failures }
@@ -125,8 +127,8 @@ fn tell_fault<W: Write>(alloc: Global, writer: &mut Counted<W>, line: u32) -> Ru
 
 /// Writes that the host has no memory, and says how the run ended by that.
 pub fn tell_no_memory<W: Write>(writer: &mut Counted<W>) -> RunEnd
-    ensures ends { (written : List ℕ) × Appends (W.contents writer.old.inner) (W.contents writer.new.inner) written
-        × NoMemoryEnds result written }
+    ensures ends { (written : List ℕ) × Took W.contents writer.old written writer.new
+        × Tells RunEnd.NoMemory no_memory_text result written }
     ensures no_read_fault { result ≢ RunEnd.ReadFault }
     ensures write_fault { result ≡ RunEnd.WriteFault → Rose writer.old.failures writer.new.failures }
     ensures no_write_failed { result ≢ RunEnd.WriteFault → writer.new.failures ≡ writer.old.failures }

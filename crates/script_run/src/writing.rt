@@ -1,17 +1,16 @@
 //! Writing replies.
 
 ghost use Rattle.std.specs.Prelude.{◌≡◌, ℕ, List, MatchBool};
-ghost use Rattle.std.specs.Io.KnownBytes.{Appends};
-ghost use Rattle.script_run.specs.Counting.{Rose};
-ghost use Rattle.script_run.specs.Run.{IsFront};
+ghost use Rattle.script_run.specs.Counting.{Rose, Took};
+ghost use Rattle.script_run.specs.Run.{IsProperFront};
 
 use crate::counted::Counted;
 use std::io::Write;
 
-/// Writes a text, and says whether the writer took all of it. Else the writer failed, and took the front of it.
+/// Writes a text, and says whether the writer took all of it. Else the writer failed, and took a proper front of it.
 pub fn write_whole<W: Write>(writer: &mut Counted<W>, text: &[u8]) -> bool
-    ensures written { (written : List ℕ) × Appends (W.contents writer.old.inner) (W.contents writer.new.inner) written
-        × MatchBool result (written ≡ text.now) (IsFront written text.now) }
+    ensures written { (written : List ℕ) × Took W.contents writer.old written writer.new
+        × MatchBool result (written ≡ text.now) (IsProperFront written text.now) }
     ensures failures { MatchBool result (writer.new.failures ≡ writer.old.failures) (Rose writer.old.failures writer.new.failures) }
 {
     let mut rest = text;

@@ -1,14 +1,13 @@
-use Rattle.std.proofs.Common.{◌≡◌, ◌∙◌, ap, ap₂, codes}
+use Rattle.std.proofs.Common.{◌≡◌, ◌∙◌, ap₂, codes}
 use Rattle.std.proofs.lemmas.Result.{IfOk-weaker}
-use Rattle.clap.specs.Simple.{app_of_fields}
 use Rattle.clap.specs.Words.{new_app, with_rule, app_of}
 use Rattle.macheap.specs.Options.{option_named, file_option}
 use Rattle.macheap.proofs.asked.command.Goals as goal
 
 pub returns : goal.returns
 returns c =
-    let about_is : app_of c.about.result ≡ new_app (codes "macheap") = ap app_of_fields c.about.ensures ∙ c.new.ensures.app in
-    let first_is : app_of c.in_ok-arg.field-0 ≡ with_rule (new_app (codes "macheap")) (option_named (codes "zone")) = c.in_ok-arg.ensures.shape c.number_option.ensures.local ∙ ap₂ with_rule about_is c.number_option.ensures.rule in
+    let new_is : app_of c.new.result ≡ new_app (codes "macheap") = c.new.ensures.app in
+    let first_is : app_of c.in_ok-arg.field-0 ≡ with_rule (new_app (codes "macheap")) (option_named (codes "zone")) = c.in_ok-arg.ensures.shape c.number_option.ensures.local ∙ ap₂ with_rule new_is c.number_option.ensures.rule in
     let second_is : app_of c.in_ok-arg-2.field-0 ≡ with_rule (with_rule (new_app (codes "macheap")) (option_named (codes "zone"))) (option_named (codes "limit")) = c.in_ok-arg-2.ensures.shape c.number_option-2.ensures.local ∙ ap₂ with_rule first_is c.number_option-2.ensures.rule in
     let third_is : app_of c.in_ok-arg-3.field-0 ≡ with_rule (with_rule (with_rule (new_app (codes "macheap")) (option_named (codes "zone"))) (option_named (codes "limit"))) (option_named (codes "base")) = c.in_ok-arg-3.ensures.shape c.number_option-3.ensures.local ∙ ap₂ with_rule second_is c.number_option-3.ensures.rule in
     let fourth_is : app_of c.in_ok-arg-4.field-0 ≡ with_rule (with_rule (with_rule (with_rule (new_app (codes "macheap")) (option_named (codes "zone"))) (option_named (codes "limit"))) (option_named (codes "base"))) (option_named (codes "mode")) = c.in_ok-arg-4.ensures.shape c.number_option-4.ensures.local ∙ ap₂ with_rule third_is c.number_option-4.ensures.rule in

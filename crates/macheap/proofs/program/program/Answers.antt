@@ -1,16 +1,17 @@
-use Rattle.script_run.proofs.Ending.{for_all}
-use Rattle.macheap.proofs.Ending.{answered, known, no_file_told, refused}
+use Rattle.std.proofs.Common.{[], refl, sym}
+use Rattle.std.proofs.lemmas.List.{append-nil}
+use Rattle.script_run.proofs.Known.{Gave-none}
+use Rattle.macheap.proofs.Ending.{answered, was_refused}
 use Rattle.macheap.proofs.program.program.Goals as goal
 
 pub returns-in-Ok-clause-ends : goal.returns-in-Ok-clause-ends
 returns-in-Ok-clause-ends g c =
-    let ends = c.answer.ensures.ends in
-    (ends.0, ends.1, known (g.R.Read.remaining c.args.input.now.inner) (answered _ _ _ _ _ ends.0 c.in-Ok.asked c.in-Ok.ensures) ends.2)
+    let e = c.answer.ensures.ends in
+    let did = e.2 in
+    let told = did.2 in
+    (e.0, e.1, (did.0, did.1, (told.0, told.1, told.2, told.3, answered _ _ _ _ c.in-Ok.asked c.in-Ok.ensures told.4)))
 
 pub returns-in-Err-clause-ends : goal.returns-in-Err-clause-ends
 returns-in-Err-clause-ends g c =
-    let ends = c.refuse.ensures.ends in
-    (ends.0, ends.1, for_all (g.R.Read.remaining c.args.input.now.inner) _ (refused _ _ _ _ _ ends.0 c.in-Err.error c.in-Err.ensures ends.2))
-
-pub returns-in-Ok-clause-quiet : goal.returns-in-Ok-clause-quiet
-returns-in-Ok-clause-quiet g c = λ other. no_file_told (g.O.Opens.gives c.args.opener.now) _ c.in-Ok.asked c.in-Ok.ensures c.answer.ensures.quiet
+    let told = c.refuse.ensures.ends in
+    ([], sym (append-nil _), ([], Gave-none _ _, (told.0, told.1, told.2, told.3, was_refused _ _ _ _ c.in-Err.error c.in-Err.ensures (refl, refl) told.4)))

@@ -1,6 +1,15 @@
 use Rattle.std.proofs.Common.{[], refl}
-use Rattle.script_run.proofs.Known.{Appends-none}
+use Rattle.script_run.proofs.Known.{Took-none}
+use Rattle.macheap.proofs.Ending.{no_memory_told, wrote}
 use Rattle.macheap.proofs.program.tell_no_stores.Goals as goal
 
+pub returns-in-HostFull-clause-ends : goal.returns-in-HostFull-clause-ends
+returns-in-HostFull-clause-ends g c =
+    let e = c.tell_no_memory.ensures.ends in
+    let told = no_memory_told _ _ e.0 _ e.2 c.tell_no_memory.ensures.write_fault c.status.ensures in
+    (e.0, [], e.1, Took-none _ _, rw c.in-HostFull.is (told.0, told.1, refl))
+
 pub returns-in-CannotOpen-clause-ends : goal.returns-in-CannotOpen-clause-ends
-returns-in-CannotOpen-clause-ends g c = ([], Appends-none _, rw c.in-CannotOpen.is (refl, refl))
+returns-in-CannotOpen-clause-ends g c =
+    let w = c.write_whole.ensures in
+    ([], w.written.0, Took-none _ _, w.written.1, rw c.in-CannotOpen.is (record { status = refl; unwritten = refl; says = wrote _ _ _ _ _ w.written.2 w.failures }))

@@ -1,54 +1,88 @@
-use Rattle.std.proofs.Common.{◌≡◌, ◌++◌, ◌∷◌, ◌<◌, [], List, ℕ, length, refl, sym, ap, subst, ◌∙◌, append_assoc, length-append, arith, slice_index_or, Bor, inr}
+use Rattle.std.proofs.Common.{◌≡◌, ◌++◌, ◌∷◌, ◌<◌, ◌≤◌, ◌+◌, [], List, ℕ, Some, None, take, map, length, refl, sym, ap, subst, ◌∙◌, append_assoc, length-append, arith, slice_index_or, Bor}
 use Rattle.std.specs.Vec.Iter.{into_iter_items}
+use Rattle.std.proofs.lemmas.List.{append-nil}
 use Rattle.clap.specs.Words.{Text}
-use Rattle.macheap.specs.Stores.{ArePaired, no_fork}
-use Rattle.macheap.proofs.Opening.{ArePaired-step, cant_at, fewer, same_default}
+use Rattle.macheap.specs.Stores.{ArePaired, Asked, Opening}
+use Rattle.macheap.proofs.Opening.{ArePaired-push, all_asked, asked_more, asked_none, cant_next, fault_widen, fewer, same_default, some_first}
 use Rattle.macheap.proofs.stores.journalled_stores.Goals as goal
 
 abbrev now_of : Bor (List ℕ) → Text
-now_of name = name.now
+now_of path = path.now
 
 abbrev nowhere : Bor (List ℕ)
 nowhere = record { ref_ptr = (0, 0); now = [] }
 
--- src/stores.rt:143:5
+pub returns-in-Err-clause-stores : goal.returns-in-Err-clause-stores
+returns-in-Err-clause-stores g c =
+    let opened = c.in-Err.ensures.files in
+    (opened.0, opened.1, fault_widen (map now_of c.args.paths.now) (map now_of c.args.journals.now) opened.0 c.in-Err.fault _ _ opened.2)
+
 pub loop-fork-init : goal.loop-fork-init
 loop-fork-init g c =
     let given = c.into_iter-fork-iterator.ensures.into_iter_gives in
-    (refl, subst (ArePaired (g.O.Opens.gives c.args.opener.now) g.O.Opens.pairs 0 [] []) (sym c.new-stores.ensures.items) no_fork, ap length c.new-stores.ensures.items, given.1 ∙ c.in_ok-forks.forks.ok.0 ∙ ap length (sym given.0))
+    let opened = c.in-Ok.ensures.files in
+    let items = into_iter_items c.into_iter-fork-iterator.result in
+    let asked : Asked (map now_of c.args.paths.now) (map Some items) opened.0 = subst (λ (files : List g.row.F.Denot). Asked (map now_of c.args.paths.now) (map Some files) opened.0) (sym given.0) opened.2 in (
+      [],
+      opened.0,
+      opened.1,
+      asked_none (map now_of c.args.paths.now) c.args.journals.now now_of items opened.0 asked,
+      refl,
+      subst (ArePaired g.O.Opens.pairs 0 [] []) (sym c.new-stores.ensures.items) tt,
+      ap length c.new-stores.ensures.items,
+      given.1 ∙ c.in-Ok.forks.ok.0 ∙ ap length (sym given.0),
+    )
 
--- src/stores.rt:145:13
-pub returns-in_default-clause-unopened : goal.returns-in_default-clause-unopened
-returns-in_default-clause-unopened g c =
+pub returns-in_default-clause-stores : goal.returns-in_default-clause-stores
+returns-in_default-clause-stores g c =
+    let now = c.loop-fork in
+    let i = now.invariant in
     let names = c.args.journals.now in
-    let at = c.len-number.result in
-    let name = slice_index_or names at nowhere in
-    let all : length c.loop-fork.yielded < length (into_iter_items c.into_iter-fork-iterator.result) = fewer c.loop-fork.yielded _ _ _ c.in-Some.fork c.loop-fork.invariant.0 c.in-Some.ensures.steps.0 in
-    let count : length (into_iter_items c.into_iter-fork-iterator.result) ≡ length names = ap length c.into_iter-fork-iterator.ensures.into_iter_gives.0 ∙ c.in_ok-forks.ensures.count ∙ sym c.requires in
-    let same : at ≡ length c.loop-fork.yielded = c.len-number.ensures ∙ c.loop-fork.stores.ok.0 ∙ c.loop-fork.invariant.2 in
-    let lt : at < length names = omega (arith, all, count, same) in
-    λ said. inr (cant_at (g.O.Opens.gives c.args.opener.now) names now_of at name lt (same_default names at nowhere name lt) c.in_default.ensures)
+    let at = length now.yielded in
+    let items = into_iter_items c.into_iter-fork-iterator.result in
+    let same = i.6 in
+    let here : c.len-number.result ≡ at = c.len-number.ensures ∙ now.stores.ok.0 ∙ same in
+    let path = slice_index_or names c.len-number.result nowhere in
+    let all : at < length items = fewer now.yielded _ _ _ c.in-Some.fork i.4 c.in-Some.ensures.steps.0 in
+    let count : length items ≡ length names = ap length c.into_iter-fork-iterator.ensures.into_iter_gives.0 ∙ c.in-Ok.ensures.count ∙ sym c.requires in
+    let lt : at < length names = omega (arith, all, count) in
+    let is : path ≡ slice_index_or names at path = ap (λ (n : ℕ). slice_index_or names n nowhere) here ∙ same_default names at nowhere path lt in
+    let opening : Opening g.row.F.Denot = (path.now, None) in (
+      i.1 ++ opening ∷ [],
+      c.in_default.ensures ∙ ap (λ (t : List (Opening g.row.F.Denot)). t ++ opening ∷ []) i.2 ∙ append_assoc _ i.1 (opening ∷ []),
+      cant_next (map now_of c.args.paths.now) names now_of at path (items ++ i.0) i.1 lt is i.3,
+    )
 
--- src/stores.rt:143:5
 pub loop-fork-preserved : goal.loop-fork-preserved
 loop-fork-preserved g c =
     let now = c.loop-fork in
+    let i = now.invariant in
+    let before = map now_of c.args.paths.now in
     let names = c.args.journals.now in
     let at = length now.yielded in
+    let items = into_iter_items c.into_iter-fork-iterator.result in
     let fork = c.in-Some.fork in
     let steps = c.in-Some.ensures.steps.0 in
-    let same = now.invariant.2 in
+    let same = i.6 in
     let here : c.len-number.result ≡ at = c.len-number.ensures ∙ now.stores.ok.0 ∙ same in
-    let name = slice_index_or names c.len-number.result nowhere in
-    let all : at < length (into_iter_items c.into_iter-fork-iterator.result) = fewer now.yielded _ _ _ fork now.invariant.0 steps in
-    let count : length (into_iter_items c.into_iter-fork-iterator.result) ≡ length names = ap length c.into_iter-fork-iterator.ensures.into_iter_gives.0 ∙ c.in_ok-forks.ensures.count ∙ sym c.requires in
+    let path = slice_index_or names c.len-number.result nowhere in
+    let all : at < length items = fewer now.yielded _ _ _ fork i.4 steps in
+    let count : length items ≡ length names = ap length c.into_iter-fork-iterator.ensures.into_iter_gives.0 ∙ c.in-Ok.ensures.count ∙ sym c.requires in
     let lt : at < length names = omega (arith, all, count) in
-    let is : name ≡ slice_index_or names at name = ap (λ (n : ℕ). slice_index_or names n nowhere) here ∙ same_default names at nowhere name lt in (
-      append_assoc now.yielded (fork ∷ []) _ ∙ ap (λ (rest : List g.row.F.Denot). now.yielded ++ rest) (sym steps) ∙ now.invariant.0,
-      subst (ArePaired (g.O.Opens.gives c.args.opener.now) g.O.Opens.pairs 0 (now.yielded ++ fork ∷ []) _) (sym c.in_ok-push.ensures.items)
-          (ArePaired-step (g.O.Opens.gives c.args.opener.now) g.O.Opens.pairs now.yielded names now_of now.stores.items c.len-number.result fork c.in-Some-open.journal name _ lt is now.invariant.1 here c.in-Some-open.ensures c.journalled.ensures),
-      ap length c.in_ok-push.ensures.items ∙ length-append now.stores.items _ ∙ (let two = length-append now.yielded (fork ∷ []) in omega (arith, same, two)),
-      let was = now.invariant.3 in
+    let is : path ≡ slice_index_or names at path = ap (λ (n : ℕ). slice_index_or names n nowhere) here ∙ same_default names at nowhere path lt in
+    let journal = c.in-Some-open.journal in
+    let opening : Opening g.row.F.Denot = (path.now, Some journal) in
+    let more = asked_more before names now_of at path (items ++ i.0) journal i.1 lt is i.3 in
+    let asked = subst (λ (n : ℕ). Asked (before ++ map now_of (take n names)) (map Some ((items ++ i.0) ++ journal ∷ [])) (i.1 ++ opening ∷ [])) (sym (length-append now.yielded (fork ∷ []))) more in (
+      i.0 ++ journal ∷ [],
+      i.1 ++ opening ∷ [],
+      c.in-Some-open.ensures ∙ ap (λ (t : List (Opening g.row.F.Denot)). t ++ opening ∷ []) i.2 ∙ append_assoc _ i.1 (opening ∷ []),
+      subst (λ (files : List g.row.F.Denot). Asked (before ++ map now_of (take (length (now.yielded ++ fork ∷ [])) names)) (map Some files) (i.1 ++ opening ∷ [])) (append_assoc items i.0 (journal ∷ [])) asked,
+      append_assoc now.yielded (fork ∷ []) _ ∙ ap (λ (rest : List g.row.F.Denot). now.yielded ++ rest) (sym steps) ∙ i.4,
+      subst (ArePaired g.O.Opens.pairs 0 (now.yielded ++ fork ∷ []) (i.0 ++ journal ∷ [])) (sym c.in-Ok-push.ensures.items)
+          (ArePaired-push g.O.Opens.pairs 0 c.len-number.result now.yielded i.0 now.stores.items fork journal _ i.5 (here ∙ omega arith) c.journalled-store.ensures),
+      ap length c.in-Ok-push.ensures.items ∙ length-append now.stores.items _ ∙ (let two = length-append now.yielded (fork ∷ []) in omega (arith, same, two)),
+      let was = i.7 in
           let gone = c.in-Some.ensures.steps.1 in
           let short = ap length steps in
           omega (arith, was, gone, short),

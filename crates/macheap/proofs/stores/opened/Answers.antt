@@ -1,32 +1,69 @@
-use Rattle.std.proofs.Common.{List, ℕ, [], ◌+◌, take, map, sym, subst, slice_index_or, Bor}
+use Rattle.std.proofs.Common.{◌≡◌, List, ℕ, [], ◌∷◌, ◌++◌, ◌+◌, Some, None, take, map, sym, ap, subst, ◌∙◌, refl, append_assoc, slice_index_or, Bor}
+use Rattle.std.proofs.lemmas.List.{append-nil}
 use Rattle.clap.specs.Words.{Text}
-use Rattle.macheap.specs.Stores.{AreOf}
-use Rattle.macheap.proofs.Opening.{AreOf-step, all_opened, cant_at, same_default}
+use Rattle.macheap.specs.Stores.{Asked, Opening}
+use Rattle.macheap.proofs.Opening.{all_asked, asked_length, asked_more, cant_next, same_default, some_first}
 use Rattle.macheap.proofs.stores.opened.Goals as goal
 
 abbrev now_of : Bor (List ℕ) → Text
-now_of name = name.now
+now_of path = path.now
 
 abbrev nowhere : Bor (List ℕ)
 nowhere = record { ref_ptr = (0, 0); now = [] }
 
--- src/stores.rt:103:13
-pub returns-in_default-clause-unopened : goal.returns-in_default-clause-unopened
-returns-in_default-clause-unopened g c =
-    let names = c.args.names.now in
-    let at = c.loop-name.name-index in
-    let name = slice_index_or names at nowhere in
-    λ said. cant_at (g.O.Opens.gives c.args.opener.now) names now_of at name c.loop-name-test.true (same_default names at nowhere name c.loop-name-test.true) c.in_default.ensures
+pub loop-path-init : goal.loop-path-init
+loop-path-init g c = (
+  [],
+  sym (append-nil _),
+  subst (λ (files : List g.row.F.Denot). Asked [] (map Some files) []) (sym c.new-files.ensures.items) (record { paths_are = refl; files_are = refl }),
+)
 
--- src/stores.rt:101:5
-pub loop-name-preserved : goal.loop-name-preserved
-loop-name-preserved g c =
-    let names = c.args.names.now in
-    let at = c.loop-name.name-index in
-    let name = slice_index_or names at nowhere in
-    subst (AreOf (g.O.Opens.gives c.args.opener.now) (map now_of (take (at + 1) names))) (sym c.in_ok-push.ensures.items)
-    (AreOf-step (g.O.Opens.gives c.args.opener.now) names now_of at name c.loop-name.files.items c.in-Some.file c.loop-name-test.true (same_default names at nowhere name c.loop-name-test.true) c.loop-name.invariant c.in-Some.ensures)
+pub returns-in_default-clause-files : goal.returns-in_default-clause-files
+returns-in_default-clause-files g c =
+    let paths = c.args.paths.now in
+    let i = c.loop-path.invariant in
+    let at = c.loop-path.path-index in
+    let path = slice_index_or paths at nowhere in
+    let opening : Opening g.row.F.Denot = (path.now, None) in (
+      i.0 ++ opening ∷ [],
+      c.in_default.ensures ∙ ap (λ (t : List (Opening g.row.F.Denot)). t ++ opening ∷ []) i.1 ∙ append_assoc _ i.0 (opening ∷ []),
+      cant_next [] paths now_of at path c.loop-path.files.items i.0 c.loop-path-test.true (same_default paths at nowhere path c.loop-path-test.true) i.2,
+    )
 
--- src/stores.rt:91:1
+pub loop-path-preserved : goal.loop-path-preserved
+loop-path-preserved g c =
+    let paths = c.args.paths.now in
+    let i = c.loop-path.invariant in
+    let at = c.loop-path.path-index in
+    let path = slice_index_or paths at nowhere in
+    let file = c.in-Some.file in
+    let opening : Opening g.row.F.Denot = (path.now, Some file) in
+    let more = asked_more [] paths now_of at path c.loop-path.files.items file i.0 c.loop-path-test.true (same_default paths at nowhere path c.loop-path-test.true) i.2 in (
+      i.0 ++ opening ∷ [],
+      c.in-Some.ensures ∙ ap (λ (t : List (Opening g.row.F.Denot)). t ++ opening ∷ []) i.1 ∙ append_assoc _ i.0 (opening ∷ []),
+      subst (λ (files : List g.row.F.Denot). Asked (map now_of (take (at + 1) paths)) (map Some files) (i.0 ++ opening ∷ [])) (sym c.in-Ok.ensures.items) more,
+    )
+
+pub returns-in-Err-clause-files : goal.returns-in-Err-clause-files
+returns-in-Err-clause-files g c =
+    let paths = c.args.paths.now in
+    let i = c.loop-path.invariant in
+    let at = c.loop-path.path-index in
+    let path = slice_index_or paths at nowhere in
+    let file = c.in-Some.file in
+    let opening : Opening g.row.F.Denot = (path.now, Some file) in
+    let more = asked_more [] paths now_of at path c.loop-path.files.items file i.0 c.loop-path-test.true (same_default paths at nowhere path c.loop-path-test.true) i.2 in (
+      i.0 ++ opening ∷ [],
+      c.in-Some.ensures ∙ ap (λ (t : List (Opening g.row.F.Denot)). t ++ opening ∷ []) i.1 ∙ append_assoc _ i.0 (opening ∷ []),
+      some_first [] paths now_of (at + 1) (c.loop-path.files.items ++ file ∷ []) (i.0 ++ opening ∷ []) more,
+    )
+
+pub returns-clause-files : goal.returns-clause-files
+returns-clause-files g c =
+    let i = c.loop-path.invariant in
+    (i.0, i.1, all_asked [] c.args.paths.now now_of c.loop-path.path-index c.loop-path.files.items i.0 c.loop-path-test.false i.2)
+
 pub returns-clause-count : goal.returns-clause-count
-returns-clause-count g c = all_opened (g.O.Opens.gives c.args.opener.now) c.args.names.now now_of c.loop-name.name-index c.loop-name.files.items c.loop-name-test.false c.loop-name.invariant
+returns-clause-count g c =
+    let i = c.loop-path.invariant in
+    asked_length c.args.paths.now now_of c.loop-path.files.items i.0 (all_asked [] c.args.paths.now now_of c.loop-path.path-index c.loop-path.files.items i.0 c.loop-path-test.false i.2)

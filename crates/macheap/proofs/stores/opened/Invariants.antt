@@ -1,7 +1,10 @@
-use Rattle.std.proofs.Common.{map, take}
-use Rattle.macheap.specs.Stores.{AreOf}
+use Rattle.std.proofs.Common.{◌≡◌, List, [], ◌++◌, Some, map, take}
+use Rattle.macheap.specs.Stores.{Asked, Opening}
 use Rattle.macheap.proofs.stores.opened.Given as goal
 
--- the files of the names so far
-abbrev pub invariant-loop-name : goal.invariant-loop-name
-invariant-loop-name g l = AreOf (g.O.Opens.gives l.fn.opener) (map (λ name. name.now) (take l.name-index l.names)) l.files.items
+-- the files of the paths so far
+abbrev pub invariant-loop-path : goal.invariant-loop-path
+invariant-loop-path g l =
+    (openings : List (Opening g.row.F.Denot))
+    × (g.O.Opens.openings l.opener ≡ g.O.Opens.openings l.fn.opener ++ openings)
+    × Asked ([] ++ map (λ path. path.now) (take l.path-index l.paths)) (map Some l.files.items) openings

@@ -1,48 +1,59 @@
-use Rattle.std.proofs.Common.{◌≡◌, refl, ap}
+use Rattle.std.proofs.Common.{◌≡◌, ℕ, List, [], unwrap_or, refl, sym, ap, subst}
 use Rattle.script_text.specs.Script.{IsFaultAt, IsScript}
 use Rattle.script_run.specs.Line.{start_of}
-use Rattle.script_run.proofs.Ending.{with_input, too_long, for_all, fault_ends, no_memory_ends, script_ends}
+use Rattle.script_run.specs.Run.{Ends}
+use Rattle.script_run.proofs.Ending.{fault_told, none_at_start}
+use Rattle.script_run.proofs.Known.{Took-none}
 use Rattle.script_run.proofs.Shown.{run-shows}
 use Rattle.script_run.proofs.Agreeing.{runs-agree}
 use Rattle.script_run.proofs.running.run.Goals as goal
 
 pub returns-in-Err-TooLong-clause-ends : goal.returns-in-Err-TooLong-clause-ends
 returns-in-Err-TooLong-clause-ends g c =
+    let r = rw c.in-Err-TooLong.field-0-is at c.in-Err-TooLong.ensures.read in
     let f = c.tell_fault.ensures.ends in
-    (f.0, f.1, too_long (g.R.Read.remaining c.args.reader.now.inner) _ (rw c.in-Err-TooLong.field-0-is at c.in-Err-TooLong.ensures.long refl) (λ input long. fault_ends g.S.ForkStore (start_of c.args.spec c.args.stores.items) input 0 _ f.0 c.args.stores.items long f.2 refl))
+    (r.0, f.0, r.1, f.1, fault_told g.S.ForkStore (start_of c.args.spec c.args.stores.items) (unwrap_or (g.R.Read.remaining c.args.reader.now.inner) r.0) c.args.stores.items refl 0 _ f.0 r.2 f.2)
 
 pub returns-in-Err-Memory-clause-ends : goal.returns-in-Err-Memory-clause-ends
 returns-in-Err-Memory-clause-ends g c =
+    let r = rw c.in-Err-Memory.field-0-is at c.in-Err-Memory.ensures.read in
     let f = c.tell_no_memory.ensures.ends in
-    (f.0, f.1, for_all (g.R.Read.remaining c.args.reader.now.inner) _ (λ input. no_memory_ends g.S.ForkStore (start_of c.args.spec c.args.stores.items) input _ f.0 c.args.stores.items refl f.2))
+    (r.0, f.0, r.1, f.1, none_at_start g.S.ForkStore (start_of c.args.spec c.args.stores.items) (unwrap_or (g.R.Read.remaining c.args.reader.now.inner) r.0) c.args.stores.items refl _ f.0 f.2)
+
+pub returns-in-Err-Fault-clause-ends : goal.returns-in-Err-Fault-clause-ends
+returns-in-Err-Fault-clause-ends g c =
+    let r = rw c.in-Err-Fault.field-0-is at c.in-Err-Fault.ensures.read in
+    (r.0, [], r.1, Took-none _ _, ([], (refl, refl), refl))
 
 pub returns-in-Err-Line-clause-ends : goal.returns-in-Err-Line-clause-ends
 returns-in-Err-Line-clause-ends g c =
+    let r = c.in-Ok.ensures.read in
     let f = c.tell_fault-in-Err-Line.ensures.ends in
     let is : IsFaultAt c.in-Ok.text.items c.in-Err-Line.line = rw (← c.deref.ensures.value) (rw c.in-Err-Line.field-0-is at c.in-Err-Line.ensures.fault) in
     let told = rw c.in-Err-Line.line-is at f.2 in
-    (f.0, f.1, with_input (g.R.Read.remaining c.args.reader.now.inner) c.in-Ok.text.items _ c.in-Ok.ensures.text (fault_ends g.S.ForkStore (start_of c.args.spec c.args.stores.items) c.in-Ok.text.items c.in-Err-Line.line _ f.0 c.args.stores.items is told refl))
+    (r.0, f.0, r.1, f.1, fault_told g.S.ForkStore (start_of c.args.spec c.args.stores.items) (unwrap_or (g.R.Read.remaining c.args.reader.now.inner) r.0) c.args.stores.items refl c.in-Err-Line.line _ f.0 (subst (λ (t : List ℕ). IsFaultAt t c.in-Err-Line.line) r.2.0 is) told)
 
 pub returns-in-Err-HostFull-clause-ends : goal.returns-in-Err-HostFull-clause-ends
 returns-in-Err-HostFull-clause-ends g c =
+    let r = c.in-Ok.ensures.read in
     let f = c.tell_no_memory-in-Err-HostFull.ensures.ends in
-    (f.0, f.1, for_all (g.R.Read.remaining c.args.reader.now.inner) _ (λ input. no_memory_ends g.S.ForkStore (start_of c.args.spec c.args.stores.items) input _ f.0 c.args.stores.items refl f.2))
+    (r.0, f.0, r.1, f.1, none_at_start g.S.ForkStore (start_of c.args.spec c.args.stores.items) (unwrap_or (g.R.Read.remaining c.args.reader.now.inner) r.0) c.args.stores.items refl _ f.0 f.2)
 
 pub returns-in_default-clause-ends : goal.returns-in_default-clause-ends
 returns-in_default-clause-ends g c =
+    let r = c.in-Ok.ensures.read in
     let f = c.tell_no_memory-in_default.ensures.ends in
-    (f.0, f.1, for_all (g.R.Read.remaining c.args.reader.now.inner) _ (λ input. no_memory_ends g.S.ForkStore (start_of c.args.spec c.args.stores.items) input _ f.0 c.args.stores.items refl f.2))
+    (r.0, f.0, r.1, f.1, none_at_start g.S.ForkStore (start_of c.args.spec c.args.stores.items) (unwrap_or (g.R.Read.remaining c.args.reader.now.inner) r.0) c.args.stores.items refl _ f.0 f.2)
 
 pub returns-clause-ends : goal.returns-clause-ends
 returns-clause-ends g c =
+    let r = c.in-Ok.ensures.read in
+    let input = unwrap_or (g.R.Read.remaining c.args.reader.now.inner) r.0 in
     let lines = c.run_lines-end.ensures.ends in
     let start : c.new-machine.result ≡ start_of c.args.spec c.args.stores.items = c.new-machine.ensures.zone c.args.spec (ap (λ m. m.shape) c.in-Ok-create.ensures) (ap (λ m. m.heap) c.in-Ok-create.ensures) in
-    let is : IsScript c.in-Ok.text.items c.in-Ok-parse_script.script = rw (← c.deref.ensures.value) c.in-Ok-parse_script.ensures.script in (
-      lines.0,
-      lines.1,
-      with_input (g.R.Read.remaining c.args.reader.now.inner) c.in-Ok.text.items _ c.in-Ok.ensures.text
-          (script_ends g.S.ForkStore (start_of c.args.spec c.args.stores.items) c.in-Ok.text.items c.in-Ok-parse_script.script c.run_lines-end.new.machine c.into_stores.result.items is c.into_stores.ensures _ lines.0 (rw start at lines.2)),
-    )
+    let is : IsScript c.in-Ok.text.items c.in-Ok-parse_script.script = rw (← c.deref.ensures.value) c.in-Ok-parse_script.ensures.script in
+    let ends = rw start at (lines.2 input (subst (λ (t : List ℕ). IsScript t c.in-Ok-parse_script.script) r.2.0 is)) in
+    (r.0, lines.0, r.1, lines.1, subst (λ left. Ends g.S.ForkStore (start_of c.args.spec c.args.stores.items) input c.run_lines-end.result lines.0 left) (sym c.into_stores.ensures) ends)
 
 pub returns-clause-read_fault : goal.returns-clause-read_fault
 returns-clause-read_fault g c = λ fault. absurd (c.run_lines-end.ensures.no_read_fault fault)

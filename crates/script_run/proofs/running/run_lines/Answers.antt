@@ -1,40 +1,43 @@
-use Rattle.std.proofs.Common.{◌≡◌, ◌+◌, [], ◌∷◌, ◌++◌, refl, sym, inl, inr, ◌∙◌}
+use Rattle.std.proofs.Common.{◌≡◌, ◌+◌, ℕ, List, [], ◌∷◌, ◌++◌, refl, sym, subst, ◌∙◌}
 use Rattle.std.specs.List.{concat}
 use Rattle.std.proofs.lemmas.List.{append-nil}
-use Rattle.script_run.specs.Run.{IsFront}
-use Rattle.script_run.proofs.Known.{Appends-then}
-use Rattle.script_run.proofs.Left.{next_at, left_behind, all_gone}
-use Rattle.script_run.proofs.Ending.{IsRun-step, all_run, concat-push, front_behind, told_behind}
+use Rattle.script_run.specs.Counting.{Took}
+use Rattle.script_run.specs.Run.{IsProperFront, at_start, at_line}
+use Rattle.script_run.proofs.Known.{Took-then}
+use Rattle.script_run.proofs.Left.{next_at, left_behind}
+use Rattle.script_run.proofs.Ending.{IsRun-step, all_told, concat-push, none_told, ran_of, reply_cut}
 use Rattle.script_run.proofs.running.run_lines.Goals as goal
 
 pub returns-in_default-clause-ends : goal.returns-in_default-clause-ends
 returns-in_default-clause-ends g c =
     let told = c.tell_no_memory.ensures.ends in
-    (told.0, told.1, told_behind g.S.ForkStore c.args.machine.now c.args.script.now [] c.open_first.new.self _ told.0 (inl (refl, c.in_default.ensures.unchanged)) told.2)
+    (told.0, told.1, λ input is. none_told g.S.ForkStore c.args.machine.now input _ [] _ told.0 (at_start refl c.in_default.ensures.unchanged) told.2)
 
 pub returns-then-not-write_whole-clause-ends : goal.returns-then-not-write_whole-clause-ends
 returns-then-not-write_whole-clause-ends g c =
     let w = c.if-not-write_whole.ensures.written in
+    let machine = c.open_first.new.self in
     let text = c.open_first.new.text.items in
-    let front : IsFront w.0 text = rw (← c.deref.ensures.value) w.2 in
-    (w.0, w.1, (concat (text ∷ []), inl (0, text ∷ [], (c.open_first.new.self, c.in-Ok.ensures.opens, refl), refl), (front.0, append-nil text ∙ front.1)))
+    let front : IsProperFront w.0 text = rw (← c.deref.ensures.value) w.2 in
+    (w.0, w.1, λ input is. reply_cut g.S.ForkStore c.args.machine.now input _ (ran_of g.S.ForkStore c.args.machine.now input c.args.script.now 0 (text ∷ []) machine is (machine, c.in-Ok.ensures.opens, refl)) [] text w.0 refl refl front)
 
 pub loop-line-init : goal.loop-line-init
 loop-line-init g c =
     let w = c.if-not-write_whole.ensures.written in
     let text = c.open_first.new.text.items in
-    let whole : w.0 ≡ text = w.2 ∙ c.deref.ensures.value in
-    (text ∷ [], rw (append-nil, ← whole) w.1, 0, sym c.lines-lines.ensures, (c.open_first.new.self, c.in-Ok.ensures.opens, refl), c.if-not-write_whole.ensures.failures)
+    let whole : w.0 ≡ text ++ [] = w.2 ∙ c.deref.ensures.value ∙ sym (append-nil text) in
+    (text ∷ [], subst (λ (t : List ℕ). Took g.W.Write.contents c.args.writer.now t c.write_whole.new.writer) whole w.1, 0, sym c.lines-lines.ensures, (c.open_first.new.self, c.in-Ok.ensures.opens, refl), c.if-not-write_whole.ensures.failures)
 
 pub returns-in_default-run_line-clause-ends : goal.returns-in_default-run_line-clause-ends
 returns-in_default-run_line-clause-ends g c =
     let told = c.tell_no_memory-in_default-run_line.ensures.ends in
     let i = c.loop-line.invariant in
-    let left = i.3 ∙ c.in-Some.ensures.some in (
+    let stopped = c.in_default-run_line.ensures in (
       concat i.0 ++ told.0,
-      Appends-then _ _ _ _ _ i.1 told.1,
-      told_behind g.S.ForkStore c.args.machine.now c.args.script.now (concat i.0) c.run_line.new.self _ told.0
-          (inr (i.2, c.in-Some.line, next_at c.args.script.now _ i.2 c.in-Some.line left, i.0, c.loop-line.machine, i.4, refl, c.in_default-run_line.ensures.stops)) told.2,
+      Took-then _ _ _ _ _ _ i.1 told.1,
+      λ input is. none_told g.S.ForkStore c.args.machine.now input _ i.0 _ told.0
+          (at_line (ran_of g.S.ForkStore c.args.machine.now input c.args.script.now i.2 i.0 c.loop-line.machine is i.4) c.in-Some.line _ c.run_line.new.self
+          (i.3 ∙ c.in-Some.ensures.some) refl stopped.stops stopped.memory refl) told.2,
     )
 
 pub returns-in_default-run_line-clause-write_fault : goal.returns-in_default-run_line-clause-write_fault
@@ -47,18 +50,15 @@ pub returns-then-not-write_whole-2-clause-ends : goal.returns-then-not-write_who
 returns-then-not-write_whole-2-clause-ends g c =
     let w = c.if-not-write_whole-2.ensures.written in
     let i = c.loop-line.invariant in
-    let left = i.3 ∙ c.in-Some.ensures.some in
+    let lines = c.args.script.now in
+    let machine = c.run_line.new.self in
     let text = c.run_line.new.text.items in
-    let at = next_at c.args.script.now _ i.2 c.in-Some.line left in
-    let run = IsRun-step g.S.ForkStore c.args.machine.now c.args.script.now i.2 i.0 c.loop-line.machine c.in-Some.line text c.run_line.new.self at i.4 c.in-Ok-run_line.ensures.does in
-    let front : IsFront w.0 text = rw (← c.deref-in-Some.ensures.value) w.2 in (
+    let at = next_at lines _ i.2 c.in-Some.line (i.3 ∙ c.in-Some.ensures.some) in
+    let run = IsRun-step g.S.ForkStore c.args.machine.now lines i.2 i.0 c.loop-line.machine c.in-Some.line text machine at i.4 c.in-Ok-run_line.ensures.does in
+    let front : IsProperFront w.0 text = rw (← c.deref-in-Some.ensures.value) w.2 in (
       concat i.0 ++ w.0,
-      Appends-then _ _ _ _ _ i.1 w.1,
-      (
-        concat (i.0 ++ text ∷ []),
-        inl (i.2 + 1, i.0 ++ text ∷ [], run, refl),
-        front_behind i.0 text w.0 front,
-      ),
+      Took-then _ _ _ _ _ _ i.1 w.1,
+      λ input is. reply_cut g.S.ForkStore c.args.machine.now input _ (ran_of g.S.ForkStore c.args.machine.now input lines (i.2 + 1) (i.0 ++ text ∷ []) machine is run) i.0 text w.0 refl refl front,
     )
 
 pub returns-then-not-write_whole-2-clause-write_fault : goal.returns-then-not-write_whole-2-clause-write_fault
@@ -72,9 +72,10 @@ loop-line-preserved g c =
     let text = c.run_line.new.text.items in
     let whole : w.0 ≡ text = w.2 ∙ c.deref-in-Some.ensures.value in
     let at = next_at c.args.script.now _ i.2 c.in-Some.line left in
-    let run = IsRun-step g.S.ForkStore c.args.machine.now c.args.script.now i.2 i.0 c.loop-line.machine c.in-Some.line text c.run_line.new.self at i.4 c.in-Ok-run_line.ensures.does in (
+    let run = IsRun-step g.S.ForkStore c.args.machine.now c.args.script.now i.2 i.0 c.loop-line.machine c.in-Some.line text c.run_line.new.self at i.4 c.in-Ok-run_line.ensures.does in
+    let both : concat i.0 ++ w.0 ≡ concat (i.0 ++ text ∷ []) = rw whole (sym (concat-push i.0 text)) in (
       i.0 ++ text ∷ [],
-      rw (concat-push, ← whole) (Appends-then _ _ _ _ _ i.1 w.1),
+      subst (λ (t : List ℕ). Took g.W.Write.contents c.args.writer.now t c.write_whole-in-Some.new.writer) both (Took-then _ _ _ _ _ _ i.1 w.1),
       i.2 + 1,
       left_behind c.args.script.now _ i.2 c.in-Some.line left,
       run,
@@ -84,7 +85,7 @@ loop-line-preserved g c =
 pub returns-clause-ends : goal.returns-clause-ends
 returns-clause-ends g c =
     let i = c.loop-line.invariant in
-    (concat i.0, i.1, (i.0, all_run g.S.ForkStore c.args.machine.now c.args.script.now i.0 c.loop-line.machine i.2 (all_gone c.args.script.now i.2 (i.3 ∙ c.in_default-next.ensures.none.0)) i.4, refl))
+    (concat i.0, i.1, λ input is. all_told g.S.ForkStore c.args.machine.now input _ (ran_of g.S.ForkStore c.args.machine.now input c.args.script.now i.2 i.0 c.loop-line.machine is i.4) (i.3 ∙ c.in_default-next.ensures.none.0) refl)
 
 pub returns-clause-no_write_failed : goal.returns-clause-no_write_failed
 returns-clause-no_write_failed g c = λ other. c.loop-line.invariant.5
