@@ -1,5 +1,5 @@
 -- The disks of the resource files: how a device may fail, what an update leaves on a disk, and what opening reads.
-use Rattle.std.specs.Prelude.{◌≡◌, ℕ, ◌<◌, ◌≤◌, Bool, true, false, List, [], length, replicate, Result, Ok, Err}
+use Rattle.std.specs.Prelude.{◌≡◌, ℕ, ◌<◌, ◌≤◌, Bool, true, false, List, [], length, replicate, Result, Ok, Err, ⊤}
 use Rattle.mac_base.specs.declared.error.OsErr.{OsErr}
 use Rattle.mac_base.specs.declared.error.OsErr.TheVariants.{EofErr, MapReadErr, IoErr}
 use Rattle.fork_bytes.specs.declared.table.Table.{Table}
@@ -36,6 +36,10 @@ pub data Reads (disk : Disk) : Result (FileTable) OsErr → Type 0 where
 -- what a replacement that failed may leave: by the new fork and the old one
 abbrev pub LeaveRelation : Type 1
 LeaveRelation = Disk → Disk → Disk → Type 0
+
+-- a device may leave anything
+abbrev pub Anything : LeaveRelation
+Anything new old left = ⊤
 
 -- What may become of disks: what a replacement that failed may leave, and what an opening may read.
 pub record DiskRelations : Type 1 where

@@ -37,17 +37,17 @@ use Rattle.res_table.specs.Rows.{is_changed, with_handle}
 use Rattle.fork_bytes.specs.Written.{written}
 use Rattle.res_table.specs.declared.chain.RowPlace.{RowPlace}
 use Rattle.res_calls.specs.Changes.{FileRow, FileTable, row_changed, rows_of, saved_table}
-use Rattle.res_calls.specs.Device.{Device, DiskRelations, LeaveRelation, Works as DeviceWorks, FailsBefore, FailsWriting, device_works, read_truly}
+use Rattle.res_calls.specs.Device.{Device, DiskRelations, Works as DeviceWorks, FailsBefore, FailsWriting, device_works}
 use Rattle.res_calls.specs.Files.{ResState, ResourceEnd, disk_of, refused_with, with_disk, with_files, with_heap}
 use Rattle.res_calls.specs.Loads.{handle_made, load_end, loaded, loaded_flags, loaded_results, loads_bytes, placed_end, placing, row_wanted, unloaded}
 use Rattle.res_calls.specs.Quiet.{quiet_state}
-use Rattle.res_calls.specs.Steps.{GetsPlace, GetsRow, LeavesDisk, ResourceStepBy, StepsUnless, Work, Gets, Updates, Opens, Quiet, Works, behind_memory, opened_end, updating, work_of, Memory}
+use Rattle.res_calls.specs.Steps.{GetsPlace, GetsRow, ResourceStepBy, StepsUnless, Work, Gets, Updates, Opens, Quiet, Works, behind_memory, opened_end, updating, work_of, Memory}
 use Rattle.res_calls.specs.Tests.{resource_refusal}
 use Rattle.res_calls.specs.Updates.{Update, behind_update, disposed, file_update, handles_of, row_passes, row_update, update_end}
 use Rattle.zone_laws.proofs.Tables.{live_at-with_live_same}
 use Rattle.heap_laws.specs.Act.{Act, Calls, Does, Done, AreDone, Loads, Moment, Unloads, moment_after}
 use Rattle.heap_laws.proofs.Fewer.{Ended, quiet, refused, served, step-ended, unserved}
-use Rattle.res_laws.specs.Acts.{Anything, IsActOf, IsInner}
+use Rattle.res_laws.specs.Acts.{IsActOf, IsInner}
 use Rattle.res_laws.specs.Tools.{act_of}
 
 module _ (loans : Loans) where
@@ -303,32 +303,3 @@ module _ (loans : Loans) where
   -- what a call of the Resource Manager does to the heap is a run of acts
   pub made-of-acts : (disks : DiskRelations) (device : Device) (old : ResState) (rc : ResourceCall) (asks : List Ask) (end : ResourceEnd) → LoansAreFixed old.heap → ResourceStepBy Memory disks device old rc asks end → MadeOf old.shape (IsActOf old rc) old.heap end.state.heap
   made-of-acts disks device old rc asks end fixed step = steps-done old rc fixed disks device asks end (resource_refusal old rc) step
-
--- ---- whatever a device may leave, it may leave anything
-
-module _ (MayLeave : LeaveRelation) (device : Device) (old : ResState) (rc : ResourceCall) (asks : List Ask) (end : ResourceEnd) where
-  any-disk : (device : Device) (u : Update) (disk : List ℕ) → LeavesDisk Memory (read_truly MayLeave) device u disk → LeavesDisk Memory (read_truly Anything) device u disk
-  any-disk (FailsWriting left) u disk may = tt
-  any-disk DeviceWorks u disk may = tt
-  any-disk FailsBefore u disk may = tt
-
-  any-row : (p : RowPlace) (r : FileRow) (o : Option MemoryCall) → GetsRow Memory (read_truly MayLeave) device old rc asks end p r o → GetsRow Memory (read_truly Anything) device old rc asks end p r o
-  any-row p r None gets = gets
-  any-row p r (Some inner) gets = gets
-
-  any-place : (p : RowPlace) (o : Option FileRow) → GetsPlace Memory (read_truly MayLeave) device old rc asks end p o → GetsPlace Memory (read_truly Anything) device old rc asks end p o
-  any-place p None gets = gets
-  any-place p (Some r) gets = any-row p r (placing old.heap.table (loads_bytes old rc) r) gets
-
-  any-work : (w : Work) → Works Memory (read_truly MayLeave) device old rc asks end w → Works Memory (read_truly Anything) device old rc asks end w
-  any-work (Gets p) works = any-place p (row_at p old.files) works
-  any-work (Updates u) works = (works.0, any-disk device u (disk_of u.file old) works.1, works.2)
-  any-work (Opens k) works = works
-  any-work Quiet works = works
-
-  any-steps : (o : Option OsErr) → StepsUnless Memory (read_truly MayLeave) o device old rc asks end → StepsUnless Memory (read_truly Anything) o device old rc asks end
-  any-steps (Some code) step = step
-  any-steps None step = any-work (work_of old rc) step
-
-  pub anything-left : ResourceStepBy Memory (read_truly MayLeave) device old rc asks end → ResourceStepBy Memory (read_truly Anything) device old rc asks end
-  anything-left step = any-steps (resource_refusal old rc) step

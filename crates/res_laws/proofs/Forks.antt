@@ -32,14 +32,14 @@ use Rattle.res_table.specs.declared.chain.RowPlace.{RowPlace}
 use Rattle.res_table.proofs.Adding.{insert-at-end}
 use Rattle.res_calls.specs.Attributes.{marked, replaced_attributes}
 use Rattle.res_calls.specs.Changes.{FileRow, FileTable, Files, handles_forgotten, row_changed, saved_table}
-use Rattle.res_calls.specs.Device.{Device, Disk, ReadsBy, Works as DeviceWorks, FailsBefore, FailsWriting, empty, fork, read_truly}
+use Rattle.res_calls.specs.Device.{Anything, Device, Disk, ReadsBy, Works as DeviceWorks, FailsBefore, FailsWriting, empty, fork, read_truly}
 use Rattle.res_calls.specs.Files.{ResState, ResourceEnd, disk_of, file_named, refused_with, with_disk, with_files, with_heap}
 use Rattle.res_calls.specs.Loads.{found_end, handle_made, loaded, loaded_results, loads_bytes, placed_end, placing, read_fails, row_wanted, unloaded}
 use Rattle.res_calls.specs.Quiet.{attributes_changed, quiet_end, quiet_state}
 use Rattle.res_calls.specs.Steps.{Gets, GetsPlace, GetsRow, IsSaved, Memory, Opens, Quiet, ReadsBack, StepsUnless, Work, Works, behind_memory, opened_end, update_in, updating, work_of}
 use Rattle.res_calls.specs.Tests.{resource_refusal}
 use Rattle.res_calls.specs.Updates.{Update, disposed, new_row, row_passes, update_end, update_of, updated_at, updated_table}
-use Rattle.res_laws.specs.Acts.{Anything}
+use Rattle.res_calls.proofs.Answering.{honest_step}
 use Rattle.res_laws.specs.Forks.{HasBytes, ReadOffForks}
 use Rattle.res_laws.specs.Tools.{Called, IsToolRun, ToolDoes, Tools, tools_after}
 
@@ -412,24 +412,23 @@ module _ (device : Device) (old : ResState) (asks : List Ask) (end : ResourceEnd
   steps-keep rc (Some code) is step reads = ended (refused_with code old) step.1 kept
   steps-keep rc None is step reads = works-keep rc is step reads
 
-tool-kept : (old : Tools) (c : Call) (asks : List Ask) (outcome : Outcome) (new : Tools) → Kept old.resources
-    → ToolDoes old c asks outcome new → Kept new.resources
-tool-kept old (MemoryCalls c) asks outcome new kept does =
-    subst Kept (sym does.2) (forgotten-kept old.resources (disposed_of c asks outcome) old.resources.files kept)
-tool-kept old (Loan c) asks outcome new kept does = subst Kept (sym does.1) kept
-tool-kept old (Resource rc) asks outcome new kept does =
-    let end : ResourceEnd = record { outcome = outcome; state = new.resources } in
-    steps-keep does.0 old.resources asks end kept rc (resource_refusal old.resources rc) refl does.1 does.4
-tool-kept old MemError asks outcome new kept does = subst Kept (sym does.0) kept
-tool-kept old ResError asks outcome new kept does = subst Kept (sym does.0) kept
+-- where the devices are honest, a call keeps them
+module _ (honest : Type 0) (is : honest) where
+  tool-kept : (old : Tools) (c : Call) (asks : List Ask) (outcome : Outcome) (new : Tools) → Kept old.resources → ToolDoes honest old c asks outcome new → Kept new.resources
+  tool-kept old (MemoryCalls c) asks outcome new kept does = subst Kept (sym does.2) (forgotten-kept old.resources (disposed_of c asks outcome) old.resources.files kept)
+  tool-kept old (Loan c) asks outcome new kept does = subst Kept (sym does.1) kept
+  tool-kept old (Resource rc) asks outcome new kept does =
+      let step = does.0 in
+      let end : ResourceEnd = record { outcome = outcome; state = new.resources } in
+      steps-keep step.device old.resources asks end kept rc (resource_refusal old.resources rc) refl
+      (honest_step honest ⊤ (λ k. ⊤) Memory Anything old.resources rc asks outcome new.resources is step) (does.3 is)
+  tool-kept old MemError asks outcome new kept does = subst Kept (sym does.0) kept
+  tool-kept old ResError asks outcome new kept does = subst Kept (sym does.0) kept
 
-run-kept : (old : Tools) (first later : List Called) → Kept old.resources → IsToolRun old (first ++ later)
-    → Kept (tools_after old first).resources
-run-kept old [] later kept is = kept
-run-kept old (c ∷ first) later kept is = run-kept c.tools first later (tool-kept old c.call c.asks c.outcome c.tools kept is.0) is.1
+  run-kept : (old : Tools) (first later : List Called) → Kept old.resources → IsToolRun honest old (first ++ later) → Kept (tools_after old first).resources
+  run-kept old [] later kept run = kept
+  run-kept old (c ∷ first) later kept run = run-kept c.tools first later (tool-kept old c.call c.asks c.outcome c.tools kept run.0) run.1
 
--- where no file was open
-pub run-reads : (start : Tools) (first later : List Called) → start.resources.files ≡ no_files → IsToolRun start (first ++ later)
-    → ReadOffForks (tools_after start first).resources
-run-reads start first later none is =
-    kept-reads (tools_after start first).resources (run-kept start first later (subst (FilesKept start.resources) (sym none) tt) is)
+  -- so it is where no file was open
+  pub run-reads : (start : Tools) (first later : List Called) → start.resources.files ≡ no_files → IsToolRun honest start (first ++ later) → ReadOffForks (tools_after start first).resources
+  run-reads start first later none run = kept-reads (tools_after start first).resources (run-kept start first later (subst (FilesKept start.resources) (sym none) tt) run)

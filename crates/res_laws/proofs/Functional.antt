@@ -1,5 +1,6 @@
 -- Calls in which no device fails do one thing.
 use Rattle.std.proofs.Common.{◌≡◌, ℕ, Bool, true, false, cond, List, [], ◌++◌, length, Option, Some, None, Ok, Result, refl, ap, sym, ◌∙◌, arith}
+use Rattle.std.specs.Prelude.{⊤}
 use Rattle.std.proofs.lemmas.List.{append_cancel_left}
 use Rattle.mac_base.specs.declared.error.OsErr.{OsErr}
 use Rattle.mac_calls.specs.declared.call.Call.{Call}
@@ -122,7 +123,7 @@ module _ (MayLeave : LeaveRelation) (old : Before) where
 
   -- it does what it may, and goes so
   abbrev pub EndsSo : Call → Ended → Type 0
-  EndsSo call e = ToolDoes old.tools call e.asks e.outcome e.tools × GoesSo call e
+  EndsSo call e = ToolDoes ⊤ old.tools call e.asks e.outcome e.tools × GoesSo call e
 
   same-end : (a b : Ended) → a.asks ≡ b.asks → a.outcome ≡ b.outcome → a.tools.resources ≡ b.tools.resources → a.tools.loans ≡ b.tools.loans → a.left ≡ b.left → a ≡ b
   same-end a b asks outcome resources loans left =
@@ -152,7 +153,7 @@ module _ (MayLeave : LeaveRelation) (old : Before) where
       let end : ResourceEnd = record { outcome = a.outcome; state = a.tools.resources } in
       let end' : ResourceEnd = record { outcome = b.outcome; state = b.tools.resources } in
       let same = steps-agree old.answers a.left b.left MayLeave old.tools.resources call a.asks b.asks end end' x.1.0 y.1.0 in
-      same-end a b same.0 (ap (λ (e : ResourceEnd). e.outcome) same.1) (ap (λ (e : ResourceEnd). e.state) same.1) (x.0.2 ∙ sym y.0.2)
+      same-end a b same.0 (ap (λ (e : ResourceEnd). e.outcome) same.1) (ap (λ (e : ResourceEnd). e.state) same.1) (x.0.1 ∙ sym y.0.1)
       (append_cancel_left (answers_in a.asks) a.left b.left (sym x.1.1 ∙ y.1.1 ∙ ap (λ asks. answers_in asks ++ b.left) (sym same.0)))
   ends-agree MemError a b x y = same-end a b (x.1.0 ∙ sym y.1.0) (x.1.2 ∙ sym y.1.2) (x.0.0 ∙ sym y.0.0) (x.0.1 ∙ sym y.0.1) (x.1.1 ∙ sym y.1.1)
   ends-agree ResError a b x y = same-end a b (x.1.0 ∙ sym y.1.0) (x.1.2 ∙ sym y.1.2) (x.0.0 ∙ sym y.0.0) (x.0.1 ∙ sym y.0.1) (x.1.1 ∙ sym y.1.1)

@@ -9,7 +9,6 @@ use Rattle.res_table.specs.declared.chain.RowPlace.{RowPlace}
 use Rattle.res_calls.specs.Changes.{FileRow}
 use Rattle.res_calls.specs.Files.{ResState}
 use Rattle.res_calls.specs.Loads.{loaded_flags, loads_bytes, placing, row_wanted}
-use Rattle.res_calls.specs.Device.{LeaveRelation}
 use Rattle.heap_laws.specs.Act.{Act, Calls, Loads, OnLoan, Unloads}
 
 -- The call of the Memory Manager that a call of the Resource Manager makes: for a handle that it lets go of or takes up, for those of a
@@ -29,7 +28,3 @@ IsActOf old call (Calls inner asks outcome) = IsInner old call inner
 IsActOf old call (OnLoan inner outcome) = ⊥
 IsActOf old call (Loads h flags bytes) = (p : RowPlace) × (r : FileRow) × (row_wanted old call ≡ Some p) × (row_at p old.files ≡ Some r) × (flags ≡ loaded_flags r) × (bytes ≡ r.resource.datum)
 IsActOf old call (Unloads released) = ⊤
-
--- a device may leave anything
-abbrev pub Anything : LeaveRelation
-Anything fork old left = ⊤

@@ -10,15 +10,16 @@ use Rattle.mac_calls.specs.Loans.{Loans, LoanStep}
 use Rattle.mac_calls.specs.Outcomes.{Outcome}
 use Rattle.mac_calls.specs.Released.{disposed_of}
 use Rattle.res_table.specs.OpenFiles.{no_files}
-use Rattle.res_calls.specs.Device.{Device, read_truly}
+use Rattle.res_calls.specs.Answered.{AnswersStep, IsAnswered}
+use Rattle.res_calls.specs.Device.{Anything}
 use Rattle.res_calls.specs.Changes.{handles_forgotten}
 use Rattle.res_calls.specs.Files.{ResState, with_files, with_heap}
-use Rattle.res_calls.specs.Steps.{Memory, ReadsBack, ResourceStepBy}
+use Rattle.res_calls.specs.Steps.{Memory, ReadsBack}
 use Rattle.heap_laws.specs.LastPut.{LastPut, put_in}
 use Rattle.heap_laws.specs.LastSet.{LastSet, set_in}
 use Rattle.heap_laws.specs.Act.{Act, Calls, Done, AreDone, Moment, OnLoan, moment_after, new_zone}
 use Rattle.heap_laws.specs.Headline.{Promised}
-use Rattle.res_laws.specs.Acts.{Anything, IsActOf}
+use Rattle.res_laws.specs.Acts.{IsActOf}
 use Rattle.res_laws.specs.Forks.{ReadOffForks}
 
 -- the zone, the resource files and their disks, and the blocks that are lent
@@ -34,15 +35,16 @@ moment_of tools = record { heap = tools.resources.heap; loans = tools.loans }
 abbrev pub with_rows_forgotten : List ℕ → Heap → ResState → ResState
 with_rows_forgotten handles heap state = with_heap heap (with_files (handles_forgotten handles state.files) state)
 
--- What a call may do: the zone and the files step as its definition says; a device may fail in any way; an updated fork reads back.
-abbrev pub ToolDoes : Tools → Call → List Ask → Outcome → Tools → Type 0
-ToolDoes old (MemoryCalls call) asks outcome new = IsExactStep old.resources.shape old.resources.heap call asks outcome new.resources.heap × (new.loans ≡ old.loans)
+-- What a call may do: the zone and the files step as its definition says, by what the devices answered; a device may fail in any way;
+-- where the devices are honest, an updated fork reads back.
+abbrev pub ToolDoes : Type 0 → Tools → Call → List Ask → Outcome → Tools → Type 0
+ToolDoes honest old (MemoryCalls call) asks outcome new = IsExactStep old.resources.shape old.resources.heap call asks outcome new.resources.heap × (new.loans ≡ old.loans)
     × (new.resources ≡ with_rows_forgotten (disposed_of call asks outcome) new.resources.heap old.resources)
-ToolDoes old (Loan call) asks outcome new = LoanStep old.resources.shape old.loans old.resources.heap call outcome new.loans new.resources.heap
+ToolDoes honest old (Loan call) asks outcome new = LoanStep old.resources.shape old.loans old.resources.heap call outcome new.loans new.resources.heap
     × (new.resources ≡ with_heap new.resources.heap old.resources)
-ToolDoes old (Resource call) asks outcome new = (device : Device) × ResourceStepBy Memory (read_truly Anything) device old.resources call asks (record { outcome = outcome; state = new.resources })
-    × (new.loans ≡ old.loans) × (new.resources.shape ≡ old.resources.shape) × ReadsBack old.resources call outcome new.resources
-ToolDoes old _ asks outcome new = (new.resources ≡ old.resources) × (new.loans ≡ old.loans)
+ToolDoes honest old (Resource call) asks outcome new = AnswersStep honest ⊤ (λ k. ⊤) Memory Anything old.resources call asks outcome new.resources
+    × (new.loans ≡ old.loans) × (new.resources.shape ≡ old.resources.shape) × (honest → ReadsBack old.resources call outcome new.resources)
+ToolDoes honest old _ asks outcome new = (new.resources ≡ old.resources) × (new.loans ≡ old.loans)
 
 -- a call that was made, and what it left
 pub record Called : Type 0 where
@@ -52,9 +54,9 @@ pub record Called : Type 0 where
   pub tools : Tools
 
 -- from the old state these calls were made, each from the state that the one before left
-abbrev pub IsToolRun : Tools → List Called → Type 0
-IsToolRun old [] = ⊤
-IsToolRun old (called ∷ later) = ToolDoes old called.call called.asks called.outcome called.tools × IsToolRun called.tools later
+abbrev pub IsToolRun : Type 0 → Tools → List Called → Type 0
+IsToolRun honest old [] = ⊤
+IsToolRun honest old (called ∷ later) = ToolDoes honest old called.call called.asks called.outcome called.tools × IsToolRun honest called.tools later
 
 -- the zone and the files after these calls
 abbrev pub tools_after : Tools → List Called → Tools
@@ -66,47 +68,50 @@ abbrev pub UpdateReadsBack : Tools → Call → Outcome → Tools → Type 0
 UpdateReadsBack old (Resource call) outcome new = ReadsBack old.resources call outcome new.resources
 UpdateReadsBack old _ outcome new = ⊤
 
--- These acts are the call's own: one of the Memory Manager, or on a lent block, is one act, and MemError and ResError are none.
-abbrev pub AreActsOf : Tools → Call → List Ask → Outcome → List Act → Type 0
-AreActsOf old (MemoryCalls call) asks outcome acts = acts ≡ Calls call asks outcome ∷ []
-AreActsOf old (Loan call) asks outcome acts = acts ≡ OnLoan call outcome ∷ []
-AreActsOf old (Resource call) asks outcome acts = All (IsActOf old.resources call) acts
-AreActsOf old _ asks outcome acts = acts ≡ []
+-- These acts are the call's own: one of the Memory Manager, or on a lent block, is one act, and MemError and ResError are none. Those of
+-- the Resource Manager are by the rows' bytes as the devices answered.
+abbrev pub AreActsOf : Type 0 → Tools → Call → List Ask → Outcome → List Act → Type 0
+AreActsOf honest old (MemoryCalls call) asks outcome acts = acts ≡ Calls call asks outcome ∷ []
+AreActsOf honest old (Loan call) asks outcome acts = acts ≡ OnLoan call outcome ∷ []
+AreActsOf honest old (Resource call) asks outcome acts = (answered : ResState) × IsAnswered honest old.resources answered × All (IsActOf answered call) acts
+AreActsOf honest old _ asks outcome acts = acts ≡ []
 
 -- the act that was done
 abbrev pub act_of : Done → Act
 act_of done = done.act
 
 -- the call takes the zone from its old moment to its new one by these acts of its own
-pub record IsMadeOf (old : Tools) (called : Called) (acts : List Done) : Type 0 where
+pub record IsMadeOf (honest : Type 0) (old : Tools) (called : Called) (acts : List Done) : Type 0 where
   pub run : AreDone old.resources.shape (moment_of old) acts
   pub ends : moment_after (moment_of old) acts ≡ moment_of called.tools
-  pub own : AreActsOf old called.call called.asks called.outcome (map act_of acts)
+  pub own : AreActsOf honest old called.call called.asks called.outcome (map act_of acts)
 
 -- each of these calls is made of the acts beside it
-abbrev pub AreMadeOf : Tools → List Called → List (List Done) → Type 0
-AreMadeOf old [] [] = ⊤
-AreMadeOf old (called ∷ later) (acts ∷ others) = IsMadeOf old called acts × AreMadeOf called.tools later others
-AreMadeOf old _ _ = ⊥
+abbrev pub AreMadeOf : Type 0 → Tools → List Called → List (List Done) → Type 0
+AreMadeOf honest old [] [] = ⊤
+AreMadeOf honest old (called ∷ later) (acts ∷ others) = IsMadeOf honest old called acts × AreMadeOf honest called.tools later others
+AreMadeOf honest old _ _ = ⊥
 
 -- all acts of some calls, in their order
 abbrev pub all_acts : List (List Done) → List Done
 all_acts acts = flat_map (λ (own : List Done). own) acts
 
--- What is promised of calls that were made from a new zone on.
-pub record Headline (start : Tools) (calls : List Called) : Type 0 where
+-- What is promised of calls that were made from a new zone on: of the zone whatever the devices answered, and of the forks where they are
+-- honest.
+pub record Headline (honest : Type 0) (start : Tools) (calls : List Called) : Type 0 where
   -- Each call is made of acts of its own.
   pub acts : List (List Done)
-  pub own : AreMadeOf start calls acts
+  pub own : AreMadeOf honest start calls acts
   -- From each moment to each later one every handle and pointer shows the bytes last put there, and so on.
   pub promised : (first part later : List Done) (put : LastPut) (set : LastSet) → all_acts acts ≡ first ++ (part ++ later)
       → Promised start.resources.shape (moment_after (moment_of start) first) part (put_in first put) (set_in first set)
   -- Every updated fork reads back as the resource table.
-  pub forks : (first later : List Called) (called : Called) → calls ≡ first ++ (called ∷ later) → UpdateReadsBack (tools_after start first) called.call called.outcome called.tools
+  pub forks : honest → (first later : List Called) (called : Called) → calls ≡ first ++ (called ∷ later) → UpdateReadsBack (tools_after start first) called.call called.outcome called.tools
   -- Each row of an open file has the bytes that its fork has, and a load puts these (`IsActOf`).
-  pub rows : (first later : List Called) → calls ≡ first ++ later → ReadOffForks (tools_after start first).resources
+  pub rows : honest → (first later : List Called) → calls ≡ first ++ later → ReadOffForks (tools_after start first).resources
 
--- So it is for each list of calls from a new zone on, whatever stands on the disks, where no file is open.
-abbrev pub ToolsShow : Type 0
-ToolsShow = (z : ZoneSizes) (start : Tools) (calls : List Called) → ArePossible z → start.resources.shape ≡ shape_of z → moment_of start ≡ new_zone z
-    → start.resources.files ≡ no_files → IsToolRun start calls → Headline start calls
+-- So it is for each list of calls from a new zone on, whatever stands on the disks, where no file is open, and this says that the devices
+-- are honest.
+abbrev pub ToolsShow : Type 0 → Type 0
+ToolsShow honest = (z : ZoneSizes) (start : Tools) (calls : List Called) → ArePossible z → start.resources.shape ≡ shape_of z → moment_of start ≡ new_zone z
+    → start.resources.files ≡ no_files → IsToolRun honest start calls → Headline honest start calls

@@ -1,6 +1,6 @@
 -- Two runs of a script in which no device fails agree.
 use Rattle.std.proofs.Common.{◌≡◌, ℕ, ◌-◌, List, [], ◌∷◌, ◌++◌, Option, Some, None, refl, ap, sym, subst, ◌∙◌}
-use Rattle.std.specs.Prelude.{MatchBool}
+use Rattle.std.specs.Prelude.{MatchBool, ⊤}
 use Rattle.std.specs.Option.{IsSomeAnd}
 use Rattle.mac_calls.specs.declared.call.Call.{Call}
 use Rattle.mac_calls.specs.declared.call.Call.TheVariants.{Memory as MemoryCalls, Loan, Resource, MemError, ResError}
@@ -137,7 +137,7 @@ module _ {S : Type 0} (store : Ghosts S) where
       let refused = does.3 in let resource_refused = does.4 in let variables = does.5 in let left = does.6 in (
         record { asks = []; outcome = does.0; tools = tools_of store new.toolbox; left = answers },
         (
-          tool-does store old.toolbox (Resource (OpenResFile 1)) [] does.0 new.toolbox does.1 does.2 honest,
+          tool-does store ⊤ old.toolbox (Resource (OpenResFile 1)) [] does.0 new.toolbox does.1 does.2 (λ h. honest),
           (step, refl),
         ),
         does.7,
@@ -164,7 +164,7 @@ module _ {S : Type 0} (store : Ghosts S) where
       let step = does.2 in let refused = step.2 in let resource_refused = step.3 in let variables = does.4 in (
         record { asks = does.1; outcome = outcome; tools = tools_of store new.toolbox; left = new.answers.left },
         (
-          tool-does store old.toolbox call does.1 outcome new.toolbox step.0 step.1 honest,
+          tool-does store ⊤ old.toolbox call does.1 outcome new.toolbox step.0 step.1 (λ h. honest),
           goes old.toolbox old.answers.left call does.1 outcome new.toolbox new.answers.left honest worked step.0 does.3,
         ),
         does.5,

@@ -17,54 +17,56 @@ use Rattle.script_run.specs.Run.{AreRun}
 use Rattle.script_run.proofs.Honest.{before-lines}
 use Rattle.res_laws.specs.Tools.{Called, IsToolRun, Tools}
 use Rattle.res_laws.proofs.Tools.{tools-show}
+use Rattle.std.specs.Prelude.{All}
 use Rattle.script_run.specs.Headline.{PrintReplies, PrintsReply, RunShows}
 
-module _ {S : Type 0} (store : Ghosts S) where
+module _ {S : Type 0} (store : Ghosts S) (honest : Type 0) where
   -- what some lines print
   record Printed (old : Tools) (variables : Variables) (lines : List Line) (texts : List (List ℕ)) : Type 0 where
     pub calls : List Called
     pub prints : PrintReplies variables lines texts calls
-    pub run : IsToolRun old calls
+    pub run : IsToolRun honest old calls
 
   -- one statement, and then others
   record Stated (old : Tools) (variables : Variables) (number : ℕ) (statement : Statement) (text : List ℕ) (Rest : Variables → List Called → Type 0) : Type 0 where
     pub calls : List Called
     pub prints : PrintsReply variables number statement text calls Rest
-    pub run : IsToolRun old calls
+    pub run : IsToolRun honest old calls
 
-  stated : (old mid : Machine S) (number : ℕ) (statement : Statement) (text : List ℕ) (Rest : Variables → List Called → Type 0) → IsHonest store mid.toolbox → StatementDoes store old number statement text mid
-      → (later : List Called) × Rest mid.variables later × IsToolRun (tools_of store mid.toolbox) later → Stated (tools_of store old.toolbox) old.variables number statement text Rest
-  stated old mid number (CallStatement line) text Rest honest does others =
+  stated : (old mid : Machine S) (number : ℕ) (statement : Statement) (text : List ℕ) (Rest : Variables → List Called → Type 0) → (honest → IsHonest store mid.toolbox) → StatementDoes store old number statement text mid
+      → (later : List Called) × Rest mid.variables later × IsToolRun honest (tools_of store mid.toolbox) later → Stated (tools_of store old.toolbox) old.variables number statement text Rest
+  stated old mid number (CallStatement line) text Rest all does others =
       let call = call_of old.variables line in
       let step = does.2 in
       let outcome : Outcome = (does.0).outcome in
       record {
         calls = record { call = call; asks = does.1; outcome = outcome; tools = tools_of store mid.toolbox } ∷ others.0;
         prints = (refl, does.5, subst (λ v. Rest v others.0) does.4 others.1);
-        run = (tool-does store old.toolbox call does.1 outcome mid.toolbox step.0 step.1 honest, others.2);
+        run = (tool-does store honest old.toolbox call does.1 outcome mid.toolbox step.0 step.1 all, others.2);
       }
-  stated old mid number (Answer line) text Rest honest does others =
-      record { calls = others.0; prints = (does.0, subst (λ v. Rest v others.0) does.2 others.1); run = subst (λ t. IsToolRun (tools_of store t) others.0) does.1 others.2 }
+  stated old mid number (Answer line) text Rest all does others =
+      record { calls = others.0; prints = (does.0, subst (λ v. Rest v others.0) does.2 others.1); run = subst (λ t. IsToolRun honest (tools_of store t) others.0) does.1 others.2 }
 
-  lines-print : (old : Machine S) (lines : List Line) (texts : List (List ℕ)) (new : Machine S) → IsHonest store new.toolbox → AreRun store old lines texts new → Printed (tools_of store old.toolbox) old.variables lines texts
-  lines-print old [] [] new honest run = record { calls = []; prints = refl; run = tt }
-  lines-print old (line ∷ lines) (text ∷ texts) new honest run =
+  lines-print : (old : Machine S) (lines : List Line) (texts : List (List ℕ)) (new : Machine S) → (honest → IsHonest store new.toolbox) → AreRun store old lines texts new → Printed (tools_of store old.toolbox) old.variables lines texts
+  lines-print old [] [] new all run = record { calls = []; prints = refl; run = tt }
+  lines-print old (line ∷ lines) (text ∷ texts) new all run =
       let mid = run.0 in
-      let later = lines-print mid lines texts new honest run.2 in
-      let one = stated old mid line.number line.statement text (λ now rest. PrintReplies now lines texts rest) (before-lines store mid lines texts new run.2 honest) run.1 (later.calls, later.prints, later.run) in
+      let later = lines-print mid lines texts new all run.2 in
+      let one = stated old mid line.number line.statement text (λ now rest. PrintReplies now lines texts rest) (λ h. before-lines store mid lines texts new run.2 (all h)) run.1 (later.calls, later.prints, later.run) in
       record { calls = one.calls; prints = one.prints; run = one.run }
-  lines-print old [] (text ∷ texts) new honest run = absurd run
-  lines-print old (line ∷ lines) [] new honest run = absurd run
+  lines-print old [] (text ∷ texts) new all run = absurd run
+  lines-print old (line ∷ lines) [] new all run = absurd run
 
 -- whatever the lines of a script print is the replies of such calls
 pub run-shows : {S : Type 0} (store : Ghosts S) → RunShows store
-run-shows store sizes stores lines [] last possible honest run = absurd run
-run-shows store sizes stores lines (text ∷ texts) last possible honest run =
+run-shows store sizes stores lines [] last possible run = absurd run
+run-shows store sizes stores lines (text ∷ texts) last possible run =
+    let honest = All store.is_honest last.toolbox.resources.stores in
     let start = start_of sizes stores in
     let opened = run.0 in
     let opens = run.1 in
-    let printed = lines-print store opened lines texts last honest run.2 in
+    let printed = lines-print store honest opened lines texts last (λ h. h) run.2 in
     let opening : Called = record { call = Resource (OpenResFile 1); asks = []; outcome = opens.0; tools = tools_of store opened.toolbox } in
     let calls = opening ∷ printed.calls in
-    let goes : IsToolRun (tools_of store start.toolbox) calls = (tool-does store start.toolbox (Resource (OpenResFile 1)) [] opens.0 opened.toolbox opens.1 opens.2 (before-lines store opened lines texts last run.2 honest), printed.run) in
-    (calls, (refl, opens.7, subst (λ v. PrintReplies v lines texts printed.calls) opens.5 printed.prints), goes, tools-show sizes (tools_of store start.toolbox) calls possible refl refl refl goes)
+    let goes : IsToolRun honest (tools_of store start.toolbox) calls = (tool-does store honest start.toolbox (Resource (OpenResFile 1)) [] opens.0 opened.toolbox opens.1 opens.2 (λ h. before-lines store opened lines texts last run.2 h), printed.run) in
+    (calls, (refl, opens.7, subst (λ v. PrintReplies v lines texts printed.calls) opens.5 printed.prints), goes, tools-show honest sizes (tools_of store start.toolbox) calls possible refl refl refl goes)

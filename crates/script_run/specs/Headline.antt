@@ -39,9 +39,10 @@ PrintAllReplies lines (text ∷ texts) (opening ∷ calls) = (opening.call ≡ R
 PrintAllReplies lines [] calls = ⊥
 PrintAllReplies lines (text ∷ texts) [] = ⊥
 
--- Whatever the lines of a script print is the replies of calls that were made, and this is what is promised of these calls, where the
--- devices of the stores that they leave are honest.
+-- Whatever the lines of a script print is the replies of calls that were made, and this is what is promised of these calls: of the zone for
+-- any stores, and of the forks where the devices of the stores that they leave are honest.
 abbrev pub RunShows : {S : Type 0} → Ghosts S → Type 0
 RunShows {S = S} store = (sizes : ZoneSizes) (stores : List S) (lines : List Line) (texts : List (List ℕ)) (last : Machine S)
-    → ArePossible sizes → All store.is_honest last.toolbox.resources.stores → IsRun store (start_of sizes stores) lines texts last
-    → (let start = tools_of store (start_of sizes stores).toolbox in (calls : List Called) × PrintAllReplies lines texts calls × IsToolRun start calls × Headline start calls)
+    → ArePossible sizes → IsRun store (start_of sizes stores) lines texts last
+    → (let start = tools_of store (start_of sizes stores).toolbox in let honest = All store.is_honest last.toolbox.resources.stores in
+    (calls : List Called) × PrintAllReplies lines texts calls × IsToolRun honest start calls × Headline honest start calls)

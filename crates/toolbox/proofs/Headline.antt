@@ -13,10 +13,9 @@ use Rattle.fork_disk.specs.declared.store.ForkStore.{Ghosts}
 use Rattle.heap_laws.specs.Act.{Moment}
 use Rattle.res_calls.specs.Files.{ResState}
 use Rattle.res_calls.specs.Steps.{Memory as MayStep}
-use Rattle.res_calls.proofs.Answering.{honest_step}
+use Rattle.res_calls.proofs.Answering.{fewer_honest}
 use Rattle.res_files.specs.FilesOn.{FailedAt, FilesOn, NoneFailed}
 use Rattle.res_laws.specs.Tools.{IsToolRun, ToolDoes}
-use Rattle.res_laws.proofs.Acts.{anything-left}
 use Rattle.res_laws.proofs.Tools.{tools-show}
 use Rattle.toolbox.specs.Headline.{AreSteps, Stepped, ToolboxShows, calls_of, left_by, tools_of}
 use Rattle.toolbox.specs.Steps.{Gives}
@@ -31,17 +30,20 @@ module _ {S : Type 0} (store : Ghosts S) where
   states old new on shape resources = ap (λ s. state s new.heap new.resources) shape ∙ ap (state old.shape new.heap) resources
 
   -- a step of the toolbox is one of its zone, resource files and loans
-  pub tool-does : (old : ToolState S) (call : Call) (asks : List Ask) (outcome : Outcome) (new : ToolState S) → Gives store old call asks outcome new → new.shape ≡ old.shape → IsHonest store new → ToolDoes (tools_of store old) call asks outcome (tools_of store new)
+  pub tool-does : (honest : Type 0) (old : ToolState S) (call : Call) (asks : List Ask) (outcome : Outcome) (new : ToolState S) → Gives store old call asks outcome new → new.shape ≡ old.shape → (honest → IsHonest store new)
+      → ToolDoes honest (tools_of store old) call asks outcome (tools_of store new)
   unfolding state
-  tool-does old (MemoryCalls call) asks outcome new g shape honest = (g.1, g.2, states old new (without_handles (disposed_of call asks outcome) old.resources) shape g.3)
-  tool-does old (Loan call) asks outcome new g shape honest = (g.1, states old new old.resources shape g.2)
-  tool-does old (Resource call) asks outcome new g shape honest =
-      let r = g.0 in
-      let step = honest_step (IsHonest store new) (NoneFailed store.failures old.resources.stores new.resources.stores) (λ k. FailedAt store.failures k old.resources.stores new.resources.stores) MayStep store.may_leave
-      (resource_state store old) call asks outcome (resource_state store new) honest r in
-      (r.device, anything-left store.may_leave r.device (resource_state store old) call asks (record { outcome = outcome; state = resource_state store new }) step, g.1, shape, g.4 honest)
-  tool-does old MemError asks outcome new g shape honest = (states old new old.resources shape g.4 ∙ ap (λ h. state old.shape h old.resources) g.2, g.3)
-  tool-does old ResError asks outcome new g shape honest = (states old new old.resources shape g.4 ∙ ap (λ h. state old.shape h old.resources) g.2, g.3)
+  tool-does honest old (MemoryCalls call) asks outcome new g shape all = (g.1, g.2, states old new (without_handles (disposed_of call asks outcome) old.resources) shape g.3)
+  tool-does honest old (Loan call) asks outcome new g shape all = (g.1, states old new old.resources shape g.2)
+  tool-does honest old (Resource call) asks outcome new g shape all = (
+    fewer_honest (IsHonest store new) honest (NoneFailed store.failures old.resources.stores new.resources.stores) (λ k. FailedAt store.failures k old.resources.stores new.resources.stores) MayStep store.may_leave
+        (resource_state store old) call asks outcome (resource_state store new) all g.0,
+    g.1,
+    shape,
+    λ h. g.4 (all h),
+  )
+  tool-does honest old MemError asks outcome new g shape all = (states old new old.resources shape g.4 ∙ ap (λ h. state old.shape h old.resources) g.2, g.3)
+  tool-does honest old ResError asks outcome new g shape all = (states old new old.resources shape g.4 ∙ ap (λ h. state old.shape h old.resources) g.2, g.3)
 
   -- devices that are honest behind a call were so before it
   same-stores : (old new : FilesOn S) → new.stores ≡ old.stores → All store.is_honest new.stores → All store.is_honest old.stores
@@ -60,11 +62,11 @@ module _ {S : Type 0} (store : Ghosts S) where
   were-honest old (step ∷ later) are honest = let one = are.0 in was-honest old step.call step.asks step.outcome step.left one.0 (were-honest step.left later are.1 honest)
 
   -- the same of a list of calls
-  are-run : (old : ToolState S) (steps : List (Stepped S)) → IsHonest store (left_by old steps) → AreSteps store old steps → IsToolRun (tools_of store old) (calls_of store steps)
-  are-run old [] honest are = tt
-  are-run old (step ∷ later) honest are =
+  are-run : (honest : Type 0) (old : ToolState S) (steps : List (Stepped S)) → (honest → IsHonest store (left_by old steps)) → AreSteps store old steps → IsToolRun honest (tools_of store old) (calls_of store steps)
+  are-run honest old [] all are = tt
+  are-run honest old (step ∷ later) all are =
       let one = are.0 in
-      (tool-does old step.call step.asks step.outcome step.left one.0 one.1 (were-honest step.left later are.1 honest), are-run step.left later honest are.1)
+      (tool-does honest old step.call step.asks step.outcome step.left one.0 one.1 (λ h. were-honest step.left later are.1 (all h)), are-run honest step.left later all are.1)
 
 moment : Heap → Loans → Moment
 moment heap loans = record { heap = heap; loans = loans }
@@ -72,6 +74,7 @@ moment heap loans = record { heap = heap; loans = loans }
 -- this is promised of them
 pub toolbox-shows : {S : Type 0} (store : Ghosts S) → ToolboxShows store
 unfolding moment
-toolbox-shows store sizes start steps possible new honest are =
-    let run = are-run store start steps honest are in
-    (run, tools-show sizes (tools_of store start) (calls_of store steps) possible new.shape (ap (λ heap. moment heap start.loans) new.heap ∙ ap (moment _) new.loans) new.files run)
+toolbox-shows store sizes start steps possible new are =
+    let honest = IsHonest store (left_by start steps) in
+    let run = are-run store honest start steps (λ h. h) are in
+    (run, tools-show honest sizes (tools_of store start) (calls_of store steps) possible new.shape (ap (λ heap. moment heap start.loans) new.heap ∙ ap (moment _) new.loans) new.files run)
