@@ -34,7 +34,8 @@ SomeFailed failures before now = (at : ℕ) × (at < length before) × Rose (fai
 
 -- the store of the file of a number has failed: its count of failures rose
 abbrev pub FailedAt : {S : Type 0} → (S → ℕ) → ℕ → List S → List S → Type 0
-FailedAt failures number before now = (number - 1 < length before) × Rose (failures_at failures (number - 1) before) (failures_at failures (number - 1) now)
+FailedAt failures number before now = (number - 1 < length before)
+    × Rose (failures_at failures (number - 1) before) (failures_at failures (number - 1) now)
 
 -- The row of an open file is this, but for its bytes, and its place has as many as these.
 pub record Shows (row : Row Place) (shown : FileRow) : Type 0 where

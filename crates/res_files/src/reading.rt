@@ -23,7 +23,8 @@ impl<S: ForkStore> ResourceFiles<S> {
         ensures honest { All S.is_honest self.new.stores → All S.is_honest self.old.stores }
         ensures count { length self.new.stores ≡ length self.old.stores }
         ensures calm { All S.is_honest self.new.stores → map S.history self.new.stores ≡ map S.history self.old.stores }
-        ensures cause { MatchResult result (λ _. NoneFailed S.failures self.old.stores self.new.stores) (λ _. FailedAt S.failures place.file self.old.stores self.new.stores) }
+        ensures cause { MatchResult result (λ _. NoneFailed S.failures self.old.stores self.new.stores)
+            (λ _. FailedAt S.failures place.file self.old.stores self.new.stores) }
     {
         let Some(row) = self.chain.row(place) else {
             return Ok(());

@@ -50,7 +50,8 @@ impl<S: ForkStore> ResourceFiles<S> {
         requires open { IsTrue (is_open number self.old.files) }
         requires unlent { IsFalse (reads_lent (C.table contents.now) selection (rows_of number self.old.files)) }
         ensures rows { OnOk result (IfSome (table_of number self.old.files) (λ table.
-            AnswersFor (All S.is_honest self.new.stores) (rows_changed number (λ _. (updated (C.table contents.now) selection table).rows) self.old.files) self.new.files)) }
+            AnswersFor (All S.is_honest self.new.stores)
+            (rows_changed number (λ _. (updated (C.table contents.now) selection table).rows) self.old.files) self.new.files)) }
         ensures written { All S.is_honest self.new.stores → OnOk result (IfSome (table_of number self.old.files) (λ table.
             map S.fork self.new.stores ≡ forks_with S.fork number (written (saved_table (updated (C.table contents.now) selection table))) self.old.stores)) }
         ensures stands { All S.is_honest self.new.stores → OnOk result (IfSome (table_of number self.old.files) (λ table.
@@ -59,10 +60,12 @@ impl<S: ForkStore> ResourceFiles<S> {
             IsErrOf result UpdateFault.TooBig ↔ IsFalse (fits_fork (updated (C.table contents.now) selection table))) }
         ensures untouched { IsErrOf result UpdateFault.TooBig → self.new ≡ self.old }
         ensures unasked { IsErrOf result UpdateFault.HostFull → self.new ≡ self.old }
-        ensures before { IsErrOf result (UpdateFault.Device ReplaceFault.BeforeFirstWrite) → AnswersFor (All S.is_honest self.new.stores) self.old.files self.new.files }
+        ensures before { IsErrOf result (UpdateFault.Device ReplaceFault.BeforeFirstWrite)
+            → AnswersFor (All S.is_honest self.new.stores) self.old.files self.new.files }
         ensures before_forks { All S.is_honest self.new.stores → IsErrOf result (UpdateFault.Device ReplaceFault.BeforeFirstWrite)
             → map S.fork self.new.stores ≡ map S.fork self.old.stores }
-        ensures closed { IsErrOf result (UpdateFault.Device ReplaceFault.Later) → self.new.files ≡ file_closed number self.old.files }
+        ensures closed { IsErrOf result (UpdateFault.Device ReplaceFault.Later)
+            → self.new.files ≡ file_closed number self.old.files }
         ensures later { All S.is_honest self.new.stores → IsErrOf result (UpdateFault.Device ReplaceFault.Later) → IfSome (table_of number self.old.files) (λ table.
             (left : List ℕ) × S.may_leave (written (saved_table (updated (C.table contents.now) selection table))) (fork_of S.fork number self.old.stores) left
             × (map S.fork self.new.stores ≡ forks_with S.fork number left self.old.stores)) }
@@ -70,8 +73,10 @@ impl<S: ForkStore> ResourceFiles<S> {
         ensures honest { All S.is_honest self.new.stores → All S.is_honest self.old.stores }
         ensures count { length self.new.stores ≡ length self.old.stores }
         ensures none { OnOk result (NoneFailed S.failures self.old.stores self.new.stores) }
-        ensures cause { IsErrOf result (UpdateFault.Device ReplaceFault.BeforeFirstWrite) → FailedAt S.failures number self.old.stores self.new.stores }
-        ensures cause_later { IsErrOf result (UpdateFault.Device ReplaceFault.Later) → FailedAt S.failures number self.old.stores self.new.stores }
+        ensures cause { IsErrOf result (UpdateFault.Device ReplaceFault.BeforeFirstWrite)
+            → FailedAt S.failures number self.old.stores self.new.stores }
+        ensures cause_later { IsErrOf result (UpdateFault.Device ReplaceFault.Later)
+            → FailedAt S.failures number self.old.stores self.new.stores }
         // Whenever a crash comes, a start finds a fork that it might have found before or the new one; once this succeeded, the new one.
         ensures any_moment { All S.is_honest self.new.stores → IfSome (table_of number self.old.files) (λ table. AlwaysFinds S.may_find
             (FoundBeforeOr S.may_find (history_of S.history number self.old.stores) (written (saved_table (updated (C.table contents.now) selection table))))

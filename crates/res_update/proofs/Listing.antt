@@ -1,22 +1,12 @@
 -- Places and ranges that are listed one after the other.
-use Rattle.std.proofs.Common.{◌≡◌, sym, ap, ◌∙◌, ℕ, ◌+◌, ◌<◌, List, [], ◌∷◌, ◌++◌, length, get_or, drop, slice_get, Some, Bool, true, false, if◌then◌else◌}
+use Rattle.std.proofs.Common.{◌≡◌, sym, ap, ◌∙◌, ℕ, ◌+◌, List, [], ◌∷◌, ◌++◌, drop, slice_get, Some, Bool, true, false, if◌then◌else◌}
 use Rattle.std.proofs.lemmas.List.{append_assoc}
-use Rattle.fork_bytes.specs.Rows as forks
-use Rattle.fork_bytes.proofs.Steps.{drop_item}
 use Rattle.fork_disk.specs.declared.update.Kept.{Kept}
 use Rattle.fork_reader.specs.declared.place.Place.{Place}
 use Rattle.res_table.specs.declared.row.Row.{Row}
 use Rattle.res_update.specs.declared.selection.Selection.{Selection}
-use Rattle.res_update.specs.Drafts.{is_selected, new_places, kept_ranges}
+use Rattle.res_update.specs.Drafts.{is_selected, kept_ranges}
 use Rattle.res_update.proofs.Selecting.{drop_here}
-
--- one more place
-pub place_step : (rows : List forks.Row) (i end : ℕ) (row : forks.Row) (front whole : List Place) → i < length rows → row ≡ get_or rows i row
-    → front ++ new_places end (drop i rows) ≡ whole
-    → (front ++ record { offset = end + 4; length = length row.datum } ∷ []) ++ new_places (end + 4 + length row.datum) (drop (i + 1) rows) ≡ whole
-place_step rows i end row front whole within is before =
-    append_assoc front (record { offset = end + 4; length = length row.datum } ∷ []) (new_places (end + 4 + length row.datum) (drop (i + 1) rows))
-    ∙ sym (ap (λ (rest : List forks.Row). front ++ new_places end rest) (drop_item rows i row within is)) ∙ before
 
 -- the ranges from a row on
 ranges_here : (s : Selection) (rows : List (Row Place)) (places : List Place) (i : ℕ) (r : Row Place) (p : Place) → slice_get rows i ≡ Some r → slice_get places i ≡ Some p

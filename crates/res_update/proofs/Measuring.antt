@@ -3,7 +3,7 @@ use Rattle.std.proofs.Common.{◌≡◌, refl, sym, ap, ◌∙◌, arith, ℕ, z
 use Rattle.std.specs.Prelude.{nat_le}
 use Rattle.std.specs.List.{AllByRecursion}
 use Rattle.std.specs.Option.{option_map_or}
-use Rattle.std.proofs.lemmas.Bool.{leb-true, le-leb, lt-leb}
+use Rattle.std.proofs.lemmas.Bool.{leb-true, le-leb}
 use Rattle.std.proofs.lemmas.List.{length-append}
 use Rattle.fork_bytes.specs.declared.layout.TypeCount.{TypeCount}
 use Rattle.fork_bytes.specs.declared.table.Table.{Table}
@@ -166,17 +166,6 @@ length-over table =
 -- no fork holds rows that don't fit one
 pub no_rows : (f : ℕ → Row Place → List ℕ) (rows : List (Row Place)) (extra : List ℕ) (marks : ℕ) → ¬ RowsFit rows → fits_as_fork (table_of f rows extra marks) ≡ false
 no_rows f rows extra marks unfit = ap (λ (b : Bool). b && nat_le (length (written (table_of f rows extra marks))) max_fork) (rows_fit_not f rows unfit)
-
--- nor too many bytes
-and_false : (a : Bool) → (a && false) ≡ false
-and_false true = refl
-and_false false = refl
-
-pub no_text : (f : ℕ → Row Place → List ℕ) (rows : List (Row Place)) (extra : List ℕ) (marks : ℕ)
-    → max_fork < length (data_text (rows_with f 0 rows)) + length (names_text (rows_with f 0 rows)) → fits_as_fork (table_of f rows extra marks) ≡ false
-no_text f rows extra marks large =
-    let over = length-over (table_of f rows extra marks) in
-    ap (λ (b : Bool). rows_fit (rows_with f 0 rows) && b) (lt-leb (length (written (table_of f rows extra marks))) max_fork (omega arith)) ∙ and_false (rows_fit (rows_with f 0 rows))
 
 -- a fork holds rows that fit one by how many bytes it has
 pub by_length : (f : ℕ → Row Place → List ℕ) (rows : List (Row Place)) (extra : List ℕ) (marks n : ℕ) → RowsFit rows → AllByRecursion HasKind rows

@@ -83,9 +83,6 @@ same_references f g at next place (r ∷ rows) alike =
     ∙ ap (λ (xs : List ℕ). reference_text next place one ++ xs) (same_references f g (at + 1) behind (place + length (datum other)) rows alike.1)
 
 -- the same numbers are the same header
-header_with : ℕ → ℕ → ℕ → Header
-header_with a b c = record { data_offset = 256; map_offset = a; data_length = b; map_length = c }
-
 same_header : (f g : ℕ → Row Place → List ℕ) (at : ℕ) (rows : List (Row Place)) → AreAlike f g at rows → header_for (rows_with f at rows) ≡ header_for (rows_with g at rows)
 same_header f g at rows alike =
     let long = same_long f g at rows alike in let offset = same_offset f g at rows in

@@ -13,7 +13,13 @@ bytes_on fork place = take place.length (drop place.offset fork ++ replicate pla
 -- a row with the bytes at its place
 abbrev pub row_on : List ℕ → Row Place → FileRow
 row_on fork r = record {
-  resource = record { kind = r.resource.kind; id = r.resource.id; name = r.resource.name; attributes = r.resource.attributes; datum = bytes_on fork r.resource.datum };
+  resource = record {
+    kind = r.resource.kind;
+    id = r.resource.id;
+    name = r.resource.name;
+    attributes = r.resource.attributes;
+    datum = bytes_on fork r.resource.datum;
+  };
   handle = r.handle;
 }
 

@@ -92,7 +92,8 @@ pub fn write_table<S: ForkStore, C: Contents>(
         (IsGrouped (saved_table (updated (C.table contents.now) selection (table_on (S.fork store.old) table.now))).rows
         → StandsFor (S.fork store.new) (saved_table (updated (C.table contents.now) selection (table_on (S.fork store.old) table.now)))) }
     // Whatever the store did, these are the places in the fork that was to be written.
-    ensures places { IfOk result (λ places. map (bytes_on (written (saved_table (updated (C.table contents.now) selection (table_on (S.fork store.old) table.now))))) places.items
+    ensures places { IfOk result (λ places.
+        map (bytes_on (written (saved_table (updated (C.table contents.now) selection (table_on (S.fork store.old) table.now))))) places.items
         ≡ map (λ r. r.resource.datum) (updated (C.table contents.now) selection (table_on (S.fork store.old) table.now)).rows) }
     ensures inside { S.is_honest store.new → IfOk result (λ places. All (IsInside (S.fork store.new)) places.items) }
     ensures near { IfOk result (λ places. All IsNear places.items) }

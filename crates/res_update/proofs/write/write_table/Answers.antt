@@ -1,4 +1,4 @@
-use Rattle.std.proofs.Common.{◌≤◌, ◌≡◌, ◌∙◌, List, [], ℕ, Ok, Err, Bool, true, length, map, refl, sym, ap, subst, arith}
+use Rattle.std.proofs.Common.{◌≤◌, ◌≡◌, ◌∙◌, List, [], ℕ, Ok, Err, Bool, true, length, refl, sym, ap, subst, arith}
 use Rattle.std.specs.Prelude.{All, IsErrOf, IsFalse}
 use Rattle.fork_disk.specs.declared.store.ReplaceFault.{ReplaceFault}
 use Rattle.fork_disk.specs.declared.store.ReplaceFault.TheVariants.{BeforeFirstWrite, Later}
@@ -7,7 +7,7 @@ use Rattle.fork_disk.proofs.Crash.{finds_before_or}
 use Rattle.res_calls.specs.Updates.{fits_fork}
 use Rattle.res_update.specs.declared.fault.UpdateFault.{UpdateFault}
 use Rattle.res_update.specs.declared.fault.UpdateFault.TheVariants.{Device, HostFull, TooBig}
-use Rattle.res_update.specs.Placed.{table_on, bytes_on, IsInside}
+use Rattle.res_update.specs.Placed.{table_on, IsInside}
 use Rattle.res_update.specs.Selected.{updated}
 use Rattle.res_update.proofs.Placing.{IsDraft, kept_within, places_near, places_each, fits_is, kept_found, gathered_is, places_read, places_within}
 use Rattle.fork_bytes.specs.Fork.{max_fork}
