@@ -82,9 +82,10 @@ impl<S: ForkStore> Toolbox<S> {
 
     /// Makes one call; one that finds no room asks the procedure. A call that is refused for its operands changes nothing in the
     /// zone nor in the loans, and its reply has the code. Over all calls that are made so, every handle and pointer shows the bytes
-    /// last put there, and so on (`headline`), and a crash leaves each file as before an update or after it (`recovers`). MemError gives the code of the last call of the Memory Manager or on a
-    /// loan, ResError that of the last call of the Resource Manager. `HostFull` comes only from calls that take host memory, and only
-    /// where the call isn't refused; then nothing has changed.
+    /// last put there, and so on (`headline`), and where stores have journals, a crash leaves each file as before an update or after
+    /// it (`recovers`). MemError gives the code of the last call of the Memory Manager or on a loan, ResError that of the last call
+    /// of the Resource Manager. `HostFull` comes only from calls that take host memory, and only where the call isn't refused; then
+    /// nothing has changed.
     pub fn step<G: GrowZone>(
         &mut self,
         call: &Call<'_>,
