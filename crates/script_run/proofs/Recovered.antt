@@ -28,8 +28,9 @@ module _ {S : Type 0} (store : Ghosts S) where
     pub left : left_by from steps ≡ to
 
   -- those of one statement, and then others
-  statement-makes : (old mid new : Machine S) (number : ℕ) (statement : Statement) (text : List ℕ) (Rest : Variables → List Called → Type 0) → StatementDoes store old number statement text mid
-      → Made mid.toolbox new.toolbox (Rest mid.variables) → Made old.toolbox new.toolbox (λ calls. PrintsReply old.variables number statement text calls Rest)
+  statement-makes : (old mid new : Machine S) (number : ℕ) (statement : Statement) (text : List ℕ) (Rest : Variables → List Called → Type 0)
+      → StatementDoes store old number statement text mid → Made mid.toolbox new.toolbox (Rest mid.variables)
+      → Made old.toolbox new.toolbox (λ calls. PrintsReply old.variables number statement text calls Rest)
   statement-makes old mid new number (CallStatement line) text Rest does others =
       let outcome : Outcome = (does.0).outcome in
       let step = does.2 in
@@ -46,10 +47,13 @@ module _ {S : Type 0} (store : Ghosts S) where
     left = subst (λ (t : ToolState S). left_by t others.steps ≡ new.toolbox) does.1 others.left;
   }
 
-  lines-make : (old : Machine S) (lines : List Line) (texts : List (List ℕ)) (new : Machine S) → AreRun store old lines texts new → Made old.toolbox new.toolbox (PrintReplies old.variables lines texts)
-  lines-make old [] [] new run = record { steps = []; prints = refl; given = tt; left = subst (λ (m : Machine S). old.toolbox ≡ m.toolbox) (sym run) refl }
+  lines-make : (old : Machine S) (lines : List Line) (texts : List (List ℕ)) (new : Machine S) → AreRun store old lines texts new
+      → Made old.toolbox new.toolbox (PrintReplies old.variables lines texts)
+  lines-make old [] [] new run =
+      record { steps = []; prints = refl; given = tt; left = subst (λ (m : Machine S). old.toolbox ≡ m.toolbox) (sym run) refl }
   lines-make old (line ∷ lines) (text ∷ texts) new run =
-      statement-makes old run.0 new line.number line.statement text (λ now rest. PrintReplies now lines texts rest) run.1 (lines-make run.0 lines texts new run.2)
+      let later = lines-make run.0 lines texts new run.2 in
+      statement-makes old run.0 new line.number line.statement text (λ now rest. PrintReplies now lines texts rest) run.1 later
   lines-make old [] (text ∷ texts) new run = absurd run
   lines-make old (line ∷ lines) [] new run = absurd run
 

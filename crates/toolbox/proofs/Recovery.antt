@@ -1,9 +1,9 @@
 -- What a start finds after a crash that comes anywhere in a run of calls.
-use Rattle.std.proofs.Common.{◌≡◌, ℕ, zero, suc, ◌-◌, ◌≤◌, List, [], ◌∷◌, ◌++◌, length, set, slice_get, Option, Some, None, Ok, Err, option_map, unwrap_or, refl, ap, subst, sym, ◌∙◌, inl, inr, ◌⊎◌, ⊎_elim, arith}
+use Rattle.std.proofs.Common.{◌≡◌, ℕ, zero, suc, ◌-◌, ◌≤◌, List, [], ◌∷◌, ◌++◌, set, slice_get, Option, Some, None, Ok, Err, option_map, unwrap_or, refl, ap, subst, sym, ◌∙◌, inl, inr, ◌⊎◌, ⊎_elim, arith}
 use Rattle.std.specs.Option.{IsSomeAnd, option_map_or}
 use Rattle.std.proofs.lemmas.Bool.{false≢true}
 use Rattle.std.proofs.lemmas.Option.{slice_get-map}
-use Rattle.std.specs.Prelude.{All, IfSome, IsOk, OnOk}
+use Rattle.std.specs.Prelude.{IfSome, IsOk}
 use Rattle.mac_base.specs.declared.error.OsErr.{OsErr}
 use Rattle.mac_calls.specs.declared.call.Call.{Call}
 use Rattle.mac_calls.specs.declared.call.Call.TheVariants.{Memory as MemoryCalls, Loan, Resource, MemError, ResError}
@@ -11,7 +11,6 @@ use Rattle.mac_calls.specs.declared.resource_call.ResourceCall.{ResourceCall}
 use Rattle.mac_calls.specs.declared.resource_call.ResourceCall.TheVariants as call
 use Rattle.mac_calls.specs.GrowZone.{Ask}
 use Rattle.mac_calls.specs.Outcomes.{Outcome}
-use Rattle.mac_calls.specs.Released.{disposed_of}
 use Rattle.fork_bytes.specs.declared.table.Table.{Table}
 use Rattle.fork_bytes.specs.Fork.{StandsFor}
 use Rattle.fork_bytes.specs.Written.{written}
@@ -30,28 +29,30 @@ use Rattle.res_files.specs.FilesOn.{FailedAt, FilesOn, NoneFailed, fork_of}
 use Rattle.res_table.specs.OpenFiles.{rows_changed}
 use Rattle.res_manager.specs.Crash.{IsSettled, file_settled}
 use Rattle.toolbox.specs.Headline.{Stepped, left_by}
-use Rattle.toolbox.specs.Recovery.{AlwaysFindsFile, AreGiven, MayFind, Recovers, SavedIn, Saves, Settles, ToolboxRecovers, work_by}
+use Rattle.toolbox.specs.Recovery.{AlwaysFindsFile, AreGiven, MayFind, SavedIn, Saves, Settles, ToolboxRecovers}
 use Rattle.toolbox.specs.Steps.{Gives}
-use Rattle.toolbox.specs.ToolState.{IsHonest, ToolState, resource_state, without_handles}
+use Rattle.toolbox.specs.ToolState.{IsHonest, ToolState, resource_state}
 use Rattle.toolbox.proofs.Headline.{was-honest}
 
 -- ---- what is always found
 
-module _ {Event : Type 0} (may_find : List Event → List ℕ → Type 0) (P : List ℕ → Type 0) where
+module _ {Event : Type 0} {may_find : List Event → List ℕ → Type 0} {P : List ℕ → Type 0} {old : List Event} where
   -- so at the last moment
-  at-last : (old new : List Event) → AlwaysFinds may_find P old new → Finds may_find P new
-  at-last old new (at_first finds) = finds
-  at-last old new (and_then before finds) = finds
+  at-last : {new : List Event} → AlwaysFinds may_find P old new → Finds may_find P new
+  at-last (at_first finds) = finds
+  at-last (and_then before finds) = finds
 
   -- from the one moment to the next, and on from there
-  goes-on : (Q : List ℕ → Type 0) (old mid new : List Event) → ((found : List ℕ) → Q found → P found) → AlwaysFinds may_find P old mid → AlwaysFinds may_find Q mid new → AlwaysFinds may_find P old new
-  goes-on Q old mid new each first (at_first finds) = first
-  goes-on Q old mid new each first (and_then {event} {past} before finds) = and_then (goes-on Q old mid past each first before) (λ found may. each found (finds found may))
+  goes-on : {Q : List ℕ → Type 0} {mid new : List Event} → AlwaysFinds may_find P old mid → AlwaysFinds may_find Q mid new
+      → ((found : List ℕ) → Q found → P found) → AlwaysFinds may_find P old new
+  goes-on first (at_first finds) each = first
+  goes-on first (and_then before finds) each = and_then (goes-on first before each) (λ found may. each found (finds found may))
 
 -- ---- what an update leaves on the disk
 
 -- the disk that was set is the one that is read, where it stands for a table
-set-is-read : (disks : List Disk) (at : ℕ) (disk : Disk) (table : Table) → StandsFor (unwrap_or (slice_get (set disks at disk) at) []) table → unwrap_or (slice_get (set disks at disk) at) [] ≡ disk
+set-is-read : (disks : List Disk) (at : ℕ) (disk : Disk) (table : Table) → let read = unwrap_or (slice_get (set disks at disk) at) [] in
+    StandsFor read table → read ≡ disk
 set-is-read [] at disk table stands = absurd (omega (arith, stands.0.header))
 set-is-read (other ∷ disks) zero disk table stands = refl
 set-is-read (other ∷ disks) (suc at) disk table stands = set-is-read disks at disk table stands
@@ -60,32 +61,41 @@ set-is-read (other ∷ disks) (suc at) disk table stands = set-is-read disks at 
 abbrev IsWritten : Option Update → ResState → Type 0
 IsWritten update state = IfSome update (λ u. disk_of u.file state ≡ written (saved_table u.table))
 
-module _ (Inner : MemoryRelation) (disks : DiskRelations) (way : Device) (old : ResState) (rc : ResourceCall) (asks : List Ask) (end : ResourceEnd) where
-  -- the state after an update that succeeded has the disk that was set
-  abbrev with_saved : Update → ResState
-  with_saved u = with_disk u.file (written (saved_table u.table)) (with_files (rows_changed u.file (λ _. u.table.rows) old.files) old)
+module _ (Inner : MemoryRelation) (disks : DiskRelations) (way : Device) (old : ResState) (rc : ResourceCall) (asks : List Ask) (end : ResourceEnd)
+  where
+    -- the disks after an update that succeeded
+    abbrev with_saved : Update → ResState
+    with_saved u = with_disk u.file (written (saved_table u.table)) (with_files (rows_changed u.file (λ _. u.table.rows) old.files) old)
 
-  kept-disks : (rc : ResourceCall) (k : ℕ) (state : ResState) → (behind_update rc k state).disks ≡ state.disks
-  kept-disks (call.CloseResFile named) k state = refl
-  kept-disks rc k state = refl
+    same-disks : (rc : ResourceCall) (k : ℕ) (state : ResState) → (behind_update rc k state).disks ≡ state.disks
+    same-disks (call.CloseResFile named) k state = refl
+    same-disks rc k state = refl
 
-  update-written : (way : Device) (u : Update) → let e = update_end way rc u old in IsOk e.outcome → IsSaved (Some u) e.state → IsWritten (Some u) e.state
-  update-written device.Works u ok saved =
-      let P : List Disk → Type 0 = λ ds. StandsFor (unwrap_or (slice_get ds (u.file - 1)) []) (saved_table u.table) → unwrap_or (slice_get ds (u.file - 1)) [] ≡ written (saved_table u.table) in
-      subst P (sym (kept-disks rc u.file (with_saved u))) (set-is-read old.disks (u.file - 1) (written (saved_table u.table)) (saved_table u.table)) saved
-  update-written device.FailsBefore u ok saved = absurd (false≢true ok)
-  update-written (device.FailsWriting left) u ok saved = absurd (false≢true ok)
+    -- the table that was saved is written there
+    update-written : (way : Device) (u : Update) → let e = update_end way rc u old in
+        IsOk e.outcome → IsSaved (Some u) e.state → IsWritten (Some u) e.state
+    update-written device.Works u ok saved =
+        let table = saved_table u.table in
+        let at = u.file - 1 in
+        let P : List Disk → Type 0 = λ ds. StandsFor (unwrap_or (slice_get ds at) []) table → unwrap_or (slice_get ds at) [] ≡ written table in
+        subst P (sym (same-disks rc u.file (with_saved u))) (set-is-read old.disks at (written table) table) saved
+    update-written device.FailsBefore u ok saved = absurd (false≢true ok)
+    update-written (device.FailsWriting left) u ok saved = absurd (false≢true ok)
 
-  work-written : (w : Work) → Works Inner disks way old rc asks end w → IsOk end.outcome → IsSaved (update_in w) end.state → IsWritten (update_in w) end.state
-  work-written (Updates u) works ok saved =
-      subst (λ (e : ResourceEnd). IsOk e.outcome → IsSaved (Some u) e.state → IsWritten (Some u) e.state) (sym works.2) (update-written way u) ok saved
-  work-written (Gets p) works ok saved = tt
-  work-written (Opens k) works ok saved = tt
-  work-written Quiet works ok saved = tt
+    work-written : (w : Work) → Works Inner disks way old rc asks end w
+        → IsOk end.outcome → IsSaved (update_in w) end.state → IsWritten (update_in w) end.state
+    work-written (Updates u) works ok saved =
+        let P : ResourceEnd → Type 0 = λ e. IsOk e.outcome → IsSaved (Some u) e.state → IsWritten (Some u) e.state in
+        subst P (sym works.2) (update-written way u) ok saved
+    work-written (Gets p) works ok saved = tt
+    work-written (Opens k) works ok saved = tt
+    work-written Quiet works ok saved = tt
 
-  unless-written : (refusal : Option OsErr) → StepsUnless Inner disks refusal way old rc asks end → IsOk end.outcome → IsSaved (update_in (work_of old rc)) end.state → IsWritten (update_in (work_of old rc)) end.state
-  unless-written (Some code) step ok saved = absurd (false≢true (subst (λ (e : ResourceEnd). IsOk e.outcome) step.1 ok))
-  unless-written None step ok saved = work-written (work_of old rc) step ok saved
+    -- whatever refuses the call, or nothing
+    unless-written : (refusal : Option OsErr) → StepsUnless Inner disks refusal way old rc asks end → let update = update_in (work_of old rc) in
+        IsOk end.outcome → IsSaved update end.state → IsWritten update end.state
+    unless-written (Some code) step ok saved = absurd (false≢true (subst (λ (e : ResourceEnd). IsOk e.outcome) step.1 ok))
+    unless-written None step ok saved = work-written (work_of old rc) step ok saved
 
 -- ---- each call
 
@@ -98,16 +108,22 @@ module _ {S : Type 0} (store : Ghosts S) (number : ℕ) (low : 1 ≤ number) whe
   same-finds : (P : List ℕ → Type 0) (old new : ToolState S) → new.resources.stores ≡ old.resources.stores
       → AlwaysFindsFile store number (λ found. MayFind store old number found ⊎ P found) old new
   same-finds P old new same =
-      subst (λ (stores : List S). AlwaysFinds store.may_find (λ found. MayFind store old number found ⊎ P found) (past_of old) (history_of store.history number stores)) (sym same)
+      let here : List ℕ → Type 0 = λ found. MayFind store old number found ⊎ P found in
+      subst (λ (stores : List S). AlwaysFinds store.may_find here (past_of old) (history_of store.history number stores)) (sym same)
       (at_first (λ found may. inl may))
 
-  call-finds : (old : ToolState S) (call : Call) (asks : List Ask) (outcome : Outcome) (new : ToolState S) → Gives store old call asks outcome new → IsHonest store new
+  abbrev stores-of : FilesOn S → List S
+  stores-of on = on.stores
+
+  -- what a start finds, whenever a crash comes in a call
+  call-finds : (old : ToolState S) (call : Call) (asks : List Ask) (outcome : Outcome) (new : ToolState S) → Gives store old call asks outcome new
+      → IsHonest store new
       → AlwaysFindsFile store number (λ found. MayFind store old number found ⊎ Saves store old call number found) old new
-  call-finds old (MemoryCalls call) asks outcome new g honest = same-finds (Saves store old (MemoryCalls call) number) old new (ap (λ (on : FilesOn S). on.stores) g.3)
-  call-finds old (Loan call) asks outcome new g honest = same-finds (Saves store old (Loan call) number) old new (ap (λ (on : FilesOn S). on.stores) g.2)
+  call-finds old (MemoryCalls call) asks outcome new g honest = same-finds (Saves store old (MemoryCalls call) number) old new (ap stores-of g.3)
+  call-finds old (Loan call) asks outcome new g honest = same-finds (Saves store old (Loan call) number) old new (ap stores-of g.2)
   call-finds old (Resource call) asks outcome new g honest = g.5 honest number low
-  call-finds old MemError asks outcome new g honest = same-finds (Saves store old MemError number) old new (ap (λ (on : FilesOn S). on.stores) g.4)
-  call-finds old ResError asks outcome new g honest = same-finds (Saves store old ResError number) old new (ap (λ (on : FilesOn S). on.stores) g.4)
+  call-finds old MemError asks outcome new g honest = same-finds (Saves store old MemError number) old new (ap stores-of g.4)
+  call-finds old ResError asks outcome new g honest = same-finds (Saves store old ResError number) old new (ap stores-of g.4)
 
   -- the disk of a file is the fork of its store
   fork-or-none : (o : Option S) → unwrap_or (option_map store.fork o) [] ≡ option_map_or store.fork o []
@@ -115,11 +131,15 @@ module _ {S : Type 0} (store : Ghosts S) (number : ℕ) (low : 1 ≤ number) whe
   fork-or-none (Some s) = refl
 
   disk-fork : (t : ToolState S) (k : ℕ) → disk_of k (resource_state store t) ≡ fork_of store.fork k t.resources.stores
-  disk-fork t k = ap (λ (o : Option Disk). unwrap_or o []) (slice_get-map store.fork t.resources.stores (k - 1)) ∙ fork-or-none (slice_get t.resources.stores (k - 1))
+  disk-fork t k =
+      let stores = t.resources.stores in
+      ap (λ (o : Option Disk). unwrap_or o []) (slice_get-map store.fork stores (k - 1)) ∙ fork-or-none (slice_get stores (k - 1))
 
   -- the file that is settled is found as it was saved, or as it is read
-  work-settles : (work : Work) (fork : List ℕ) (new : ToolState S) → store.has_journal → IsSettled store (file_settled work) new.resources.stores → IsWritten (update_in work) (resource_state store new)
-      → IsSomeAnd (update_in work) (λ u. (u.file ≡ number) × (fork ≡ written (saved_table u.table))) ⊎ ((work ≡ Opens number) × (fork ≡ fork_of store.fork number new.resources.stores))
+  work-settles : (work : Work) (fork : List ℕ) (new : ToolState S) → store.has_journal
+      → IsSettled store (file_settled work) new.resources.stores → IsWritten (update_in work) (resource_state store new)
+      → IsSomeAnd (update_in work) (λ u. (u.file ≡ number) × (fork ≡ written (saved_table u.table)))
+      ⊎ ((work ≡ Opens number) × (fork ≡ fork_of store.fork number new.resources.stores))
       → Finds store.may_find (λ found. found ≡ fork) (past_of new)
   work-settles (Updates u) fork new journal settled is (inl saves) = λ found may.
       let stores = new.resources.stores in
@@ -134,18 +154,24 @@ module _ {S : Type 0} (store : Ghosts S) (number : ℕ) (low : 1 ≤ number) whe
       there journal found may ∙ sym opens.1
 
   -- other calls settle no file
-  nothing-settled : (fork : List ℕ) (new : ToolState S) → ⊥ ⊎ ((Quiet ≡ Opens number) × (fork ≡ fork_of store.fork number new.resources.stores)) → Finds store.may_find (λ found. found ≡ fork) (past_of new)
+  nothing-settled : (fork : List ℕ) (new : ToolState S) → ⊥ ⊎ ((Quiet ≡ Opens number) × (fork ≡ fork_of store.fork number new.resources.stores))
+      → Finds store.may_find (λ found. found ≡ fork) (past_of new)
   nothing-settled fork new (inl saves) = absurd saves
   nothing-settled fork new (inr opens) = absurd (subst (λ (w : Work). IfSome (file_settled w) (λ k. ⊥)) opens.0 tt)
 
-  call-settles : (old : ToolState S) (call : Call) (asks : List Ask) (outcome : Outcome) (new : ToolState S) (fork : List ℕ) → store.has_journal → Gives store old call asks outcome new → IsHonest store new
-      → Settles store old (record { call = call; asks = asks; outcome = outcome; left = new }) number fork → Finds store.may_find (λ found. found ≡ fork) (past_of new)
+  call-settles : (old : ToolState S) (call : Call) (asks : List Ask) (outcome : Outcome) (new : ToolState S) (fork : List ℕ) → store.has_journal
+      → Gives store old call asks outcome new → IsHonest store new
+      → Settles store old (record { call = call; asks = asks; outcome = outcome; left = new }) number fork
+      → Finds store.may_find (λ found. found ≡ fork) (past_of new)
   call-settles old (Resource rc) asks (Ok results) new fork journal g honest settles =
       let state = resource_state store old in
-      let r = g.0 in
-      let step = honest_step (IsHonest store new) (NoneFailed store.failures old.resources.stores new.resources.stores) (λ k. FailedAt store.failures k old.resources.stores new.resources.stores) MayStep store.may_leave
-      state rc asks (Ok results) (resource_state store new) honest r in
-      let is = unless-written MayStep (read_truly store.may_leave) r.device state rc asks (record { outcome = Ok results; state = resource_state store new }) (resource_refusal state rc) step settles.0 (g.4 honest) in
+      let end : ResourceEnd = record { outcome = Ok results; state = resource_state store new } in
+      let given = g.0 in
+      let before = old.resources.stores in
+      let after = new.resources.stores in
+      let step = honest_step (IsHonest store new) (NoneFailed store.failures before after) (λ k. FailedAt store.failures k before after) MayStep
+      store.may_leave state rc asks (Ok results) end.state honest given in
+      let is = unless-written MayStep (read_truly store.may_leave) given.device state rc asks end (resource_refusal state rc) step settles.0 (g.4 honest) in
       work-settles (work_of state rc) fork new journal (g.6 honest) is settles.1
   call-settles old (Resource rc) asks (Err code) new fork journal g honest settles = absurd (false≢true settles.0)
   call-settles old (MemoryCalls call) asks outcome new fork journal g honest settles = nothing-settled fork new settles.1
@@ -156,53 +182,57 @@ module _ {S : Type 0} (store : Ghosts S) (number : ℕ) (low : 1 ≤ number) whe
 -- ---- runs of calls
 
 module _ {S : Type 0} (store : Ghosts S) where
-  -- devices that are honest after calls were so before them
-  were-given : (old : ToolState S) (steps : List (Stepped S)) → AreGiven store old steps → IsHonest store (left_by old steps) → IsHonest store old
-  were-given old [] are honest = honest
-  were-given old (step ∷ later) are honest = was-honest store old step.call step.asks step.outcome step.left are.0 (were-given step.left later are.1 honest)
+  -- these calls were made, and left honest devices
+  abbrev Given : ToolState S → List (Stepped S) → Type 0
+  Given old steps = AreGiven store old steps × IsHonest store (left_by old steps)
 
-  -- the first of some calls
-  first-given : (old : ToolState S) (part later : List (Stepped S)) → AreGiven store old (part ++ later) → IsHonest store (left_by old (part ++ later)) → AreGiven store old part × IsHonest store (left_by old part)
-  first-given old [] later are honest = (tt, were-given old later are honest)
-  first-given old (step ∷ part) later are honest = let rest = first-given step.left part later are.1 honest in ((are.0, rest.0), rest.1)
+  -- devices were honest before them
+  were-honest : (old : ToolState S) (steps : List (Stepped S)) → Given old steps → IsHonest store old
+  were-honest old [] given = given.1
+  were-honest old (step ∷ later) given =
+      let one = given.0 in was-honest store old step.call step.asks step.outcome step.left one.0 (were-honest step.left later (one.1, given.1))
 
-  -- and those after the first
-  last-given : (old : ToolState S) (first rest : List (Stepped S)) → AreGiven store old (first ++ rest) → IsHonest store (left_by old (first ++ rest)) → AreGiven store (left_by old first) rest × IsHonest store (left_by (left_by old first) rest)
-  last-given old [] rest are honest = (are, honest)
-  last-given old (step ∷ first) rest are honest = last-given step.left first rest are.1 honest
+  -- the first of some calls, and those after the first
+  first-given : (old : ToolState S) (part later : List (Stepped S)) → Given old (part ++ later) → Given old part
+  first-given old [] later given = (tt, were-honest old later given)
+  first-given old (step ∷ part) later given =
+      let one = given.0 in let rest = first-given step.left part later (one.1, given.1) in ((one.0, rest.0), rest.1)
 
-  run-finds : (number : ℕ) → 1 ≤ number → (old : ToolState S) (steps : List (Stepped S)) → AreGiven store old steps → IsHonest store (left_by old steps)
-      → AlwaysFindsFile store number (λ found. MayFind store old number found ⊎ SavedIn store old steps number found) old (left_by old steps)
-  run-finds number low old [] are honest = at_first (λ found may. inl may)
-  run-finds number low old (step ∷ later) are honest =
-      let past = past_of store number low in
-      let P : List ℕ → Type 0 = λ found. MayFind store old number found ⊎ SavedIn store old (step ∷ later) number found in
-      let end = left_by step.left later in
-      let one = goes-on store.may_find P (λ found. MayFind store old number found ⊎ Saves store old step.call number found) (past old) (past old) (past step.left) (λ found. ⊎_elim inl (λ saves. inr (inl saves))) (at_first (λ found may. inl may))
-      (call-finds store number low old step.call step.asks step.outcome step.left are.0 (were-given step.left later are.1 honest)) in
-      goes-on store.may_find P (λ found. MayFind store step.left number found ⊎ SavedIn store step.left later number found) (past old) (past step.left) (past end)
-      (λ found. ⊎_elim (λ may. at-last store.may_find P (past old) (past step.left) one found may) (λ saved. inr (inr saved))) one (run-finds number low step.left later are.1 honest)
+  last-given : (old : ToolState S) (first rest : List (Stepped S)) → Given old (first ++ rest) → Given (left_by old first) rest
+  last-given old [] rest given = given
+  last-given old (step ∷ first) rest given = let one = given.0 in last-given step.left first rest (one.1, given.1)
 
-  run-settles : (number : ℕ) → 1 ≤ number → (old : ToolState S) (step : Stepped S) (later : List (Stepped S)) (fork : List ℕ) → store.has_journal → AreGiven store old (step ∷ later) → IsHonest store (left_by step.left later)
-      → Settles store old step number fork → AlwaysFindsFile store number (λ found. (found ≡ fork) ⊎ SavedIn store step.left later number found) step.left (left_by step.left later)
-  run-settles number low old step later fork journal are honest settles =
-      let past = past_of store number low in
-      let now = call-settles store number low old step.call step.asks step.outcome step.left fork journal are.0 (were-given step.left later are.1 honest) settles in
-      goes-on store.may_find (λ found. (found ≡ fork) ⊎ SavedIn store step.left later number found) (λ found. MayFind store step.left number found ⊎ SavedIn store step.left later number found) (past step.left) (past step.left) (past (left_by step.left later))
-      (λ found. ⊎_elim (λ may. inl (now found may)) inr) (at_first (λ found may. inl (now found may))) (run-finds number low step.left later are.1 honest)
+  module _ (number : ℕ) (low : 1 ≤ number) where
+    run-finds : (old : ToolState S) (steps : List (Stepped S)) → Given old steps
+        → AlwaysFindsFile store number (λ found. MayFind store old number found ⊎ SavedIn store old steps number found) old (left_by old steps)
+    run-finds old [] given = at_first (λ found may. inl may)
+    run-finds old (step ∷ later) given =
+        let are = given.0 in
+        let rest : Given step.left later = (are.1, given.1) in
+        let P : List ℕ → Type 0 = λ found. MayFind store old number found ⊎ SavedIn store old (step ∷ later) number found in
+        let one = call-finds store number low old step.call step.asks step.outcome step.left are.0 (were-honest step.left later rest) in
+        let first : AlwaysFindsFile store number P old step.left = goes-on (at_first (λ found may. inl may)) one (λ found. ⊎_elim inl (λ saves. inr (inl saves))) in
+        goes-on first (run-finds step.left later rest) (λ found. ⊎_elim (λ may. at-last first found may) (λ saved. inr (inr saved)))
+
+    run-settles : (old : ToolState S) (step : Stepped S) (later : List (Stepped S)) (fork : List ℕ) → store.has_journal
+        → Given old (step ∷ later) → Settles store old step number fork
+        → AlwaysFindsFile store number (λ found. (found ≡ fork) ⊎ SavedIn store step.left later number found) step.left (left_by step.left later)
+    run-settles old step later fork journal given settles =
+        let are = given.0 in
+        let rest : Given step.left later = (are.1, given.1) in
+        let now = call-settles store number low old step.call step.asks step.outcome step.left fork journal are.0 (were-honest step.left later rest) settles in
+        goes-on (at_first (λ found may. inl (now found may))) (run-finds step.left later rest) (λ found. ⊎_elim (λ may. inl (now found may)) inr)
 
 -- this is promised of crashes in the calls of a toolbox
 pub toolbox-recovers : {S : Type 0} (store : Ghosts S) → ToolboxRecovers store
 toolbox-recovers {S} store start steps journal honest are = record {
   any_moment = λ first part later number is low.
-      let rest = split first (part ++ later) is in
-      let these = first-given store (left_by start first) part later rest.0 rest.1 in
-      run-finds store number low (left_by start first) part these.0 these.1;
+      run-finds store number low (left_by start first) part (first-given store (left_by start first) part later (split first (part ++ later) is));
   settled = λ first part later step number fork is low settles.
-      let rest = split first (step ∷ (part ++ later)) is in
-      let these = first-given store (left_by start first) (step ∷ part) later rest.0 rest.1 in
-      run-settles store number low (left_by start first) step part fork journal these.0 these.1 settles;
+      let old = left_by start first in
+      let these = first-given store old (step ∷ part) later (split first (step ∷ (part ++ later)) is) in
+      run-settles store number low old step part fork journal these settles;
 }
   where
-    split : (first rest : List (Stepped S)) → steps ≡ first ++ rest → AreGiven store (left_by start first) rest × IsHonest store (left_by (left_by start first) rest)
-    split first rest is = last-given store start first rest (subst (AreGiven store start) is are) (subst (λ (made : List (Stepped S)). IsHonest store (left_by start made)) is honest)
+    split : (first rest : List (Stepped S)) → steps ≡ first ++ rest → Given store (left_by start first) rest
+    split first rest is = last-given store start first rest (subst (Given store start) is (are, honest))
