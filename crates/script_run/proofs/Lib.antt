@@ -4,5 +4,6 @@ pub mod Left
 pub mod Opening
 pub mod Starting
 pub mod Shown
+pub mod Recovered
 pub mod Agreeing
 pub mod Honest

@@ -3,4 +3,5 @@ pub mod End
 pub mod Line
 pub mod Run
 pub mod Headline
+pub mod Recovery
 pub mod Exact

@@ -7,6 +7,7 @@ ghost use Rattle.script_run.specs.Counting.{Gave, Rose, Took};
 ghost use Rattle.script_run.specs.Exact.{RunsAgree};
 ghost use Rattle.script_run.specs.Headline.{RunShows};
 ghost use Rattle.script_run.specs.Line.{start_of};
+ghost use Rattle.script_run.specs.Recovery.{RunRecovers};
 ghost use Rattle.script_run.specs.Run.{Ends, Tells, stores_of};
 
 use crate::counted::Counted;
@@ -41,6 +42,10 @@ pub fn run<S: ForkStore, R: Read, W: Write>(
     // Whatever lines print is the replies of calls over which every handle and pointer shows the bytes last put there, pointers and
     // locked handles stay where they are, and blocks are lost and memFullErr is given only where they may.
     ensures headline { RunShows S.ForkStore }
+
+    // Where stores have journals, a crash at any moment leaves each file so that the next start finds it as before an update that was
+    // running, or as that saves it, and never older than an update that succeeded.
+    ensures recovers { RunRecovers S.ForkStore }
 
     // Two runs of the same lines, with the same sizes of the zone and the same forks, print the same and leave the same zone, loans, files
     // and forks, where no device failed.

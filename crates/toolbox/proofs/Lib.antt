@@ -3,3 +3,4 @@ pub mod Queued
 pub mod Quiet
 pub mod Resources
 pub mod Headline
+pub mod Recovery

@@ -49,6 +49,7 @@ impl<S: ForkStore> Toolbox<S> {
     ghost use Rattle.mac_calls.specs.declared.resource_call.ResourceCall.TheVariants.{OpenResFile};
     ghost use Rattle.mac_calls.specs.Loans.{all_returned};
     ghost use Rattle.toolbox.specs.Headline.{ToolboxShows};
+    ghost use Rattle.toolbox.specs.Recovery.{ToolboxRecovers};
     ghost use Rattle.toolbox.specs.Steps.{Gives, LeavesAnswers, Steps, Unchanged, refusal_of, takes_memory};
 
     /// The toolbox over this memory, of which nothing is lent, and these resource files. What takes host memory takes it of `alloc`.
@@ -81,9 +82,10 @@ impl<S: ForkStore> Toolbox<S> {
 
     /// Makes one call; one that finds no room asks the procedure. A call that is refused for its operands changes nothing in the
     /// zone nor in the loans, and its reply has the code. Over all calls that are made so, every handle and pointer shows the bytes
-    /// last put there, and so on (`headline`). MemError gives the code of the last call of the Memory Manager or on a
-    /// loan, ResError that of the last call of the Resource Manager. `HostFull` comes only from calls that take host memory, and only
-    /// where the call isn't refused; then nothing has changed.
+    /// last put there, and so on (`headline`), and where stores have journals, a crash leaves each file as before an update or after
+    /// it (`recovers`). MemError gives the code of the last call of the Memory Manager or on a loan, ResError that of the last call
+    /// of the Resource Manager. `HostFull` comes only from calls that take host memory, and only where the call isn't refused; then
+    /// nothing has changed.
     pub fn step<G: GrowZone>(
         &mut self,
         call: &Call<'_>,
@@ -92,6 +94,7 @@ impl<S: ForkStore> Toolbox<S> {
         requires { G.asks procedure.old ≡ [] }
         ensures step { IfOk result (λ reply. Steps S.ForkStore self.old call.now (G.asks procedure.new) reply.outcome self.new) }
         ensures headline { ToolboxShows S.ForkStore }
+        ensures recovers { ToolboxRecovers S.ForkStore }
         ensures source { G.source procedure.new ≡ G.source procedure.old }
         ensures unchanged { OnErr result (Unchanged S.ForkStore self.old call.now self.new) }
         ensures unasked { OnErr result (G.asks procedure.new ≡ []) }

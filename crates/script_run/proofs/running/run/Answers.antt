@@ -6,6 +6,7 @@ use Rattle.script_run.proofs.Ending.{fault_told, none_at_start}
 use Rattle.script_run.proofs.Known.{Took-none}
 use Rattle.script_run.proofs.Shown.{run-shows}
 use Rattle.script_run.proofs.Agreeing.{runs-agree}
+use Rattle.script_run.proofs.Recovered.{run-recovers}
 use Rattle.script_run.proofs.running.run.Goals as goal
 
 pub returns-in-Err-TooLong-clause-ends : goal.returns-in-Err-TooLong-clause-ends
@@ -108,3 +109,24 @@ returns-in_default-clause-exact g c = runs-agree g.S.ForkStore
 
 pub returns-clause-exact : goal.returns-clause-exact
 returns-clause-exact g c = runs-agree g.S.ForkStore
+
+pub returns-in-Err-TooLong-clause-recovers : goal.returns-in-Err-TooLong-clause-recovers
+returns-in-Err-TooLong-clause-recovers g c = run-recovers g.S.ForkStore
+
+pub returns-in-Err-Memory-clause-recovers : goal.returns-in-Err-Memory-clause-recovers
+returns-in-Err-Memory-clause-recovers g c = run-recovers g.S.ForkStore
+
+pub returns-in-Err-Fault-clause-recovers : goal.returns-in-Err-Fault-clause-recovers
+returns-in-Err-Fault-clause-recovers g c = run-recovers g.S.ForkStore
+
+pub returns-in-Err-Line-clause-recovers : goal.returns-in-Err-Line-clause-recovers
+returns-in-Err-Line-clause-recovers g c = run-recovers g.S.ForkStore
+
+pub returns-in-Err-HostFull-clause-recovers : goal.returns-in-Err-HostFull-clause-recovers
+returns-in-Err-HostFull-clause-recovers g c = run-recovers g.S.ForkStore
+
+pub returns-in_default-clause-recovers : goal.returns-in_default-clause-recovers
+returns-in_default-clause-recovers g c = run-recovers g.S.ForkStore
+
+pub returns-clause-recovers : goal.returns-clause-recovers
+returns-clause-recovers g c = run-recovers g.S.ForkStore

@@ -2,6 +2,7 @@ use Rattle.std.proofs.Common.{◌∙◌, ap, sym, subst}
 use Rattle.toolbox.specs.Steps.{Gives, refused_after, resource_refused_after}
 use Rattle.toolbox.specs.ToolState.{ToolState}
 use Rattle.toolbox.proofs.Headline.{toolbox-shows}
+use Rattle.toolbox.proofs.Recovery.{toolbox-recovers}
 use Rattle.toolbox.proofs.Resources.{gives_noted}
 use Rattle.toolbox.proofs.toolbox.Toolbox.step.Goals as goal
 
@@ -19,3 +20,9 @@ returns-clause-headline g c = toolbox-shows g.S.ForkStore
 
 pub returns-in_err-outcome-clause-headline : goal.returns-in_err-outcome-clause-headline
 returns-in_err-outcome-clause-headline g c = toolbox-shows g.S.ForkStore
+
+pub returns-clause-recovers : goal.returns-clause-recovers
+returns-clause-recovers g c = toolbox-recovers g.S.ForkStore
+
+pub returns-in_err-outcome-clause-recovers : goal.returns-in_err-outcome-clause-recovers
+returns-in_err-outcome-clause-recovers g c = toolbox-recovers g.S.ForkStore
