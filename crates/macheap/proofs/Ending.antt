@@ -63,13 +63,13 @@ failed_after whole before mid now same failed = subst (λ (n : ℕ). MatchBool w
 
 -- it was told what is wrong with the words
 pub words_told : (error : NotAsked) (told : Told) → lacks_memory error ≡ false → TellsBadWords told → Refuses error told
-words_told (Words fault) told no tells = tells
-words_told TooManyForks told no tells = tells
-words_told OtherJournals told no tells = tells
-words_told (NoNumber option) told no tells = tells
-words_told (Mode mode) told no tells = tells
-words_told (Spec fault) told no tells = tells
-words_told HostFull told no tells = cc
+words_told (Words fault) told isnt tells = tells
+words_told TooManyForks told isnt tells = tells
+words_told OtherJournals told isnt tells = tells
+words_told (NoNumber option) told isnt tells = tells
+words_told (Mode mode) told isnt tells = tells
+words_told (Spec fault) told isnt tells = tells
+words_told HostFull told isnt tells = cc
 
 -- or that the host has no memory for them
 pub full_told : (error : NotAsked) (told : Told) → lacks_memory error ≡ true → TellsNoMemory told → Refuses error told

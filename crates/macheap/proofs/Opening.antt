@@ -1,7 +1,7 @@
 -- The files of a run, opened one after the other, and their stores.
 use Rattle.std.proofs.Common.{◌≡◌, ◌≢◌, Result, Ok, Err, Vec, Global, ◌+◌, ◌<◌, ◌≤◌, arith, zero, suc, ℕ, List, [], ◌∷◌, ◌++◌, Option, Some, None, take, drop, length, get_or, map, refl, ap, sym, subst, ◌∙◌, append_assoc, length-append}
 use Rattle.std.proofs.lemmas.List.{append-nil, length-map, take_all, take_more, map-append, take-append-drop}
-use Rattle.std.specs.Prelude.{IfOk, IfErr}
+use Rattle.std.specs.Prelude.{IfOk, IfErr, ⊤}
 use Rattle.clap.specs.Words.{Text}
 use Rattle.fork_disk.specs.declared.store.ForkStore.{Ghosts}
 use Rattle.macheap.specs.declared.stores.NoStores.{NoStores}
@@ -106,9 +106,9 @@ ArePaired-push pairs from number (f ∷ forks) [] stores fork journal store are 
 ArePaired-push pairs from number (f ∷ forks) (j ∷ journals) [] fork journal store are is one = absurd are
 
 -- why files weren't opened is why more of them weren't
-pub fault_widen : {F T U : Type 0} (paths more : List Text) (openings : List (Opening F)) (fault : NoStores) (One : List T → Type 0) (Other : List U → Type 0) → IsOpened paths openings One (Err fault) → IsOpened (paths ++ more) openings Other (Err fault)
-fault_widen paths more openings CannotOpen One Other cant = cant_widen paths more openings cant
-fault_widen paths more openings HostFull One Other some = some_widen paths more openings some
+pub fault_widen : {F : Type 0} (paths more : List Text) (openings : List (Opening F)) (fault : NoStores) → IsOpened {T = ℕ} paths openings (λ made. ⊤) (Err fault) → IsOpened {T = ℕ} (paths ++ more) openings (λ made. ⊤) (Err fault)
+fault_widen paths more openings CannotOpen cant = cant_widen paths more openings cant
+fault_widen paths more openings HostFull some = some_widen paths more openings some
 
 module _ {F S : Type 0} (store : Ghosts S) (plain : ℕ → F → S → Type 0) where
   one_opened : (result : Result (Vec S Global) NoStores) → IfOk result (λ stores. ArePlain store plain [] [] stores.items) → IfErr result (λ fault. fault ≡ HostFull) → IsOpened {F = F} [] [] (ArePlain store plain [] []) result

@@ -15,7 +15,7 @@ nowhere = record { ref_ptr = (0, 0); now = [] }
 pub returns-in-Err-clause-stores : goal.returns-in-Err-clause-stores
 returns-in-Err-clause-stores g c =
     let opened = c.in-Err.ensures.files in
-    (opened.0, opened.1, fault_widen (map now_of c.args.paths.now) (map now_of c.args.journals.now) opened.0 c.in-Err.fault _ _ opened.2)
+    (opened.0, opened.1, fault_widen (map now_of c.args.paths.now) (map now_of c.args.journals.now) opened.0 c.in-Err.fault opened.2)
 
 pub loop-fork-init : goal.loop-fork-init
 loop-fork-init g c =
@@ -51,6 +51,31 @@ returns-in_default-clause-stores g c =
       i.1 ++ opening ∷ [],
       c.in_default.ensures ∙ ap (λ (t : List (Opening g.row.F.Denot)). t ++ opening ∷ []) i.2 ∙ append_assoc _ i.1 (opening ∷ []),
       cant_next (map now_of c.args.paths.now) names now_of at path (items ++ i.0) i.1 lt is i.3,
+    )
+
+pub returns-in-Err-push-clause-stores : goal.returns-in-Err-push-clause-stores
+returns-in-Err-push-clause-stores g c =
+    let now = c.loop-fork in
+    let i = now.invariant in
+    let before = map now_of c.args.paths.now in
+    let names = c.args.journals.now in
+    let at = length now.yielded in
+    let items = into_iter_items c.into_iter-fork-iterator.result in
+    let fork = c.in-Some.fork in
+    let steps = c.in-Some.ensures.steps.0 in
+    let same = i.6 in
+    let here : c.len-number.result ≡ at = c.len-number.ensures ∙ now.stores.ok.0 ∙ same in
+    let path = slice_index_or names c.len-number.result nowhere in
+    let all : at < length items = fewer now.yielded _ _ _ fork i.4 steps in
+    let count : length items ≡ length names = ap length c.into_iter-fork-iterator.ensures.into_iter_gives.0 ∙ c.in-Ok.ensures.count ∙ sym c.requires in
+    let lt : at < length names = omega (arith, all, count) in
+    let is : path ≡ slice_index_or names at path = ap (λ (n : ℕ). slice_index_or names n nowhere) here ∙ same_default names at nowhere path lt in
+    let journal = c.in-Some-open.journal in
+    let opening : Opening g.row.F.Denot = (path.now, Some journal) in
+    let more = asked_more before names now_of at path (items ++ i.0) journal i.1 lt is i.3 in (
+      i.1 ++ opening ∷ [],
+      c.in-Some-open.ensures ∙ ap (λ (t : List (Opening g.row.F.Denot)). t ++ opening ∷ []) i.2 ∙ append_assoc _ i.1 (opening ∷ []),
+      some_first before names now_of (at + 1) ((items ++ i.0) ++ journal ∷ []) (i.1 ++ opening ∷ []) more,
     )
 
 pub loop-fork-preserved : goal.loop-fork-preserved
