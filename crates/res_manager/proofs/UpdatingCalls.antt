@@ -131,7 +131,6 @@ module _ {S : Type 0} (fork : S → List ℕ) (zone : ZoneState) (on : FilesOn S
   pub made_late : (c : ResourceCall) (u : Update) → Makes c u → fits_fork u.table ≡ true → resource_refusal (state_of fork zone on) c ≡ None
   made_late c u m fits = m.late ∙ m.test ∙ ap (λ b. unless_passed DskFulErr b) fits
 
-
 -- such a call steps as it writes the file
 pub made_steps : {S : Type 0} (store : Ghosts S) (zone : ZoneState) (on : FilesOn S) (new : ZoneState) (after : FilesOn S) (c : ResourceCall) (u : Update) (outcome : Outcome) → Makes store.fork zone on c u
     → WritesFile store zone on c u outcome new after → ResourceSteps store zone on c [] outcome new after
