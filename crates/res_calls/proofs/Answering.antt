@@ -1,5 +1,5 @@
 -- A step by what honest devices answered is a step of the zone and the files themselves.
-use Rattle.std.proofs.Common.{◌≡◌, ℕ, Option, Some, None, Result, List, subst}
+use Rattle.std.proofs.Common.{ℕ, Option, Some, None, Result, List, subst}
 use Rattle.mac_base.specs.declared.error.OsErr.{OsErr}
 use Rattle.mac_calls.specs.declared.memory_call.MemoryCall.{MemoryCall}
 use Rattle.mac_calls.specs.declared.resource_call.ResourceCall.{ResourceCall}

@@ -1,19 +1,19 @@
 -- Runs of calls in which every device works and nobody answers, computed.
-use Rattle.std.proofs.Common.{◌≡◌, refl, ℕ, List, [], ◌∷◌, Some, None, Option}
-use Rattle.std.specs.Prelude.{Result, Ok, Err, true}
+use Rattle.std.proofs.Common.{ℕ, List, [], ◌∷◌, Some, None, Option}
+use Rattle.std.specs.Prelude.{Result, true}
 use Rattle.mac_base.specs.declared.error.OsErr.{OsErr}
 use Rattle.mac_base.specs.HeadKind.{Shape}
 use Rattle.mac_base.specs.Heap.{new_heap}
 use Rattle.mac_calls.specs.declared.memory_call.MemoryCall.{MemoryCall}
 use Rattle.mac_calls.specs.Outcomes.{Outcome}
-use Rattle.mac_calls.specs.ExactStep.{exact_step, IsExactStep}
+use Rattle.mac_calls.specs.ExactStep.{exact_step}
 use Rattle.res_table.specs.declared.chain.RowPlace.{RowPlace}
 use Rattle.res_table.specs.OpenFiles.{no_files, row_at}
 use Rattle.res_calls.specs.Changes.{FileRow, FileTable}
 use Rattle.mac_calls.specs.declared.resource_call.ResourceCall.{ResourceCall}
 use Rattle.res_calls.specs.Device.{Device, Disk}
 use Rattle.res_calls.specs.Device as device
-use Rattle.res_calls.specs.Files.{ResState, ResourceEnd, refused_with, with_heap, with_files, disk_of}
+use Rattle.res_calls.specs.Files.{ResState, ResourceEnd, refused_with, with_heap, disk_of}
 use Rattle.res_calls.specs.Loads.{placing, loads_bytes, placed_end, found_end}
 use Rattle.res_calls.specs.Quiet.{quiet_end}
 use Rattle.res_calls.specs.Steps.{Work, Gets, Updates, Opens, Quiet, work_of, behind_memory, opened_end}

@@ -1,16 +1,16 @@
 -- Worked examples of the Resource Manager, computed.
-use Rattle.std.proofs.Common.{◌≡◌, refl, ℕ, ◌+◌, ◌*◌, pos, List, [], ◌∷◌, ◌++◌, length, Some, None, replicate, codes, map, eqb, take}
+use Rattle.std.proofs.Common.{◌≡◌, refl, ℕ, ◌+◌, ◌*◌, pos, List, [], ◌∷◌, ◌++◌, length, Some, None, replicate, codes, eqb}
 use Rattle.std.specs.Prelude.{filter, not, Ok, Err, Result, if◌then◌else◌, ◌==◌}
 use Rattle.std.specs.Char.{digit_value}
 use Rattle.mac_base.specs.declared.error.OsErr.{OsErr}
-use Rattle.mac_base.specs.declared.error.OsErr.TheVariants.{MemFullErr, NilHandleErr, MemWzErr, ResNotFound, ResFNotFound, AddResFailed, RmvResFailed, ResAttrErr, FnfErr}
+use Rattle.mac_base.specs.declared.error.OsErr.TheVariants.{MemFullErr, NilHandleErr, ResNotFound, ResFNotFound, AddResFailed, RmvResFailed, ResAttrErr, FnfErr}
 use Rattle.mac_base.specs.declared.block.HeadKind.TheVariants.{Bits24}
 use Rattle.mac_base.specs.HeadKind.{Shape}
 use Rattle.mac_calls.specs.declared.memory_call.MemoryCall.TheVariants.{NewHandle, HPurge, DisposeHandle, EmptyHandle, GetHandleSize, Peek, Poke}
 use Rattle.mac_calls.specs.declared.reply.Results.TheVariants as given
 use Rattle.fork_bytes.specs.Fork.{table_of}
 use Rattle.res_calls.specs.Changes.{FileTable, opened_table}
-use Rattle.mac_calls.specs.declared.resource_call.ResourceCall.TheVariants.{GetResource, Get1Resource, GetIndResource, LoadResource, ReleaseResource, DetachResource, ChangedResource, RemoveResource, WriteResource, GetResAttrs, GetResInfo, SizeResource, HomeResFile, SetResAttrs, AddResource, UpdateResFile, CloseResFile, UniqueID, CountResources, GetIndType, SetResLoad, OpenResFile, UseResFile, CountTypes, CurResFile}
+use Rattle.mac_calls.specs.declared.resource_call.ResourceCall.TheVariants.{GetResource, Get1Resource, GetIndResource, LoadResource, DetachResource, ChangedResource, RemoveResource, GetResAttrs, GetResInfo, SizeResource, HomeResFile, SetResAttrs, AddResource, UpdateResFile, CloseResFile, SetResLoad, OpenResFile, UseResFile, CurResFile}
 use Rattle.mac_calls.specs.declared.reply.Results.TheVariants.{Nothing, Handle, Number, Info, Kind}
 use Rattle.res_calls.specs.Device.{Disk, empty_table}
 use Rattle.res_calls.specs.Files.{ResState}

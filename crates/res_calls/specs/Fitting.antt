@@ -1,5 +1,5 @@
 -- Whether resources fit a fork. Nothing here looks at their bytes.
-use Rattle.std.specs.Prelude.{ℕ, ◌+◌, ◌*◌, Bool, true, ◌&&◌, nat_le, List, [], ◌∷◌, length, Option}
+use Rattle.std.specs.Prelude.{ℕ, ◌+◌, Bool, true, ◌&&◌, nat_le, List, [], ◌∷◌, length}
 use Rattle.std.specs.Option.{option_map_or}
 use Rattle.fork_bytes.specs.Fork.{max_rows}
 use Rattle.fork_bytes.specs.Rows.{Row}

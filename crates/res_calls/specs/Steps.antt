@@ -1,5 +1,5 @@
 -- What a call of the Resource Manager does.
-use Rattle.std.specs.Prelude.{◌≡◌, ℕ, Bool, List, [], Option, Some, None, IfSome, is_some, if◌then◌else◌, Result, Ok, Err, OnOk, ⊤}
+use Rattle.std.specs.Prelude.{◌≡◌, ℕ, List, [], Option, Some, None, IfSome, if◌then◌else◌, Result, Ok, Err, OnOk, ⊤}
 use Rattle.std.specs.Option.{option_map_or}
 use Rattle.mac_base.specs.declared.error.OsErr.{OsErr}
 use Rattle.mac_base.specs.HeadKind.{Shape}

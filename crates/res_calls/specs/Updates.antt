@@ -18,8 +18,8 @@ use Rattle.mac_calls.specs.declared.reply.Results.TheVariants.{Nothing}
 use Rattle.mac_calls.specs.declared.memory_call.MemoryCall.TheVariants.{DisposeHandle}
 use Rattle.mac_calls.specs.ExactStep.{heap_after}
 use Rattle.res_calls.specs.Fitting.{rows_fit}
-use Rattle.res_calls.specs.Device.{Device, Works, FailsBefore, FailsWriting, Disk}
-use Rattle.res_calls.specs.Files.{ResState, ResourceEnd, refused_with, with_heap, with_files, with_disk, disk_of, file_named}
+use Rattle.res_calls.specs.Device.{Device, Works, FailsBefore, FailsWriting}
+use Rattle.res_calls.specs.Files.{ResState, ResourceEnd, refused_with, with_heap, with_files, with_disk, file_named}
 
 -- whether a row passes a test, if some row has the handle
 abbrev pub row_passes : (FileRow → Bool) → ℕ → Files → Bool

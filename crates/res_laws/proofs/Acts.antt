@@ -38,7 +38,7 @@ use Rattle.fork_bytes.specs.Written.{written}
 use Rattle.res_table.specs.declared.chain.RowPlace.{RowPlace}
 use Rattle.res_calls.specs.Changes.{FileRow, FileTable, row_changed, rows_of, saved_table}
 use Rattle.res_calls.specs.Device.{Device, DiskRelations, Works as DeviceWorks, FailsBefore, FailsWriting, device_works}
-use Rattle.res_calls.specs.Files.{ResState, ResourceEnd, disk_of, refused_with, with_disk, with_files, with_heap}
+use Rattle.res_calls.specs.Files.{ResState, ResourceEnd, refused_with, with_disk, with_files, with_heap}
 use Rattle.res_calls.specs.Loads.{handle_made, load_end, loaded, loaded_flags, loaded_results, loads_bytes, placed_end, placing, row_wanted, unloaded}
 use Rattle.res_calls.specs.Quiet.{quiet_state}
 use Rattle.res_calls.specs.Steps.{GetsPlace, GetsRow, ResourceStepBy, StepsUnless, Work, Gets, Updates, Opens, Quiet, Works, behind_memory, opened_end, updating, work_of, Memory}
