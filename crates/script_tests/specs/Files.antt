@@ -1,5 +1,5 @@
 -- The stores of a run that are files of the host: what is read of them, and when their devices are honest.
-use Rattle.std.specs.Prelude.{ℕ, ◌+◌, ⊤, [], absurd}
+use Rattle.std.specs.Prelude.{◌+◌, ⊤, []}
 use Rattle.std.proofs.Common.{◌∙◌, ap}
 use Rattle.fork_disk.specs.Fork.{IsPartly}
 use Rattle.fork_disk.specs.Record as file

@@ -15,7 +15,7 @@ AreTold first (e ∷ past) = AreTold first past × Tells (call_of e) (number_of 
 
 -- the world of files that had these bytes at first, and do what they answer
 abbrev pub faithful : (ℕ → List ℕ) → world_of.Ghosts Unknown
-faithful first = record { held = λ number calls. after (first number) calls; may_leave = λ number calls left. leaves (first number) calls left }
+faithful first = record { held = λ number. after (first number); may_leave = λ number. leaves (first number) }
 
 -- in that world a file is honest after any calls whose answers tell what it holds
 abbrev pub CanBeHonest : Type 0
