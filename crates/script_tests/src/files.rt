@@ -7,7 +7,7 @@ ghost use Rattle.script_run.specs.Headline.{RunShows};
 ghost use Rattle.script_run.specs.Line.{start_of};
 ghost use Rattle.script_run.specs.Run.{Ends};
 ghost use Rattle.script_tests.specs.Files.{file_store, journalled_store};
-ghost use Rattle.script_tests.specs.Honest.{CanBeHonest};
+ghost use Rattle.script_tests.specs.Honest.{FilesCanBeHonest, PairsCanBeHonest};
 
 use fork_disk::store::PlainStore;
 use fork_disk::{FileDisk, World};
@@ -51,7 +51,8 @@ pub fn run_over_journalled_files<W: PairWorld, R: Read, T: Write>(
     run(alloc, reader, writer, spec, stores)
 }
 
-/// Files can be honest: those that do what they answer, and answer what they hold. It computes nothing.
+/// The premise of both can be met: files that do what they answer, and answer what they hold, are honest. It computes nothing.
 pub fn files_can_be_honest()
-    ensures { CanBeHonest }
+    ensures files { FilesCanBeHonest }
+    ensures pairs { PairsCanBeHonest }
 {}
