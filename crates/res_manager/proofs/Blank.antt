@@ -1,6 +1,7 @@
 -- Rows and files with a zero for each of their bytes.
-use Rattle.std.proofs.Common.{◌≡◌, refl, sym, ap, ◌∙◌, ℕ, ℤ, zero, suc, List, [], ◌∷◌, length, map, set, slice_get, Bool, true, false, Option, None, Some, IsSome}
+use Rattle.std.proofs.Common.{◌≡◌, refl, sym, ap, ◌∙◌, ℕ, ℤ, zero, suc, List, [], ◌∷◌, length, map, set, slice_get, Bool, true, false, Option, None, Some, IsSome, subst}
 use Rattle.std.specs.Prelude.{if◌then◌else◌, option_map}
+use Rattle.std.specs.List.{cons_option}
 use Rattle.std.specs.Option.{option_map_or, option_and_then}
 use Rattle.std.proofs.lemmas.Bool.{eqb-true}
 use Rattle.mac_base.specs.HandleTable.{zeros}
@@ -145,25 +146,38 @@ disks-blank [] (d ∷ b) same = absurd (cc same)
 disks-blank (d ∷ a) [] same = absurd (cc same)
 disks-blank (d ∷ a) (e ∷ b) same = ap (λ (others : List Disk). let none : Disk = [] in none ∷ others) (disks-blank a b (cc same))
 
+-- states with the same parts are the same
+same-parts : (s t : Shape) (h g : Heap) (f e : Files) (l m : Bool) (d c : List Disk) → s ≡ t → h ≡ g → f ≡ e → l ≡ m → d ≡ c
+    → (let a : ResState = record { shape = s; heap = h; files = f; loads = l; disks = d } in a ≡ record { shape = t; heap = g; files = e; loads = m; disks = c })
+same-parts s t h g f e l m d c shape heap files loads disks =
+    let P : Shape → Type 0 = λ x. (let a : ResState = record { shape = s; heap = h; files = f; loads = l; disks = d } in a ≡ record { shape = x; heap = h; files = f; loads = l; disks = d }) in
+    let Q : Heap → Type 0 = λ x. (let a : ResState = record { shape = s; heap = h; files = f; loads = l; disks = d } in a ≡ record { shape = t; heap = x; files = f; loads = l; disks = d }) in
+    let R : Files → Type 0 = λ x. (let a : ResState = record { shape = s; heap = h; files = f; loads = l; disks = d } in a ≡ record { shape = t; heap = g; files = x; loads = l; disks = d }) in
+    let T : Bool → Type 0 = λ x. (let a : ResState = record { shape = s; heap = h; files = f; loads = l; disks = d } in a ≡ record { shape = t; heap = g; files = e; loads = x; disks = d }) in
+    let U : List Disk → Type 0 = λ x. (let a : ResState = record { shape = s; heap = h; files = f; loads = l; disks = d } in a ≡ record { shape = t; heap = g; files = e; loads = m; disks = x }) in
+    subst U disks (subst T loads (subst R files (subst Q heap (subst P shape refl))))
+
+-- a disk of which nothing is seen
+abbrev unseen : Disk → Disk
+unseen disk = []
+
 -- a state is as the devices answered by its files and its disks
 pub answered-parts : (honest : Type 0) (state answered : ResState) → answered.shape ≡ state.shape → answered.heap ≡ state.heap → AnswersFor honest state.files answered.files → answered.loads ≡ state.loads
     → length answered.disks ≡ length state.disks → (honest → answered.disks ≡ state.disks) → IsAnswered honest state answered
 answered-parts honest state answered shape heap files loads count disks = (
-  rw (shape, heap, files.0, loads, disks-blank answered.disks state.disks count) refl,
-  λ h. by (files.1 h) (disks h),
+  same-parts answered.shape state.shape answered.heap state.heap (blank_files answered.files) (blank_files state.files) answered.loads state.loads (map unseen answered.disks) (map unseen state.disks)
+      shape heap files.0 loads (disks-blank answered.disks state.disks count),
+  λ h. same-parts answered.shape state.shape answered.heap state.heap answered.files state.files answered.loads state.loads answered.disks state.disks shape heap (files.1 h) loads (disks h),
 )
-  where
-    by : answered.files ≡ state.files → answered.disks ≡ state.disks → answered ≡ state
-    by same_files same_disks = cc (shape, heap, same_files, loads, same_disks)
 
 -- the handles of a file's rows are the same
 handles-blank : (rows : List FileRow) → handles_of (map blank_row rows) ≡ handles_of rows
 handles-blank [] = refl
-handles-blank (r ∷ rows) = by r.handle
+handles-blank (r ∷ rows) = by r.handle (handles-blank rows)
   where
-    by : (o : Option ℕ) → option_map_or (λ h. h ∷ handles_of (map blank_row rows)) o (handles_of (map blank_row rows)) ≡ option_map_or (λ h. h ∷ handles_of rows) o (handles_of rows)
-    by None = handles-blank rows
-    by (Some h) = ap (λ (hs : List ℕ). h ∷ hs) (handles-blank rows)
+    by : (o : Option ℕ) → handles_of (map blank_row rows) ≡ handles_of rows → cons_option o (handles_of (map blank_row rows)) ≡ cons_option o (handles_of rows)
+    by None deeper = deeper
+    by (Some h) deeper = ap (λ (hs : List ℕ). h ∷ hs) deeper
 
 handles-of-file : (k : ℕ) (files : Files) → handles_of (rows_of k (blank_files files)) ≡ handles_of (rows_of k files)
 handles-of-file k files = ap (λ (found : Option FileTable). handles_of (option_map_or rows_in found [])) (table-mapped (λ k. blank) k files.files) ∙ by (table_of k files)
@@ -180,7 +194,7 @@ closed-answered honest k state answered is =
     let shape : answered.shape ≡ state.shape = ap (λ (s : ResState). s.shape) is.0 in
     let heap : answered.heap ≡ state.heap = ap (λ (s : ResState). s.heap) is.0 in
     let loads : answered.loads ≡ state.loads = ap (λ (s : ResState). s.loads) is.0 in
-    let disks : map (λ (disk : Disk). let none : Disk = [] in none) answered.disks ≡ map (λ (disk : Disk). let none : Disk = [] in none) state.disks = ap (λ (s : ResState). s.disks) is.0 in
+    let disks : map unseen answered.disks ≡ map unseen state.disks = ap (λ (s : ResState). s.disks) is.0 in
     let handles : handles_of (rows_of k answered.files) ≡ handles_of (rows_of k state.files) = sym (handles-of-file k answered.files) ∙ ap (λ (f : Files). handles_of (rows_of k f)) files ∙ handles-of-file k state.files in
     let closed : blank_files (file_closed k answered.files) ≡ blank_files (file_closed k state.files) =
     sym (closed-mapped (λ k. blank) k answered.files) ∙ ap (file_closed k) files ∙ closed-mapped (λ k. blank) k state.files in (
@@ -190,6 +204,7 @@ closed-answered honest k state answered is =
     )
   where
     by : (a b : Heap) → a ≡ b → answered.shape ≡ state.shape → blank_files (file_closed k answered.files) ≡ blank_files (file_closed k state.files) → answered.loads ≡ state.loads
-        → map (λ (disk : Disk). let none : Disk = [] in none) answered.disks ≡ map (λ (disk : Disk). let none : Disk = [] in none) state.disks
+        → map unseen answered.disks ≡ map unseen state.disks
         → blank_state (with_heap a (with_files (file_closed k answered.files) answered)) ≡ blank_state (with_heap b (with_files (file_closed k state.files) state))
-    by a b heap shape files loads disks = rw (heap, shape, files, loads, disks) refl
+    by a b heap shape files loads disks =
+        same-parts answered.shape state.shape a b (blank_files (file_closed k answered.files)) (blank_files (file_closed k state.files)) answered.loads state.loads (map unseen answered.disks) (map unseen state.disks) shape heap files loads disks

@@ -1,7 +1,7 @@
 -- Calls that write no file and open none.
 use Rattle.std.proofs.Common.{◌≡◌, ℕ, true, false, List, [], Option, Some, None, Result, Ok, Err, refl, ap, sym, subst, ◌∙◌}
 use Rattle.std.specs.Prelude.{IfOk, OnOk, OnErr}
-use Rattle.std.specs.Option.{option_map_or}
+use Rattle.std.specs.Option.{option_map_or, option_or}
 use Rattle.mac_base.specs.ZoneState.{ZoneState}
 use Rattle.mac_calls.specs.declared.resource_call.ResourceCall.{ResourceCall}
 use Rattle.mac_calls.specs.declared.resource_call.ResourceCall.TheVariants as call
@@ -11,9 +11,11 @@ use Rattle.res_table.specs.declared.chain.RowPlace.{RowPlace}
 use Rattle.res_calls.specs.Answered.{IsAnswered}
 use Rattle.res_calls.specs.Files.{ResState}
 use Rattle.res_calls.specs.Loads.{row_wanted}
-use Rattle.res_calls.specs.Steps.{Work, Gets, Quiet, work_of, IsSaved, ReadsBack, update_in}
+use Rattle.res_calls.specs.Steps.{Work, Gets, Quiet, updating, work_of, IsSaved, ReadsBack, update_in}
 use Rattle.res_calls.specs.Tests.{ResourceTest, first_refused_for, resource_refusal}
-use Rattle.res_calls.specs.Updates.{Update, row_passes}
+use Rattle.res_calls.specs.Updates.{Update, can_be_made, row_passes, row_update}
+use Rattle.mac_base.specs.declared.error.OsErr.TheVariants.{DskFulErr}
+use Rattle.mac_calls.specs.Tests.{unless_passed}
 use Rattle.res_table.specs.Rows.{is_changed}
 use Rattle.res_manager.specs.Crash.{IsSettled, file_settled}
 use Rattle.res_files.specs.FilesOn.{FilesOn}
@@ -93,3 +95,14 @@ pub err_same : {S T E : Type 0} (honest : Type 0) (fork : S → List ℕ) (old n
     → OnErr result (IsAnswered honest (state_of fork new after) (state_of fork old on))
 err_same honest fork old new on after (Ok x) zone files = tt
 err_same honest fork old new on after (Err e) zone files = subst (λ (s : ResState). IsAnswered honest (state_of fork new after) s) (ap (λ z. state_of fork z after) zone ∙ ap (state_of fork old) files) (itself honest (state_of fork new after))
+
+-- where the row of a handle isn't changed, there is nothing to write
+module _ (state : ResState) (h : ℕ) (same : row_passes is_changed h state.files ≡ false) where
+  no_update : row_update state h ≡ None
+  no_update = rw same refl
+
+  pub unchanged_quiet : work_of state (call.WriteResource h) ≡ Quiet
+  unchanged_quiet = ap updating no_update
+
+  pub unchanged_passes : first_refused_for state (early_tests (call.WriteResource h)) ≡ None → resource_refusal state (call.WriteResource h) ≡ None
+  unchanged_passes passed = passed-early state (call.WriteResource h) passed ∙ ap (λ (o : Option Update). option_or (unless_passed DskFulErr (can_be_made o)) None) no_update

@@ -1,5 +1,6 @@
 -- How opening a file ends.
 use Rattle.std.proofs.Common.{◌≡◌, ℕ, ◌-◌, List, [], length, map, slice_get, All, Option, Some, None, Result, Ok, Err, unwrap_or, option_map, refl, sym, ap, subst, ◌∙◌, ◌⊎◌, inl, inr}
+use Rattle.std.specs.Prelude.{OnErr}
 use Rattle.std.specs.Option.{option_map_or}
 use Rattle.std.proofs.lemmas.List.{length-map}
 use Rattle.std.proofs.lemmas.Option.{slice_get-map}
@@ -29,7 +30,7 @@ disk-fork fork zone on k = ap (λ (o : Option (List ℕ)). unwrap_or o []) (slic
 
 module _ {S : Type 0} (store : Ghosts S) (zone : ZoneState) (on after : FilesOn S) (k : ℕ) (forks : All store.is_honest after.stores → map store.fork after.stores ≡ map store.fork on.stores)
     (loads : after.loads ≡ on.loads) (count : length after.stores ≡ length on.stores) where
-  state : ResState
+  abbrev state : ResState
   state = state_of store.fork zone on
 
   -- what was read of the disk
@@ -75,3 +76,8 @@ module _ {S : Type 0} (store : Ghosts S) (zone : ZoneState) (on after : FilesOn 
     ends = refl;
     cause = failed;
   }
+
+  -- so it is where the host has no memory for it
+  pub opens_full : {T E : Type 0} (result : Result T E) → OnErr result (after.files ≡ on.files) → OnErr result (IsAnswered (All store.is_honest after.stores) (state_of store.fork zone after) (state_of store.fork zone on))
+  opens_full (Ok done) same = tt
+  opens_full (Err full) same = leaves_files on.files same

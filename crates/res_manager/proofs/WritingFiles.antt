@@ -69,7 +69,7 @@ fork_set {S} fork k left on after within is =
     set_there (x ∷ xs) (suc i) d within = set_there xs i d (omega (arith, within))
 
 module _ {S : Type 0} (store : Ghosts S) (zone : ZoneState) (on after : FilesOn S) (u : Update) (loads : after.loads ≡ on.loads) (count : length after.stores ≡ length on.stores) where
-  state : ResState
+  abbrev state : ResState
   state = state_of store.fork zone on
 
   -- a state with these files and disks is as the devices answered
@@ -120,7 +120,7 @@ module _ {S : Type 0} (store : Ghosts S) (zone : ZoneState) (on after : FilesOn 
   writes_part room files leaves failed =
       let left : Disk = fork_of store.fork u.file after.stores in
       let within = failed.0 in
-      let mine : All store.is_honest after.stores → (leaves honest).0 ≡ left = λ honest. sym (fork_set store.fork u.file (leaves honest).0 on.stores after.stores within (leaves honest).2) in
+      let mine : (honest : All store.is_honest after.stores) → (leaves honest).0 ≡ left = λ honest. sym (fork_set store.fork u.file (leaves honest).0 on.stores after.stores within (leaves honest).2) in
       fits _ _ (fits_fork u.table) room (record {
         device = device.FailsWriting left;
         after = with_disk u.file left (with_files (file_closed u.file on.files) state);

@@ -10,7 +10,7 @@ use Rattle.res_calls.specs.Changes.{row_changed}
 use Rattle.res_table.specs.OpenFiles.{row_at}
 use Rattle.res_table.specs.Rows.{with_handle}
 use Rattle.res_manager.specs.Steps.{state_of}
-use Rattle.res_manager.proofs.GettingRows.{IsGot, empty_load, failed_load, given_load, long_then, refused_load, some-holds}
+use Rattle.res_manager.proofs.GettingRows.{IsGot, empty_load, failed_load, given_load, long_then, refused_load, served, some-holds}
 use Rattle.res_manager.proofs.Lent.{lent_placed}
 use Rattle.res_manager.proofs.load.get_row.Goals as goal
 use Rattle.res_manager.proofs.load.get_row.Goals.{in-Some+else-serves, in_default, then-loads+in_ok-load_bytes, else-loads}
@@ -147,3 +147,10 @@ returns-clause-calm g c = λ honest.
 
 pub load_bytes-requires-clause-placed : goal.load_bytes-requires-clause-placed
 load_bytes-requires-clause-placed g c = c.in_ok-handle.ensures.placed c.if-loads.true
+
+pub returns-then-serves-clause-step : goal.returns-then-serves-clause-step
+returns-then-serves-clause-step g c =
+    let shown = some-holds _ _ _ c.unwrap-row.ensures c.row.ensures.some in
+    let row = shown.2 in
+    served g.S.ForkStore c.args.memory.now c.args.files.now c.args.place c.args.loads shown.0 c.in-Some.handle (g.G.GrowZone.asks c.args.procedure.now) c.requires.unasked shown.1 (sym row.handle ∙ c.in-Some.is)
+    (sym c.serves.ensures ∙ c.if-serves.true)

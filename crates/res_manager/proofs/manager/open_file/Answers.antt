@@ -1,11 +1,13 @@
-use Rattle.std.proofs.Common.{cond, Some, None, refl, sym, ap, ◌∙◌}
+use Rattle.std.proofs.Common.{cond, Ok, Some, None, refl, sym, ap, ◌∙◌}
 use Rattle.mac_calls.specs.declared.resource_call.ResourceCall.TheVariants.{OpenResFile}
 use Rattle.res_calls.specs.Steps.{Opens, Quiet, work_of, update_in}
 use Rattle.res_manager.specs.Crash.{CrashLeaves, file_settled}
 use Rattle.res_manager.specs.Steps.{state_of}
 use Rattle.res_manager.proofs.Crash.{calm_leaves, err_anyhow, opening_saves, work_leaves, work_settles}
 use Rattle.res_manager.proofs.Refusals.{passed-early}
-use Rattle.res_manager.proofs.Stepping.{if_ok, opened_steps}
+use Rattle.mac_calls.specs.declared.reply.Results.TheVariants.{Number}
+use Rattle.res_manager.proofs.OpenedFiles.{opens_full}
+use Rattle.res_manager.proofs.Stepping.{if_ok, opened_steps, quiet_steps}
 use Rattle.res_manager.proofs.manager.open_file.Goals as goal
 
 pub returns-clause-step : goal.returns-clause-step
@@ -32,3 +34,15 @@ pub returns-then-is_open-clause-any_moment : goal.returns-then-is_open-clause-an
 returns-then-is_open-clause-any_moment g c = λ honest.
     let work = work_of (state_of g.S.ForkStore.fork c.args.memory.now c.args.files.now) (OpenResFile c.args.number) in
     calm_leaves g.S.ForkStore c.args.files.now.stores c.args.files.now.stores (update_in work) refl
+
+pub returns-then-is_open-clause-step : goal.returns-then-is_open-clause-step
+returns-then-is_open-clause-step g c =
+    let zone = c.args.memory.now in
+    let on = c.args.files.now in
+    let state = state_of g.S.ForkStore.fork zone on in
+    quiet_steps g.S.ForkStore zone zone on on (OpenResFile c.args.number) (Ok (Number c.args.number)) (passed-early state (OpenResFile c.args.number) c.requires)
+    (ap (λ b. cond b Quiet (Opens c.args.number)) (sym c.is_open.ensures ∙ c.if-is_open.true)) refl refl
+
+pub returns-clause-same : goal.returns-clause-same
+returns-clause-same g c =
+    opens_full g.S.ForkStore c.args.memory.now c.args.files.now c.open.new.files c.args.number c.open.ensures.forks c.open.ensures.loads c.open.ensures.count c.open.result c.open.ensures.full

@@ -21,11 +21,10 @@ returns-in-Ok-clause-written g c = λ u is.
     let Q : ZoneState → Type 0 = λ z. update_of c.args.number (updated z.heap.table c.args.selection) c.args.files.now.files ≡ Some u in
     let f = update_found c.args.number (updated t c.args.selection) c.args.files.now.files u (subst Q (sym c.new-contents.ensures) is) in
     let rows = rw f.there at c.in-Ok.ensures.rows in
-    let forks = λ honest. rw f.there at (c.in-Ok.ensures.written honest) in
     let big = rw f.there at c.in-Ok.ensures.too_big in
     let v : Update = record { file = c.args.number; table = updated t c.args.selection f.table } in
     let P : Update → Type 0 = λ w. WritesFile g.S.ForkStore c.args.memory.now c.args.files.now (UpdateResFile None) w (Ok Nothing) c.args.memory.now c.update.new.self in
-    subst P f.is (writes_all g.S.ForkStore c.args.memory.now c.args.files.now c.update.new.self v c.update.ensures.loads c.update.ensures.count (true_unless (fits_fork v.table) (λ h. absurd (cc (big.1 h)))) rows forks c.in-Ok.ensures.none)
+    subst P f.is (writes_all g.S.ForkStore c.args.memory.now c.args.files.now c.update.new.self v c.update.ensures.loads c.update.ensures.count (true_unless (fits_fork v.table) (λ h. absurd (cc (big.1 h)))) rows (λ honest. rw f.there at (c.in-Ok.ensures.written honest)) c.in-Ok.ensures.none)
 
 pub returns-in-Ok-clause-saved : goal.returns-in-Ok-clause-saved
 returns-in-Ok-clause-saved g c = λ honest.

@@ -8,11 +8,11 @@ use Rattle.res_table.specs.Rows.{is_changed}
 use Rattle.res_update.specs.Selected.{updated}
 use Rattle.res_update.specs.declared.selection.Selection.TheVariants.{RowAt}
 use Rattle.res_manager.specs.Steps.{state_of, work_takes_memory}
-use Rattle.res_manager.proofs.CalmCalls.{calm_reads, calm_settles, unchanged_work}
+use Rattle.res_manager.proofs.CalmCalls.{calm_reads, calm_settles, unchanged_passes, unchanged_quiet, unchanged_work}
 use Rattle.res_manager.proofs.Crash.{calm_leaves, made_file, work_leaves, work_settles}
 use Rattle.res_manager.proofs.ReadingBack.{made_reads}
 use Rattle.res_manager.proofs.RowUpdates.{row_open}
-use Rattle.res_manager.proofs.Stepping.{if_ok}
+use Rattle.res_manager.proofs.Stepping.{if_ok, quiet_steps}
 use Rattle.res_manager.proofs.UpdatingCalls.{made_late, made_steps, makes_row, on_err, open_update}
 use Rattle.res_manager.proofs.WritingFiles.{writes_as}
 use Rattle.res_manager.proofs.updating.write_resource.Goals as goal
@@ -98,3 +98,11 @@ returns-then-not-is_changed-clause-settled g c = λ honest.
     let state = state_of g.S.ForkStore.fork c.args.memory.now c.args.files.now in
     let unchanged : row_passes is_changed c.args.handle c.args.files.now.files ≡ false = search rules in
     calm_settles g.S.ForkStore c.args.files.now.stores (work_of state (WriteResource c.args.handle)) (unchanged_work state c.args.handle unchanged) (Ok Nothing)
+
+pub returns-then-not-is_changed-clause-step : goal.returns-then-not-is_changed-clause-step
+returns-then-not-is_changed-clause-step g c =
+    let zone = c.args.memory.now in
+    let on = c.args.files.now in
+    let state = state_of g.S.ForkStore.fork zone on in
+    let unchanged : row_passes is_changed c.args.handle c.args.files.now.files ≡ false = search rules in
+    quiet_steps g.S.ForkStore zone zone on on (WriteResource c.args.handle) (Ok Nothing) (unchanged_passes state c.args.handle unchanged c.requires) (unchanged_quiet state c.args.handle unchanged) refl refl
