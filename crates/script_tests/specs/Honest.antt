@@ -1,4 +1,4 @@
--- The premise of files can be met: there is a world in which files that do what they answer, and answer what they hold, are honest.
+-- The premise of files can be met: in some world those that do what they answer, and answer what they hold, are honest.
 use Rattle.std.specs.Prelude.{ℕ, zero, suc, Bool, List, [], ◌∷◌, length, ◌≤◌, ⊤}
 use Rattle.fork_disk.proofs.Honest.{after, leaves, stepped, Tells}
 use Rattle.fork_disk.specs.Record.{Event, call_of, number_of, is_done}
@@ -14,7 +14,8 @@ use Rattle.fork_journal.specs.declared.pair_world.PairWorld as pair_world
 use Rattle.fork_journal.specs.declared.pair_world.UnknownPair.{UnknownPair}
 use Rattle.script_tests.specs.Files.{file_pair, file_store}
 
--- the answers of these calls, the newest first, tell what a file holds that had these bytes before them and does what it answers
+-- The answers of these calls, the newest first, tell what a file holds that had these bytes before them and does what
+-- it answers.
 abbrev pub AreTold : List ℕ → List Event → Type 0
 AreTold first [] = ⊤
 AreTold first (e ∷ past) = AreTold first past × Tells (call_of e) (number_of e) (is_done e) e.1 (after first past)
@@ -25,8 +26,8 @@ faithful first = record { held = λ number. after (first number); may_leave = λ
 
 -- in that world a file is honest after any calls whose answers tell what it holds
 abbrev pub FilesCanBeHonest : Type 0
-FilesCanBeHonest = (first : ℕ → List ℕ) (store : PlainStore (FileDisk Unknown)) → AreTold (first store.disk.number) store.disk.log.events
-    → (file_store (faithful first)).is_honest store
+FilesCanBeHonest = (first : ℕ → List ℕ) (store : PlainStore (FileDisk Unknown))
+    → AreTold (first store.disk.number) store.disk.log.events → (file_store (faithful first)).is_honest store
 
 -- what two files hold after these calls, the newest first, where each does what it answers
 abbrev pub both_after : Contents → List Event → Contents
@@ -51,5 +52,5 @@ faithful_pairs first = record { held = λ number. both_after (first number) }
 
 -- in that world a fork and its journal are honest after any calls whose answers tell what they hold
 abbrev pub PairsCanBeHonest : Type 0
-PairsCanBeHonest = (first : ℕ → Contents) (files : FilePair UnknownPair) → AreBothTold (first files.number) files.log.events
-    → (file_pair (faithful_pairs first)).is_honest files
+PairsCanBeHonest = (first : ℕ → Contents) (files : FilePair UnknownPair)
+    → AreBothTold (first files.number) files.log.events → (file_pair (faithful_pairs first)).is_honest files

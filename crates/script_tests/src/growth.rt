@@ -6,7 +6,8 @@ use std::alloc::Global;
 use std::process::Abort;
 use std::test::Fail;
 
-/// A resource is made, and loaded from the disk again. Then it gets longer, and comes back from a file that is opened once more.
+/// A resource is made, and loaded from the disk again. Then it gets longer, and comes back from a file that is opened
+/// once more.
 const SCRIPT: &str = "\
 h = NewHandle 70000
 Poke h 69998 \"Hi\"

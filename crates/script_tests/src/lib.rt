@@ -1,5 +1,5 @@
-//! The theorem of a run, read at files of the host. And tests of whole runs: over readers and writers that fail, and over a resource
-//! file on a disk in memory that grows, or of which a call fails.
+//! The theorem of a run, read at files of the host. And tests of whole runs: over readers and writers that fail, and
+//! over a resource file on a disk in memory that grows, or of which a call fails.
 #![tactic(auto)]
 
 #[cfg(test)]
