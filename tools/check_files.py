@@ -14,6 +14,7 @@ import sys
 import tempfile
 
 from check_forks import MOST_BYTES
+from check_random import shown
 from check_resources import File, Row
 from check_runs import FAULT, are_wanted, calls_of, lines_of, numbered, read, unescaped
 
@@ -334,8 +335,7 @@ def eight():
     at = len(lines)
     printed += ["..", f"{at - 2} CloseResFile 0", f"{at - 1} CurResFile 6 0", f"{at} OpenResFile -43"]
     opened.remove(3)
-    lines.append("CloseResFile 6")
-    lines.append("CurResFile")
+    lines += ["CloseResFile 6", "CurResFile"]
     printed += [f"{at + 1} CloseResFile 0", f"{at + 2} CurResFile 4 0", *of_eight(lines, 4, opened[:-1])]
     rows = [Row(b"AAAA", 1, None, 0, b"3.0"), Row(b"BBBB", 3, None, 0, b"3.1"), Row(b"BBBB", 9, None, 0, b"new")]
     return forks, " / ".join(lines), " / ".join(printed), [*forks[:2], File(3, rows).fork(lambda row: row.disk), *forks[3:]]
@@ -345,13 +345,12 @@ def ends_of(data):
     """The lines that look at the first and the last two bytes of a resource k, and what they print."""
     size = len(data)
     lines = ["SizeResource k", "GetHandleSize k", "Peek k 0 2", f"Peek k {size - 2} 2"]
-    texts = (f'$"{it.hex().upper()}"' if min(it) < 32 or max(it) > 126 else f'"{it.decode()}"' for it in (data[:2], data[-2:]))
-    return lines, [f"SizeResource {size} 0", f"GetHandleSize {size} 0", *(f"Peek {it} 0" for it in texts)]
+    return lines, [f"SizeResource {size} 0", f"GetHandleSize {size} 0", f"Peek {shown(data[:2])} 0", f"Peek {shown(data[-2:])} 0"]
 
 
 def large():
-    """Forks of many bytes. A handle has bytes of zero until they are poked."""
-    # one resource of this size alone; the fork of the second one has 65,535 bytes
+    """Forks of one large resource, which is loaded again, also from a file that is opened again. A handle has bytes of zero until they are poked."""
+    # the fork of the second one has 65,535 bytes
     for size in (65_000, 65_225, 65_226, 90_000, 900_000):
         data = b"<<" + bytes(size - 4) + b">>"
         asked, told = ends_of(data)
@@ -363,7 +362,10 @@ def large():
             lines += [*again, *asked]
         fork = File(1, [Row(b"TEXT", 128, None, 0, data)]).fork(lambda row: row.disk)
         yield [b""], f"--zone 1048576 : {' / '.join(lines)}", " / ".join(printed), [fork]
-    # five are written one after the other, which a sixth has no room beside
+
+
+def large_in_turn():
+    """Five large resources are written one after the other. There is no room for a sixth beside them."""
     rows, lines, printed = [], [], []
     for ident in range(1, 7):
         data = f"<{ident}".encode() + bytes(799_996) + f"{ident}>".encode()
@@ -382,11 +384,11 @@ def large():
         lines += [*asked, "ReleaseResource k"]
         printed.append(f"{len(lines)} ReleaseResource 0")
     fork = File(1, rows).fork(lambda row: row.disk)
-    yield [b""], f"--zone 1048576 : {' / '.join(lines)}", " / ".join(printed), [fork]
+    return [b""], f"--zone 1048576 : {' / '.join(lines)}", " / ".join(printed), [fork]
 
 
 def large_update():
-    """A large fork gets a small resource, and keeps the bytes of the others; a resource of it is loaded then. Also one that is as large as a fork may be."""
+    """A large fork gets one more resource, and keeps the bytes of the others, of which one is loaded then."""
     dice = random.Random(4)
     for size in (400_000, 419_000):
         rows = [Row(b"DATA", ident, None, 0, dice.randbytes(size)) for ident in range(1, 11)]
@@ -396,7 +398,7 @@ def large_update():
         printed = ["..", "3 AddResource 0", "4 UpdateResFile 0", "5 ReleaseResource 0", "..", *(f"{number} {it}" for number, it in enumerate(told, 7)), "11 CloseResFile 0"]
         new = File(1, [*rows, Row(b"TEXT", 128, None, 0, b"Hi")]).fork(lambda row: row.disk)
         yield [old], f"--zone 4096 --limit 1048576 : {' / '.join(lines)}", " / ".join(printed), [new]
-    # the same bytes at the largest size, and one more
+    # then a fork of as many bytes as one may have, and one of one more
     spare = MOST_BYTES - len(new)
     for more, code in ((spare + 2, 0), (spare + 3, -34)):
         data = bytes(more)
@@ -567,7 +569,7 @@ def operands(table):
 def main(program):
     failed = 0
     refused, written = read("refusals.txt", refusals), read("operands.txt", operands)
-    rows = ROWS + [*chains(), eight(), *kinds(), *large(), *large_update()] + refused + written
+    rows = ROWS + [*chains(), eight(), *kinds(), *large(), large_in_turn(), *large_update()] + refused + written
     with tempfile.TemporaryDirectory() as folder:
         for disks, script, printed, wanted in rows:
             paths = [os.path.join(folder, f"file{index}") for index in range(len(disks))]
