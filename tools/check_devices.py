@@ -189,6 +189,8 @@ UPDATES = [
         "h = GetIndResource 'TEXT' 2 / SetHandleSize h 3 / Poke h 0 \"xyz\" / ChangedResource h / WriteResource h", AB, "ssrrrrr", "rwcy", A_XYZ
     ),
     Update("h = NewHandle 1 / AddResource h 'TEXT' 128 / CloseResFile", b"", "s", "wcy", ZERO),
+    # a long row keeps its bytes, which one read gives
+    Update("h = NewHandle 1 / AddResource h 'TEXT' 2 / UpdateResFile", fork_of(b"ab" * 150_000), "ssrrr", "rwcy", fork_of(b"ab" * 150_000, b"\0")),
 ]
 
 # With a journal an update opens the gate, writes the fork and shuts the gate again; before that it puts the text into the journal.
@@ -323,6 +325,35 @@ def loaded(play):
     yield "a load of no bytes", play(fork, empty).fault(["..", "2 GetHandleSize 0 0"], "ssrrrrr", fork)
 
 
+# Scripts of calls that make none on the device behind the opening and these loads: the calls, and the last reply
+QUIET = [
+    # a resource that isn't changed is written already, also where its bytes, its handle's size or its attributes are others
+    ("h = GetResource 'TEXT' 1 / WriteResource h / GetResAttrs h", "r", "3 GetResAttrs 0 0"),
+    ("h = GetResource 'TEXT' 1 / Poke h 0 \"x\" / SetHandleSize h 9 / WriteResource h / ResError", "r", "5 ResError 0 0"),
+    ("h = GetResource 'TEXT' 1 / SetResAttrs h 32 / WriteResource h / GetResAttrs h", "r", "4 GetResAttrs 32 0"),
+    ("h = GetResource 'TEXT' 1 / EmptyHandle h / WriteResource h / SizeResource h", "r", "4 SizeResource 3 0"),
+    # and so it is where another one is changed
+    ("h = GetResource 'TEXT' 1 / k = GetResource 'TEXT' 2 / ChangedResource k / WriteResource h / GetResAttrs k", "rr", "5 GetResAttrs 2 0"),
+    # a handle that has a block is loaded already
+    ("h = GetResource 'TEXT' 1 / LoadResource h / GetResource 'TEXT' 1 / Get1Resource 'TEXT' 1 / GetIndResource 'TEXT' 1", "r", "5 GetIndResource $0010003C 0"),
+    # no bytes are loaded without a read, and again where the handle was emptied
+    ("h = GetResource 'TEXT' 3 / EmptyHandle h / LoadResource h / GetHandleSize h", "", "4 GetHandleSize 0 0"),
+    ("h = GetIndResource 'TEXT' 3 / ReleaseResource h / h = Get1Resource 'TEXT' 3 / GetHandleSize h", "", "4 GetHandleSize 0 0"),
+    ("SetResLoad 0 / h = GetResource 'TEXT' 1 / k = GetResource 'TEXT' 3 / LoadResource k / GetHandleSize k / GetHandleSize h", "", "6 GetHandleSize -109"),
+    # what is told of a file is told without its device
+    ("SetResLoad 0 / h = GetResource 'TEXT' 2 / SizeResource h / GetResInfo h / CountResources 'TEXT' / UniqueID 'TEXT' / GetIndType 1 / OpenResFile 1 / HomeResFile h", "", "9 HomeResFile 1 0"),
+]
+
+
+def quiet(play):
+    """Each of these scripts makes the calls that it should and no others, without a journal and with one, and leaves the file as it was."""
+    fork = fork_of(b"abc", b"de", b"")
+    for script, loads, last in QUIET:
+        lines = script.split(" / ")
+        yield f"quiet, {script}", play(fork, lines).fault(["..", last], "ssrrrrr" + loads, fork)
+        yield f"quiet, {script}, with a journal", play(fork, lines, b"").fault(["..", last], "YS" + "ssrrrrr" + loads, fork)
+
+
 # the forks of tools/faults.txt
 FAULT_FORKS = {
     "HI": HI,
@@ -367,7 +398,7 @@ def main(program):
         def play(fork, lines, journal=None, **settings):
             return Played(program, shim, folder, fork, lines, journal, **settings)
 
-        for rows in (opened, opened_again, updated, loaded, recovered, journalled, in_rows, told):
+        for rows in (opened, opened_again, updated, loaded, quiet, recovered, journalled, in_rows, told):
             for what, fault in rows(play):
                 count += 1
                 failures += [f"{what}: {fault}"] if fault else []

@@ -4,14 +4,17 @@ tools/refusals.txt and on the operands of tools/operands.txt.
 
     tools/check_files.py PROGRAM
 
-A row has the bytes of its files, a script whose lines are parted by ` / `, the lines that are printed, where `..` stands for
-lines that aren't compared, and the bytes that the files have then.
+A row has the bytes of its files, a script whose lines are parted by ` / `, with the program's options before a colon where it has some, the
+lines that are printed, where `..` stands for lines that aren't compared, and the bytes that the files have then.
 """
 import os
+import random
 import subprocess
 import sys
 import tempfile
 
+from check_forks import MOST_BYTES
+from check_random import shown
 from check_resources import File, Row
 from check_runs import FAULT, are_wanted, calls_of, lines_of, numbered, read, unescaped
 
@@ -305,6 +308,105 @@ def chains():
     yield forks, script, printed, [forks[0], File(2, rows).fork(lambda row: row.disk), forks[2]]
 
 
+def of_eight(lines, current, opened):
+    """Adds the look-ups from this current file on, where these are open in turn, and gives what they print."""
+    printed = []
+    upto = opened[: opened.index(current) + 1]
+    for ident in range(1, 9):
+        found = f"{ident}.1" if ident in upto else None
+        printed += looked_up(lines, f"GetResource 'BBBB' {ident}", found, ident)
+        printed += looked_up(lines, f"Get1Resource 'BBBB' {ident}", found if ident == current else None, ident)
+    return printed + looked_up(lines, "GetResource 'AAAA' 1", f"{current}.0", current)
+
+
+def eight():
+    """Eight files are open at once, each with a resource 'AAAA' 1 and one of its own. A change is written to its file alone."""
+    words = [Words(f"A1 B{number}", number) for number in range(1, 9)]
+    forks = [it.fork() for it in words]
+    opened = [1, 5, 2, 8, 3, 7, 4, 6]
+    lines = [f"OpenResFile {number}" for number in opened[1:]]
+    printed = [f"{at} OpenResFile {number} 0" for at, number in enumerate(opened[1:], 1)]
+    printed += of_eight(lines, 6, opened)
+    for current in (8, 1, 4):
+        lines.append(f"UseResFile {current}")
+        printed += [f"{len(lines)} UseResFile 0", *of_eight(lines, current, opened)]
+    # file 3 gets a resource, and is closed; the file that was opened last is the current one then
+    lines += ["UseResFile 3", "n = NewHandle 3", 'Poke n 0 "new"', "AddResource n 'BBBB' 9", "CloseResFile", "CurResFile", "OpenResFile 9"]
+    at = len(lines)
+    printed += ["..", f"{at - 2} CloseResFile 0", f"{at - 1} CurResFile 6 0", f"{at} OpenResFile -43"]
+    opened.remove(3)
+    lines += ["CloseResFile 6", "CurResFile"]
+    printed += [f"{at + 1} CloseResFile 0", f"{at + 2} CurResFile 4 0", *of_eight(lines, 4, opened[:-1])]
+    rows = [Row(b"AAAA", 1, None, 0, b"3.0"), Row(b"BBBB", 3, None, 0, b"3.1"), Row(b"BBBB", 9, None, 0, b"new")]
+    return forks, " / ".join(lines), " / ".join(printed), [*forks[:2], File(3, rows).fork(lambda row: row.disk), *forks[3:]]
+
+
+def ends_of(data):
+    """The lines that look at the first and the last two bytes of a resource k, and what they print."""
+    size = len(data)
+    lines = ["SizeResource k", "GetHandleSize k", "Peek k 0 2", f"Peek k {size - 2} 2"]
+    return lines, [f"SizeResource {size} 0", f"GetHandleSize {size} 0", f"Peek {shown(data[:2])} 0", f"Peek {shown(data[-2:])} 0"]
+
+
+def large():
+    """Forks of one large resource, which is loaded again, also from a file that is opened again. A handle has bytes of zero until they are poked."""
+    # the fork of the second one has 65,535 bytes
+    for size in (65_000, 65_225, 65_226, 90_000, 900_000):
+        data = b"<<" + bytes(size - 4) + b">>"
+        asked, told = ends_of(data)
+        lines = [f"h = NewHandle {size}", 'Poke h 0 "<<"', f'Poke h {size - 2} ">>"', "AddResource h 'TEXT' 128", "UpdateResFile", "ReleaseResource h"]
+        printed = ["..", "5 UpdateResFile 0", "6 ReleaseResource 0"]
+        for again in (["k = GetResource 'TEXT' 128"], ["CloseResFile", "OpenResFile 1", "k = GetResource 'TEXT' 128"]):
+            at = len(lines) + len(again)
+            printed += ["..", *(f"{number} {it}" for number, it in enumerate(told, at + 1))]
+            lines += [*again, *asked]
+        fork = File(1, [Row(b"TEXT", 128, None, 0, data)]).fork(lambda row: row.disk)
+        yield [b""], f"--zone 1048576 : {' / '.join(lines)}", " / ".join(printed), [fork]
+
+
+def large_in_turn():
+    """Five large resources are written one after the other. There is no room for a sixth beside them."""
+    rows, lines, printed = [], [], []
+    for ident in range(1, 7):
+        data = f"<{ident}".encode() + bytes(799_996) + f"{ident}>".encode()
+        lines += ["h = NewHandle 800000", f'Poke h 0 "<{ident}"', f'Poke h 799998 "{ident}>"', f"AddResource h 'TEXT' {ident}", "WriteResource h"]
+        printed += ["..", f"{len(lines)} WriteResource {0 if ident < 6 else -34}"]
+        if ident < 6:
+            rows.append(Row(b"TEXT", ident, None, 0, data))
+            lines.append("ReleaseResource h")
+            printed.append(f"{len(lines)} ReleaseResource 0")
+    lines += ["RemoveResource h", "DisposeHandle h"]
+    printed += [f"{len(lines) - 1} RemoveResource 0", f"{len(lines)} DisposeHandle 0"]
+    for row in rows:
+        lines.append(f"k = GetResource 'TEXT' {row.ident}")
+        asked, told = ends_of(row.disk)
+        printed += ["..", *(f"{number} {it}" for number, it in enumerate(told, len(lines) + 1))]
+        lines += [*asked, "ReleaseResource k"]
+        printed.append(f"{len(lines)} ReleaseResource 0")
+    fork = File(1, rows).fork(lambda row: row.disk)
+    return [b""], f"--zone 1048576 : {' / '.join(lines)}", " / ".join(printed), [fork]
+
+
+def large_update():
+    """A large fork gets one more resource, and keeps the bytes of the others, of which one is loaded then."""
+    dice = random.Random(4)
+    for size in (400_000, 419_000):
+        rows = [Row(b"DATA", ident, None, 0, dice.randbytes(size)) for ident in range(1, 11)]
+        old = File(1, rows).fork(lambda row: row.disk)
+        asked, told = ends_of(rows[6].disk)
+        lines = ["h = NewHandle 2", 'Poke h 0 "Hi"', "AddResource h 'TEXT' 128", "UpdateResFile", "ReleaseResource h", "k = GetResource 'DATA' 7", *asked, "CloseResFile"]
+        printed = ["..", "3 AddResource 0", "4 UpdateResFile 0", "5 ReleaseResource 0", "..", *(f"{number} {it}" for number, it in enumerate(told, 7)), "11 CloseResFile 0"]
+        new = File(1, [*rows, Row(b"TEXT", 128, None, 0, b"Hi")]).fork(lambda row: row.disk)
+        yield [old], f"--zone 4096 --limit 1048576 : {' / '.join(lines)}", " / ".join(printed), [new]
+    # then a fork of as many bytes as one may have, and one of one more
+    spare = MOST_BYTES - len(new)
+    for more, code in ((spare + 2, 0), (spare + 3, -34)):
+        data = bytes(more)
+        lines = [f"h = NewHandle {more}", "AddResource h 'TEXT' 128", "UpdateResFile"]
+        new = File(1, [*rows, Row(b"TEXT", 128, None, 0, data)]).fork(lambda row: row.disk)
+        yield [old], f"--zone 4096 --limit 1048576 : {' / '.join(lines)}", f".. / 2 AddResource 0 / 3 UpdateResFile {code}", [old if code else new]
+
+
 # Steps in turn, and the rows behind each, of which those with `@` have a handle. `+` adds a row, whose tag tells which it is; `-` takes the one
 # of a tag out; `!` writes it and releases its handle; `=` loads the one that is found by its type and id; `~` disposes of its handle.
 STEPS = """+A1: A1.0@
@@ -467,11 +569,12 @@ def operands(table):
 def main(program):
     failed = 0
     refused, written = read("refusals.txt", refusals), read("operands.txt", operands)
-    rows = ROWS + [*chains(), *kinds()] + refused + written
+    rows = ROWS + [*chains(), eight(), *kinds(), *large(), large_in_turn(), *large_update()] + refused + written
     with tempfile.TemporaryDirectory() as folder:
         for disks, script, printed, wanted in rows:
             paths = [os.path.join(folder, f"file{index}") for index in range(len(disks))]
-            words = [program]
+            options, _, script = script.rpartition(" : ") if script.startswith("--") else ("", "", script)
+            words = [program, *options.split()]
             for path, disk in zip(paths, disks):
                 with open(path, "wb") as file:
                     file.write(disk)

@@ -7,6 +7,7 @@ import sys
 import tempfile
 
 from check_files import AB
+from check_resources import File, Row, journal_of
 
 # the fork of one resource 'TEXT' 128 with the bytes "Hi"
 HI = (
@@ -31,6 +32,10 @@ READ = '1 GetResource $0010003C 0\n2 Peek "Hi" 0\n'
 REFUSED = "0 OpenResFile -199\n"
 TEXT = struct.pack(">I", len(HI)) + HI
 OPEN, SHUT = b"\1" + TEXT, b"\0" + TEXT
+# a fork of some 4,000,000 bytes, the same with that resource behind the others, and its journal open
+DATA = [Row(b"DATA", ident, None, 0, bytes([ident]) * 400_000) for ident in range(1, 11)]
+LARGE, LARGER = (File(1, rows).fork(lambda row: row.disk) for rows in (DATA, [*DATA, Row(b"TEXT", 128, None, 0, b"Hi")]))
+LARGER_OPEN = journal_of(1, LARGER)
 
 # what it is; the forks before, the journals before, the script; what is printed, the forks after, the journals after. None: no such file
 ROWS = [
@@ -46,6 +51,10 @@ ROWS = [
     ("a shut journal is left alone", [HI], [SHUT], "", "", [HI], [SHUT]),
     ("an open gate without a whole text is shut by an update", [b""], [b"\1"], WRITES, WRITTEN, [HI], [SHUT]),
     ("an update cuts the journal", [b""], [SHUT + b"more"], WRITES, WRITTEN, [HI], [SHUT]),
+    ("a large fork gets one more resource", [LARGE], [b""], WRITES, WRITTEN, [LARGER], [journal_of(0, LARGER)]),
+    ("a start writes a large fork", [LARGE], [LARGER_OPEN], READS, READ, [LARGER], [journal_of(0, LARGER)]),
+    ("also over a part of it", [LARGER[:1_000_000]], [LARGER_OPEN], READS, READ, [LARGER], [journal_of(0, LARGER)]),
+    ("and a large text that lacks its last byte isn't used", [LARGE], [LARGER_OPEN[:-1]], "", "", [LARGE], [LARGER_OPEN[:-1]]),
     ("a second file waits for its opening", [HI, b""], [SHUT, OPEN], "", "", [HI, b""], [SHUT, OPEN]),
     ("and is recovered by it", [HI, b""], [b"", OPEN], "OpenResFile 2\n", "1 OpenResFile 2 0\n", [HI, HI], [b"", SHUT]),
     ("a script that is none recovers nothing", [b"", None], [OPEN, None], "?\n", "script fault at line 1\n", [b"", b""], [OPEN, b""]),

@@ -145,7 +145,18 @@ pub(crate) fn run_on(
     bytes: Vec<u8>,
     turn: u64,
 ) -> Result<Seen, Fail> {
-    let spec = ZoneSpec::new(0x10_0000, 4096, 4096)?;
+    run_in(alloc, plan, 4096, bytes, turn)
+}
+
+/// Runs a plan as `run_on`, on a zone of this size.
+pub(crate) fn run_in(
+    alloc: Global,
+    plan: Plan<'_>,
+    size: u32,
+    bytes: Vec<u8>,
+    turn: u64,
+) -> Result<Seen, Fail> {
+    let spec = ZoneSpec::new(0x10_0000, size, size)?;
     let stores = one_disk(alloc, bytes, turn)?;
     let mut reader = Counted::new(reader_of(plan));
     let mut writer = Counted::new(writer_of(alloc, plan));

@@ -1,0 +1,62 @@
+//! The theorem of a run, read at files of the host.
+
+ghost use Rattle.std.specs.Prelude.{◌≤◌, ℕ, List, length, IfSome};
+ghost use Rattle.std.specs.Io.KnownBytes.{Appends};
+ghost use Rattle.script_run.specs.Exact.{RunsAgree};
+ghost use Rattle.script_run.specs.Headline.{RunShows};
+ghost use Rattle.script_run.specs.Line.{start_of};
+ghost use Rattle.script_run.specs.Run.{Ends};
+ghost use Rattle.script_tests.specs.Files.{file_store, journalled_store};
+ghost use Rattle.script_tests.specs.Honest.{FilesCanBeHonest, PairsCanBeHonest};
+
+use fork_disk::store::PlainStore;
+use fork_disk::{FileDisk, World};
+use fork_journal::{FilePair, Journal, PairWorld};
+use mac_base::zone_spec::ZoneSpec;
+use script_run::{Counted, RunEnd, run};
+use std::alloc::Global;
+use std::io::{Read, Write};
+
+/// Runs a script over forks that are files. What is promised of a run is said of them here by name: in each world their
+/// bytes and their honesty are those of `file_store`, and nothing is left to a trait.
+pub fn run_over_files<W: World, R: Read, T: Write>(
+    alloc: Global,
+    reader: &mut Counted<R>,
+    writer: &mut Counted<T>,
+    spec: ZoneSpec,
+    stores: Vec<PlainStore<FileDisk<W>>>,
+) -> (RunEnd, Vec<PlainStore<FileDisk<W>>>)
+    requires { length stores.items ≤ 8 }
+    ensures ends { (written : List ℕ) × Appends (T.contents writer.old.inner) (T.contents writer.new.inner) written
+        × IfSome (R.remaining reader.old.inner) (λ input.
+        Ends (file_store W.World) (start_of spec stores.items) input result.0 written result.1.items) }
+    ensures headline { RunShows (file_store W.World) }
+    ensures exact { RunsAgree (file_store W.World) }
+{
+    run(alloc, reader, writer, spec, stores)
+}
+
+/// Runs a script over forks that are files, each with a journal in a file of its own: they are `journalled_store`.
+pub fn run_over_journalled_files<W: PairWorld, R: Read, T: Write>(
+    alloc: Global,
+    reader: &mut Counted<R>,
+    writer: &mut Counted<T>,
+    spec: ZoneSpec,
+    stores: Vec<Journal<FilePair<W>>>,
+) -> (RunEnd, Vec<Journal<FilePair<W>>>)
+    requires { length stores.items ≤ 8 }
+    ensures ends { (written : List ℕ) × Appends (T.contents writer.old.inner) (T.contents writer.new.inner) written
+        × IfSome (R.remaining reader.old.inner) (λ input.
+        Ends (journalled_store W.PairWorld) (start_of spec stores.items) input result.0 written result.1.items) }
+    ensures headline { RunShows (journalled_store W.PairWorld) }
+    ensures exact { RunsAgree (journalled_store W.PairWorld) }
+{
+    run(alloc, reader, writer, spec, stores)
+}
+
+/// The premise of both can be met: files that do what they answer, and answer what they hold, are honest. It computes
+/// nothing.
+pub fn files_can_be_honest()
+    ensures files { FilesCanBeHonest }
+    ensures pairs { PairsCanBeHonest }
+{}
