@@ -9,7 +9,7 @@ use Rattle.fork_disk.specs.declared.store.PlainStore.{PlainStore}
 use Rattle.fork_disk.specs.declared.world.World as world_of
 use Rattle.fork_journal.specs.Crash.{Event}
 use Rattle.fork_journal.specs.Files as pair
-use Rattle.fork_journal.specs.Recovery.{IsEither, IsReady, IsStable, MayFind, settled_fork}
+use Rattle.fork_journal.specs.Recovery.{IsEither, IsReady, IsStable, MayFind, copied_length, settled_fork}
 use Rattle.fork_journal.specs.declared.file_pair.FilePair.{FilePair}
 use Rattle.fork_journal.specs.declared.journal.Journal.{Journal}
 use Rattle.fork_journal.specs.declared.pair.PairDisk as pair_disk
@@ -31,6 +31,7 @@ file_store world = record {
   Event = ⊤;
   history = λ store. [];
   may_find = λ history found. ⊤;
+  copied = λ store. 0;
   ready_finds = λ store journalled. absurd journalled;
 }
 
@@ -52,12 +53,13 @@ journalled_store world = let files = file_pair world in record {
   is_ready = λ store. IsReady (files.contents store.pair) (files.history store.pair);
   is_stable = λ store. IsStable (files.contents store.pair) (files.history store.pair);
   is_honest = λ store. files.is_honest store.pair;
-  failures = λ store. files.failures store.pair + store.refusals;
+  failures = λ store. files.failures store.pair;
   may_leave = IsEither;
   has_journal = ⊤;
   Event = Event;
   history = λ store. files.history store.pair;
   may_find = MayFind;
+  copied = λ store. copied_length (files.contents store.pair);
   ready_finds = λ store journalled honest ready found may.
       may.2 ∙ ap settled_fork (ready.settled may.0 may.1);
 }

@@ -1,10 +1,11 @@
 //! The theorem of a run, read at files of the host.
 
-ghost use Rattle.std.specs.Prelude.{◌≤◌, ℕ, List, length, IfSome};
-ghost use Rattle.std.specs.Io.KnownBytes.{Appends};
+ghost use Rattle.std.specs.Prelude.{◌≤◌, ℕ, List, length, unwrap_or};
+ghost use Rattle.script_run.specs.Counting.{Gave, Took};
 ghost use Rattle.script_run.specs.Exact.{RunsAgree};
 ghost use Rattle.script_run.specs.Headline.{RunShows};
 ghost use Rattle.script_run.specs.Line.{start_of};
+ghost use Rattle.script_run.specs.Recovery.{RunRecovers};
 ghost use Rattle.script_run.specs.Run.{Ends};
 ghost use Rattle.script_tests.specs.Files.{file_store, journalled_store};
 ghost use Rattle.script_tests.specs.Honest.{FilesCanBeHonest, PairsCanBeHonest};
@@ -27,10 +28,10 @@ pub fn run_over_files<W: World, R: Read, T: Write>(
     stores: Vec<PlainStore<FileDisk<W>>>,
 ) -> (RunEnd, Vec<PlainStore<FileDisk<W>>>)
     requires { length stores.items ≤ 8 }
-    ensures ends { (written : List ℕ) × Appends (T.contents writer.old.inner) (T.contents writer.new.inner) written
-        × IfSome (R.remaining reader.old.inner) (λ input.
-        Ends (file_store W.World) (start_of spec stores.items) input result.0 written result.1.items) }
+    ensures ends { (given : List ℕ) × (written : List ℕ) × Gave R.remaining reader.old given reader.new × Took T.contents writer.old written writer.new
+        × Ends (file_store W.World) (start_of spec stores.items) (unwrap_or (R.remaining reader.old.inner) given) result.0 written result.1.items }
     ensures headline { RunShows (file_store W.World) }
+    ensures recovers { RunRecovers (file_store W.World) }
     ensures exact { RunsAgree (file_store W.World) }
 {
     run(alloc, reader, writer, spec, stores)
@@ -45,10 +46,10 @@ pub fn run_over_journalled_files<W: PairWorld, R: Read, T: Write>(
     stores: Vec<Journal<FilePair<W>>>,
 ) -> (RunEnd, Vec<Journal<FilePair<W>>>)
     requires { length stores.items ≤ 8 }
-    ensures ends { (written : List ℕ) × Appends (T.contents writer.old.inner) (T.contents writer.new.inner) written
-        × IfSome (R.remaining reader.old.inner) (λ input.
-        Ends (journalled_store W.PairWorld) (start_of spec stores.items) input result.0 written result.1.items) }
+    ensures ends { (given : List ℕ) × (written : List ℕ) × Gave R.remaining reader.old given reader.new × Took T.contents writer.old written writer.new
+        × Ends (journalled_store W.PairWorld) (start_of spec stores.items) (unwrap_or (R.remaining reader.old.inner) given) result.0 written result.1.items }
     ensures headline { RunShows (journalled_store W.PairWorld) }
+    ensures recovers { RunRecovers (journalled_store W.PairWorld) }
     ensures exact { RunsAgree (journalled_store W.PairWorld) }
 {
     run(alloc, reader, writer, spec, stores)
