@@ -37,7 +37,7 @@ file_store world = record {
 
 -- A fork and its journal in two files of this world: both hold what it tells after the calls on them, and are honest
 -- where the answers of these calls are those of such files.
-abbrev pub file_pair : {W : Type 0} → pair_world.Ghosts W → pair_disk.Ghosts (FilePair W)
+abbrev pub file_pair : {W : Type 0} (world : pair_world.Ghosts W) → pair_disk.Ghosts (FilePair W world)
 file_pair world = record {
   contents = λ files. world.held files.number files.log.events;
   history = λ files. pair.history_of (world.held files.number) files.log.events;
@@ -47,7 +47,7 @@ file_pair world = record {
 
 -- A fork with a journal: it is the one that is there once the two files are recovered.
 abbrev pub journalled_store : {W : Type 0} (world : pair_world.Ghosts W)
-    → Ghosts (Journal (FilePair W) (file_pair world))
+    → Ghosts (Journal (FilePair W world) (file_pair world))
 journalled_store world = let files = file_pair world in record {
   fork = λ store. settled_fork (files.contents store.pair);
   is_ready = λ store. IsReady (files.contents store.pair) (files.history store.pair);

@@ -52,5 +52,5 @@ faithful_pairs first = record { held = λ number. both_after (first number) }
 
 -- in that world a fork and its journal are honest after any calls whose answers tell what they hold
 abbrev pub PairsCanBeHonest : Type 0
-PairsCanBeHonest = (first : ℕ → Contents) (files : FilePair UnknownPair)
+PairsCanBeHonest = (first : ℕ → Contents) (files : FilePair UnknownPair (faithful_pairs first))
     → AreBothTold (first files.number) files.log.events → (file_pair (faithful_pairs first)).is_honest files
