@@ -141,6 +141,21 @@ def opened_again(play):
         yield f"opened again behind {calls}", left.fault(["..", "3 CloseResFile -36", "4 OpenResFile 1 0"], "ssrrr" + "r" + calls + "ssrrr", HI)
 
 
+def in_parts(play):
+    """Each read and write in turn is made for half of its bytes: the rest is read or written by another call, and all else is as it was."""
+    for what, fork, script, calls, printed, left in OPENED_AGAIN:
+        lines = script.split(" / ")
+        if fork in (HI, b""):
+            for turn, letter in enumerate(calls, 1):
+                if letter in "rw":
+                    played = play(fork, lines, DEVICE_SHORT=turn)
+                    yield f"in parts, {what}, call {turn}", played.fault(printed, calls[:turn] + letter + calls[turn:], left)
+        for turn, letter in enumerate(play(fork, lines, b"").calls, 1):
+            if letter in "rwRW":
+                played = play(fork, lines, b"", DEVICE_SHORT=turn)
+                yield f"in parts, {what}, with a journal, call {turn}", played.fault(printed, None, left, None)
+
+
 def torn(made, old, new):
     """What stands on a file without a journal where these calls of an update were made, and then one failed."""
     if "c" in made:
@@ -398,7 +413,7 @@ def main(program):
         def play(fork, lines, journal=None, **settings):
             return Played(program, shim, folder, fork, lines, journal, **settings)
 
-        for rows in (opened, opened_again, updated, loaded, quiet, recovered, journalled, in_rows, told):
+        for rows in (opened, opened_again, in_parts, updated, loaded, quiet, recovered, journalled, in_rows, told):
             for what, fault in rows(play):
                 count += 1
                 failures += [f"{what}: {fault}"] if fault else []

@@ -1,7 +1,7 @@
 /* Stands between a program and the C library's calls on open files. It adds a letter for each to the file DEVICE_LOG: s for statx, r for
    pread, w for pwrite, c for ftruncate, y for fsync; capital ones for the calls on the file DEVICE_JOURNAL. The call of the number in DEVICE_FAIL,
-   from 1 on, isn't made and fails with EIO; before that of the number in DEVICE_CUT the file is cut to DEVICE_LENGTH bytes. To be loaded ahead of
-   the C library, with LD_PRELOAD. */
+   from 1 on, isn't made and fails with EIO; that of the number in DEVICE_SHORT, a read or a write, is made for half of its bytes; before that of
+   the number in DEVICE_CUT the file is cut to DEVICE_LENGTH bytes. To be loaded ahead of the C library, with LD_PRELOAD. */
 #define _GNU_SOURCE
 #include <ctype.h>
 #include <dlfcn.h>
@@ -27,10 +27,12 @@ static int is_journal(int file)
     return path != NULL && fstat(file, &open_file) == 0 && stat(path, &journal) == 0 && open_file.st_ino == journal.st_ino;
 }
 
+/* The calls so far. */
+static long calls;
+
 /* Logs a call on a file, and tells whether it fails. */
 static int fails(int file, char letter)
 {
-    static long calls;
     static int log = -1;
     const char *path = getenv("DEVICE_LOG");
     if (log < 0 && path != NULL)
@@ -51,6 +53,12 @@ static int fails(int file, char letter)
     return 1;
 }
 
+/* How many bytes the call that was logged last reads or writes, of these that are asked for. */
+static size_t taken(size_t count)
+{
+    return calls == number_of("DEVICE_SHORT") ? (count + 1) / 2 : count;
+}
+
 int statx(int file, const char *restrict path, int flags, unsigned int mask, struct statx *restrict buffer)
 {
     static int (*next)(int, const char *restrict, int, unsigned int, struct statx *restrict);
@@ -67,7 +75,7 @@ ssize_t pread(int file, void *buffer, size_t count, off_t at)
     static ssize_t (*next)(int, void *, size_t, off_t);
     if (next == NULL)
         next = (ssize_t (*)(int, void *, size_t, off_t))dlsym(RTLD_NEXT, "pread");
-    return fails(file, 'r') ? -1 : next(file, buffer, count, at);
+    return fails(file, 'r') ? -1 : next(file, buffer, taken(count), at);
 }
 
 ssize_t pwrite(int file, const void *buffer, size_t count, off_t at)
@@ -75,7 +83,7 @@ ssize_t pwrite(int file, const void *buffer, size_t count, off_t at)
     static ssize_t (*next)(int, const void *, size_t, off_t);
     if (next == NULL)
         next = (ssize_t (*)(int, const void *, size_t, off_t))dlsym(RTLD_NEXT, "pwrite");
-    return fails(file, 'w') ? -1 : next(file, buffer, count, at);
+    return fails(file, 'w') ? -1 : next(file, buffer, taken(count), at);
 }
 
 int ftruncate(int file, off_t length)
