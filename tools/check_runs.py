@@ -76,11 +76,22 @@ def texts(table):
             yield data[:-1] + data[-1:] * (int(times[2]) if times else 1), None if line == "ok" else int(line)
 
 
+# a line that makes a call: one that isn't empty, a comment or a queued answer, with the name of its call
+MAKES_CALL = re.compile(rb"[ \t]*(?:\w+[ \t]*=[ \t]*|(?!gz\b))([A-Z]\w*)")
+
+
+def calls_in(text):
+    """The calls of a script, each with the number of its line."""
+    lines = ((number, MAKES_CALL.match(line)) for number, line in enumerate(text.split(b"\n"), 1))
+    return [[b"%d" % number, found[1]] for number, found in lines if found]
+
+
 def is_read(program, text, line):
-    """Whether a text is a script, or has its first fault in this line."""
+    """Whether a text is a script, each call of which has its reply, or has its first fault in this line."""
     ran = subprocess.run([program], input=text, capture_output=True, check=False)
     if line is None:
-        return ran.returncode == 0 and not ran.stdout.startswith(FAULT.encode())
+        replies = [it.split(b" ")[:2] for it in ran.stdout.split(b"\n") if it and not it.startswith(b"  ")]
+        return ran.returncode == 0 and replies == calls_in(text)
     return (ran.returncode, ran.stdout) == (3, f"{FAULT}{line}\n".encode())
 
 

@@ -54,6 +54,9 @@ NO_WORDS = [
     "--mode",
 ]
 
+# words of which one is no UTF-8 text
+NO_TEXT = ["\udcff", "--fork \udcff\udcfe", "--fork=@/new\udcff", "--fork @/new --zone \udcff"]
+
 # words that give this option a value which is no number
 NO_NUMBERS = [
     ("--zone=-4096", "zone"),
@@ -128,6 +131,7 @@ TOO_MANY = [
     "--zone a --mode 0" + " --fork @/a" * 9,
 ]
 
+IS_NO_TEXT = "error: a word of the command line is no UTF-8 text; write the options in plain ASCII\n"
 NO_NUMBER = "error: --{} takes decimal digits for a number up to 4294967295; see 'macheap --help'\n"
 NO_MODE = "error: --mode is 24 or 32, and not {}; see 'macheap --help'\n"
 TOO_MANY_FORKS = "error: --fork may stand 8 times; see 'macheap --help'\n"
@@ -184,7 +188,7 @@ def main(program):
             passed += 1
         else:
             failed += 1
-            print(f"macheap {words}: {what}; it ended with status {ran.returncode}, printed {ran.stdout!r}, told {ran.stderr!r}", end="")
+            print(f"macheap {words!r}: {what}; it ended with status {ran.returncode}, printed {ran.stdout!r}, told {ran.stderr!r}", end="")
             print(f", read {read} bytes of the script and left {files}")
 
     for words, base, size, master in ZONES:
@@ -193,6 +197,8 @@ def main(program):
         check(words, "is to print help", 0, lambda it: all(option in it for option in OPTIONS), "".__eq__)
     for words in NO_WORDS:
         check(words, "is to be refused for its words", 2, "".__eq__, is_of_other_words)
+    for words in NO_TEXT:
+        check(words, "is to be refused for a word that is no UTF-8", 2, "".__eq__, IS_NO_TEXT.__eq__)
     for words, option in NO_NUMBERS:
         check(words, f"is to be refused for --{option}", 2, "".__eq__, NO_NUMBER.format(option).__eq__)
     for words, mode in NO_MODES:
