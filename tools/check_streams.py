@@ -36,17 +36,26 @@ COMMENTS = [(1_048_576, (0, b"")), (1_048_577, (3, b"script fault at line 0\n"))
 PRINTS = "h = NewHandle 100\nPoke h 0 \"Hi\"\nPeek h 0 4\nZoneMap"
 LENT = "h = NewHandle 8\np = NewPtr 20\nHLock h\nPoke h 0 \"HandleHa\"\nLend h\nLend p\n"
 UPDATES = "h = GetResource 'TEXT' 128\nPoke h 0 \"No\"\nChangedResource h\nUpdateResFile\nSetHandleSize h 3\nChangedResource h\nCloseResFile\nCountTypes"
-# the words, the script, and the bytes of the fork and of its journal, or None for none. The last journal is recovered by a start.
+UPDATED = (
+    "1 GetResource $0010003C 0\n2 Poke 0\n3 ChangedResource 0\n4 UpdateResFile 0\n5 SetHandleSize 0\n6 ChangedResource 0\n"
+    "7 CloseResFile 0\n8 CountTypes -193\n"
+)
+# the words, the script, the bytes of the fork and of its journal, or None for none, and what the whole run prints, or None for help. The last journal
+# is recovered by a start.
 ROWS = [
-    ([], PRINTS, None, None),
+    (
+        [], PRINTS, None, None,
+        "1 NewHandle $0010003C 0\n2 Poke 0\n3 Peek $\"48690000\" 0\n4 ZoneMap 3 0\n"
+        "  $00100034 264 master\n  $0010013C 108 rel $0010003C 100 ---\n  $001001A8 3672 free\n",
+    ),
     # two blocks stay lent
-    ([], LENT, None, None),
-    ([], "ZoneMap\nNewHandl 3\n", None, None),
-    (["--help"], "", None, None),
-    ([], UPDATES, HI, None),
-    ([], UPDATES, HI, b""),
-    ([], "CountTypes\nUpdateResFile\n", HI[:100], journal_of(1, HI)),
-]
+    ([], LENT, None, None, "1 NewHandle $0010003C 0\n2 NewPtr $00100144 0\n3 HLock 0\n4 Poke 0\n5 Lend 0\n6 Lend 0\n"),
+    ([], "ZoneMap\nNewHandl 3\n", None, None, "script fault at line 2\n"),
+    (["--help"], "", None, None, None),
+    ([], UPDATES, HI, None, UPDATED),
+    ([], UPDATES, HI, b"", UPDATED),
+    ([], "CountTypes\nUpdateResFile\n", HI[:100], journal_of(1, HI), "1 CountTypes 1 0\n2 UpdateResFile 0\n"),
+]  # fmt: skip
 
 
 class Files:
@@ -73,7 +82,7 @@ class Player:
 
     def __init__(self, program, shim, folder, row):
         self.program, self.shim, self.folder = program, shim, folder
-        self.words, self.script, *self.files = row
+        self.words, self.script, *self.files, self.printed = row
 
     def play(self, script=None, **settings):
         """The status, what was printed, what was told, and the files behind the run, with these settings of the shim."""
@@ -91,6 +100,12 @@ class Player:
 def failing(error):
     """The settings with which a call fails by this error; one that is interrupted would go on if it were tried again."""
     return {"STREAM_ERROR": error, **({"STREAM_ONCE": 1} if error == errno.EINTR else {})}
+
+
+def whole_run(player):
+    """What is printed where nothing fails."""
+    if player.printed is not None:
+        yield "the whole run", player.play()[1].decode(), player.printed
 
 
 def steps(player):
@@ -140,7 +155,7 @@ def calls(program, shim, folder):
     def logged(script, **settings):
         with open(log, "w", encoding="ascii"):
             pass
-        status, printed, _, _ = Player(program, shim, folder, ([], script, None, None)).play(STREAM_LOG=log, **settings)
+        status, printed, _, _ = Player(program, shim, folder, ([], script, None, None, None)).play(STREAM_LOG=log, **settings)
         with open(log, encoding="ascii") as file:
             lines = file.read().split()
         return (status, printed), sum(it[0] == "r" for it in lines), [int(it[1:]) for it in lines if it[0] == "w"]
@@ -186,7 +201,7 @@ def main(program):
         runs = [("", calls(program, shim, folder)), ("", of_the_system(program, folder))]
         for row in ROWS:
             player = Player(program, shim, folder, row)
-            runs += [(f"{' '.join(row[0])} {row[1]!r}, ", kind(player)) for kind in (steps, outputs, inputs)]
+            runs += [(f"{' '.join(row[0])} {row[1]!r}, ", kind(player)) for kind in (whole_run, steps, outputs, inputs)]
         for row, results in runs:
             for what, got, wanted in results:
                 count += 1
