@@ -36,10 +36,14 @@ if command -v c++ > /dev/null; then
     c++ -x c++ -std=c++17 -Wall -Wextra -Werror -I"$top/include" -c "$top/c/emulator.c" -o "$room/emulator.o"
     c++ "$room/emulator.o" "$library" "$kit/c/liblibc_c.a" -o "$room/emulator"
     "$room/emulator" | cmp - "$top/c/emulator.output"
+else
+    echo "check_c.sh: there is no c++, so the example was not built in C++" >&2
 fi
 if command -v rustc > /dev/null; then
     rustc --edition 2024 -O "$top/c/emulator.rs" -o "$room/emulator" -C link-arg="$library" -C link-arg="$kit/c/liblibc_c.a"
     "$room/emulator" | cmp - "$top/c/emulator.output"
+else
+    echo "check_c.sh: there is no rustc, so the example was not built in Rust" >&2
 fi
 built fork_c forks -O1 -fsanitize=address,undefined
 "$room/forks" "$top/crates/forklist/data/sample.rsrc" > "$room/list"
