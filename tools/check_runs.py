@@ -137,7 +137,7 @@ def step_fault(program, options, steps, blocks):
     ran = subprocess.run([program, *options], input="\n".join([*script, "ZoneMap"]), capture_output=True, text=True, check=False)
     replies = [line.split() for line in ran.stdout.split("\n")]
     for step, reply in zip(steps, replies):
-        if step[0] != "Q" and reply[-1:] != ["-108" if step[0] == "!" else "0"]:
+        if reply[-1:] != ["-108" if step[0] == "!" else "0"]:
             return f"{step} answers {reply}"
     # a number may be given again
     numbers = {number: index for index, number in enumerate(reply[2] for step, reply in zip(steps, replies) if step[0] in "+*")}
