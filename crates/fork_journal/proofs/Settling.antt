@@ -1,12 +1,12 @@
 -- What recovering gives, by the gate and the text.
-use Rattle.std.proofs.Common.{◌≡◌, ◌⊎◌, inl, inr, ℕ, ◌+◌, ◌≤◌, ◌<◌, ◌^◌, ◌==◌, ◌&&◌, ◌||◌, Bool, true, false, nat_le, if◌then◌else◌, List, [], ◌∷◌, length, take, drop, get_or, refl, sym, ◌∙◌, ap, arith, length-append}
+use Rattle.std.proofs.Common.{◌≡◌, ◌⊎◌, inl, inr, ℕ, ◌+◌, ◌<◌, ◌^◌, ◌==◌, ◌&&◌, ◌||◌, Bool, true, false, nat_le, if◌then◌else◌, List, [], ◌∷◌, length, take, drop, get_or, refl, sym, ◌∙◌, ap, arith, length-append}
 use Rattle.std.proofs.lemmas.List.{get_or-take, take_all}
 use Rattle.std.proofs.lemmas.Bool.Decides.{nat_tests}
 use Rattle.fork_journal.specs.Crash.{Contents}
 use Rattle.byteorder.specs.Endian.{big_bytes, big_number}
 use Rattle.byteorder.specs.Numbers.{big_number-reads_back}
 use Rattle.fork_journal.specs.Form.{text_of, is_whole, fork_in, is_open, is_usable, must_shut}
-use Rattle.fork_journal.specs.Recovery.{settled_fork, IsBeforeOrAfter, IsShut}
+use Rattle.fork_journal.specs.Recovery.{settled_fork, IsBeforeOrAfter}
 
 abbrev Bytes : Type 0
 Bytes = List ℕ
@@ -64,29 +64,15 @@ or_cases : (a b : Bool) → (a || b) ≡ true → (a ≡ true) ⊎ (b ≡ true)
 or_cases true b is = inl refl
 or_cases false b is = inr is
 
-or_neither : (a b : Bool) → (a || b) ≡ false → (a ≡ false) × (b ≡ false)
-or_neither true b is = absurd (cc)
-or_neither false b is = (refl, is)
-
 empty_from : (journal : Bytes) → (length journal == 0) ≡ true → journal ≡ []
 empty_from [] is = refl
 empty_from (x ∷ xs) is = absurd (grind (arith, nat_tests))
-
-some_from : (journal : Bytes) → (length journal == 0) ≡ false → 1 ≤ length journal
-some_from [] is = absurd (cc)
-some_from (x ∷ xs) is = omega arith
 
 pub short_where_open : (journal : Bytes) → is_usable journal ≡ false → must_shut journal ≡ true → is_whole (drop 1 journal) ≡ false
 short_where_open journal unusable must = elim (or_cases (length journal == 0) (is_open journal) must) [
   | inl empty ↦ ap (λ (j : Bytes). is_whole (drop 1 j)) (empty_from journal empty) ∙ nothing_whole
   | inr gate ↦ open_short (is_open journal) (is_whole (drop 1 journal)) gate unusable
 ]
-
--- a gate that need not be shut is shut
-pub shut_where_not : (c : Contents) → must_shut c.journal ≡ false → IsShut c.fork c
-shut_where_not c not =
-    let both = or_neither (length c.journal == 0) (is_open c.journal) not in
-    record { has_gate = some_from c.journal both.0; shut = both.1; fork = refl }
 
 -- a new text keeps the gate
 pub same_gate : (old new : Bytes) → take 1 new ≡ take 1 old → get_or new 0 0 ≡ get_or old 0 0

@@ -104,9 +104,6 @@ module _ (contents : Contents) (start mid new : History) (ready : IsReady conten
   gates = along_then _ start mid new (rests contents start mid ready same)
       (along_weaker _ _ mid new (λ c left. let now = gated c left in settled_unusable c now.0 ∙ now.1) gate)
 
-  pub gates_recoverable : (now : Contents) → now.fork ≡ contents.fork → IsRecoverable now new
-  gates_recoverable now kept c left not = (gated c (leaves_now _ mid new gate c left)).1 ∙ sym kept
-
 -- an open journal over the text of a fork
 pub open_usable : (journal fork : Bytes) → length fork < 2 ^ 32 → journal ≡ 1 ∷ text_of fork → is_usable journal ≡ true
 open_usable journal fork short is = ap is_usable is ∙ text_whole fork short

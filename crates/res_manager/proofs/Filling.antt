@@ -10,8 +10,7 @@ use Rattle.std.specs.FinMap.Entries.{by_order}
 use Rattle.std.proofs.lemmas.Bool.Decides.{nat_tests}
 use Rattle.mac_base.specs.HeadKind.{Shape}
 use Rattle.mac_base.specs.FlagState.{state_locks}
-use Rattle.mac_base.specs.HandleTable.{Live, FullHandle, bytes_of, live_at, live_bytes, is_lent, no_flags, refilled, with_bytes, with_flags, with_live, zeros}
-use Rattle.mac_base.specs.declared.block.Flags.{Flags}
+use Rattle.mac_base.specs.HandleTable.{Live, FullHandle, bytes_of, live_at, live_bytes, is_lent, no_flags, refilled, with_bytes, with_live}
 use Rattle.std.proofs.lemmas.List.{length-replicate}
 use Rattle.mac_base.specs.Heap.{Heap, with_table}
 use Rattle.mac_calls.specs.declared.memory_call.MemoryCall.{MemoryCall}
@@ -26,7 +25,7 @@ use Rattle.mac_base.specs.ZoneState.{ZoneState, overwritten, with_contents}
 use Rattle.linked_zone.specs.Loans.{KeepsLoans}
 use Rattle.zone_laws.proofs.Tables.{eqb_same, live_at-with_live_same, with_live_agrees}
 use Rattle.res_calls.specs.Changes.{FileRow}
-use Rattle.res_manager.specs.Loading.{AreAnswered, HasBytes, IsFilled, IsPlaced, loaded_with}
+use Rattle.res_manager.specs.Loading.{AreAnswered, IsFilled, IsPlaced}
 
 same_cmp : (k : ℕ) → nat_cmp k k ≡ Equal
 same_cmp k = grind (arith, nat_tests)
@@ -67,10 +66,6 @@ module _ (s : Shape) (h : ℕ) (bytes : List ℕ) (old new : Heap) (filled : IsF
   -- its flags are set
   pub state-passes : (n : ℕ) → n ≤ 255 → refusal s new (HSetState h n) ≡ None
   state-passes n few = let le : nat_le n 255 ≡ true = grind (arith, nat_tests, few) in rw (filled.some, filled.block, le, filled.here, or_true (state_locks n)) refl
-
--- a placed block is filled with its zeros
-pub filled-placed : (heap : Heap) (h n : ℕ) → IsPlaced heap h n → IsFilled h (zeros n) heap heap
-filled-placed heap h n placed = record { some = placed.some; block = placed.block; here = placed.here; given = λ l. refl; gone = refl }
 
 -- other bytes in it leave all else as it was
 pub filled-bytes : (heap : Heap) (h n : ℕ) (bytes : List ℕ) → IsPlaced heap h n → IsFilled h bytes heap (with_table (with_live h (FullHandle no_flags bytes) heap.table) heap)
@@ -119,19 +114,3 @@ answered-read honest heap h n x bytes placed is long row (Err e) (Ok u) same rea
 answered-read honest heap h n x bytes placed is long row result (Err f) same read = tt
 answered-read honest heap h n x bytes placed is long row (Ok v) (Ok u) same read =
     record { long = long ∙ ap (λ (k : ℕ). length (bytes_of heap.table k)) is ∙ ap (λ (o : Option Live). length (live_bytes o)) placed.block ∙ length-replicate n 0; own = read }
-
--- no bytes are what was read of a row that has none
-pub none-answered : (honest : Type 0) (n : ℕ) (row : Option FileRow) → n ≡ 0 → HasBytes n row → AreAnswered honest n row []
-none-answered honest n row none has = record { long = sym none; own = λ h. by row has }
-  where
-    no_bytes : (bytes : List ℕ) → n ≡ length bytes → [] ≡ bytes
-    no_bytes [] is = refl
-    no_bytes (x ∷ bytes) is = absurd (cc (sym none ∙ is))
-
-    by : (row : Option FileRow) → HasBytes n row → IfSome row (λ r. let none : List ℕ = [] in none ≡ r.resource.datum)
-    by None has = tt
-    by (Some r) has = no_bytes r.resource.datum has
-
--- the flags of a filled block are set
-pub flagged-filled : (h : ℕ) (bytes : List ℕ) (flags : Flags) (old mid : Heap) → IsFilled h bytes old mid → with_table (with_flags h flags mid.table) mid ≡ loaded_with h flags bytes old
-flagged-filled h bytes flags old mid filled = ap (λ (o : Option Live). with_table (with_live h (FullHandle flags (live_bytes o)) mid.table) mid) filled.block ∙ filled.given (FullHandle flags bytes)

@@ -8,10 +8,6 @@ use Rattle.res_table.specs.OpenFiles.{file_forgotten, handle_forgotten, is_numbe
 use Rattle.res_table.specs.Rows.{forgetting, forgotten, has_handle, with_handle}
 use Rattle.res_calls.specs.Changes.{FileRow, FileTable, Files, handles_forgotten}
 
--- the first of them is forgotten before the others
-pub forgotten-first : (h : ℕ) (hs : List ℕ) (files : Files) → handles_forgotten hs (handle_forgotten h files) ≡ handles_forgotten (h ∷ hs) files
-forgotten-first h hs files = refl
-
 -- the resource of a row
 abbrev resource_of : FileRow → Resource (List ℕ)
 resource_of r = r.resource

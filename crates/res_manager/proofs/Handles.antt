@@ -1,5 +1,5 @@
 -- The walk over the rows of a file that have handles.
-use Rattle.std.proofs.Common.{◌≡◌, ℕ, zero, suc, ◌+◌, ◌<◌, ◌≤◌, Bool, false, ◌||◌, List, [], ◌∷◌, ◌++◌, All, length, drop, slice_get, Option, Some, None, option_and_then, refl, sym, ap, subst, ◌∙◌, add-one, arith, length-append, length-drop}
+use Rattle.std.proofs.Common.{◌≡◌, ℕ, suc, ◌+◌, ◌<◌, ◌≤◌, Bool, false, ◌||◌, List, [], ◌∷◌, ◌++◌, All, length, drop, Option, Some, None, refl, sym, ap, subst, ◌∙◌, add-one, arith, length-append, length-drop}
 use Rattle.std.specs.Prelude.{◌==◌, ◌&&◌}
 use Rattle.std.specs.List.{list_any}
 use Rattle.std.specs.Option.{option_map_or}
@@ -11,11 +11,10 @@ use Rattle.mac_base.specs.Heap.{Heap}
 use Rattle.mac_calls.specs.declared.memory_call.MemoryCall.TheVariants.{DisposeHandle}
 use Rattle.mac_calls.specs.ExactStep.{IsExactStep, StepEnd}
 use Rattle.mac_calls.specs.Outcomes.{Outcome}
-use Rattle.res_calls.specs.Changes.{Files, FileRow, FileTable, rows_in, rows_of}
+use Rattle.res_calls.specs.Changes.{FileRow}
 use Rattle.res_calls.specs.Tests.{is_lent_row}
 use Rattle.res_calls.specs.Updates.{disposed, handles_of}
 use Rattle.res_files.specs.Handles.{is_among}
-use Rattle.res_table.specs.OpenFiles.{row_at, table_of}
 
 -- the handles of a row and of others, where the row has none
 without_handle : (r : FileRow) (rows : List FileRow) → r.handle ≡ None → handles_of (r ∷ rows) ≡ handles_of rows
@@ -66,25 +65,6 @@ pub disposed_more : (s t : Shape) (old new : Heap) (h : ℕ) (hs : List ℕ) (ou
 disposed_more s t old new h hs outcome same exact =
     let here : IsExactStep s old (DisposeHandle h) [] outcome new = rw (← same) exact in
     ap (λ (e : StepEnd). disposed s hs e.heap) here
-
-at_front : (before : List FileRow) (r : FileRow) (behind : List FileRow) → slice_get (before ++ r ∷ behind) (length before) ≡ Some r
-at_front [] r behind = refl
-at_front (x ∷ before) r behind = at_front before r behind
-
-at_drop : (from : ℕ) (rows : List FileRow) (i : ℕ) → slice_get (drop from rows) i ≡ slice_get rows (from + i)
-at_drop zero rows i = let e : zero + i ≡ i = omega arith in rw e refl
-at_drop (suc from) [] i = refl
-at_drop (suc from) (r ∷ rows) i = let e : suc from + i ≡ suc (from + i) = omega arith in rw e (at_drop from rows i)
-
-in_file : (o : Option FileTable) (i : ℕ) → option_and_then (λ (table : FileTable). slice_get table.rows i) o ≡ slice_get (option_map_or rows_in o []) i
-in_file None i = refl
-in_file (Some table) i = refl
-
--- the row that was found stands at its place
-pub row_found : (files : Files) (k from index : ℕ) (before : List FileRow) (r : FileRow) (behind : List FileRow) → drop from (rows_of k files) ≡ before ++ r ∷ behind → index ≡ from + length before
-    → row_at (record { file = k; index = index }) files ≡ Some r
-row_found files k from index before r behind is at =
-    in_file (table_of k files) index ∙ rw at (sym (at_drop from (rows_of k files) (length before)) ∙ ap (λ (rows : List FileRow). slice_get rows (length before)) is ∙ at_front before r behind)
 
 -- rows whose handles are among the blocks that are lent are those that are lent
 pub lent_among : (t : HandleTable) (lent : List ℕ) (counts : FileRow → Bool) → ((x : ℕ) → is_lent t x ≡ list_any (λ y. y == x) lent) → (rows : List FileRow)
