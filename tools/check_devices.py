@@ -371,6 +371,7 @@ def quiet(play):
 
 # the forks of tools/faults.txt
 FAULT_FORKS = {
+    "EMPTY": b"",
     "HI": HI,
     "NO": HI.replace(b"Hi", b"No"),
     **{name: File(1, [Row(b"TEXT", 5, None, 0, it.encode()) for it in (name[0].lower(), name[1:].lower())]).fork(lambda row: row.disk) for name in ("AB", "AY", "CB", "A")},

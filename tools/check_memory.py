@@ -4,7 +4,8 @@
     tools/check_memory.py PROGRAM
 
 Wanted of each: whole replies from the front of what the run prints and then the line `no memory`, with status 1, or all replies with
-status 0; and a resource file as it was before the last call, or after it. Each script over a file runs with a journal, too, which is as before or
+status 0; and a resource file as it was before the last call, or after it. Where the fork is on a disk in memory, and the host refuses
+that disk room to grow, the update answers ioErr, the file is closed, and the run goes on. Each script over a file runs with a journal, too, which is as before or
 after that call then. A run that isn't refused anything ends the check of its
 row: it has to print what stands beside it, where `..` stands for lines that aren't compared. Needs a C compiler: `cc`, or $CC.
 """
@@ -80,6 +81,13 @@ ROWS = [
     ),
 ]
 
+# A fork on a disk in memory: its script, what it prints, and what it prints where that disk is refused room to grow.
+IN_MEMORY = (
+    "h = NewHandle 2 / Poke h 0 \"Hi\" / AddResource h 'TEXT' 128 / UpdateResFile / CountTypes",
+    "1 NewHandle $0010003C 0 / 2 Poke 0 / 3 AddResource 0 / 4 UpdateResFile 0 / 5 CountTypes 1 0",
+    "1 NewHandle $0010003C 0 / 2 Poke 0 / 3 AddResource 0 / 4 UpdateResFile -36 / 5 CountTypes -193",
+)
+
 
 def run(program, folder, files, lines, **more):
     """A run of the program in a folder, over a file and its journal, if there are: what it printed, its status, and the bytes of these files."""
@@ -116,21 +124,25 @@ def fault(said, status, after, replies, files):
     return None
 
 
-def try_row(program, shim, folder, start, script, wanted):
-    """Tries a script over these files: how many requests were refused, and what was wrong."""
+def try_row(program, shim, folder, start, script, wanted, refused=None):
+    """Tries a script over these files, which may print this where its disk is refused memory: how many requests were refused, and what was
+    wrong."""
     lines = script.split(" / ")
     whole, status, _ = run(program, folder, start, lines)
     if status != 0 or not are_wanted(whole, wanted.split(" / ")):
         return 0, [f"unrefused, status {status}, it prints {whole!r}"]
     files = [start, *(run(program, folder, start, lines[:k])[2] for k in range(len(lines) + 1))]
-    wrong = []
+    wrong, closed = [], 0
     tell = os.path.join(folder, "refused")
     for at in range(1, 100000):
         more = {"LD_PRELOAD": shim, "REFUSE_AT": str(at), "REFUSE_TELL": tell}
         said, status, after = run(program, folder, start, lines, **more)
         if not os.path.exists(tell):
-            return at - 1, wrong
+            return at - 1, wrong + ([] if refused is None or closed else ["no request was the disk's own"])
         os.remove(tell)
+        if refused is not None and status == 0 and are_wanted(said, refused.split(" / ")):
+            closed += 1
+            continue
         what = fault(said, status, after, replies_of(whole), files)
         if what:
             wrong.append(f"request {at} refused: {what}")
@@ -138,7 +150,8 @@ def try_row(program, shim, folder, start, script, wanted):
 
 
 def rows():
-    """The files of each run, its script, and what it prints."""
+    """The files of each run, its script, what it prints, and what it prints where its disk is refused memory, if it can be."""
+    yield [], *IN_MEMORY
     for data, script, wanted in ROWS:
         yield [] if data is None else [data], script, wanted
         if data is not None:
@@ -153,8 +166,8 @@ def main(program):
     with tempfile.TemporaryDirectory() as folder:
         shim = os.path.join(folder, "refuse.so")
         subprocess.run([os.environ.get("CC", "cc"), "-O1", "-shared", "-fPIC", "-o", shim, SHIM, "-ldl"], check=True)
-        for start, script, wanted in rows():
-            requests, wrong = try_row(program, shim, folder, start, script, wanted)
+        for start, script, *printed in rows():
+            requests, wrong = try_row(program, shim, folder, start, script, *printed)
             if requests == 0 and not wrong:
                 wrong = ["no request was refused: the program doesn't ask the C library for memory"]
             count += 1
@@ -162,7 +175,7 @@ def main(program):
             failures += [f"{script}, {len(start)} files\n  {it}" for it in wrong]
     for it in failures:
         print(it)
-    print(f"host memory: {count} runs of {len(ROWS) + 1} scripts, {refused} requests refused in turn, {len(failures)} ended as they should not")
+    print(f"host memory: {count} runs of {len(ROWS) + 2} scripts, {refused} requests refused in turn, {len(failures)} ended as they should not")
     return 1 if failures else 0
 
 

@@ -29,7 +29,7 @@ def rows(table):
             options, _, script = line[2:].rpartition(" : ") if line.startswith("> --") else ("", "", line[2:])
             given = options.split(), "\n".join(lines_of(script))
         elif line.startswith("= "):
-            yield *given, line[2:].split(" / ")
+            yield *given, line[2:].split(" / ") if line[2:] else []
 
 
 def calls_of(line):
@@ -161,7 +161,7 @@ def main(program):
     runs, refused = read("runs.txt", rows), read("memory_refusals.txt", refusals)
     for options, script, wanted in runs + refused:
         ran = subprocess.run([program, *options], input=script, capture_output=True, text=True, check=False)
-        status = 3 if wanted[0].startswith(FAULT) else 0
+        status = 3 if wanted and wanted[0].startswith(FAULT) else 0
         if ran.returncode != status or not are_wanted(ran.stdout, wanted):
             failed += 1
             print(f"{script!r} {' '.join(options)} ended with {ran.returncode} and printed {ran.stdout!r}")
