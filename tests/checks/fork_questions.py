@@ -2,8 +2,9 @@
 import re
 import subprocess
 
-from check_random import shown
-from check_runs import numbered
+from checks.runs import numbered
+from model.toolbox import shown_type
+from model.zone import shown
 
 CHANGED = 2
 # of a longer fork the first and the last resource of each type are asked for, and of larger resources no bytes
@@ -13,12 +14,6 @@ ADDRESS = "$........"
 
 class Difference(Exception):
     """What a program did isn't what it should."""
-
-
-def shown_type(kind):
-    if all(0x20 <= it <= 0x7E and it != 0x27 for it in kind):
-        return "'" + kind.decode() + "'"
-    return '$"' + kind.hex().upper() + '"'
 
 
 def questions_of_row(handle, kind, row, loads):

@@ -1,7 +1,4 @@
-#!/usr/bin/env python3
-"""Checks what forklist and macheap read of the forks of tools/forks.txt, and what macheap writes of them.
-
-    tools/check_fork_table.py FORKLIST MACHEAP
+"""Checks what forklist and macheap read of the forks of tests/cases/forks.txt, and what macheap writes of them.
 
 Of each fork the list and every extracted resource of forklist are compared, and what macheap tells of each resource: its type, id, name,
 attributes and bytes. Where the bytes are no fork, forklist tells the condition, and macheap's OpenResFile its code. Nothing
@@ -9,13 +6,14 @@ but an update changes the file.
 """
 import os
 import re
-import sys
 import tempfile
 
-from check_forks import TOLD, Row, compare, listing, open_code, quoted, run
-from fork_questions import Difference, expect, opening_is_refused, play, questions
+from checks.fork_questions import Difference, expect, opening_is_refused, play, questions
+from checks.forks import compare, run
+from model.fork import TOLD, Row, listing, open_code, quoted
+from places import CASES
 
-TABLE = os.path.join(os.path.dirname(os.path.abspath(__file__)), "forks.txt")
+TABLE = os.path.join(CASES, "forks.txt")
 ROW = re.compile(r"(?:(\d+) ([*+]) )?'(.{4})' (-?\d+) (-|\"[^\"]*\") ([0-9A-F]{2})(?: ((?:[0-9A-F]{2})+))?")
 # of a longer fork the first and the last resource alone are extracted
 MOST_ROWS = 24
@@ -143,9 +141,3 @@ def main(forklist, macheap):
                 print(f"{case.name}: {difference}")
     print(f"forks of the table: {len(cases) - failed} are read and written as they should be, {failed} not; {len(forks)} stand there whole")
     return 1 if failed or not cases else 0
-
-
-if __name__ == "__main__":
-    if len(sys.argv) != 3 or not all(os.access(it, os.X_OK) for it in sys.argv[1:]):
-        sys.exit("usage: tools/check_fork_table.py FORKLIST MACHEAP")
-    sys.exit(main(*map(os.path.realpath, sys.argv[1:])))

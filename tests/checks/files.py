@@ -1,8 +1,5 @@
-#!/usr/bin/env python3
 """Checks what a macheap program prints and leaves on its resource files, on the rows below, on the calls of
-tools/refusals.txt and on the operands of tools/operands.txt.
-
-    tools/check_files.py PROGRAM
+tests/cases/refusals.txt and on the operands of tests/cases/operands.txt.
 
 A row has the bytes of its files, a script whose lines are parted by ` / `, with the program's options before a colon where it has some, the
 lines that are printed, where `..` stands for lines that aren't compared, and the bytes that the files have then.
@@ -10,13 +7,12 @@ lines that are printed, where `..` stands for lines that aren't compared, and th
 import os
 import random
 import subprocess
-import sys
 import tempfile
 
-from check_forks import MOST_BYTES
-from check_random import shown
-from check_resources import File, Row
-from check_runs import FAULT, are_wanted, calls_of, lines_of, numbered, read, unescaped
+from checks.runs import FAULT, are_wanted, calls_of, lines_of, numbered, read, unescaped
+from model.fork import MOST_BYTES
+from model.toolbox import File, Row
+from model.zone import shown
 
 PROBES = "ZoneMap / CountResources 'TEXT' / CountTypes / GetResAttrs h / CurResFile"
 
@@ -536,7 +532,7 @@ def kinds():
 
 
 def refusals(table):
-    """The rows of tools/refusals.txt."""
+    """The rows of tests/cases/refusals.txt."""
     for line in table.read().split("\n"):
         mark, _, rest = line.partition(" ")
         if mark == ">":
@@ -553,7 +549,7 @@ def refusals(table):
 
 
 def operands(table):
-    """The rows of tools/operands.txt."""
+    """The rows of tests/cases/operands.txt."""
     for row in table.read().split("\n"):
         if row.startswith("> "):
             script = row[2:]
@@ -590,9 +586,3 @@ def main(program):
                 print(f"{script}: status {ran.returncode}, {ran.stdout!r}, files of {[len(it) for it in left]} bytes")
     print(f"scripts over resource files: {len(rows) - failed} as they should be, {failed} not; {len(refused)} are of calls that are refused, {len(written)} of operands")
     return 1 if failed or not refused or not written else 0
-
-
-if __name__ == "__main__":
-    if len(sys.argv) != 2 or not os.access(sys.argv[1], os.X_OK):
-        sys.exit("usage: tools/check_files.py PROGRAM")
-    sys.exit(main(os.path.realpath(sys.argv[1])))

@@ -1,7 +1,4 @@
-#!/usr/bin/env python3
 """Checks which calls a macheap program makes on the device of a resource file, and what it does where each of them in turn fails.
-
-    tools/check_devices.py PROGRAM
 
 The calls are letters: s asks for the file's length, r reads, w writes, c cuts, y syncs; capital ones are those on its journal, where it has one. A
 call that fails isn't made: the line that made it answers ioErr, and no further call is made for it. Where it came before the first write of an
@@ -11,16 +8,15 @@ one; but after a sync that failed each OpenResFile of that run answers ioErr. Ne
 """
 import os
 import subprocess
-import sys
 import tempfile
 
-from check_files import A_XYZ, AB, BARE, HI, NONE, ZERO
-from check_fork_table import TABLE, read_table
-from check_resources import File, Row, journal_of
-from check_runs import are_wanted, read
+from checks.files import A_XYZ, AB, BARE, HI, NONE, ZERO
+from checks.fork_table import TABLE, read_table
+from checks.runs import are_wanted, read
+from model.toolbox import File, Row, journal_of
+from places import INTERPOSE
 
-TOOLS = os.path.dirname(os.path.abspath(__file__))
-SHIM = os.path.join(TOOLS, "fail_device.c")
+SHIM = os.path.join(INTERPOSE, "fail_device.c")
 
 
 def fork_of(*rows):
@@ -369,7 +365,7 @@ def quiet(play):
         yield f"quiet, {script}, with a journal", play(fork, lines, b"").fault(["..", last], "YS" + "ssrrrrr" + loads, fork)
 
 
-# the forks of tools/faults.txt
+# the forks of tests/cases/faults.txt
 FAULT_FORKS = {
     "EMPTY": b"",
     "HI": HI,
@@ -380,7 +376,7 @@ FAULT_FORKS["A+1"] = FAULT_FORKS["A"] + AB[-1:]
 
 
 def faults(table):
-    """The rows of tools/faults.txt: the forks, the lines, the call that fails or 0, the forks that stand then, and what is printed."""
+    """The rows of tests/cases/faults.txt: the forks, the lines, the call that fails or 0, the forks that stand then, and what is printed."""
     for row in table.read().split("\n"):
         if row.startswith("> "):
             names, script = row[2:].split(" : ")
@@ -393,7 +389,7 @@ def faults(table):
 
 
 def told(play):
-    """The runs of tools/faults.txt."""
+    """The runs of tests/cases/faults.txt."""
     for forks, lines, turn, left, printed in read("faults.txt", faults):
         second = forks[1] if len(forks) > 1 else None
         played = play(forks[0], lines, second=second, DEVICE_FAIL=turn)
@@ -422,9 +418,3 @@ def main(program):
         print(it)
     print(f"devices: {count - len(failures)} runs as they should be, {len(failures)} not")
     return 1 if failures or not count else 0
-
-
-if __name__ == "__main__":
-    if len(sys.argv) != 2 or not os.access(sys.argv[1], os.X_OK):
-        sys.exit("usage: tools/check_devices.py PROGRAM")
-    sys.exit(main(os.path.realpath(sys.argv[1])))

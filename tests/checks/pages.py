@@ -1,4 +1,3 @@
-#!/usr/bin/env python3
 """Checks README.md and the pages of docs/: that their links lead somewhere, that README links each page, and that what a page
 quotes is there. A quote is a block between ``` whose first line names the file, as '```text PATH': its
 lines stand in that file in this order, whatever blanks are before them.
@@ -6,7 +5,6 @@ lines stand in that file in this order, whatever blanks are before them.
 import glob
 import os
 import re
-import sys
 
 LINK = re.compile(r"\]\(([^)\s]+)\)")
 QUOTE = re.compile(r"^```\w+ (\S+)\n(.*?)^```$", re.M | re.S)
@@ -45,8 +43,3 @@ def main():
     if not faults:
         print(f"pages: {links} links and {quotes} quotes found")
     return 1 if faults else 0
-
-
-if __name__ == "__main__":
-    os.chdir(f"{os.path.dirname(os.path.abspath(__file__))}/..")
-    sys.exit(main())

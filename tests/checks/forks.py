@@ -1,121 +1,19 @@
-#!/usr/bin/env python3
 """Checks forklist and macheap programs against a small model of resource forks, on random forks.
 
-    tools/check_forks.py FORKLIST MACHEAP [FORKS [FIRST [damaged]]]
-
-The model is written from the rules of docs/FORKS.md alone, and shares nothing with the program. The forks are such as the Resource
-Manager and other tools write: with the data or the map first, with data and names that are shared, with gaps, with
+The forks are such as the Resource Manager and other tools write: with the data or the map first, with data and names that are shared, with gaps, with
 reserved fields of any value; many of them are then cut or damaged. Of each fork the list is compared, and a few extracted
 resources, with their exit statuses and with what is told of a fork that is none; and macheap opens it, and tells of each resource its
 type, id, name, attributes and bytes. By default it tries 200 forks. Each is made from its number, so a difference can be made
-again: FIRST is the number of the first fork. With `damaged` each of them is cut or changed. Before them come command lines, and forks at the limits.
+again. Before them come command lines, and forks at the limits. Numbers: how many forks, and the number of the first.
 """
 import os
 import random
 import struct
 import subprocess
-import sys
 import tempfile
 
-from fork_questions import Difference, expect, opening_is_refused, questions
-
-MOST_BYTES = 4194304
-MOST_ROWS = 8192
-WORDS = [(128, "bit7"), (64, "sysHeap"), (32, "purgeable"), (16, "locked"), (8, "protected"), (4, "preload"), (2, "changed"), (1, "bit0")]
-
-# what is told of a fork that is none: words of the message
-TOLD = {
-    "end": "ends within its header",
-    "parts": "the data or the map lies outside the fork, or the fork is too long",
-    "types": "the type list ends outside the map, or a type stands twice",
-    "references": "a list of references ends outside the map",
-    "rows": "more than 8192 resources",
-    "names": "a name ends outside the map",
-    "places": "the bytes of a resource end outside the data",
-    "bytes": "more than 4194304 bytes together",
-}
-
-
-class NoFork(Exception):
-    """The bytes are no fork; the argument says which condition is the first that doesn't hold."""
-
-
-def open_code(condition):
-    """What macheap's OpenResFile answers where this condition doesn't hold: eofErr or mapReadErr."""
-    return -39 if condition == "end" else -199
-
-
-class Row:
-    def __init__(self, kind, ident, name, attributes, data):
-        self.kind, self.ident, self.name, self.attributes, self.data = kind, ident, name, attributes, data
-
-
-# the model
-
-
-def must(holds, condition):
-    if not holds:
-        raise NoFork(condition)
-
-
-def read_fork(fork):
-    """The rows that the bytes stand for."""
-    must(len(fork) >= 16, "end")
-    data_at, map_at, data_length, map_length = struct.unpack(">4I", fork[:16])
-    must(len(fork) <= MOST_BYTES and data_at + data_length <= len(fork) and map_at + map_length <= len(fork) and map_length >= 28, "parts")
-    data, the_map = fork[data_at : data_at + data_length], fork[map_at : map_at + map_length]
-    types_at, names_at = struct.unpack(">2H", the_map[24:28])
-    must(types_at + 2 <= map_length, "types")
-    types = (struct.unpack(">H", the_map[types_at : types_at + 2])[0] + 1) % 65536
-    must(types_at + 2 + 8 * types <= map_length, "types")
-    entries = [struct.unpack(">4s2H", the_map[at : at + 8]) for at in range(types_at + 2, types_at + 2 + 8 * types, 8)]
-    must(len({kind for kind, _, _ in entries}) == types, "types")
-    references = []
-    for kind, less_one, offset in entries:
-        count = (less_one + 1) % 65536
-        must(count == 0 or types_at + offset + 12 * count <= map_length, "references")
-        references += [(kind, types_at + offset + 12 * it) for it in range(count)]
-    must(len(references) <= MOST_ROWS, "rows")
-    rows = []
-    for kind, at in references:
-        ident, offset, attributes = struct.unpack(">hHB", the_map[at : at + 5])
-        name = None
-        if offset != 0xFFFF:
-            start = names_at + offset
-            must(start < map_length and start + 1 + the_map[start] <= map_length, "names")
-            name = the_map[start + 1 : start + 1 + the_map[start]]
-        rows.append(Row(kind, ident, name, attributes, int.from_bytes(the_map[at + 5 : at + 8], "big")))
-    for row in rows:
-        must(row.data + 4 <= data_length, "places")
-        length = int.from_bytes(data[row.data : row.data + 4], "big")
-        must(row.data + 4 + length <= data_length, "places")
-        row.data = data[row.data + 4 : row.data + 4 + length]
-    must(sum(4 + len(row.data) for row in rows) <= MOST_BYTES, "bytes")
-    return rows
-
-
-def quoted(quote, data):
-    """Bytes between quotes: printable ones as they are, a backslash before a quote and a backslash, and others as digits."""
-    shown = ""
-    for byte in data:
-        if chr(byte) in (quote, "\\"):
-            shown += "\\" + chr(byte)
-        elif 0x20 <= byte <= 0x7E:
-            shown += chr(byte)
-        else:
-            shown += f"\\x{byte:02X}"
-    return quote + shown + quote
-
-
-def line_of(row):
-    attributes = ",".join(word for bit, word in WORDS if row.attributes & bit) or "-"
-    name = "" if row.name is None else " " + quoted('"', row.name)
-    return f"{quoted(chr(39), row.kind)} {row.ident} {attributes} {len(row.data)}{name}\n"
-
-
-def listing(rows):
-    return f"resources: {len(rows)}\n" + "".join(map(line_of, rows))
-
+from checks.fork_questions import Difference, expect, opening_is_refused, questions
+from model.fork import MOST_BYTES, NoFork, Row, TOLD, listing, open_code, quoted, read_fork
 
 # the forks
 
@@ -123,10 +21,8 @@ def listing(rows):
 class Choices:
     """Makes a fork from a number."""
 
-    def __init__(self, number, whole=True):
-        """With `whole` half of the forks stay as they are."""
+    def __init__(self, number):
         self.random = random.Random(number)
-        self.whole = whole
 
     def odds(self, share):
         return self.random.random() < share
@@ -236,8 +132,6 @@ class Choices:
 
     def damaged(self, fork, map_at):
         dice = self.random.random()
-        if not self.whole:
-            dice = 0.5 + dice / 2
         if dice < 0.5:
             return bytes(fork)
         if dice < 0.6:  # cut
@@ -400,27 +294,23 @@ def try_lines(program, path):
         compare(" ".join(words), run(program, words), status, None, told)
 
 
-def forks(first, count, whole):
+def forks(first, count):
     """The forks at the limits and random ones, each with a word for it and choices."""
     for what, fork in limits():
         yield what, fork, random.Random(0)
     for number in range(first, first + count):
-        yield f"fork {number}", Choices(number, whole).fork(), random.Random(number)
+        yield f"fork {number}", Choices(number).fork(), random.Random(number)
 
 
-def main():
-    if not 3 <= len(sys.argv) <= 6 or sys.argv[5:] not in ([], ["damaged"]):
-        sys.exit(__doc__)
-    forklist, macheap = map(os.path.abspath, sys.argv[1:3])
-    count = int(sys.argv[3]) if len(sys.argv) > 3 else 200
-    first = int(sys.argv[4]) if len(sys.argv) > 4 else 1
+def main(forklist, macheap, count=200, first=1):
+    """Tries the command lines, the forks at the limits, and so many random forks from this number on."""
     seen = {}
     with tempfile.TemporaryDirectory() as folder:
         path = os.path.join(folder, "fork")
         what = "the command lines"
         try:
             try_lines(forklist, path)
-            for what, fork, choices in forks(first, count, not sys.argv[5:]):
+            for what, fork, choices in forks(first, count):
                 result = try_fork(forklist, path, fork, choices)
                 try_open(macheap, path, fork)
                 seen[result] = seen.get(result, 0) + 1
@@ -433,7 +323,3 @@ def main():
         print(f"no fork was refused for {', '.join(sorted(missing))}: the check is too weak")
         return 1
     return 0
-
-
-if __name__ == "__main__":
-    sys.exit(main())

@@ -1,14 +1,10 @@
-#!/usr/bin/env python3
 """Checks what a macheap program takes the words of its command line for: a zone, a question for help, or words that are bad.
-
-    tools/check_words.py PROGRAM
 
 Each row below is one run of the program, on a script of one ZoneMap, in a folder of its own that has a file `old` of three bytes, which
 are no fork, and an empty folder `folder`. Where a row has a `@`, the program is given that folder. What files it has behind the run is compared, too.
 """
 import os
 import subprocess
-import sys
 import tempfile
 
 SCRIPT = b"ZoneMap\n"
@@ -216,9 +212,3 @@ def main(program):
         check(words, "is to be refused for too many files", 2, "".__eq__, TOO_MANY_FORKS.__eq__)
     print(f"words: {passed} as they should be, {failed} not")
     return 1 if failed else 0
-
-
-if __name__ == "__main__":
-    if len(sys.argv) != 2 or not os.access(sys.argv[1], os.X_OK):
-        sys.exit("usage: tools/check_words.py PROGRAM")
-    sys.exit(main(os.path.realpath(sys.argv[1])))

@@ -1,13 +1,11 @@
-#!/usr/bin/env python3
-"""Checks what a macheap program leaves on forks and their journals, and which words it takes for them: check_journal.py PROGRAM."""
+"""Checks what a macheap program leaves on forks and their journals, and which words it takes for them."""
 import os
 import struct
 import subprocess
-import sys
 import tempfile
 
-from check_files import AB
-from check_resources import File, Row, journal_of
+from checks.files import AB
+from model.toolbox import File, Row, journal_of
 
 # the fork of one resource 'TEXT' 128 with the bytes "Hi"
 HI = (
@@ -120,9 +118,3 @@ def main(program):
         print(f"{name}: {fault}")
     print(f"forks and their journals: {len(found) - len(faults)} rows as they should be, {len(faults)} not")
     return 1 if faults else 0
-
-
-if __name__ == "__main__":
-    if len(sys.argv) != 2 or not os.access(sys.argv[1], os.X_OK):
-        sys.exit("usage: tools/check_journal.py PROGRAM")
-    sys.exit(main(os.path.realpath(sys.argv[1])))

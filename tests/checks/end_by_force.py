@@ -1,9 +1,8 @@
-#!/usr/bin/env python3
-"""Ends a macheap program by force in the middle of its updates, and looks what the next start finds: end_by_force.py PROGRAM [ROUNDS].
+"""Ends a macheap program by force in the middle of its updates, and looks what the next start finds.
 
 A script changes one resource, its length too, and updates the file, over and over, over a fork with a journal. It is killed at a random
 moment (SIGKILL). An empty script then has to leave a fork that was there before or after an update: the one that the last `UpdateResFile 0`
-told of, or the next. ROUNDS is 300 if left out. Where the system stays up, what a program wrote stays written: this shows nothing of
+told of, or the next. Number: how many times, 300 if left out. Where the system stays up, what a program wrote stays written: this shows nothing of
 power failures. It isn't part of the gate, since where it is killed is up to chance.
 """
 import os
@@ -11,7 +10,6 @@ import random
 import re
 import struct
 import subprocess
-import sys
 import tempfile
 import time
 
@@ -49,7 +47,7 @@ def read(path):
         return file.read()
 
 
-def main(program, rounds):
+def main(program, rounds=300):
     chance = random.Random(SEED)
     opened = torn = faults = number = 0
     with tempfile.TemporaryDirectory() as folder:
@@ -78,9 +76,3 @@ def main(program, rounds):
             number = told + (found == choice[1])
     print(f"{rounds} ends by force in {number} updates: the gate was open {opened} times and the fork half written {torn} times; {faults} starts found anything else than a whole fork")
     return 0
-
-
-if __name__ == "__main__":
-    if len(sys.argv) not in (2, 3) or not os.access(sys.argv[1], os.X_OK):
-        sys.exit("usage: tools/end_by_force.py PROGRAM [ROUNDS]")
-    sys.exit(main(os.path.realpath(sys.argv[1]), int(sys.argv[2]) if len(sys.argv) == 3 else 300))

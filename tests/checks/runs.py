@@ -1,16 +1,14 @@
-#!/usr/bin/env python3
-"""Checks what a macheap program prints on the scripts of tools/runs.txt and on the calls of tools/memory_refusals.txt, what the
-steps of tools/steps.txt make of a zone's blocks, and which texts of tools/lines.txt are scripts.
+"""Checks what a macheap program prints on the scripts of tests/cases/runs.txt and on the calls of tests/cases/memory_refusals.txt, what the
+steps of tests/cases/steps.txt make of a zone's blocks, and which texts of tests/cases/lines.txt are scripts.
 
-    tools/check_runs.py PROGRAM
 """
 import itertools
 import os
 import re
 import subprocess
-import sys
 
-FOLDER = os.path.dirname(os.path.abspath(__file__))
+from places import CASES
+
 FAULT = "script fault at line "
 
 
@@ -39,7 +37,7 @@ def calls_of(line):
 
 
 def refusals(table):
-    """A row for each call of tools/memory_refusals.txt, as the rows of tools/runs.txt."""
+    """A row for each call of tests/cases/memory_refusals.txt, as the rows of tests/cases/runs.txt."""
     for line in table.read().split("\n"):
         mark, _, rest = line.partition(" ")
         if mark == ">":
@@ -67,7 +65,7 @@ def unescaped(text):
 
 
 def texts(table):
-    """The rows of tools/lines.txt: a text, and the first line that is none, or None where it is a script."""
+    """The rows of tests/cases/lines.txt: a text, and the first line that is none, or None where it is a script."""
     for row in table.read().split("\n"):
         line, mark, text = row.partition(": ")
         if mark and not row.startswith("# "):
@@ -115,7 +113,7 @@ def line_of(word, made):
 
 
 def zone_steps(table):
-    """The rows of tools/steps.txt: the options, the steps and the blocks that stand then."""
+    """The rows of tests/cases/steps.txt: the options, the steps and the blocks that stand then."""
     for row in table.read().split("\n"):
         if row.startswith("> "):
             options = row[2:].split()
@@ -146,7 +144,7 @@ def step_fault(program, options, steps, blocks):
 
 
 def read(name, by):
-    with open(os.path.join(FOLDER, name), encoding="utf-8") as table:
+    with open(os.path.join(CASES, name), encoding="utf-8") as table:
         return list(by(table))
 
 
@@ -178,9 +176,3 @@ def main(program):
     count = len(runs) + len(refused) + len(stepped) + len(scripts)
     print(f"runs: {count - failed} as they should be, {failed} not; {len(refused)} are of calls that are refused, {len(scripts)} of texts that are scripts or none")
     return 1 if failed or not runs or not refused or not stepped or not scripts else 0
-
-
-if __name__ == "__main__":
-    if len(sys.argv) != 2 or not os.access(sys.argv[1], os.X_OK):
-        sys.exit("usage: tools/check_runs.py PROGRAM")
-    sys.exit(main(os.path.realpath(sys.argv[1])))

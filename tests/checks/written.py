@@ -1,16 +1,12 @@
-#!/usr/bin/env python3
-"""Checks what a program in C writes of the forks of tools/forks.txt: the same bytes as macheap, or the same code.
-
-    tools/check_written.py PROGRAM
+"""Checks what a program in C writes of the forks of tests/cases/forks.txt: the same bytes as macheap, or the same code.
 
 PROGRAM, c/forks.c, is given each fork of a few resources that an update writes or refuses to write, and a file to write to.
 """
 import os
 import subprocess
-import sys
 import tempfile
 
-from check_fork_table import MOST_ROWS, TABLE, read_table
+from checks.fork_table import MOST_ROWS, TABLE, read_table
 
 
 def written(program, folder, fork):
@@ -38,9 +34,3 @@ def main(program):
                 print(f"{case.name}: other bytes are written")
     print(f"forks of the table: {len(tried) - failed} are written from C as they should be, {failed} not")
     return 1 if failed or not tried else 0
-
-
-if __name__ == "__main__":
-    if len(sys.argv) != 2 or not os.access(sys.argv[1], os.X_OK):
-        sys.exit("usage: tools/check_written.py PROGRAM")
-    sys.exit(main(os.path.realpath(sys.argv[1])))

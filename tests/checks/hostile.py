@@ -1,18 +1,14 @@
-#!/usr/bin/env python3
-"""Checks a macheap program on operands that no program means to give, beside the model of check_random.py.
-
-    tools/check_hostile.py PROGRAM
+"""Checks a macheap program on operands that no program means to give, beside the model of a zone.
 
 For each call, at each operand, zones of both modes are given sizes at their limits and far over them, numbers that were never live or
 are not any more, a pointer for a handle and a handle for a pointer, an empty handle, a lent block, and addresses inside blocks; the other
 operands are as they should be. Each reply is the model's, and a ZoneMap behind each shows the blocks as they are then: where the
 call was refused, but for want of room, just as they were before.
 """
-import os
 import subprocess
-import sys
 
-from check_random import FULL, Zone, written
+from checks.random_lines import written
+from model.zone import FULL, Zone
 
 EXTREMES = [0, 1, 0x7FFFFF, 0x800000, 0x800001, 0xFFFFFFFF]
 
@@ -144,9 +140,3 @@ def main(program):
     failed = [it for it in tried if differs(program, *it, CALLS[it[1]])]
     print(f"hostile operands: {len(tried) - len(failed)} calls as the model has them, {len(failed)} not")
     return 1 if failed else 0
-
-
-if __name__ == "__main__":
-    if len(sys.argv) != 2 or not os.access(sys.argv[1], os.X_OK):
-        sys.exit("usage: tools/check_hostile.py PROGRAM")
-    sys.exit(main(os.path.realpath(sys.argv[1])))

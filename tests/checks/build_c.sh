@@ -3,7 +3,7 @@
 # Where `rt` has kept libraries of its own it is `rt lib` that does so; behind `rt ci`, which keeps none, it is done over those that
 # `rt ci` has proved, which `rt lib` would prove once more. (RATTLE_KIT: the kit's folder.)
 set -e
-top=$(cd "$(dirname "$0")/.." && pwd)
+top=$(cd "$(dirname "$0")/../.." && pwd)
 kit=${RATTLE_KIT:-/opt/rattle}
 folder=$(realpath "$1")
 # build CRATE: over what lies in out/rlib of the crates below it

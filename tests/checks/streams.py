@@ -1,7 +1,4 @@
-#!/usr/bin/env python3
 """Checks what a macheap program does where its input or its output fails: at each byte of the scripts below, and of what they print.
-
-    tools/check_streams.py PROGRAM
 
 An output that takes some bytes, and then fails, is interrupted once or takes none: these bytes are the beginning of what the whole run prints, nothing is told
 on standard error, and the status is 1. The calls up to the reply that isn't whole were made, so the file and its journal are as behind them.
@@ -13,15 +10,14 @@ reader, a folder to read from. Needs a C compiler: `cc`, or $CC.
 import errno
 import os
 import subprocess
-import sys
 import tempfile
 
-from check_files import HI
-from check_memory import replies_of
-from check_resources import journal_of
+from checks.files import HI
+from checks.memory import replies_of
+from model.toolbox import journal_of
+from places import INTERPOSE
 
-TOOLS = os.path.dirname(os.path.abspath(__file__))
-SHIM = os.path.join(TOOLS, "fail_stream.c")
+SHIM = os.path.join(INTERPOSE, "fail_stream.c")
 READ_ERRORS = [errno.EIO, errno.EINTR]
 # the last stands for an output that takes no byte
 WRITE_ERRORS = [errno.EIO, errno.EINTR, 0]
@@ -210,9 +206,3 @@ def main(program):
         print(it)
     print(f"streams: {count - len(failures)} runs as they should be, {len(failures)} not")
     return 1 if failures or not count else 0
-
-
-if __name__ == "__main__":
-    if len(sys.argv) != 2 or not os.access(sys.argv[1], os.X_OK):
-        sys.exit("usage: tools/check_streams.py PROGRAM")
-    sys.exit(main(os.path.realpath(sys.argv[1])))

@@ -2,17 +2,17 @@
 # Runs each script of examples/ by a macheap program, and compares what it prints, and its exit status, with the file
 # beside it: examples/NAME.script with examples/NAME.output. With --write it writes these files instead.
 #
-#     tools/check_examples.sh [--write] PROGRAM
+#     tests/checks/examples.sh [--write] PROGRAM
 #
 # The comment lines at the head of a script may have a line '# macheap WORDS' with the options that the program is to
 # be given (none: no options), and a line '# exit status N' (none: 0).
 #
 # A file that two words '--fork FILE' name stands in a folder of the run's own: as a copy of examples/FILE, if there is one, and else it
 # is missing. What the files are then is compared with examples/NAME.forks: a file is as it was, or it is shown by
-# tools/show_forks.py. A comment line '# FILE becomes OTHER' says that FILE has the bytes of examples/OTHER then.
+# tests/show_forks.py. A comment line '# FILE becomes OTHER' says that FILE has the bytes of examples/OTHER then.
 set -uo pipefail
 
-usage='usage: tools/check_examples.sh [--write] PROGRAM'
+usage='usage: tests/checks/examples.sh [--write] PROGRAM'
 write=no
 if [ "${1-}" = --write ]; then
     write=yes
@@ -24,10 +24,10 @@ if [ $# -ne 1 ] || [ -z "$1" ]; then
 fi
 program=$(realpath -- "$1") || exit 2
 if [ ! -f "$program" ] || [ ! -x "$program" ]; then
-    echo "tools/check_examples.sh: $1 is no program" >&2
+    echo "tests/checks/examples.sh: $1 is no program" >&2
     exit 2
 fi
-cd "$(dirname "$0")/../examples" || exit 2
+cd "$(dirname "$0")/../../examples" || exit 2
 examples=$PWD
 
 folder=$(mktemp -d) || exit 2
@@ -46,7 +46,7 @@ left_forks() {
         if [ -f "$fork" ] && cmp -s "$fork" "$examples/$fork"; then
             echo "$fork: as it was"
         else
-            "$examples/../tools/show_forks.py" "$fork" || return
+            "$examples/../tests/show_forks.py" "$fork" || return
         fi
     done
 }
@@ -56,7 +56,7 @@ is_wanted() {
     if [ "$write" = yes ]; then
         cp "$3" "$2" || exit 2
     elif [ ! -f "$2" ]; then
-        fail "$1" "there is no $2: write it by tools/check_examples.sh --write PROGRAM"
+        fail "$1" "there is no $2: write it by tests/checks/examples.sh --write PROGRAM"
         return 1
     elif ! diff -u --label "$2" --label "what $1 makes" "$2" "$3"; then
         fail "$1" "it makes something else than $2"

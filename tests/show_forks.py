@@ -1,13 +1,13 @@
 #!/usr/bin/env python3
 """Shows files that hold resource forks: how many bytes each has, its list of resources as forklist prints it, and all bytes.
 
-    tools/show_forks.py FILE..
+    tests/show_forks.py FILE..
 
-The list is that of the small model in tools/check_forks.py. In the bytes a `*` stands for lines that are the same as the one before it.
+The list is that of the small model in tests/model/fork.py. In the bytes a `*` stands for lines that are the same as the one before it.
 """
 import sys
 
-from check_forks import TOLD, NoFork, listing, read_fork
+from model.fork import TOLD, NoFork, listing, read_fork
 
 
 def resources(fork):

@@ -1,4 +1,3 @@
-#!/usr/bin/env python3
 """Checks that the clauses and edits that docs/PROMISES.md names are there, and that it names each edit of the gate.
 
 The page names a clause as `CRATE: function: clause` or `CRATE: Type::function: clause`, and one without a name as `CRATE: function`;
@@ -8,7 +7,10 @@ import os
 import re
 import sys
 
-from list_promises import crates, edits, functions
+from places import TOP
+
+sys.path.append(f"{TOP}/tools")
+from list_promises import crates, edits, functions  # noqa: E402
 
 PAGE = "docs/PROMISES.md"
 CODE = re.compile(r"`([^`\n]+)`")
@@ -58,8 +60,3 @@ def main():
     if not faults:
         print(f"promises: {clauses} clauses and {len(named)} edits found")
     return 1 if faults else 0
-
-
-if __name__ == "__main__":
-    os.chdir(f"{os.path.dirname(os.path.abspath(__file__))}/..")
-    sys.exit(main())

@@ -1,7 +1,4 @@
-#!/usr/bin/env python3
 """Checks what a macheap program does where the host refuses memory: each request of each run below is refused in turn.
-
-    tools/check_memory.py PROGRAM
 
 Wanted of each: whole replies from the front of what the run prints and then the line `no memory`, with status 1, or all replies with
 status 0; and a resource file as it was before the last call, or after it. Where the fork is on a disk in memory, and the host refuses
@@ -12,15 +9,14 @@ row: it has to print what stands beside it, where `..` stands for lines that are
 import os
 import re
 import subprocess
-import sys
 import tempfile
 
-from check_files import HI
-from check_resources import journal_of
-from check_runs import are_wanted
+from checks.files import HI
+from checks.runs import are_wanted
+from model.toolbox import journal_of
+from places import INTERPOSE
 
-TOOLS = os.path.dirname(os.path.abspath(__file__))
-SHIM = os.path.join(TOOLS, "refuse_memory.c")
+SHIM = os.path.join(INTERPOSE, "refuse_memory.c")
 # the bytes of the row's file, or none for no file; the script; what it prints
 ROWS = [
     # blocks move for a new one, and the map is printed
@@ -177,9 +173,3 @@ def main(program):
         print(it)
     print(f"host memory: {count} runs of {len(ROWS) + 2} scripts, {refused} requests refused in turn, {len(failures)} ended as they should not")
     return 1 if failures else 0
-
-
-if __name__ == "__main__":
-    if len(sys.argv) != 2 or not os.access(sys.argv[1], os.X_OK):
-        sys.exit("usage: tools/check_memory.py PROGRAM")
-    sys.exit(main(os.path.realpath(sys.argv[1])))

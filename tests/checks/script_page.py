@@ -1,13 +1,10 @@
-#!/usr/bin/env python3
 """Checks that docs/SCRIPT.md has each call of the program's table of calls, and no other.
 
 The table is the source file, of those in crates/*/src that aren't tests, that has most names in the form b"NewHandle". On the
 page a call stands in the first column of a table whose header begins with 'Call', as `NewHandle n` or `CloseResFile [k]`.
 """
 import glob
-import os
 import re
-import sys
 
 PAGE = "docs/SCRIPT.md"
 NAME = re.compile(r'\bb"([A-Z][A-Za-z0-9]*)"')
@@ -49,7 +46,7 @@ def of_page():
 def main():
     file, names = table()
     if not file:
-        print('tools/check_script_page.py: no file of crates/*/src has b"NewHandle": where is the table of calls?')
+        print('tests/checks/script_page.py: no file of crates/*/src has b"NewHandle": where is the table of calls?')
         return 1
     calls, strange = of_page()
     faults = [f"{PAGE}:{it}: the row does not begin with a call, as '| `NewHandle n` |'" for it in strange]
@@ -61,8 +58,3 @@ def main():
     if not faults:
         print(f"script page: {len(calls)} calls, as {file} has them")
     return 1 if faults else 0
-
-
-if __name__ == "__main__":
-    os.chdir(f"{os.path.dirname(os.path.abspath(__file__))}/..")
-    sys.exit(main())

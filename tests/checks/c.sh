@@ -1,14 +1,14 @@
 #!/bin/sh
-# check_c.sh PROGRAM LISTER FOLDER: runs the C programs of c/ over the static libraries that `build_c.sh FOLDER` builds: the calls, whose
-# answers are compared with what stands there, plainly and with the sanitizers over the C side; 100,000 random calls, of which
-# PROGRAM, a macheap, prints the same; a zone that the host has no memory for; the example, in C and, where there is a
-# compiler, in C++ and in Rust; a fork, of which LISTER, a forklist, prints the same; and forks whose bytes are known, written anew. It
-# needs a C compiler, Python, and the kit's C code for the heap (RATTLE_KIT: the kit's folder).
+# Runs the C programs of c/ over the static libraries that build_c.sh builds: the calls, whose answers are compared with what is there,
+# plainly and with the sanitizers over the C side; 100,000 random calls, of which macheap prints the same; a zone that the host has no
+# memory for; the example, in C and, where there is a compiler, in C++ and in Rust; a fork, of which forklist prints the same; and forks
+# whose bytes are known, written anew. Words: the programs macheap and forklist, and the libraries' folder. It needs a C compiler,
+# Python, and the kit's C code for the heap (RATTLE_KIT: the kit's folder).
 set -e
 program=$(realpath "$1")
 lister=$(realpath "$2")
 folder=$(realpath "$3")
-top=$(cd "$(dirname "$0")/.." && pwd)
+top=$(cd "$(dirname "$0")/../.." && pwd)
 kit=${RATTLE_KIT:-/opt/rattle}
 room=$(mktemp -d)
 trap 'rm -rf "$room"' EXIT
@@ -37,15 +37,15 @@ if command -v c++ > /dev/null; then
     c++ "$room/emulator.o" "$library" "$kit/c/liblibc_c.a" -o "$room/emulator"
     "$room/emulator" | cmp - "$top/c/emulator.output"
 else
-    echo "check_c.sh: there is no c++, so the example was not built in C++" >&2
+    echo "c.sh: there is no c++, so the example was not built in C++" >&2
 fi
 if command -v rustc > /dev/null; then
     rustc --edition 2024 -O "$top/c/emulator.rs" -o "$room/emulator" -C link-arg="$library" -C link-arg="$kit/c/liblibc_c.a"
     "$room/emulator" | cmp - "$top/c/emulator.output"
 else
-    echo "check_c.sh: there is no rustc, so the example was not built in Rust" >&2
+    echo "c.sh: there is no rustc, so the example was not built in Rust" >&2
 fi
 built fork_c forks -O1 -fsanitize=address,undefined
 "$room/forks" "$top/crates/forklist/data/sample.rsrc" > "$room/list"
 "$lister" "$top/crates/forklist/data/sample.rsrc" | cmp - "$room/list"
-"$top/tools/check_written.py" "$room/forks"
+"$top/tests/run" --forks "$room/forks" written

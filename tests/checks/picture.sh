@@ -1,20 +1,20 @@
 #!/usr/bin/env bash
 # Checks that tools/zone_picture.py reads what the program prints: that it draws each block of each example's output once,
 # refuses what it can't read, and that docs/zone.svg is the picture of examples/kinds.output. (That the outputs of the
-# examples are what the program prints is checked by tools/check_examples.sh.) With --write it writes docs/zone.svg.
+# examples are what the program prints is checked by tests/checks/examples.sh.) With --write it writes docs/zone.svg.
 #
-#     tools/check_picture.sh [--write]
+#     tests/checks/picture.sh [--write]
 #
 # shellcheck disable=SC2016 # addresses begin with a $
 set -uo pipefail
-cd "$(dirname "$0")/.." || exit 2
+cd "$(dirname "$0")/../.." || exit 2
 
 folder=$(mktemp -d) || exit 2
 trap 'rm -rf "$folder"' EXIT
 failed=0
 
 fail() {
-    echo "tools/check_picture.sh: $1"
+    echo "tests/checks/picture.sh: $1"
     failed=1
 }
 
@@ -71,7 +71,7 @@ refuses 'a block behind a gap' "1 ZoneMap 2 0\\n$master"'  $00100140 3776 free\n
 refuses 'a line that is none' "1 ZoneMap 1 0\\n${master}hello\\n"
 
 if ! draw >"$folder/picture" || ! cmp -s "$folder/picture" docs/zone.svg; then
-    fail 'docs/zone.svg is not the picture of examples/kinds.output: write it anew by tools/check_picture.sh --write'
+    fail 'docs/zone.svg is not the picture of examples/kinds.output: write it anew by tests/checks/picture.sh --write'
 fi
 if [ "$failed" -eq 0 ]; then
     echo "picture: $maps outputs drawn"
