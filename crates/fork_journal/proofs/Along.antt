@@ -2,8 +2,9 @@
 use Rattle.std.proofs.Common.{◌≡◌, inl, inr, ℕ, false, List, ◌∷◌, refl, sym, ◌∙◌, subst}
 use Rattle.fork_journal.specs.declared.pair.Side.{Side}
 use Rattle.fork_journal.specs.declared.pair.Side.TheVariants.{Fork, Journal}
+use Rattle.fork_disk.specs.Crash.{at_first, and_then}
 use Rattle.fork_disk.specs.Disk.{Torn, CutShort}
-use Rattle.fork_journal.specs.Crash.{Contents, Event, Wrote, Cut, Synced, Failed, History, side_of, has_failed, OnSide, MayLeave, Follows, AlwaysLeaves, at_first, and_then, LeftWith, Settles}
+use Rattle.fork_journal.specs.Crash.{Contents, Event, Wrote, Cut, Synced, Failed, History, side_of, has_failed, OnSide, MayLeave, Follows, AlwaysLeaves, LeftWith, Settles}
 
 abbrev pub Bytes : Type 0
 Bytes = List ℕ

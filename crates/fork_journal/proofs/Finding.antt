@@ -1,8 +1,7 @@
 -- What a start finds, by what a crash leaves.
 use Rattle.std.proofs.Common.{◌≡◌, inl, inr, ℕ, List, sym, ◌∙◌, subst}
-use Rattle.fork_disk.specs.Crash.{AlwaysFinds, FoundBeforeOr}
-use Rattle.fork_disk.specs.Crash as finds
-use Rattle.fork_journal.specs.Crash.{Contents, History, MayLeave, AlwaysLeaves, at_first, and_then}
+use Rattle.fork_disk.specs.Crash.{AlwaysFinds, FoundBeforeOr, at_first, and_then}
+use Rattle.fork_journal.specs.Crash.{Contents, History, MayLeave, AlwaysLeaves}
 use Rattle.fork_journal.specs.Recovery.{settled_fork, IsBeforeOrAfter, IsSameChoice, MayFind}
 
 -- what holds of each outcome gives what holds of the fork that is found there
@@ -11,8 +10,8 @@ module _ (P : Contents → Type 0) (Q : List ℕ → Type 0) (gives : (c : Conte
   of_found history here found may = subst Q (sym may.2) (gives may.0 (here may.0 may.1))
 
   finds_along : (old new : History) → AlwaysLeaves P old new → AlwaysFinds MayFind Q old new
-  finds_along old new (at_first here) = finds.at_first (of_found old here)
-  finds_along old new (and_then {event} {past} so_far here) = finds.and_then (finds_along old past so_far) (of_found new here)
+  finds_along old new (at_first here) = at_first (of_found old here)
+  finds_along old new (and_then {event} {past} so_far here) = and_then (finds_along old past so_far) (of_found new here)
 
 pub finds_choice : (old new : History) → AlwaysLeaves (IsSameChoice old) old new → AlwaysFinds MayFind (MayFind old) old new
 finds_choice old new = finds_along (IsSameChoice old) (MayFind old) (λ c same. same) old new

@@ -1,8 +1,9 @@
 -- What a sync leaves.
 use Rattle.std.proofs.Common.{◌≡◌, ℕ, false, List, ◌∷◌, sym, ◌∙◌, ap, subst}
+use Rattle.fork_disk.specs.Crash.{at_first}
 use Rattle.fork_journal.specs.declared.pair.Side.{Side}
 use Rattle.fork_journal.specs.declared.pair.Side.TheVariants.{Journal}
-use Rattle.fork_journal.specs.Crash.{Contents, History, Synced, Failed, has_failed, MayLeave, Leaves, Follows, at_first}
+use Rattle.fork_journal.specs.Crash.{Contents, History, Synced, Failed, has_failed, MayLeave, Leaves, Follows}
 use Rattle.fork_journal.specs.Form.{is_usable}
 use Rattle.fork_journal.specs.Recovery.{IsReady, IsRecoverable}
 use Rattle.fork_journal.proofs.Along.{along_failed, leaves_now}

@@ -1,5 +1,6 @@
 -- What a crash may leave of a fork and its journal, which are one device with one clock.
 use Rattle.std.specs.Prelude.{◌≡◌, ℕ, ◌⊎◌, ◌||◌, Bool, true, false, List, [], ◌∷◌}
+use Rattle.fork_disk.specs.Crash.{AlwaysFinds, Finds}
 use Rattle.fork_disk.specs.Disk.{Torn, CutShort}
 use Rattle.fork_journal.specs.declared.pair.Side.{Side}
 use Rattle.fork_journal.specs.declared.pair.Side.TheVariants.{Fork, Journal}
@@ -12,6 +13,10 @@ pub record Contents : Type 0 where
 abbrev pub side_of : Side → Contents → List ℕ
 side_of Fork c = c.fork
 side_of Journal c = c.journal
+
+abbrev pub other : Side → Side
+other Fork = Journal
+other Journal = Fork
 
 -- a step of one side, while the other stays
 abbrev pub OnSide : Side → (List ℕ → List ℕ → Type 0) → Contents → Contents → Type 0
@@ -61,12 +66,11 @@ MayLeave (Failed side ∷ past) c = MayLeave past c
 
 -- each outcome of a crash now has P
 abbrev pub Leaves : (Contents → Type 0) → History → Type 0
-Leaves P history = (c : Contents) → MayLeave history c → P c
+Leaves = Finds MayLeave
 
--- each outcome of a crash has P, whenever it comes: before the first event behind the old history, or behind any that came since
-pub data AlwaysLeaves (P : Contents → Type 0) (old : History) : History → Type 0 where
-  at_first : Leaves P old → AlwaysLeaves P old old
-  and_then : {event : Event} {past : History} → AlwaysLeaves P old past → Leaves P (event ∷ past) → AlwaysLeaves P old (event ∷ past)
+-- each outcome of a crash has P, whenever it comes
+abbrev pub AlwaysLeaves : (Contents → Type 0) → History → History → Type 0
+AlwaysLeaves = AlwaysFinds MayLeave
 
 -- the event came, or none did
 abbrev pub Follows : Event → History → History → Type 0

@@ -1,5 +1,5 @@
 -- The form of a journal: byte 0 is the gate, and the text behind it is the length of a fork in four bytes and as many bytes.
-use Rattle.std.specs.Prelude.{ℕ, ◌+◌, ◌==◌, ◌&&◌, ◌||◌, nat_le, Bool, List, ◌++◌, length, take, drop, get_or}
+use Rattle.std.specs.Prelude.{◌≡◌, ℕ, ◌+◌, ◌==◌, ◌&&◌, ◌||◌, nat_le, Bool, List, ◌++◌, length, take, drop, get_or}
 use Rattle.byteorder.specs.Endian.{big_bytes, big_number}
 
 -- the text of a fork
@@ -21,6 +21,13 @@ is_open journal = get_or journal 0 0 == 1
 -- the gate is open and the text is whole
 abbrev pub is_usable : List ℕ → Bool
 is_usable journal = is_open journal && is_whole (drop 1 journal)
+
+-- a write of the gate leaves the text, and one of the text leaves the gate
+abbrev pub IsSameText : List ℕ → List ℕ → Type 0
+IsSameText old new = drop 1 new ≡ drop 1 old
+
+abbrev pub IsSameGate : List ℕ → List ℕ → Type 0
+IsSameGate old new = take 1 new ≡ take 1 old
 
 -- before an update the gate has to be shut where it is open, or where there is none yet
 abbrev pub must_shut : List ℕ → Bool

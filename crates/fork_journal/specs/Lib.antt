@@ -5,3 +5,6 @@ pub mod Record
 pub mod Outcome
 pub mod Leaving
 pub mod Files
+pub mod OnPair
+pub mod Pairs
+pub mod Updates

@@ -1,13 +1,13 @@
 //! The fork of a resource file that has a journal.
 
-ghost use Rattle.std.specs.Prelude.{◌≡◌, ◌+◌, ◌≤◌, ◌<◌, ◌^◌, ⊤, [], ◌∷◌, length, IfOk, OnOk, IsErrOf};
+ghost use Rattle.std.specs.Prelude.{◌≡◌, ◌<◌, ◌^◌, ⊤, [], ◌∷◌, length};
 ghost use Rattle.std.proofs.Common.{refl, ◌∙◌, ap};
-ghost use Rattle.fork_disk.specs.Crash.{AlwaysFinds, FoundBeforeOr};
-ghost use Rattle.fork_disk.specs.Disk.{bytes_at, Counts};
+ghost use Rattle.fork_disk.specs.Disk.{Counts};
 ghost use Rattle.fork_disk.specs.Faults.{CountsDevice};
-ghost use Rattle.fork_journal.specs.Crash.{AlwaysLeaves, Event, Found, History, MayLeave};
-ghost use Rattle.fork_journal.specs.Form.{text_of};
-ghost use Rattle.fork_journal.specs.Recovery.{copied_length, recovered, settled_fork, IsReady, IsRecoverable, IsStable, IsBeforeOrAfter, IsSameChoice, IsEither, MayFind};
+ghost use Rattle.fork_disk.specs.OnStore.{CanRead};
+ghost use Rattle.fork_journal.specs.Crash.{Event, Found, History, MayLeave};
+ghost use Rattle.fork_journal.specs.Recovery.{copied_length, settled_fork, IsReady, IsRecoverable, IsStable, IsEither, MayFind};
+ghost use Rattle.fork_journal.specs.Updates.{pair_fork, IsPairReady, RecoversPair, MeasuresPair, ReadsPair, ReplacesPair};
 
 use crate::pair::{PairDisk, Side};
 use crate::{recovery, update};
@@ -77,49 +77,24 @@ impl<P: PairDisk> ForkStore for Journal<P> {
 
     /// Makes the fork ready. Where the host has no memory for the journal's fork, only the journal was synced.
     fn recover(&mut self) -> Result<(), RecoverFault>
-        ensures same { P.is_honest self.new.pair → settled_fork (P.contents self.new.pair) ≡ settled_fork (P.contents self.old.pair) }
-        ensures ready { P.is_honest self.new.pair → OnOk result (IsReady (P.contents self.new.pair) (P.history self.new.pair)) }
-        ensures still { P.is_honest self.new.pair → IsReady (P.contents self.old.pair) (P.history self.old.pair) → IsReady (P.contents self.new.pair) (P.history self.new.pair) }
-        ensures stable { P.is_honest self.new.pair → IsStable (P.contents self.old.pair) (P.history self.old.pair) → IsStable (P.contents self.new.pair) (P.history self.new.pair) }
-        ensures honest { P.is_honest self.new.pair → P.is_honest self.old.pair }
+        ensures recovers { P.is_honest self.new.pair → RecoversPair P.PairDisk self.old.pair self.new.pair result }
         ensures cause { CountsDevice (P.failures self.old.pair) (P.failures self.new.pair) result }
-        ensures memory { P.is_honest self.new.pair → IsErrOf result RecoverFault.Host → 1 ≤ copied_length (P.contents self.old.pair) }
-        ensures any_moment { P.is_honest self.new.pair → AlwaysFinds MayFind (MayFind (P.history self.old.pair)) (P.history self.old.pair) (P.history self.new.pair) }
-        // A crash at any moment of the call leaves a choice that was there before it.
-        ensures leaves { P.is_honest self.new.pair → AlwaysLeaves (IsSameChoice (P.history self.old.pair)) (P.history self.old.pair) (P.history self.new.pair) }
-        // Where each crash before the call left one fork, as behind a start, each within it leaves that one.
-        ensures one_fork { P.is_honest self.new.pair → IsStable (P.contents self.old.pair) (P.history self.old.pair)
-            → AlwaysLeaves (λ c. settled_fork c ≡ settled_fork (P.contents self.old.pair)) (P.history self.old.pair) (P.history self.new.pair) }
-        ensures recovered { P.is_honest self.new.pair → OnOk result (P.contents self.new.pair ≡ recovered (P.contents self.old.pair)) }
     {
         recovery::recover(self.alloc, &mut self.pair)
     }
 
     fn len(&mut self) -> Result<u64, DiskFault>
         requires { P.is_honest self.old.pair → IsReady (P.contents self.old.pair) (P.history self.old.pair) }
-        ensures value { P.is_honest self.new.pair → IfOk result (λ n. n ≡ length (settled_fork (P.contents self.old.pair))) }
-        ensures same { P.is_honest self.new.pair → settled_fork (P.contents self.new.pair) ≡ settled_fork (P.contents self.old.pair) }
-        ensures ready { P.is_honest self.new.pair → IsReady (P.contents self.new.pair) (P.history self.new.pair) }
-        ensures stable { P.is_honest self.new.pair → IsStable (P.contents self.old.pair) (P.history self.old.pair) → IsStable (P.contents self.new.pair) (P.history self.new.pair) }
-        ensures honest { P.is_honest self.new.pair → P.is_honest self.old.pair }
+        ensures measures { P.is_honest self.new.pair → MeasuresPair P.PairDisk self.old.pair self.new.pair result }
         ensures cause { Counts (P.failures self.old.pair) (P.failures self.new.pair) result }
-        ensures contents { P.is_honest self.new.pair → P.contents self.new.pair ≡ P.contents self.old.pair }
-        ensures calm { P.is_honest self.new.pair → P.history self.new.pair ≡ P.history self.old.pair }
     {
         self.pair.len(Side::Fork)
     }
 
     fn read_at(&mut self, at: u64, buffer: &mut [u8]) -> Result<(), DiskFault>
-        requires ready { P.is_honest self.old.pair → IsReady (P.contents self.old.pair) (P.history self.old.pair) }
-        requires there { P.is_honest self.old.pair → at + length buffer.old ≤ length (settled_fork (P.contents self.old.pair)) }
-        ensures read { P.is_honest self.new.pair → OnOk result (buffer.new ≡ bytes_at (length buffer.old) at (settled_fork (P.contents self.old.pair))) }
-        ensures same { P.is_honest self.new.pair → settled_fork (P.contents self.new.pair) ≡ settled_fork (P.contents self.old.pair) }
-        ensures ready { P.is_honest self.new.pair → IsReady (P.contents self.new.pair) (P.history self.new.pair) }
-        ensures stable { P.is_honest self.new.pair → IsStable (P.contents self.old.pair) (P.history self.old.pair) → IsStable (P.contents self.new.pair) (P.history self.new.pair) }
-        ensures honest { P.is_honest self.new.pair → P.is_honest self.old.pair }
+        requires { P.is_honest self.old.pair → CanRead (pair_fork P.PairDisk) (IsPairReady P.PairDisk) self.old.pair at (length buffer.old) }
+        ensures reads { P.is_honest self.new.pair → ReadsPair P.PairDisk self.old.pair self.new.pair at buffer.old buffer.new result }
         ensures cause { Counts (P.failures self.old.pair) (P.failures self.new.pair) result }
-        ensures contents { P.is_honest self.new.pair → P.contents self.new.pair ≡ P.contents self.old.pair }
-        ensures calm { P.is_honest self.new.pair → P.history self.new.pair ≡ P.history self.old.pair }
     {
         self.pair.read_at(Side::Fork, at, buffer)
     }
@@ -128,22 +103,8 @@ impl<P: PairDisk> ForkStore for Journal<P> {
     fn replace(&mut self, new: &[u8]) -> Result<(), ReplaceFault>
         requires ready { P.is_honest self.old.pair → IsReady (P.contents self.old.pair) (P.history self.old.pair) }
         requires short { length new.now < 2 ^ 32 }
-        ensures replaced { P.is_honest self.new.pair → OnOk result (settled_fork (P.contents self.new.pair) ≡ new.now) }
-        ensures before { P.is_honest self.new.pair → IsErrOf result ReplaceFault.BeforeFirstWrite → settled_fork (P.contents self.new.pair) ≡ settled_fork (P.contents self.old.pair) }
-        ensures left { P.is_honest self.new.pair → IsErrOf result ReplaceFault.Later → IsEither new.now (settled_fork (P.contents self.old.pair)) (settled_fork (P.contents self.new.pair)) }
-        ensures ready { P.is_honest self.new.pair → OnOk result (IsReady (P.contents self.new.pair) (P.history self.new.pair)) }
-        ensures still { P.is_honest self.new.pair → IsErrOf result ReplaceFault.BeforeFirstWrite → IsReady (P.contents self.new.pair) (P.history self.new.pair) }
-        ensures stable { P.is_honest self.new.pair → OnOk result (IsStable (P.contents self.new.pair) (P.history self.new.pair)) }
-        ensures honest { P.is_honest self.new.pair → P.is_honest self.old.pair }
+        ensures replaces { P.is_honest self.new.pair → ReplacesPair P.PairDisk self.old.pair self.new.pair new.now result }
         ensures cause { Counts (P.failures self.old.pair) (P.failures self.new.pair) result }
-        ensures any_moment { P.is_honest self.new.pair
-            → AlwaysFinds MayFind (FoundBeforeOr MayFind (P.history self.old.pair) new.now) (P.history self.old.pair) (P.history self.new.pair) }
-        // A crash at any moment of the call leaves the fork from before it or the new one, and so does a fault.
-        ensures leaves { P.is_honest self.new.pair
-            → AlwaysLeaves (IsBeforeOrAfter (settled_fork (P.contents self.old.pair)) new.now) (P.history self.old.pair) (P.history self.new.pair) }
-        ensures journal { P.is_honest self.new.pair → OnOk result ((P.contents self.new.pair).journal ≡ 0 ∷ text_of new.now) }
-        ensures same { P.is_honest self.new.pair → IsErrOf result ReplaceFault.BeforeFirstWrite → P.contents self.new.pair ≡ P.contents self.old.pair }
-        ensures calm { P.is_honest self.new.pair → IsErrOf result ReplaceFault.BeforeFirstWrite → P.history self.new.pair ≡ P.history self.old.pair }
     {
         update::replace(&mut self.pair, new)
     }

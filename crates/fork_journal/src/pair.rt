@@ -1,8 +1,9 @@
 //! A fork and its journal, as one device with one clock.
 
-ghost use Rattle.std.specs.Prelude.{◌≡◌, ◌+◌, ◌≤◌, ◌∷◌, false, List, ℕ, length, take, IfOk, OnOk, OnErr};
-ghost use Rattle.fork_disk.specs.Disk.{bytes_at, put_at, Torn, CutShort, Counts};
-ghost use Rattle.fork_journal.specs.Crash.{Contents, History, Wrote, Cut, Synced, Failed, side_of, has_failed, OnSide, MayLeave, Follows};
+ghost use Rattle.std.specs.Prelude.{◌+◌, ◌≤◌, ℕ, length};
+ghost use Rattle.fork_disk.specs.Disk.{Counts};
+ghost use Rattle.fork_journal.specs.Crash.{Contents, History, side_of, MayLeave};
+ghost use Rattle.fork_journal.specs.OnPair.{MeasuresSide, ReadsSide, WritesSide, CutsSide, SyncsSide};
 
 use fork_disk::disk::DiskFault;
 
@@ -35,49 +36,33 @@ pub trait PairDisk {
 
     /// How many bytes a side has.
     fn len(&mut self, side: Side) -> Result<u64, DiskFault>
-        ensures value { is_honest self.new → IfOk result (λ n. n ≡ length (side_of side (contents self.old))) }
-        ensures same { is_honest self.new → contents self.new ≡ contents self.old }
-        ensures calm { is_honest self.new → history self.new ≡ history self.old }
-        ensures honest { is_honest self.new → is_honest self.old }
+        ensures measures { is_honest self.new → MeasuresSide contents history is_honest self.old self.new side result }
         ensures cause { Counts (failures self.old) (failures self.new) result };
 
     /// Fills the buffer with the bytes at an offset. After a fault the buffer holds any bytes.
     fn read_at(&mut self, side: Side, at: u64, buffer: &mut [u8]) -> Result<(), DiskFault>
         requires { is_honest self.old → at + length buffer.old ≤ length (side_of side (contents self.old)) }
-        ensures read { is_honest self.new → OnOk result (buffer.new ≡ bytes_at (length buffer.old) at (side_of side (contents self.old))) }
-        ensures same { is_honest self.new → contents self.new ≡ contents self.old }
-        ensures calm { is_honest self.new → history self.new ≡ history self.old }
-        ensures honest { is_honest self.new → is_honest self.old }
+        ensures reads { is_honest self.new → ReadsSide contents history is_honest self.old self.new side at buffer.old buffer.new result }
         ensures cause { Counts (failures self.old) (failures self.new) result };
 
     /// Writes over what is there, and past the end. A write that failed may have been done in part, and so may, for a crash, each
     /// that no sync follows.
     fn write_at(&mut self, side: Side, at: u64, bytes: &[u8]) -> Result<(), DiskFault>
         requires { is_honest self.old → at ≤ length (side_of side (contents self.old)) }
-        ensures written { is_honest self.new → OnOk result (OnSide side (λ old new. new ≡ put_at at bytes.now old) (contents self.old) (contents self.new)) }
-        ensures torn { is_honest self.new → OnErr result (OnSide side (Torn at (length bytes.now)) (contents self.old) (contents self.new)) }
-        ensures crash { is_honest self.new → Follows (Wrote side at (length bytes.now)) (history self.old) (history self.new) }
-        ensures honest { is_honest self.new → is_honest self.old }
+        ensures writes { is_honest self.new → WritesSide contents history is_honest self.old self.new side at bytes.now result }
         ensures cause { Counts (failures self.old) (failures self.new) result };
 
     /// Cuts a side to a length that is not above its own. A cut that failed may have been done in part, and so may, for a crash,
     /// each that no sync follows.
     fn cut(&mut self, side: Side, len: u64) -> Result<(), DiskFault>
         requires { is_honest self.old → len ≤ length (side_of side (contents self.old)) }
-        ensures cut { is_honest self.new → OnOk result (OnSide side (λ old new. new ≡ take len old) (contents self.old) (contents self.new)) }
-        ensures torn { is_honest self.new → OnErr result (OnSide side (CutShort len) (contents self.old) (contents self.new)) }
-        ensures crash { is_honest self.new → Follows (Cut side len) (history self.old) (history self.new) }
-        ensures honest { is_honest self.new → is_honest self.old }
+        ensures cuts { is_honest self.new → CutsSide contents history is_honest self.old self.new side len result }
         ensures cause { Counts (failures self.old) (failures self.new) result };
 
     /// Makes a side stable, so that a crash leaves what it reads. A sync that failed makes nothing stable, and may have dropped what
     /// waited for it: after one, each sync of that side fails. The bytes are the same either way.
     fn sync(&mut self, side: Side) -> Result<(), DiskFault>
-        ensures durable { is_honest self.new → OnOk result (history self.new ≡ Synced side (side_of side (contents self.old)) ∷ history self.old) }
-        ensures trusted { is_honest self.new → OnOk result (has_failed side (history self.old) ≡ false) }
-        ensures unstable { is_honest self.new → OnErr result (Follows (Failed side) (history self.old) (history self.new)) }
-        ensures same { is_honest self.new → contents self.new ≡ contents self.old }
-        ensures honest { is_honest self.new → is_honest self.old }
+        ensures syncs { is_honest self.new → SyncsSide contents history is_honest self.old self.new side result }
         ensures cause { Counts (failures self.old) (failures self.new) result };
 
     /// A crash may leave the pair as it reads.

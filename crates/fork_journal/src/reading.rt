@@ -1,11 +1,11 @@
 //! What a journal says.
 
-ghost use Rattle.std.specs.Prelude.{◌≡◌, ◌+◌, ◌<◌, ◌≤◌, ◌^◌, true, false, length, drop, IfOk, IsErrOf, MatchOption};
+ghost use Rattle.std.specs.Prelude.{◌≡◌, ◌+◌, ◌<◌, ◌≤◌, ◌^◌, length, drop, IfOk, IsErrOf};
 ghost use Rattle.byteorder.specs.Endian.{big_number};
 ghost use Rattle.fork_disk.specs.Disk.{bytes_at, Counts};
 ghost use Rattle.fork_disk.specs.Faults.{CountsDevice};
-ghost use Rattle.fork_journal.specs.Form.{is_usable, must_shut, fork_in};
-ghost use Rattle.fork_journal.specs.Recovery.{copied_length};
+ghost use Rattle.fork_journal.specs.Form.{must_shut};
+ghost use Rattle.fork_journal.specs.Pairs.{Tells, FindsUsable};
 
 use crate::pair::{PairDisk, Side};
 use byteorder::{BigEndian, ByteOrder};
@@ -15,10 +15,8 @@ use std::alloc::Global;
 
 /// Whether the gate has to be shut before a text is written.
 pub(crate) fn is_shutting_due<P: PairDisk>(pair: &mut P) -> Result<bool, DiskFault>
-    ensures value { P.is_honest pair.new → IfOk result (λ is. is ≡ must_shut (P.contents pair.old).journal) }
-    ensures same { P.is_honest pair.new → P.contents pair.new ≡ P.contents pair.old }
-    ensures calm { P.is_honest pair.new → P.history pair.new ≡ P.history pair.old }
-    ensures honest { P.is_honest pair.new → P.is_honest pair.old }
+    ensures tells { P.is_honest pair.new
+        → Tells P.PairDisk pair.old pair.new (IfOk result (λ is. is ≡ must_shut (P.contents pair.old).journal)) }
     ensures cause { Counts (P.failures pair.old) (P.failures pair.new) result }
 {
     if pair.len(Side::Journal)? == 0 {
@@ -45,10 +43,8 @@ fn read_journal<P: PairDisk>(
     len: u64,
 ) -> Result<Vec<u8>, RecoverFault>
     requires { P.is_honest pair.old → at + len ≤ length (P.contents pair.old).journal }
-    ensures value { P.is_honest pair.new → IfOk result (λ bytes. bytes.items ≡ bytes_at len at (P.contents pair.old).journal) }
-    ensures same { P.is_honest pair.new → P.contents pair.new ≡ P.contents pair.old }
-    ensures calm { P.is_honest pair.new → P.history pair.new ≡ P.history pair.old }
-    ensures honest { P.is_honest pair.new → P.is_honest pair.old }
+    ensures tells { P.is_honest pair.new
+        → Tells P.PairDisk pair.old pair.new (IfOk result (λ bytes. bytes.items ≡ bytes_at len at (P.contents pair.old).journal)) }
     ensures cause { CountsDevice (P.failures pair.old) (P.failures pair.new) result }
     ensures memory { IsErrOf result RecoverFault.Host → 1 ≤ len }
 {
@@ -65,13 +61,8 @@ pub(crate) fn usable_fork<P: PairDisk>(
     alloc: Global,
     pair: &mut P,
 ) -> Result<Option<Vec<u8>>, RecoverFault>
-    ensures value { P.is_honest pair.new → IfOk result (λ found. MatchOption found (is_usable (P.contents pair.old).journal ≡ false)
-        (λ fork. (is_usable (P.contents pair.old).journal ≡ true) × (fork.items ≡ fork_in (drop 1 (P.contents pair.old).journal)))) }
-    ensures same { P.is_honest pair.new → P.contents pair.new ≡ P.contents pair.old }
-    ensures calm { P.is_honest pair.new → P.history pair.new ≡ P.history pair.old }
-    ensures honest { P.is_honest pair.new → P.is_honest pair.old }
+    ensures finds { P.is_honest pair.new → FindsUsable P.PairDisk pair.old pair.new result }
     ensures cause { CountsDevice (P.failures pair.old) (P.failures pair.new) result }
-    ensures memory { P.is_honest pair.new → IsErrOf result RecoverFault.Host → 1 ≤ copied_length (P.contents pair.old) }
 {
     let len = pair.len(Side::Journal)?;
     if len < 5 {

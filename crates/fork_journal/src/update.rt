@@ -1,10 +1,11 @@
 //! A fork is put in the place of another by way of the journal.
 
-ghost use Rattle.std.specs.Prelude.{◌≡◌, ◌<◌, ◌^◌, ◌∷◌, length, OnOk, IsErrOf};
+ghost use Rattle.std.specs.Prelude.{◌<◌, ◌^◌, length};
 ghost use Rattle.fork_disk.specs.Disk.{Counts};
-ghost use Rattle.fork_journal.specs.Crash.{AlwaysLeaves, Leaves};
+ghost use Rattle.fork_journal.specs.Crash.{Leaves};
 ghost use Rattle.fork_journal.specs.Form.{text_of};
-ghost use Rattle.fork_journal.specs.Recovery.{settled_fork, IsReady, IsRecoverable, IsBeforeOrAfter, IsShut};
+ghost use Rattle.fork_journal.specs.Recovery.{IsReady, IsBeforeOrAfter, IsShut};
+ghost use Rattle.fork_journal.specs.Updates.{Shuts, Stages, Puts, ReplacesPair};
 
 use crate::pair::PairDisk;
 use crate::reading::is_shutting_due;
@@ -16,13 +17,7 @@ use fork_disk::store::ReplaceFault;
 /// Shuts the gate where it is open or not there yet. Where it fails before its first write, nothing has changed.
 fn shut<P: PairDisk>(pair: &mut P) -> Result<(), ReplaceFault>
     requires { P.is_honest pair.old → IsReady (P.contents pair.old) (P.history pair.old) }
-    ensures any_moment { P.is_honest pair.new → AlwaysLeaves (λ c. settled_fork c ≡ (P.contents pair.old).fork) (P.history pair.old) (P.history pair.new) }
-    ensures shut { P.is_honest pair.new → OnOk result (Leaves (IsShut (P.contents pair.old).fork) (P.history pair.new)) }
-    ensures kept { P.is_honest pair.new → OnOk result ((P.contents pair.new).fork ≡ (P.contents pair.old).fork) }
-    ensures same { P.is_honest pair.new → IsErrOf result ReplaceFault.BeforeFirstWrite → P.contents pair.new ≡ P.contents pair.old }
-    ensures calm { P.is_honest pair.new → IsErrOf result ReplaceFault.BeforeFirstWrite → P.history pair.new ≡ P.history pair.old }
-    ensures recoverable { P.is_honest pair.new → IsRecoverable (P.contents pair.new) (P.history pair.new) }
-    ensures honest { P.is_honest pair.new → P.is_honest pair.old }
+    ensures shuts { P.is_honest pair.new → Shuts P.PairDisk pair.old pair.new result }
     ensures cause { Counts (P.failures pair.old) (P.failures pair.new) result }
 {
     match is_shutting_due(pair) {
@@ -40,11 +35,7 @@ fn shut<P: PairDisk>(pair: &mut P) -> Result<(), ReplaceFault>
 fn stage<P: PairDisk>(pair: &mut P, fork: &[u8]) -> Result<(), DiskFault>
     requires shut { P.is_honest pair.old → Leaves (IsShut (P.contents pair.old).fork) (P.history pair.old) }
     requires short { length fork.now < 2 ^ 32 }
-    ensures any_moment { P.is_honest pair.new → AlwaysLeaves (IsBeforeOrAfter (P.contents pair.old).fork fork.now) (P.history pair.old) (P.history pair.new) }
-    ensures stable { P.is_honest pair.new → OnOk result (Leaves (λ c. c.journal ≡ 1 ∷ text_of fork.now) (P.history pair.new)) }
-    ensures put { P.is_honest pair.new → OnOk result ((P.contents pair.new).journal ≡ 1 ∷ text_of fork.now) }
-    ensures recoverable { P.is_honest pair.new → IsRecoverable (P.contents pair.new) (P.history pair.new) }
-    ensures honest { P.is_honest pair.new → P.is_honest pair.old }
+    ensures stages { P.is_honest pair.new → Stages P.PairDisk pair.old pair.new fork.now result }
     ensures cause { Counts (P.failures pair.old) (P.failures pair.new) result }
 {
     put_text(pair, fork)?;
@@ -56,12 +47,8 @@ fn stage<P: PairDisk>(pair: &mut P, fork: &[u8]) -> Result<(), DiskFault>
 fn put_both<P: PairDisk>(pair: &mut P, fork: &[u8]) -> Result<(), DiskFault>
     requires shut { P.is_honest pair.old → Leaves (IsShut (P.contents pair.old).fork) (P.history pair.old) }
     requires short { length fork.now < 2 ^ 32 }
-    ensures any_moment { P.is_honest pair.new → AlwaysLeaves (IsBeforeOrAfter (P.contents pair.old).fork fork.now) (P.history pair.old) (P.history pair.new) }
-    ensures put { P.is_honest pair.new → OnOk result ((P.contents pair.new).fork ≡ fork.now) }
-    ensures journal { P.is_honest pair.new → OnOk result ((P.contents pair.new).journal ≡ 0 ∷ text_of fork.now) }
-    ensures ready { P.is_honest pair.new → OnOk result (IsReady (P.contents pair.new) (P.history pair.new)) }
-    ensures recoverable { P.is_honest pair.new → IsRecoverable (P.contents pair.new) (P.history pair.new) }
-    ensures honest { P.is_honest pair.new → P.is_honest pair.old }
+    ensures puts { P.is_honest pair.new → Puts P.PairDisk pair.old pair.new (IsBeforeOrAfter (P.contents pair.old).fork fork.now) fork.now
+        (text_of fork.now) result }
     ensures cause { Counts (P.failures pair.old) (P.failures pair.new) result }
 {
     stage(pair, fork)?;
@@ -73,16 +60,7 @@ fn put_both<P: PairDisk>(pair: &mut P, fork: &[u8]) -> Result<(), DiskFault>
 pub fn replace<P: PairDisk>(pair: &mut P, fork: &[u8]) -> Result<(), ReplaceFault>
     requires ready { P.is_honest pair.old → IsReady (P.contents pair.old) (P.history pair.old) }
     requires short { length fork.now < 2 ^ 32 }
-    // A crash at any moment of the call leaves the fork from before it or the new one, and so does a fault.
-    ensures any_moment { P.is_honest pair.new → AlwaysLeaves (IsBeforeOrAfter (P.contents pair.old).fork fork.now) (P.history pair.old) (P.history pair.new) }
-    ensures left { P.is_honest pair.new → IsBeforeOrAfter (P.contents pair.old).fork fork.now (P.contents pair.new) }
-    ensures put { P.is_honest pair.new → OnOk result ((P.contents pair.new).fork ≡ fork.now) }
-    ensures journal { P.is_honest pair.new → OnOk result ((P.contents pair.new).journal ≡ 0 ∷ text_of fork.now) }
-    ensures ready { P.is_honest pair.new → OnOk result (IsReady (P.contents pair.new) (P.history pair.new)) }
-    ensures same { P.is_honest pair.new → IsErrOf result ReplaceFault.BeforeFirstWrite → P.contents pair.new ≡ P.contents pair.old }
-    ensures calm { P.is_honest pair.new → IsErrOf result ReplaceFault.BeforeFirstWrite → P.history pair.new ≡ P.history pair.old }
-    ensures recoverable { P.is_honest pair.new → IsRecoverable (P.contents pair.new) (P.history pair.new) }
-    ensures honest { P.is_honest pair.new → P.is_honest pair.old }
+    ensures replaces { P.is_honest pair.new → ReplacesPair P.PairDisk pair.old pair.new fork.now result }
     ensures cause { Counts (P.failures pair.old) (P.failures pair.new) result }
 {
     shut(pair)?;

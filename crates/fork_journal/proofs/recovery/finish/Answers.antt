@@ -1,39 +1,27 @@
-use Rattle.std.proofs.Common.{◌∙◌}
+use Rattle.std.proofs.Common.{◌∙◌, rules}
 use Rattle.fork_journal.proofs.Updating.{forks, forks_recoverable, shuts, shuts_recoverable}
 use Rattle.fork_journal.proofs.recovery.finish.Goals as goal
 
-pub returns-in_err-put_fork-clause-any_moment : goal.returns-in_err-put_fork-clause-any_moment
-returns-in_err-put_fork-clause-any_moment g c honest =
-    let h0 = c.put_fork.ensures.honest honest in
+pub returns-in_err-put_fork-clause-puts : goal.returns-in_err-put_fork-clause-puts
+returns-in_err-put_fork-clause-puts g c honest =
+    let puts = c.in_err-put_fork.ensures.puts honest in
+    let staged = c.requires puts.honest in
     let here = g.P.PairDisk.history c.args.pair.now in
-    forks _ _ _ _ here (c.requires.stable h0) (c.requires.fork h0) (c.requires.usable h0) (c.put_fork.ensures.any_moment honest)
+    let any_moment = forks _ _ _ _ here staged.stable staged.text staged.usable puts.any_moment in
+    let recoverable = forks_recoverable _ _ _ _ here staged.stable staged.text staged.usable (g.P.PairDisk.contents c.put_fork.new.pair) puts.any_moment in search rules
 
-pub returns-in_err-put_fork-clause-recoverable : goal.returns-in_err-put_fork-clause-recoverable
-returns-in_err-put_fork-clause-recoverable g c honest =
-    let h0 = c.put_fork.ensures.honest honest in
-    let here = g.P.PairDisk.history c.args.pair.now in
-    forks_recoverable _ _ _ _ here (c.requires.stable h0) (c.requires.fork h0) (c.requires.usable h0) (g.P.PairDisk.contents c.put_fork.new.pair) (c.put_fork.ensures.any_moment honest)
+pub returns-in_err-put_gate-clause-puts : goal.returns-in_err-put_gate-clause-puts
+returns-in_err-put_gate-clause-puts g c honest =
+    let gate = c.in_err-put_gate.ensures.puts honest in
+    let puts = c.in_ok-put_fork.ensures.puts gate.honest in
+    let staged = c.requires puts.honest in
+    let any_moment = shuts _ _ _ _ _ staged.stable staged.text staged.usable puts.any_moment puts.stable gate.any_moment in
+    let recoverable = shuts_recoverable _ _ (g.P.PairDisk.history c.args.pair.now) _ _ staged.stable staged.text (g.P.PairDisk.contents c.put_gate.new.pair) (gate.kept ∙ puts.put) puts.stable gate.any_moment in search rules
 
-pub returns-in_err-put_gate-clause-any_moment : goal.returns-in_err-put_gate-clause-any_moment
-returns-in_err-put_gate-clause-any_moment g c honest =
-    let h1 = c.put_gate.ensures.honest honest in
-    let h0 = c.put_fork.ensures.honest h1 in
-    shuts _ _ _ _ _ (c.requires.stable h0) (c.requires.fork h0) (c.requires.usable h0) (c.put_fork.ensures.any_moment h1) (c.in_ok-put_fork.ensures.stable h1) (c.put_gate.ensures.any_moment honest)
-
-pub returns-in_err-put_gate-clause-recoverable : goal.returns-in_err-put_gate-clause-recoverable
-returns-in_err-put_gate-clause-recoverable g c honest =
-    let h1 = c.put_gate.ensures.honest honest in
-    let h0 = c.put_fork.ensures.honest h1 in
-    shuts_recoverable _ _ (g.P.PairDisk.history c.args.pair.now) _ _ (c.requires.stable h0) (c.requires.fork h0) (g.P.PairDisk.contents c.put_gate.new.pair) (c.put_gate.ensures.kept honest ∙ (c.in_ok-put_fork.ensures.put h1)) (c.in_ok-put_fork.ensures.stable h1) (c.put_gate.ensures.any_moment honest)
-
-pub returns-clause-any_moment : goal.returns-clause-any_moment
-returns-clause-any_moment g c honest =
-    let h1 = c.put_gate.ensures.honest honest in
-    let h0 = c.put_fork.ensures.honest h1 in
-    shuts _ _ _ _ _ (c.requires.stable h0) (c.requires.fork h0) (c.requires.usable h0) (c.put_fork.ensures.any_moment h1) (c.in_ok-put_fork.ensures.stable h1) (c.put_gate.ensures.any_moment honest)
-
-pub returns-clause-recoverable : goal.returns-clause-recoverable
-returns-clause-recoverable g c honest =
-    let h1 = c.put_gate.ensures.honest honest in
-    let h0 = c.put_fork.ensures.honest h1 in
-    shuts_recoverable _ _ (g.P.PairDisk.history c.args.pair.now) _ _ (c.requires.stable h0) (c.requires.fork h0) (g.P.PairDisk.contents c.put_gate.new.pair) (c.put_gate.ensures.kept honest ∙ (c.in_ok-put_fork.ensures.put h1)) (c.in_ok-put_fork.ensures.stable h1) (c.put_gate.ensures.any_moment honest)
+pub returns-clause-puts : goal.returns-clause-puts
+returns-clause-puts g c honest =
+    let gate = c.in_ok-put_gate.ensures.puts honest in
+    let puts = c.in_ok-put_fork.ensures.puts gate.honest in
+    let staged = c.requires puts.honest in
+    let any_moment = shuts _ _ _ _ _ staged.stable staged.text staged.usable puts.any_moment puts.stable gate.any_moment in
+    let recoverable = shuts_recoverable _ _ (g.P.PairDisk.history c.args.pair.now) _ _ staged.stable staged.text (g.P.PairDisk.contents c.put_gate.new.pair) (gate.kept ∙ puts.put) puts.stable gate.any_moment in search rules

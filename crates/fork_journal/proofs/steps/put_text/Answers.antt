@@ -1,81 +1,63 @@
-use Rattle.std.proofs.Common.{◌≡◌, ℕ, List, length, take, refl, ◌∙◌, ap, arith}
+use Rattle.std.proofs.Common.{length, refl, ◌∙◌, ap, arith, rules}
 use Rattle.byteorder.specs.Endian.{big_bytes}
 use Rattle.fork_journal.specs.Crash.{Contents}
+use Rattle.fork_journal.specs.Form.{IsSameGate}
 use Rattle.fork_journal.specs.declared.pair.Side.TheVariants.{Journal}
-use Rattle.fork_journal.proofs.Joining.{text_joins, text_cut_joins, text_put, long_enough, put_reaches}
 use Rattle.fork_journal.proofs.Along.{begins, writes, cuts, along_failed, along_sync, settles}
+use Rattle.fork_journal.proofs.Joining.{text_joins, text_cut_joins, text_put, long_enough, put_reaches}
 use Rattle.fork_journal.proofs.steps.put_text.Goals as goal
 
-pub returns-in_err-put_length-clause-any_moment : goal.returns-in_err-put_length-clause-any_moment
-returns-in_err-put_length-clause-any_moment g c honest =
-    let R = λ (old new : List ℕ). take 1 new ≡ take 1 old in
-    writes Journal R _ 1 4 _ _ (text_joins 1 4 (omega arith)) (begins Journal R _ (λ x. refl)) (c.put_length.ensures.crash honest)
+pub returns-in_err-put_length-clause-puts : goal.returns-in_err-put_length-clause-puts
+returns-in_err-put_length-clause-puts g c honest =
+    let told = writes Journal IsSameGate _ 1 4 _ _ (text_joins 1 4 (omega arith)) (begins Journal IsSameGate _ (λ x. refl)) (c.put_length.ensures.writes honest).crash in search rules
 
-pub returns-in_err-write_at-clause-any_moment : goal.returns-in_err-write_at-clause-any_moment
-returns-in_err-write_at-clause-any_moment g c honest =
-    let h1 = c.write_at.ensures.honest honest in
-    let R = λ (old new : List ℕ). take 1 new ≡ take 1 old in
-    let told = writes Journal R _ 1 4 _ _ (text_joins 1 4 (omega arith)) (begins Journal R _ (λ x. refl)) (c.put_length.ensures.crash h1) in
-    writes Journal R _ 5 _ _ _ (text_joins 5 _ (omega arith)) told (c.write_at.ensures.crash honest)
+pub returns-in_err-write_at-clause-puts : goal.returns-in_err-write_at-clause-puts
+returns-in_err-write_at-clause-puts g c honest =
+    let writes_it = c.in_err-write_at.ensures.writes honest in
+    let tells = c.in_ok-put_length.ensures.writes writes_it.honest in
+    let told = writes Journal IsSameGate _ 1 4 _ _ (text_joins 1 4 (omega arith)) (begins Journal IsSameGate _ (λ x. refl)) tells.crash in
+    let written = writes Journal IsSameGate _ 5 _ _ _ (text_joins 5 _ (omega arith)) told writes_it.crash in
+    let kept = writes_it.torn.1 ∙ tells.written.1 in search rules
 
-pub returns-in_err-cut-clause-any_moment : goal.returns-in_err-cut-clause-any_moment
-returns-in_err-cut-clause-any_moment g c honest =
-    let h2 = c.cut.ensures.honest honest in
-    let h1 = c.write_at.ensures.honest h2 in
-    let R = λ (old new : List ℕ). take 1 new ≡ take 1 old in
-    let told = writes Journal R _ 1 4 _ _ (text_joins 1 4 (omega arith)) (begins Journal R _ (λ x. refl)) (c.put_length.ensures.crash h1) in
-    let written = writes Journal R _ 5 _ _ _ (text_joins 5 _ (omega arith)) told (c.write_at.ensures.crash h2) in
-    cuts Journal R _ _ _ _ (text_cut_joins _ (omega arith)) written (c.cut.ensures.crash honest)
+pub returns-in_err-cut-clause-puts : goal.returns-in_err-cut-clause-puts
+returns-in_err-cut-clause-puts g c honest =
+    let cuts_it = c.in_err-cut.ensures.cuts honest in
+    let writes_it = c.in_ok-write_at.ensures.writes cuts_it.honest in
+    let tells = c.in_ok-put_length.ensures.writes writes_it.honest in
+    let told = writes Journal IsSameGate _ 1 4 _ _ (text_joins 1 4 (omega arith)) (begins Journal IsSameGate _ (λ x. refl)) tells.crash in
+    let written = writes Journal IsSameGate _ 5 _ _ _ (text_joins 5 _ (omega arith)) told writes_it.crash in
+    let cut = cuts Journal IsSameGate _ _ _ _ (text_cut_joins _ (omega arith)) written cuts_it.crash in
+    let kept = cuts_it.torn.1 ∙ writes_it.written.1 ∙ tells.written.1 in search rules
 
-pub returns-in_err-sync-clause-any_moment : goal.returns-in_err-sync-clause-any_moment
-returns-in_err-sync-clause-any_moment g c honest =
-    let h3 = c.sync.ensures.honest honest in
-    let h2 = c.cut.ensures.honest h3 in
-    let h1 = c.write_at.ensures.honest h2 in
-    let R = λ (old new : List ℕ). take 1 new ≡ take 1 old in
-    let told = writes Journal R _ 1 4 _ _ (text_joins 1 4 (omega arith)) (begins Journal R _ (λ x. refl)) (c.put_length.ensures.crash h1) in
-    let written = writes Journal R _ 5 _ _ _ (text_joins 5 _ (omega arith)) told (c.write_at.ensures.crash h2) in
-    let cut = cuts Journal R _ _ _ _ (text_cut_joins _ (omega arith)) written (c.cut.ensures.crash h3) in
-    along_failed _ _ _ _ _ cut (c.in_err-sync.ensures.unstable honest)
+pub returns-in_err-sync-clause-puts : goal.returns-in_err-sync-clause-puts
+returns-in_err-sync-clause-puts g c honest =
+    let syncs = c.in_err-sync.ensures.syncs honest in
+    let cuts_it = c.in_ok-cut.ensures.cuts syncs.honest in
+    let writes_it = c.in_ok-write_at.ensures.writes cuts_it.honest in
+    let tells = c.in_ok-put_length.ensures.writes writes_it.honest in
+    let told = writes Journal IsSameGate _ 1 4 _ _ (text_joins 1 4 (omega arith)) (begins Journal IsSameGate _ (λ x. refl)) tells.crash in
+    let written = writes Journal IsSameGate _ 5 _ _ _ (text_joins 5 _ (omega arith)) told writes_it.crash in
+    let cut = cuts Journal IsSameGate _ _ _ _ (text_cut_joins _ (omega arith)) written cuts_it.crash in
+    let failed = along_failed _ _ _ _ _ cut syncs.unstable in
+    let kept = ap (λ (d : Contents). d.fork) syncs.same ∙ cuts_it.cut.1 ∙ writes_it.written.1 ∙ tells.written.1 in search rules
 
-pub returns-clause-any_moment : goal.returns-clause-any_moment
-returns-clause-any_moment g c honest =
-    let h3 = c.sync.ensures.honest honest in
-    let h2 = c.cut.ensures.honest h3 in
-    let h1 = c.write_at.ensures.honest h2 in
-    let R = λ (old new : List ℕ). take 1 new ≡ take 1 old in
-    let told = writes Journal R _ 1 4 _ _ (text_joins 1 4 (omega arith)) (begins Journal R _ (λ x. refl)) (c.put_length.ensures.crash h1) in
-    let written = writes Journal R _ 5 _ _ _ (text_joins 5 _ (omega arith)) told (c.write_at.ensures.crash h2) in
-    let cut = cuts Journal R _ _ _ _ (text_cut_joins _ (omega arith)) written (c.cut.ensures.crash h3) in
-    along_sync _ _ _ _ _ _ cut (c.in_ok-sync.ensures.durable honest)
-
-reads_as : goal.returns-clause-put
-reads_as g c honest =
-    let h3 = c.sync.ensures.honest honest in
-    let h2 = c.cut.ensures.honest h3 in
-    let h1 = c.write_at.ensures.honest h2 in
-    let h0 = c.put_length.ensures.honest h1 in
-    let same = c.sync.ensures.same honest in
-    ap (λ (d : Contents). d.journal) same ∙ text_put _ (big_bytes 4 (length c.args.fork.now)) c.args.fork.now _ _ _ _ (c.requires.gate h0) refl (c.in_ok-put_length.ensures.put h1) (omega arith) (c.in_ok-write_at.ensures.written h2).0 (c.in_ok-cut.ensures.cut h3).0
-
-pub returns-clause-put : goal.returns-clause-put
-returns-clause-put g c honest = reads_as g c honest
-
-pub returns-clause-stable : goal.returns-clause-stable
-returns-clause-stable g c honest =
-    let h3 = c.sync.ensures.honest honest in
-    let h2 = c.cut.ensures.honest h3 in
-    let h1 = c.write_at.ensures.honest h2 in
-    let h0 = c.put_length.ensures.honest h1 in
-    let R = λ (old new : List ℕ). take 1 new ≡ take 1 old in
-    let told = writes Journal R _ 1 4 _ _ (text_joins 1 4 (omega arith)) (begins Journal R _ (λ x. refl)) (c.put_length.ensures.crash h1) in
-    let written = writes Journal R _ 5 _ _ _ (text_joins 5 _ (omega arith)) told (c.write_at.ensures.crash h2) in
-    let cut = cuts Journal R _ _ _ _ (text_cut_joins _ (omega arith)) written (c.cut.ensures.crash h3) in
-    let reads = text_put _ (big_bytes 4 (length c.args.fork.now)) c.args.fork.now _ _ _ _ (c.requires.gate h0) refl (c.in_ok-put_length.ensures.put h1) (omega arith) (c.in_ok-write_at.ensures.written h2).0 (c.in_ok-cut.ensures.cut h3).0 in
-    settles Journal R _ _ _ _ _ cut (c.in_ok-sync.ensures.trusted honest) (c.in_ok-sync.ensures.durable honest) reads
+pub returns-clause-puts : goal.returns-clause-puts
+returns-clause-puts g c honest =
+    let syncs = c.in_ok-sync.ensures.syncs honest in
+    let cuts_it = c.in_ok-cut.ensures.cuts syncs.honest in
+    let writes_it = c.in_ok-write_at.ensures.writes cuts_it.honest in
+    let tells = c.in_ok-put_length.ensures.writes writes_it.honest in
+    let told = writes Journal IsSameGate _ 1 4 _ _ (text_joins 1 4 (omega arith)) (begins Journal IsSameGate _ (λ x. refl)) tells.crash in
+    let written = writes Journal IsSameGate _ 5 _ _ _ (text_joins 5 _ (omega arith)) told writes_it.crash in
+    let cut = cuts Journal IsSameGate _ _ _ _ (text_cut_joins _ (omega arith)) written cuts_it.crash in
+    let synced = along_sync _ _ _ _ _ _ cut syncs.durable in
+    let reads = text_put _ (big_bytes 4 (length c.args.fork.now)) c.args.fork.now _ _ _ _ (c.requires.gate tells.honest) refl tells.written.0 (omega arith) writes_it.written.0 cuts_it.cut.0 in
+    let stable = settles Journal IsSameGate _ _ _ _ _ cut syncs.trusted syncs.durable reads in
+    let put = ap (λ (d : Contents). d.journal) syncs.same ∙ reads in
+    let kept = ap (λ (d : Contents). d.fork) syncs.same ∙ cuts_it.cut.1 ∙ writes_it.written.1 ∙ tells.written.1 in search rules
 
 pub cut-requires : goal.cut-requires
 cut-requires g c honest =
-    let h1 = c.write_at.ensures.honest honest in
-    let h0 = c.put_length.ensures.honest h1 in
-    put_reaches 5 c.args.fork.now _ _ (long_enough _ (big_bytes 4 (length c.args.fork.now)) _ (c.requires.gate h0) refl (c.in_ok-put_length.ensures.put h1)) (c.in_ok-write_at.ensures.written honest).0
+    let writes_it = c.in_ok-write_at.ensures.writes honest in
+    let tells = c.in_ok-put_length.ensures.writes writes_it.honest in
+    put_reaches 5 c.args.fork.now _ _ (long_enough _ (big_bytes 4 (length c.args.fork.now)) _ (c.requires.gate tells.honest) refl tells.written.0) writes_it.written.0

@@ -1,20 +1,21 @@
+use Rattle.std.proofs.Common.{rules}
 use Rattle.fork_journal.proofs.Updating.{open_usable, open_fork, finishes}
 use Rattle.fork_journal.proofs.update.put_both.Goals as goal
 
-pub finish-requires-clause-usable : goal.finish-requires-clause-usable
-finish-requires-clause-usable g c honest =
-    open_usable _ c.args.fork.now c.requires.short (c.in_ok-stage.ensures.put honest)
+pub finish-requires : goal.finish-requires
+finish-requires g c honest =
+    let put = (c.in_ok-stage.ensures.stages honest).put in
+    let usable = open_usable _ c.args.fork.now c.requires.short put in
+    let text = open_fork _ c.args.fork.now c.requires.short put in search rules
 
-pub finish-requires-clause-fork : goal.finish-requires-clause-fork
-finish-requires-clause-fork g c honest =
-    open_fork _ c.args.fork.now c.requires.short (c.in_ok-stage.ensures.put honest)
+pub returns-in_err-finish-clause-puts : goal.returns-in_err-finish-clause-puts
+returns-in_err-finish-clause-puts g c honest =
+    let puts = c.in_err-finish.ensures.puts honest in
+    let stages = c.in_ok-stage.ensures.stages puts.passes.honest in
+    let any_moment = finishes _ c.args.fork.now _ _ _ stages.passes.any_moment puts.passes.any_moment in search rules
 
-pub returns-in_err-finish-clause-any_moment : goal.returns-in_err-finish-clause-any_moment
-returns-in_err-finish-clause-any_moment g c honest =
-    let h1 = c.finish.ensures.honest honest in
-    finishes _ c.args.fork.now _ _ _ (c.stage.ensures.any_moment h1) (c.finish.ensures.any_moment honest)
-
-pub returns-clause-any_moment : goal.returns-clause-any_moment
-returns-clause-any_moment g c honest =
-    let h1 = c.finish.ensures.honest honest in
-    finishes _ c.args.fork.now _ _ _ (c.stage.ensures.any_moment h1) (c.finish.ensures.any_moment honest)
+pub returns-clause-puts : goal.returns-clause-puts
+returns-clause-puts g c honest =
+    let puts = c.in_ok-finish.ensures.puts honest in
+    let stages = c.in_ok-stage.ensures.stages puts.passes.honest in
+    let any_moment = finishes _ c.args.fork.now _ _ _ stages.passes.any_moment puts.passes.any_moment in search rules

@@ -1,25 +1,25 @@
-use Rattle.std.proofs.Common.{sym, ◌∙◌}
+use Rattle.std.proofs.Common.{sym, ◌∙◌, rules}
 use Rattle.fork_journal.proofs.Updating.{rests, gates}
 use Rattle.fork_journal.proofs.update.shut.Goals as goal
 
-pub returns-in-Ok-false-clause-any_moment : goal.returns-in-Ok-false-clause-any_moment
-returns-in-Ok-false-clause-any_moment g c honest =
-    let h0 = c.is_shutting_due.ensures.honest honest in
-    rests _ _ _ (c.requires h0) (c.is_shutting_due.ensures.calm honest)
+pub returns-in-Ok-false-clause-shuts : goal.returns-in-Ok-false-clause-shuts
+returns-in-Ok-false-clause-shuts g c honest =
+    let tells = c.in-Ok-false.ensures.tells honest in
+    let any_moment = rests _ _ _ (c.requires tells.keeps.honest) tells.keeps.calm in search rules
 
-pub returns-in-Err-clause-any_moment : goal.returns-in-Err-clause-any_moment
-returns-in-Err-clause-any_moment g c honest =
-    let h0 = c.is_shutting_due.ensures.honest honest in
-    rests _ _ _ (c.requires h0) (c.is_shutting_due.ensures.calm honest)
+pub returns-in-Err-clause-shuts : goal.returns-in-Err-clause-shuts
+returns-in-Err-clause-shuts g c honest =
+    let tells = c.in-Err.ensures.tells honest in
+    let any_moment = rests _ _ _ (c.requires tells.keeps.honest) tells.keeps.calm in search rules
 
-pub returns-in-Ok-clause-any_moment : goal.returns-in-Ok-clause-any_moment
-returns-in-Ok-clause-any_moment g c honest =
-    let h1 = c.put_gate.ensures.honest honest in
-    let h0 = c.is_shutting_due.ensures.honest h1 in
-    gates _ _ _ _ (c.requires h0) (c.is_shutting_due.ensures.calm h1) (sym (c.in-Ok-true.ensures.value h1) ∙ c.in-Ok-true.field-0-test) (c.put_gate.ensures.any_moment honest)
+pub returns-in-Ok-clause-shuts : goal.returns-in-Ok-clause-shuts
+returns-in-Ok-clause-shuts g c honest =
+    let puts = c.in-Ok.ensures.puts honest in
+    let tells = c.in-Ok-true.ensures.tells puts.honest in
+    let any_moment = gates _ _ _ _ (c.requires tells.keeps.honest) tells.keeps.calm (sym tells.value ∙ c.in-Ok-true.field-0-test) puts.any_moment in search rules
 
-pub returns-in-Err-put_gate-clause-any_moment : goal.returns-in-Err-put_gate-clause-any_moment
-returns-in-Err-put_gate-clause-any_moment g c honest =
-    let h1 = c.put_gate.ensures.honest honest in
-    let h0 = c.is_shutting_due.ensures.honest h1 in
-    gates _ _ _ _ (c.requires h0) (c.is_shutting_due.ensures.calm h1) (sym (c.in-Ok-true.ensures.value h1) ∙ c.in-Ok-true.field-0-test) (c.put_gate.ensures.any_moment honest)
+pub returns-in-Err-put_gate-clause-shuts : goal.returns-in-Err-put_gate-clause-shuts
+returns-in-Err-put_gate-clause-shuts g c honest =
+    let puts = c.in-Err-put_gate.ensures.puts honest in
+    let tells = c.in-Ok-true.ensures.tells puts.honest in
+    let any_moment = gates _ _ _ _ (c.requires tells.keeps.honest) tells.keeps.calm (sym tells.value ∙ c.in-Ok-true.field-0-test) puts.any_moment in search rules
