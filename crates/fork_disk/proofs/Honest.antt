@@ -29,10 +29,11 @@ Tells zero n ok bytes old = n ≡ length old
 Tells (suc zero) at ok bytes old = bytes ≡ bytes_at (length bytes) at old
 Tells (suc (suc more)) n ok bytes old = ⊤
 
-torn_not : (at n : ℕ) (old : List ℕ) → Torn at n old old
+-- what a write and a cut leave that did nothing
+pub torn_not : (at n : ℕ) (old : List ℕ) → Torn at n old old
 torn_not at n old = record { before = refl; after = refl; no_shorter = omega arith; no_longer = omega arith }
 
-cut_not : (n : ℕ) (old : List ℕ) → CutShort n old old
+pub cut_not : (n : ℕ) (old : List ℕ) → CutShort n old old
 cut_not n old = record { before = refl; no_shorter = omega arith; no_longer = omega arith }
 
 fits : (kind n : ℕ) (ok : Bool) (bytes old : List ℕ) → Tells kind n ok bytes old → Fits kind n ok bytes old (stepped kind n ok bytes old)

@@ -6,16 +6,18 @@ use Rattle.fork_journal.specs.declared.pair.Side.{Side}
 use Rattle.fork_journal.specs.declared.pair.Side.TheVariants.{Fork, Journal}
 use Rattle.fork_journal.specs.declared.mem_pair.Call.{Call}
 use Rattle.fork_journal.specs.declared.mem_pair.Call.TheVariants as calls
+use Rattle.fork_disk.proofs.Honest.{torn_not}
 use Rattle.fork_disk.specs.Disk.{Torn, CutShort}
 use Rattle.fork_journal.specs.Crash.{Contents, MayLeave, OnSide, side_of}
 use Rattle.fork_journal.specs.Record.{with_side, Kept, after_call, after_calls, found}
 
-on_side : (side : Side) (R : List ℕ → List ℕ → Type 0) (bytes : List ℕ) (c : Contents) → R (side_of side c) bytes → OnSide side R c (with_side side bytes c)
+-- a side that changed so, while the other stays
+pub on_side : (side : Side) (R : List ℕ → List ℕ → Type 0) (bytes : List ℕ) (c : Contents) → R (side_of side c) bytes → OnSide side R c (with_side side bytes c)
 on_side Fork R bytes c holds = (holds, refl)
 on_side Journal R bytes c holds = (holds, refl)
 
 -- a write that was done whole is one of the outcomes of a write
-whole_write : (at : ℕ) (bytes old : List ℕ) → at ≤ length old → Torn at (length bytes) old (take at old ++ bytes ++ drop (at + length bytes) old)
+pub whole_write : (at : ℕ) (bytes old : List ℕ) → at ≤ length old → Torn at (length bytes) old (take at old ++ bytes ++ drop (at + length bytes) old)
 whole_write at bytes old within =
     let front : length (take at old) ≡ at = omega (arith, length-take at old) in
     let size : length (take at old ++ bytes) ≡ at + length bytes = omega (arith, length-append (take at old) bytes, front) in
@@ -27,12 +29,9 @@ whole_write at bytes old within =
       no_longer = omega (arith, all, length-drop (at + length bytes) old);
     }
 
-no_write : (at n : ℕ) (old : List ℕ) → Torn at n old old
-no_write at n old = record { before = refl; after = refl; no_shorter = omega arith; no_longer = omega arith }
-
 pub write_outcome : (at : ℕ) (bytes old : List ℕ) (fits : Bool) → nat_le at (length old) ≡ fits → Torn at (length bytes) old (if fits then take at old ++ bytes ++ drop (at + length bytes) old else old)
 write_outcome at bytes old true is = let within : at ≤ length old = grind (arith, nat_tests) in whole_write at bytes old within
-write_outcome at bytes old false is = no_write at (length bytes) old
+write_outcome at bytes old false is = torn_not at (length bytes) old
 
 pub cut_outcome : (n : ℕ) (old : List ℕ) → CutShort n old (take n old)
 cut_outcome n old = record {
