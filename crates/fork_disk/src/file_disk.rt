@@ -5,7 +5,7 @@ ghost use Rattle.fork_disk.specs.Record.{IsHonest, IsStable};
 
 use crate::disk::{DiskFault, ForkDisk};
 use crate::host_file::HostFile;
-use crate::record::Record;
+use crate::record::FileCalls;
 use crate::world::World;
 use std::marker::PhantomData;
 
@@ -27,7 +27,7 @@ pub struct FileDisk<W: World> {
     file: HostFile,
     /// Which file of the world it is. Only clauses read it.
     number: u64,
-    log: Record,
+    log: FileCalls,
     world: PhantomData<W>,
 }
 
@@ -41,7 +41,7 @@ impl<W: World> FileDisk<W> {
         FileDisk {
             file,
             number,
-            log: Record::new(),
+            log: FileCalls::new(),
             world: PhantomData,
         }
     }

@@ -17,5 +17,5 @@ pub use fail_at::FailAt;
 pub use file_disk::FileDisk;
 pub use host_file::HostFile;
 pub use mem_disk::MemDisk;
-pub use record::Record;
+pub use record::{FileCalls, Record};
 pub use world::{Unknown, World};

@@ -1,49 +1,55 @@
-//! What was asked of files, for clauses alone.
+//! What happened, for clauses alone.
 
 ghost use Rattle.std.specs.Prelude.{◌≡◌, List, [], ◌∷◌};
 ghost use Rattle.std.specs.Borrow.{ftrue};
-ghost use Rattle.fork_disk.specs.Record.{Event};
 
-use std::marker::Model;
+use std::collections::LinkedList;
+use std::marker::{Model, PhantomData};
 
-/// The calls on a file with their answers, the newest first. No memory holds it.
+/// Events that the proofs of callers pick. No memory holds them.
 #[derive(Drop)]
-pub struct Record {
-    pub ghost events: { List Event },
+pub struct Record<T> {
+    of: PhantomData<T>,
+    pub ghost events: { List T },
 }
 
-impl Model for Record {
+impl<T> Model for Record<T> {
     ghost also_owns = { λ _. ftrue };
 }
 
-impl Record {
-    /// A record of the calls that a caller's proof picks.
-    fn of_calls() -> Record
-        ghost calls: { List Event }
-        ensures { result.events ≡ calls }
+impl<T> Record<T> {
+    /// A record of the events that a caller's proof picks.
+    fn of_events() -> Record<T>
+        ghost picked: { List T }
+        ensures { result.events ≡ picked }
     {
-        Record {}
+        Record { of: PhantomData }
     }
 
-    /// The same. A pick sees the arguments of the call that it is for and nothing else, so `note` hands over all that it picks from.
-    fn of_calls_beside(_past: &Record, _numbers: &[u64], _bytes: &[u8]) -> Record
-        ghost calls: { List Event }
-        ensures { result.events ≡ calls }
+    /// The same. A pick sees the arguments of the call that it is for and nothing else, so they are all that it picks from.
+    pub fn of_events_beside<A, B>(_past: &Record<T>, _first: &A, _second: &B) -> Record<T>
+        ghost picked: { List T }
+        ensures { result.events ≡ picked }
     {
-        Record::of_calls()
+        Record::of_events()
     }
 
-    /// No call so far.
-    pub fn new() -> Record
+    /// No event so far.
+    pub fn new() -> Record<T>
         ensures { result.events ≡ [] }
     {
-        Record::of_calls()
+        Record::of_events()
     }
+}
 
-    /// Notes a call with its answer: the numbers and the bytes of an `Event`.
+/// The calls on a file with their answers, the newest first: the numbers and the bytes of each.
+pub type FileCalls = Record<(LinkedList<u64>, LinkedList<u8>)>;
+
+impl FileCalls {
+    /// Notes a call with its answer.
     pub fn note(&mut self, numbers: &[u64], bytes: &[u8])
         ensures { self.new.events ≡ (numbers.now, bytes.now) ∷ self.old.events }
     {
-        *self = Record::of_calls_beside(self, numbers, bytes);
+        *self = Record::of_events_beside(self, &numbers, &bytes);
     }
 }

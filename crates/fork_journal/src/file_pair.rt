@@ -8,7 +8,7 @@ ghost use Rattle.fork_journal.specs.Files.{IsHonest, history_of, reads_outcome, 
 use crate::pair::{PairDisk, Side};
 use crate::pair_world::PairWorld;
 use fork_disk::disk::DiskFault;
-use fork_disk::{HostFile, Record};
+use fork_disk::{FileCalls, HostFile};
 use std::marker::PhantomData;
 
 const MEASURED: u64 = 0;
@@ -31,7 +31,7 @@ pub struct FilePair<W: PairWorld> {
     journal: HostFile,
     /// Which pair of the world it is. Only clauses read it.
     number: u64,
-    log: Record,
+    log: FileCalls,
     world: PhantomData<W>,
     ghost fork_trusted: { fork.is_spent ≡ false → has_failed Fork (history_of (W.held number) log.events) ≡ false },
     ghost journal_trusted: { journal.is_spent ≡ false → has_failed Journal (history_of (W.held number) log.events) ≡ false },
@@ -50,7 +50,7 @@ impl<W: PairWorld> FilePair<W> {
             fork,
             journal,
             number,
-            log: Record::new(),
+            log: FileCalls::new(),
             world: PhantomData,
         }
     }
