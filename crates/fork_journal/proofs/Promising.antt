@@ -9,7 +9,7 @@ use Rattle.fork_disk.specs.OnStore.{KeepsFork}
 use Rattle.fork_journal.specs.declared.pair.PairDisk.{Ghosts}
 use Rattle.fork_journal.specs.Crash.{Contents, History, MayLeave, AlwaysLeaves}
 use Rattle.fork_journal.specs.Form.{text_of}
-use Rattle.fork_journal.specs.Pairs.{OnlyReads}
+use Rattle.fork_journal.specs.Pairs.{OnlyReadsPair}
 use Rattle.fork_journal.specs.Recovery.{copied_length, recovered, settled_fork, IsReady, IsRecoverable, IsStable, IsBeforeOrAfter, IsSameChoice}
 use Rattle.fork_journal.specs.Updates.{pair_fork, IsPairReady, IsPairStable, RecoversPair, ReplacesPair}
 use Rattle.fork_journal.proofs.Along.{along_weaker, leaves_now}
@@ -49,11 +49,11 @@ module _ {P : Type 0} (pair : Ghosts P) (old new : P) where
       }
 
   -- a pair of which nothing was written is as ready and as stable as it was
-  keeps_fork : OnlyReads pair old new → IsPairReady pair old
+  keeps_fork : OnlyReadsPair pair old new → IsPairReady pair old
       → KeepsFork (pair_fork pair) (IsPairReady pair) (IsPairStable pair) pair.is_honest pair.history old new
   keeps_fork keeps ready =
       let moves = λ (Q : Contents → History → Type 0) (was : Q (pair.contents old) (pair.history old)).
-          subst (λ (h : History). Q (pair.contents new) h) (sym keeps.calm) (subst (λ (c : Contents). Q c (pair.history old)) (sym keeps.same) was) in record {
+      subst (λ (h : History). Q (pair.contents new) h) (sym keeps.calm) (subst (λ (c : Contents). Q c (pair.history old)) (sym keeps.same) was) in record {
         honest = keeps.honest;
         same = ap settled_fork keeps.same;
         ready = moves IsReady ready;
@@ -64,11 +64,11 @@ module _ {P : Type 0} (pair : Ghosts P) (old new : P) where
   pub replaces_pair : {T : Type 0} (fork : List ℕ) (result : Result T ReplaceFault) → pair.is_honest old → MayLeave (pair.history old) (pair.contents old) → MayLeave (pair.history new) (pair.contents new)
       → IsPairReady pair old → AlwaysLeaves (IsBeforeOrAfter (pair.contents old).fork fork) (pair.history old) (pair.history new) → IsRecoverable (pair.contents new) (pair.history new)
       → OnOk result ((pair.contents new).fork ≡ fork) → OnOk result ((pair.contents new).journal ≡ 0 ∷ text_of fork) → OnOk result (IsPairReady pair new)
-      → (IsErrOf result BeforeFirstWrite → OnlyReads pair old new) → ReplacesPair pair old new fork result
+      → (IsErrOf result BeforeFirstWrite → OnlyReadsPair pair old new) → ReplacesPair pair old new fork result
   replaces_pair fork result honest outcome outcome_new was_ready any_moment recoverable put journal ready before =
       let is : pair_fork pair old ≡ (pair.contents old).fork = settled_unusable (pair.contents old) was_ready.unusable in
       let always : AlwaysLeaves (IsBeforeOrAfter (pair_fork pair old) fork) (pair.history old) (pair.history new) =
-          along_weaker _ _ _ _ (λ c gives. ⊎_elim (λ same. inl (same ∙ sym is)) (λ now. inr now) gives) any_moment in
+      along_weaker _ _ _ _ (λ c gives. ⊎_elim (λ same. inl (same ∙ sym is)) (λ now. inr now) gives) any_moment in
       let left = leaves_now _ _ _ always (pair.contents new) outcome_new in record {
         puts = record {
           passes = record { honest = honest; any_moment = always; recoverable = recoverable };

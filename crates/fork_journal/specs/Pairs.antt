@@ -11,18 +11,18 @@ use Rattle.fork_journal.specs.OnPair.{KeepsPair}
 use Rattle.fork_journal.specs.Recovery.{copied_length}
 
 -- the call reads at most
-abbrev pub OnlyReads : {P : Type 0} → Ghosts P → P → P → Type 0
-OnlyReads pair old new = KeepsPair pair.contents pair.history pair.is_honest old new
+abbrev pub OnlyReadsPair : {P : Type 0} → Ghosts P → P → P → Type 0
+OnlyReadsPair pair old new = KeepsPair pair.contents pair.history pair.is_honest old new
 
 module _ {P : Type 0} (pair : Ghosts P) (old new : P) where
-  -- the call only reads, and this is so of its result
-  pub record Tells (said : Type 0) : Type 0 where
-    pub keeps : OnlyReads pair old new
+  -- the call only reads, and this is so of its answer
+  pub record Answers (said : Type 0) : Type 0 where
+    pub keeps : OnlyReadsPair pair old new
     pub value : said
 
   -- it finds the fork of a usable journal, and asks for memory only where that has bytes
   pub record FindsUsable (result : Result (Option (Vec ℕ Global)) RecoverFault) : Type 0 where
-    pub keeps : OnlyReads pair old new
+    pub keeps : OnlyReadsPair pair old new
     pub value : IfOk result (λ found. MatchOption found (is_usable (pair.contents old).journal ≡ false)
         (λ fork. (is_usable (pair.contents old).journal ≡ true) × (fork.items ≡ fork_in (drop 1 (pair.contents old).journal))))
     pub memory : IsErrOf result Host → 1 ≤ copied_length (pair.contents old)

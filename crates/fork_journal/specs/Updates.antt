@@ -7,7 +7,7 @@ use Rattle.fork_disk.specs.OnStore.{MeasuresFork, ReadsFork, RecoversFork, Repla
 use Rattle.fork_journal.specs.declared.pair.PairDisk.{Ghosts}
 use Rattle.fork_journal.specs.Crash.{Contents, Leaves, AlwaysLeaves}
 use Rattle.fork_journal.specs.Form.{text_of, fork_in, is_usable}
-use Rattle.fork_journal.specs.Pairs.{OnlyReads}
+use Rattle.fork_journal.specs.Pairs.{OnlyReadsPair}
 use Rattle.fork_journal.specs.Recovery.{copied_length, recovered, settled_fork, IsReady, IsRecoverable, IsStable, IsShut, IsBeforeOrAfter, IsSameChoice, IsEither, MayFind}
 
 -- the journal is stable and usable, and has this fork
@@ -39,7 +39,7 @@ module _ {P : Type 0} (pair : Ghosts P) where
       pub passes : Passes (λ c. settled_fork c ≡ (pair.contents old).fork)
       pub shut : OnOk result (Leaves (IsShut (pair.contents old).fork) (pair.history new))
       pub kept : OnOk result ((pair.contents new).fork ≡ (pair.contents old).fork)
-      pub before : IsErrOf result BeforeFirstWrite → OnlyReads pair old new
+      pub before : IsErrOf result BeforeFirstWrite → OnlyReadsPair pair old new
 
     -- the journal has the text of this fork, and its gate is open; a crash leaves the fork from before or this one
     pub record Stages {T E : Type 0} (fork : List ℕ) (result : Result T E) : Type 0 where
@@ -58,7 +58,7 @@ module _ {P : Type 0} (pair : Ghosts P) where
     pub record ReplacesPair {T : Type 0} (fork : List ℕ) (result : Result T ReplaceFault) : Type 0 where
       pub puts : Puts (IsBeforeOrAfter (pair_fork old) fork) fork (text_of fork) result
       pub left : IsBeforeOrAfter (pair_fork old) fork (pair.contents new)
-      pub before : IsErrOf result BeforeFirstWrite → OnlyReads pair old new
+      pub before : IsErrOf result BeforeFirstWrite → OnlyReadsPair pair old new
       pub store : ReplacesFork pair_fork IsPairReady IsPairStable pair.is_honest pair.history old new IsEither MayFind BeforeFirstWrite Later fork result
 
     -- A store is recovered. A crash leaves a choice that was there before, and where that was one fork, it leaves this.
@@ -70,9 +70,9 @@ module _ {P : Type 0} (pair : Ghosts P) where
 
     -- a store's fork is measured or read: both sides stay the same
     pub record MeasuresPair {E : Type 0} (result : Result ℕ E) : Type 0 where
-      pub keeps : OnlyReads pair old new
+      pub keeps : OnlyReadsPair pair old new
       pub store : MeasuresFork pair_fork IsPairReady IsPairStable pair.is_honest pair.history old new result
 
     pub record ReadsPair {T E : Type 0} (at : ℕ) (before after : List ℕ) (result : Result T E) : Type 0 where
-      pub keeps : OnlyReads pair old new
+      pub keeps : OnlyReadsPair pair old new
       pub store : ReadsFork pair_fork IsPairReady IsPairStable pair.is_honest pair.history old new at before after result

@@ -5,7 +5,7 @@ ghost use Rattle.byteorder.specs.Endian.{big_number};
 ghost use Rattle.fork_disk.specs.Disk.{bytes_at, Counts};
 ghost use Rattle.fork_disk.specs.Faults.{CountsDevice};
 ghost use Rattle.fork_journal.specs.Form.{must_shut};
-ghost use Rattle.fork_journal.specs.Pairs.{Tells, FindsUsable};
+ghost use Rattle.fork_journal.specs.Pairs.{Answers, FindsUsable};
 
 use crate::pair::{PairDisk, Side};
 use byteorder::{BigEndian, ByteOrder};
@@ -15,8 +15,8 @@ use std::alloc::Global;
 
 /// Whether the gate has to be shut before a text is written.
 pub(crate) fn is_shutting_due<P: PairDisk>(pair: &mut P) -> Result<bool, DiskFault>
-    ensures tells { P.is_honest pair.new
-        → Tells P.PairDisk pair.old pair.new (IfOk result (λ is. is ≡ must_shut (P.contents pair.old).journal)) }
+    ensures answers { P.is_honest pair.new
+        → Answers P.PairDisk pair.old pair.new (IfOk result (λ is. is ≡ must_shut (P.contents pair.old).journal)) }
     ensures cause { Counts (P.failures pair.old) (P.failures pair.new) result }
 {
     if pair.len(Side::Journal)? == 0 {
@@ -43,8 +43,8 @@ fn read_journal<P: PairDisk>(
     len: u64,
 ) -> Result<Vec<u8>, RecoverFault>
     requires { P.is_honest pair.old → at + len ≤ length (P.contents pair.old).journal }
-    ensures tells { P.is_honest pair.new
-        → Tells P.PairDisk pair.old pair.new (IfOk result (λ bytes. bytes.items ≡ bytes_at len at (P.contents pair.old).journal)) }
+    ensures answers { P.is_honest pair.new
+        → Answers P.PairDisk pair.old pair.new (IfOk result (λ bytes. bytes.items ≡ bytes_at len at (P.contents pair.old).journal)) }
     ensures cause { CountsDevice (P.failures pair.old) (P.failures pair.new) result }
     ensures memory { IsErrOf result RecoverFault.Host → 1 ≤ len }
 {

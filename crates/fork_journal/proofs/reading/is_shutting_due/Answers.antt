@@ -4,8 +4,8 @@ use Rattle.fork_journal.specs.Crash.{Contents}
 use Rattle.fork_journal.proofs.Usable.{must_shut_read}
 use Rattle.fork_journal.proofs.reading.is_shutting_due.Goals as goal
 
-pub returns-clause-tells : goal.returns-clause-tells
-returns-clause-tells g c honest =
+pub returns-clause-answers : goal.returns-clause-answers
+returns-clause-answers g c honest =
     let reads = c.in_ok-read_at.ensures.reads honest in
     let measures = c.in_ok-len.ensures.measures reads.keeps.honest in
     let journal = (g.P.PairDisk.contents c.args.pair.now).journal in

@@ -20,7 +20,7 @@ returns-then-len-told-clause-finds g c honest =
 
 pub returns-clause-finds : goal.returns-clause-finds
 returns-clause-finds g c honest =
-    let tells = c.in_ok-fork.ensures.tells honest in
+    let tells = c.in_ok-fork.ensures.answers honest in
     let reads = c.in_ok-read_at.ensures.reads tells.keeps.honest in
     let measures = c.in_ok-len.ensures.measures reads.keeps.honest in
     let journal = (g.P.PairDisk.contents c.args.pair.now).journal in
@@ -28,7 +28,7 @@ returns-clause-finds g c honest =
     let same = reads.keeps.same ∙ measures.keeps.same in
     let usable = usable_whole journal c.read_at.new.buffer c.in_ok-len.len c.told_length-told.result measures.value c.if-len-lt5.false head c.told_length-told.ensures.value (omega (arith, c.if-len-told.false)) c.if-head-ne1.false in
     let fork = tells.value ∙ ap (λ (d : Contents). bytes_at c.told_length-told.result 5 d.journal) same
-        ∙ fork_read journal c.read_at.new.buffer c.in_ok-len.len c.told_length-told.result measures.value c.if-len-lt5.false head c.told_length-told.ensures.value in search rules
+    ∙ fork_read journal c.read_at.new.buffer c.in_ok-len.len c.told_length-told.result measures.value c.if-len-lt5.false head c.told_length-told.ensures.value in search rules
 
 pub read_journal-requires : goal.read_journal-requires
 read_journal-requires g c honest =
@@ -41,7 +41,7 @@ read_journal-requires g c honest =
 
 pub returns-in_err-fork-clause-finds : goal.returns-in_err-fork-clause-finds
 returns-in_err-fork-clause-finds g c honest =
-    let tells = c.in_err-fork.ensures.tells honest in
+    let tells = c.in_err-fork.ensures.answers honest in
     let reads = c.in_ok-read_at.ensures.reads tells.keeps.honest in
     let measures = c.in_ok-len.ensures.measures reads.keeps.honest in
     let journal = (g.P.PairDisk.contents c.args.pair.now).journal in

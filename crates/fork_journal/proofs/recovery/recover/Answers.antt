@@ -33,8 +33,8 @@ returns-in_default-clause-recovers g c honest =
     let synced = c.in_ok-sync.ensures.syncs finds.keeps.honest in
     let none = rw c.in_default.is at finds.value in
     let ready = readies (g.P.PairDisk.contents c.args.pair.now) (g.P.PairDisk.contents c.usable_fork.new.pair) _ _ synced.trusted
-        (finds.keeps.calm ∙ synced.durable) (finds.keeps.same ∙ synced.same) (c.requires synced.honest)
-        (ap (λ (d : Contents). is_usable d.journal) finds.keeps.same ∙ none) in
+    (finds.keeps.calm ∙ synced.durable) (finds.keeps.same ∙ synced.same) (c.requires synced.honest)
+    (ap (λ (d : Contents). is_usable d.journal) finds.keeps.same ∙ none) in
     recovers_pair g.P.PairDisk _ _ _ synced.honest (syncs _ _ _ _ _ synced.durable finds.keeps.calm) (search rules)
     (search rules) (search rules) ready (λ _. ready) (search rules)
 
@@ -69,4 +69,4 @@ finish-requires g c honest =
     let finds = c.in_ok-fork.ensures.finds honest in
     let synced = c.in_ok-sync.ensures.syncs finds.keeps.honest in
     let stable = leaves_journal (g.P.PairDisk.contents c.args.pair.now) (g.P.PairDisk.contents c.usable_fork.new.pair) _ _ synced.trusted
-        (finds.keeps.calm ∙ synced.durable) (finds.keeps.same ∙ synced.same) in search rules
+    (finds.keeps.calm ∙ synced.durable) (finds.keeps.same ∙ synced.same) in search rules
