@@ -1,13 +1,19 @@
 -- How what a crash may leave goes on from call to call.
-use Rattle.std.proofs.Common.{◌≡◌, inl, inr, ℕ, false, List, ◌∷◌, refl, sym, ◌∙◌, subst}
+use Rattle.std.proofs.Common.{◌≡◌, inl, inr, ℕ, false, List, ◌∷◌, Result, Ok, Err, refl, sym, ◌∙◌, subst}
+use Rattle.std.specs.Prelude.{OnOk}
 use Rattle.fork_journal.specs.declared.pair.Side.{Side}
 use Rattle.fork_journal.specs.declared.pair.Side.TheVariants.{Fork, Journal}
 use Rattle.fork_disk.specs.Crash.{at_first, and_then}
 use Rattle.fork_disk.specs.Disk.{Torn, CutShort}
-use Rattle.fork_journal.specs.Crash.{Contents, Event, Wrote, Cut, Synced, Failed, History, side_of, has_failed, OnSide, MayLeave, Follows, AlwaysLeaves, LeftWith, Settles}
+use Rattle.fork_journal.specs.Crash.{Contents, Event, Wrote, Cut, Synced, Failed, History, side_of, other, has_failed, OnSide, MayLeave, Follows, AlwaysLeaves, LeftWith, Settles}
 
 abbrev pub Bytes : Type 0
 Bytes = List ℕ
+
+-- what is so where a call succeeded gives what else is so there
+pub is_ok : {T E A B : Type 0} (r : Result T E) → (A → B) → OnOk r A → OnOk r B
+is_ok (Ok t) gives a = gives a
+is_ok (Err e) gives a = tt
 
 -- two steps of one side in a row
 pub on_side_then : (side : Side) (R S T : Bytes → Bytes → Type 0) → ((x y z : Bytes) → R x y → S y z → T x z) → (a b c : Contents) → OnSide side R a b → OnSide side S b c → OnSide side T a c
@@ -60,6 +66,26 @@ module _ (P : Contents → Type 0) where
 pub along_weaker : (P Q : Contents → Type 0) (old new : History) → ((c : Contents) → P c → Q c) → AlwaysLeaves P old new → AlwaysLeaves Q old new
 along_weaker P Q old new gives (at_first here) = at_first (λ c left. gives c (here c left))
 along_weaker P Q old new gives (and_then {event} {past} so_far here) = and_then (along_weaker P Q old past gives so_far) (λ c left. gives c (here c left))
+
+-- what a step of one side did, and that the other stayed
+pub own_side : (side : Side) (R : Bytes → Bytes → Type 0) (a c : Contents) → OnSide side R a c → R (side_of side a) (side_of side c)
+own_side Fork R a c step = step.0
+own_side Journal R a c step = step.0
+
+pub other_side : (side : Side) (R : Bytes → Bytes → Type 0) (a c : Contents) → OnSide side R a c → side_of (other side) c ≡ side_of (other side) a
+other_side Fork R a c step = step.1
+other_side Journal R a c step = step.1
+
+-- a step of one side after others of it
+pub then_step : (side : Side) (R S T : Bytes → Bytes → Type 0) → ((x y z : Bytes) → R x y → S y z → T x z) → (start mid : History) → AlwaysLeaves (LeftWith side R start) start mid
+    → (c : Contents) → LeftWith side S mid c → LeftWith side T start c
+then_step side R S T joins start mid first c left =
+    let was = leaves_now (LeftWith side R start) start mid first left.0 left.1 in
+    (was.0, was.1, on_side_then side R S T joins was.0 left.0 c was.2 left.2)
+
+pub then_settles : (side : Side) (R : Bytes → Bytes → Type 0) (bytes put : Bytes) (start mid new : History) → bytes ≡ put → AlwaysLeaves (LeftWith side R start) start mid → Settles side bytes mid new → Settles side put start new
+then_settles side R bytes put start mid new is first settles c left =
+    then_step side R (λ was now. now ≡ bytes) (λ was now. now ≡ put) (λ x y z same now. now ∙ is) start mid first c (settles c left)
 
 -- a stretch of steps of one side
 module _ (side : Side) (R : Bytes → Bytes → Type 0) (start : History) where

@@ -12,7 +12,7 @@ use Rattle.fork_journal.specs.Form.{text_of}
 use Rattle.fork_journal.specs.Pairs.{OnlyReadsPair}
 use Rattle.fork_journal.specs.Recovery.{copied_length, recovered, settled_fork, IsReady, IsRecoverable, IsStable, IsBeforeOrAfter, IsSameChoice}
 use Rattle.fork_journal.specs.Updates.{pair_fork, IsPairReady, IsPairStable, RecoversPair, ReplacesPair}
-use Rattle.fork_journal.proofs.Along.{along_weaker, leaves_now}
+use Rattle.fork_journal.proofs.Along.{along_weaker, is_ok, leaves_now}
 use Rattle.fork_journal.proofs.Finding.{finds_choice, finds_before_or}
 use Rattle.fork_journal.proofs.Settling.{settled_unusable}
 use Rattle.fork_journal.proofs.Updating.{one_fork}
@@ -20,10 +20,6 @@ use Rattle.fork_journal.proofs.Updating.{one_fork}
 both_ok : {T E A B C : Type 0} (r : Result T E) → (A → B → C) → OnOk r A → OnOk r B → OnOk r C
 both_ok (Ok t) gives a b = gives a b
 both_ok (Err e) gives a b = tt
-
-is_ok : {T E A B : Type 0} (r : Result T E) → (A → B) → OnOk r A → OnOk r B
-is_ok (Ok t) gives a = gives a
-is_ok (Err e) gives a = tt
 
 stable_ready : (contents : Contents) (history : History) → IsReady contents history → IsStable contents history
 stable_ready contents history ready c left = ap settled_fork (ready.settled c left)

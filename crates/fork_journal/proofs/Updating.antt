@@ -1,11 +1,10 @@
 -- The steps of an update, one behind another.
 use Rattle.std.proofs.Common.{◌≡◌, inl, inr, ⊎_elim, ℕ, ◌<◌, ◌≤◌, ◌^◌, true, false, List, [], ◌∷◌, ◌++◌, length, take, drop, refl, sym, ◌∙◌, ap, subst, arith, length-take}
-use Rattle.std.specs.Prelude.{⊤}
 use Rattle.fork_disk.specs.Crash.{at_first}
 use Rattle.fork_journal.specs.declared.pair.Side.{Side}
 use Rattle.fork_journal.specs.declared.pair.Side.TheVariants.{Fork, Journal}
 use Rattle.fork_journal.specs.Crash.{Contents, History, MayLeave, Synced, Failed, Follows, Leaves, AlwaysLeaves, LeftWith, Settles}
-use Rattle.fork_journal.specs.Form.{text_of, is_whole, fork_in, is_usable, must_shut, IsSameText, IsSameGate}
+use Rattle.fork_journal.specs.Form.{text_of, is_whole, fork_in, is_usable, must_shut, IsSameFront, IsSameText}
 use Rattle.fork_journal.specs.Recovery.{settled_fork, IsReady, IsRecoverable, IsBeforeOrAfter, IsSameChoice, IsStable, IsShut}
 use Rattle.fork_journal.proofs.Along.{along_weaker, along_then, along_same, along_sync, along_failed, leaves_now}
 use Rattle.fork_journal.proofs.Settling.{settled_at, settled_usable, settled_both, settled_one, settled_unusable, unusable_shut, unusable_short, short_where_open, shut_behind, text_whole, text_fork, never}
@@ -13,16 +12,12 @@ use Rattle.fork_journal.proofs.Settling.{settled_at, settled_usable, settled_bot
 abbrev pub Bytes : Type 0
 Bytes = List ℕ
 
--- a step of the fork
-abbrev pub Any : Bytes → Bytes → Type 0
-Any old new = ⊤
-
 -- the fork is written from an open journal, and then the gate is shut
 module _ (journal fork : Bytes) (start mid new : History) (stable : Leaves (λ c. c.journal ≡ journal) start) (text : fork ≡ fork_in (drop 1 journal)) where
-  pub forks : is_usable journal ≡ true → AlwaysLeaves (LeftWith Fork Any start) start mid → AlwaysLeaves (λ c. settled_fork c ≡ fork) start mid
+  pub forks : is_usable journal ≡ true → AlwaysLeaves (LeftWith Fork (IsSameFront 0) start) start mid → AlwaysLeaves (λ c. settled_fork c ≡ fork) start mid
   forks usable = along_weaker _ _ start mid (λ c left. settled_at c journal (left.2.1 ∙ stable left.0 left.1) usable ∙ sym text)
 
-  pub forks_recoverable : is_usable journal ≡ true → (contents : Contents) → AlwaysLeaves (LeftWith Fork Any start) start mid → IsRecoverable contents mid
+  pub forks_recoverable : is_usable journal ≡ true → (contents : Contents) → AlwaysLeaves (LeftWith Fork (IsSameFront 0) start) start mid → IsRecoverable contents mid
   forks_recoverable usable contents first c left not =
       let was = leaves_now _ start mid first c left in
       never (is_usable c.journal) (ap is_usable (was.2.1 ∙ stable was.0 was.1) ∙ usable) not
@@ -31,7 +26,7 @@ module _ (journal fork : Bytes) (start mid new : History) (stable : Leaves (λ c
   there : Settles Fork fork start mid → (c : Contents) → MayLeave mid c → (c.fork ≡ fork) × (c.journal ≡ journal)
   there settles c left = let was = settles c left in (was.2.0, was.2.1 ∙ stable was.0 was.1)
 
-  pub shuts : is_usable journal ≡ true → AlwaysLeaves (LeftWith Fork Any start) start mid → Settles Fork fork start mid → AlwaysLeaves (LeftWith Journal IsSameText mid) mid new → AlwaysLeaves (λ c. settled_fork c ≡ fork) start new
+  pub shuts : is_usable journal ≡ true → AlwaysLeaves (LeftWith Fork (IsSameFront 0) start) start mid → Settles Fork fork start mid → AlwaysLeaves (LeftWith Journal IsSameText mid) mid new → AlwaysLeaves (λ c. settled_fork c ≡ fork) start new
   shuts usable first settles second =
       along_then _ start mid new (forks usable first) (along_weaker _ _ mid new (λ c left.
       let was = there settles left.0 left.1 in
@@ -44,15 +39,15 @@ module _ (journal fork : Bytes) (start mid new : History) (stable : Leaves (λ c
 
 -- the text is written behind a shut gate, and then the gate is opened
 module _ (before fork : Bytes) (start mid new : History) (shut : Leaves (IsShut before) start) (short : length fork < 2 ^ 32) where
-  still : (c : Contents) → LeftWith Journal IsSameGate start c → (is_usable c.journal ≡ false) × (c.fork ≡ before)
+  still : (c : Contents) → LeftWith Journal (IsSameFront 1) start c → (is_usable c.journal ≡ false) × (c.fork ≡ before)
   still c left =
       let was = shut left.0 left.1 in
       (unusable_shut c.journal (shut_behind left.0.journal c.journal left.2.0 was.shut), left.2.1 ∙ was.fork)
 
-  pub texts : AlwaysLeaves (LeftWith Journal IsSameGate start) start mid → AlwaysLeaves (IsBeforeOrAfter before fork) start mid
+  pub texts : AlwaysLeaves (LeftWith Journal (IsSameFront 1) start) start mid → AlwaysLeaves (IsBeforeOrAfter before fork) start mid
   texts = along_weaker _ _ start mid (λ c left. let now = still c left in inl (settled_unusable c now.0 ∙ now.1))
 
-  pub texts_recoverable : (contents : Contents) → contents.fork ≡ before → AlwaysLeaves (LeftWith Journal IsSameGate start) start mid → IsRecoverable contents mid
+  pub texts_recoverable : (contents : Contents) → contents.fork ≡ before → AlwaysLeaves (LeftWith Journal (IsSameFront 1) start) start mid → IsRecoverable contents mid
   texts_recoverable contents here first c left not = (still c (leaves_now _ start mid first c left)).1 ∙ sym here
 
   module _ (front : Bytes) (one : length front ≡ 1) (settles : Settles Journal (front ++ text_of fork) start mid) (second : AlwaysLeaves (LeftWith Journal IsSameText mid) mid new) where
@@ -69,7 +64,7 @@ module _ (before fork : Bytes) (start mid new : History) (shut : Leaves (IsShut 
         let was = settles left.0 left.1 in
         (left.2.0 ∙ ap (λ (j : Bytes). drop 1 j) was.2.0 ∙ behind, left.2.1 ∙ was.2.1 ∙ (shut was.0 was.1).fork)
 
-    pub opens : AlwaysLeaves (LeftWith Journal IsSameGate start) start mid → AlwaysLeaves (IsBeforeOrAfter before fork) start new
+    pub opens : AlwaysLeaves (LeftWith Journal (IsSameFront 1) start) start mid → AlwaysLeaves (IsBeforeOrAfter before fork) start new
     opens first = along_then _ start mid new (texts first) (along_weaker _ _ mid new (λ c left.
         let now = staged c left in settled_one c before fork (ap fork_in now.0 ∙ text_fork fork short) now.1) second)
 

@@ -22,12 +22,13 @@ is_open journal = get_or journal 0 0 == 1
 abbrev pub is_usable : List ℕ → Bool
 is_usable journal = is_open journal && is_whole (drop 1 journal)
 
--- a write of the gate leaves the text, and one of the text leaves the gate
+-- a write of the gate leaves the text behind it
 abbrev pub IsSameText : List ℕ → List ℕ → Type 0
 IsSameText old new = drop 1 new ≡ drop 1 old
 
-abbrev pub IsSameGate : List ℕ → List ℕ → Type 0
-IsSameGate old new = take 1 new ≡ take 1 old
+-- a write behind n bytes, as one of the text behind the gate, leaves these
+abbrev pub IsSameFront : ℕ → List ℕ → List ℕ → Type 0
+IsSameFront n old new = take n new ≡ take n old
 
 -- before an update the gate has to be shut where it is open, or where there is none yet
 abbrev pub must_shut : List ℕ → Bool

@@ -8,7 +8,7 @@ ghost use Rattle.fork_journal.specs.Updates.{IsStaged, Puts, RecoversPair};
 
 use crate::pair::{PairDisk, Side};
 use crate::reading::usable_fork;
-use crate::steps::{put_fork, put_gate};
+use crate::steps::{put_gate, put_rest};
 use fork_disk::disk::DiskFault;
 use fork_disk::faults::RecoverFault;
 use std::alloc::Global;
@@ -20,7 +20,7 @@ pub(crate) fn finish<P: PairDisk>(pair: &mut P, fork: &[u8]) -> Result<(), DiskF
         (drop 1 (P.contents pair.old).journal) result }
     ensures cause { Counts (P.failures pair.old) (P.failures pair.new) result }
 {
-    put_fork(pair, fork)?;
+    put_rest(pair, Side::Fork, 0, fork)?;
     put_gate(pair, 0)?;
     Ok(())
 }

@@ -1,10 +1,11 @@
 //! The steps of an update, each with at most three calls of its own that change the device. Whenever a crash comes in a step, it
 //! leaves what it might have left before, but for the part that the step writes.
 
-ghost use Rattle.std.specs.Prelude.{◌<◌, ◌≤◌, ◌^◌, ◌∷◌, ◌++◌, ⊤, length, take, drop};
+ghost use Rattle.std.specs.Prelude.{◌+◌, ◌<◌, ◌≤◌, ◌^◌, ◌∷◌, ◌++◌, length, take, drop};
 ghost use Rattle.byteorder.specs.Endian.{big_bytes};
 ghost use Rattle.fork_disk.specs.Disk.{Counts};
-ghost use Rattle.fork_journal.specs.Form.{text_of, IsSameText, IsSameGate};
+ghost use Rattle.fork_journal.specs.Crash.{side_of};
+ghost use Rattle.fork_journal.specs.Form.{text_of, IsSameFront, IsSameText};
 ghost use Rattle.fork_journal.specs.OnPair.{WritesSide};
 ghost use Rattle.fork_journal.specs.Pairs.{PutsSide};
 
@@ -35,28 +36,33 @@ fn put_length<P: PairDisk>(pair: &mut P, len: u32) -> Result<(), DiskFault>
     pair.write_at(Side::Journal, 1, &bytes)
 }
 
+/// Writes bytes at an offset of a side, cuts it to their end, and makes sure of it.
+pub(crate) fn put_rest<P: PairDisk>(
+    pair: &mut P,
+    side: Side,
+    at: u64,
+    bytes: &[u8],
+) -> Result<(), DiskFault>
+    requires fits { at + length bytes.now < 2 ^ 64 }
+    requires there { P.is_honest pair.old → at ≤ length (side_of side (P.contents pair.old)) }
+    ensures puts { P.is_honest pair.new → PutsSide P.PairDisk pair.old pair.new side (IsSameFront at)
+        (take at (side_of side (P.contents pair.old)) ++ bytes.now) result }
+    ensures cause { Counts (P.failures pair.old) (P.failures pair.new) result }
+{
+    pair.write_at(side, at, bytes)?;
+    pair.cut(side, at + bytes.len() as u64)?;
+    pair.sync(side)?; // before the gate is opened or shut
+    Ok(())
+}
+
 /// Writes the text of a fork behind the gate, and makes sure of it.
 pub(crate) fn put_text<P: PairDisk>(pair: &mut P, fork: &[u8]) -> Result<(), DiskFault>
     requires gate { P.is_honest pair.old → 1 ≤ length (P.contents pair.old).journal }
     requires short { length fork.now < 2 ^ 32 }
-    ensures puts { P.is_honest pair.new → PutsSide P.PairDisk pair.old pair.new Side.Journal IsSameGate
+    ensures puts { P.is_honest pair.new → PutsSide P.PairDisk pair.old pair.new Side.Journal (IsSameFront 1)
         (take 1 (P.contents pair.old).journal ++ text_of fork.now) result }
     ensures cause { Counts (P.failures pair.old) (P.failures pair.new) result }
 {
     put_length(pair, fork.len() as u32)?;
-    pair.write_at(Side::Journal, 5, fork)?;
-    pair.cut(Side::Journal, 5 + fork.len() as u64)?;
-    pair.sync(Side::Journal)?; // before the gate is opened
-    Ok(())
-}
-
-/// Writes the fork, and makes sure of it.
-pub(crate) fn put_fork<P: PairDisk>(pair: &mut P, fork: &[u8]) -> Result<(), DiskFault>
-    ensures puts { P.is_honest pair.new → PutsSide P.PairDisk pair.old pair.new Side.Fork (λ _ _. ⊤) fork.now result }
-    ensures cause { Counts (P.failures pair.old) (P.failures pair.new) result }
-{
-    pair.write_at(Side::Fork, 0, fork)?;
-    pair.cut(Side::Fork, fork.len() as u64)?;
-    pair.sync(Side::Fork)?; // before the gate is shut
-    Ok(())
+    put_rest(pair, Side::Journal, 5, fork)
 }
