@@ -1,3 +1,4 @@
 mod Front
+pub mod Kept
 mod Opened
 pub mod Grouped
