@@ -2,9 +2,7 @@
 #![tactic(auto)]
 
 mod lending;
-mod memory;
-mod queue;
 mod toolbox;
 
-pub use queue::AnswerQueue;
+pub use made_calls::answers::AnswerQueue;
 pub use toolbox::Toolbox;
