@@ -1,3 +1,3 @@
-pub mod Bytes
+pub mod Parts
 pub mod Queued
 pub mod Steps

@@ -149,11 +149,7 @@ fn make_on_zone(memory: &mut MemoryManager, call: &MemoryCall<'_>) -> Option<Out
 }
 
 /// A copy of what the zone has: of bytes of a block, or of the list of its blocks.
-fn copy(
-    memory: &MemoryManager,
-    alloc: Global,
-    call: &MemoryCall<'_>,
-) -> Result<Outcome, HostFull>
+fn copy(memory: &MemoryManager, alloc: Global, call: &MemoryCall<'_>) -> Result<Outcome, HostFull>
     requires { IsTrue (copies call.now) }
     ensures step { IfOk result (λ outcome. MemorySteps memory.now call.now [] outcome memory.now) }
     ensures late { OnErr result (refusal memory.now.shape memory.now.heap call.now ≡ None) }

@@ -1,7 +1,7 @@
 use Rattle.std.proofs.Common.{refl, sym}
 use Rattle.std.proofs.lemmas.Result.{err_from_is_err_and}
 use Rattle.mac_calls.specs.declared.memory_call.MemoryCall.TheVariants.{Peek}
-use Rattle.made_calls.proofs.Bytes.{refused_step, peek_step}
+use Rattle.made_calls.proofs.Parts.{refused_step, peek_step}
 use Rattle.made_calls.proofs.bytes.peek.Goals as goal
 
 pub returns-in_err-test_part-clause-refused : goal.returns-in_err-test_part-clause-refused
