@@ -23,11 +23,10 @@ const MOST_WAITING: usize = 16;
 pub struct Session {
     memory: MemoryManager,
     loans: Loans,
-    answers: AnswerQueue,
+    answers: AnswerQueue<MOST_WAITING>,
 }
 
 impl Model for Session {
-    ghost use Rattle.std.specs.Prelude.{◌≡◌};
     ghost use Rattle.held_loans.specs.Holding.{Holds, loans_of};
     ghost use Rattle.held_zone.specs.State.{State};
 
@@ -35,7 +34,7 @@ impl Model for Session {
 
     ghost view = { λ s. record { zone = s.memory; loans = loans_of s.loans; left = s.answers.left; asks = s.answers.asks } };
 
-    ghost invariant = { λ s. Holds s.memory s.loans × (s.answers.room ≡ 16) };
+    ghost invariant = { λ s. Holds s.memory s.loans };
 }
 
 impl Drop for Session {
@@ -70,7 +69,7 @@ impl Session {
     pub fn create(alloc: Global, spec: ZoneSpec) -> Result<Box<Session>, HostFull>
         ensures { IfOk result (λ session. IsNew spec session.value) }
     {
-        let answers = AnswerQueue::with_room(alloc, MOST_WAITING)?;
+        let answers = AnswerQueue::with_room(alloc)?;
         let memory = MemoryManager::create(alloc, spec)?;
         let session = Session {
             memory,

@@ -1,21 +1,20 @@
 -- The answers of the grow-zone procedure that wait for a call, and what the last call asked.
-use Rattle.std.specs.Prelude.{◌≡◌, ◌⊎◌, ◌≤◌, ℕ, ◌++◌, List, [], ◌∷◌, length, Option, Some, None, IsTrue, is_some, ⊤}
+use Rattle.std.specs.Prelude.{◌≡◌, ◌⊎◌, ◌≤◌, ◌++◌, List, [], ◌∷◌, length, Option, Some, None, IsTrue, is_some, ⊤}
 use Rattle.std.specs.List.{list_all}
 use Rattle.mac_calls.specs.GrowZone.{Answer, Ask, answers_in}
 
--- the answers that are left, the asks of the last call, and how many answers may wait without more memory of the host
+-- the answers that are left, and the asks of the last call
 pub record Queue : Type 0 where
   pub left : List Answer
   pub asks : List Ask
-  pub room : ℕ
 
 -- no answers, and nothing was asked
 abbrev pub no_answers : Queue
-no_answers = record { left = []; asks = []; room = 0 }
+no_answers = record { left = []; asks = [] }
 
 -- one more answer waits behind the others, and nothing was asked
 abbrev pub waits : Answer → Queue → Queue
-waits answer q = record q { left = q.left ++ answer ∷ []; asks = [] }
+waits answer q = record { left = q.left ++ answer ∷ []; asks = [] }
 
 -- the answers that there were before these asks
 abbrev pub taken : List Ask → List Answer → List Answer

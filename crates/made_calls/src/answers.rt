@@ -139,58 +139,56 @@ impl MadeAsk {
     }
 }
 
-/// The answers that are left, which are given first in, first out, what the last call asked, and how many answers may wait without more
-/// memory of the host. With no answer left there is no procedure.
+/// The answers that are left, which are given first in, first out, and what the last call asked. With none left there is no procedure.
+/// `ROOM` answers may wait without more memory of the host.
 #[derive(Drop)]
-pub struct AnswerQueue {
+pub struct AnswerQueue<const ROOM: usize> {
     left: VecDeque<Answer>,
     asks: ArrayVec<MadeAsk, MOST_ASKS>,
-    room: usize,
 }
 
-impl Model for AnswerQueue {
+impl<const ROOM: usize> Model for AnswerQueue<ROOM> {
     ghost use Rattle.std.specs.Prelude.{◌≤◌};
     ghost use Rattle.std_alloc.specs.VecDeque.{deque_capacity};
     ghost use Rattle.made_calls.specs.Answers.{Queue, OutOfAnswers};
 
     ghost Value = { Queue };
 
-    ghost view = { λ q. record { left = q.left.items; asks = q.asks.items; room = q.room } };
+    ghost view = { λ q. record { left = q.left.items; asks = q.asks.items } };
 
-    ghost invariant = { λ q. OutOfAnswers q.asks.items q.left.items × (q.room ≤ deque_capacity q.left) };
+    ghost invariant = { λ q. OutOfAnswers q.asks.items q.left.items × (ROOM ≤ deque_capacity q.left) };
 }
 
-impl AnswerQueue {
+impl<const ROOM: usize> AnswerQueue<ROOM> {
     ghost use Rattle.std.specs.Prelude.{OnOk, OnErr, nat_le};
     ghost use Rattle.made_calls.specs.Answers.{OutOfAnswers, no_answers, waits};
 
-    /// No answers, and nothing was asked.
-    pub fn new(alloc: Global) -> AnswerQueue
+    /// No answers, and nothing was asked. It takes no memory.
+    pub fn new(alloc: Global) -> AnswerQueue<ROOM>
+        requires { ROOM ≡ 0 }
         ensures { result ≡ no_answers }
     {
         AnswerQueue {
             left: VecDeque::new(alloc),
             asks: ArrayVec::new(),
-            room: 0,
         }
     }
 
-    /// The same with memory for so many answers.
-    pub fn with_room(alloc: Global, room: usize) -> Result<AnswerQueue, HostFull>
-        ensures { IfOk result (λ queue. queue ≡ record no_answers { room = room }) }
+    /// The same with memory for the answers that may wait without more.
+    pub fn with_room(alloc: Global) -> Result<AnswerQueue<ROOM>, HostFull>
+        ensures { IfOk result (λ queue. queue ≡ no_answers) }
     {
         Ok(AnswerQueue {
-            left: VecDeque::with_capacity(alloc, room)?,
+            left: VecDeque::with_capacity(alloc, ROOM)?,
             asks: ArrayVec::new(),
-            room,
         })
     }
 
     /// Whether no answer may wait any more without more memory of the host.
     pub fn is_full(&self) -> bool
-        ensures { result ≡ nat_le self.now.room (length self.now.left) }
+        ensures { result ≡ nat_le ROOM (length self.now.left) }
     {
-        self.room <= self.left.len()
+        ROOM <= self.left.len()
     }
 
     /// Queues an answer behind the others, for the calls to come: nothing is asked then. `HostFull` where it takes more memory than the host
@@ -198,7 +196,7 @@ impl AnswerQueue {
     pub fn push(&mut self, answer: Answer) -> Result<(), HostFull>
         ensures queued { OnOk result (self.new ≡ waits answer self.old) }
         ensures unchanged { OnErr result (self.new ≡ record self.old { asks = [] }) }
-        ensures full { OnErr result (self.old.room ≤ length self.old.left) }
+        ensures full { OnErr result (ROOM ≤ length self.old.left) }
     {
         self.begin();
         self.left.push_back(answer)?;
@@ -207,7 +205,7 @@ impl AnswerQueue {
 
     /// Queues an answer behind the others, for the calls to come: nothing is asked then. It takes no more memory.
     pub fn push_within(&mut self, answer: Answer)
-        requires room { length self.old.left < self.old.room }
+        requires room { length self.old.left < ROOM }
         ensures { self.new ≡ waits answer self.old }
     {
         self.begin();
@@ -238,7 +236,7 @@ impl AnswerQueue {
     }
 }
 
-impl GrowZone for AnswerQueue {
+impl<const ROOM: usize> GrowZone for AnswerQueue<ROOM> {
     ghost asks = { λ q. q.asks };
 
     ghost source = { λ q. taken q.asks q.left };

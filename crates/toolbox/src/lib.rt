@@ -4,5 +4,7 @@
 mod lending;
 mod toolbox;
 
-pub use made_calls::answers::AnswerQueue;
 pub use toolbox::Toolbox;
+
+/// The answers of the grow-zone procedure that a script has queued.
+pub type AnswerQueue = made_calls::answers::AnswerQueue<0>;

@@ -7,13 +7,13 @@ ghost use Rattle.mac_calls.specs.Released.{disposed_itself};
 ghost use Rattle.made_calls.specs.Making.{MemorySteps, copies};
 ghost use Rattle.toolbox.specs.Steps.{refused_after, resource_refused_after};
 
-use crate::lending;
+use crate::{AnswerQueue, lending};
 use fork_disk::store::ForkStore;
 use held_loans::loans::Loans;
 use mac_base::error::{HostFull, OsErr};
 use mac_base::handle::Handle;
 use mac_calls::{Call, GrowZone, MemoryCall, Outcome, Reply, ResourceCall, Results};
-use made_calls::answers::{AnswerQueue, MOST_ASKS};
+use made_calls::answers::MOST_ASKS;
 use made_calls::making;
 use mem_calls::MemoryManager;
 use res_files::ResourceFiles;
