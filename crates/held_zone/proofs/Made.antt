@@ -1,10 +1,11 @@
 -- What a call leaves of what is lent, and of the answers that wait.
-use Rattle.std.proofs.Common.{◌≡◌, List, Option, Some, None, sym, ap, subst}
+use Rattle.std.proofs.Common.{◌≡◌, ◌∙◌, List, [], Option, Some, None, sym, ap, subst}
 use Rattle.std.specs.Prelude.{IfNone, IfSome}
 use Rattle.mac_base.specs.ZoneState.{ZoneState}
 use Rattle.linked_zone.specs.Loans.{KeepsLoans}
 use Rattle.mac_calls.specs.declared.memory_call.MemoryCall.{MemoryCall}
-use Rattle.mac_calls.specs.GrowZone.{Ask}
+use Rattle.mac_calls.specs.GrowZone.{Answer, Ask}
+use Rattle.mac_calls.specs.Loans.{Loans}
 use Rattle.mac_calls.specs.Outcomes.{Outcome}
 use Rattle.call_laws.proofs.LentSteps.{step_keeps_lent}
 use Rattle.made_calls.specs.Answers.{OutOfAnswers, taken}
@@ -13,7 +14,7 @@ use Rattle.made_calls.proofs.Steps.{exact-queued}
 use Rattle.held_loans.specs.declared.loans.Held.{Held}
 use Rattle.held_loans.specs.Holding.{Holds}
 use Rattle.held_loans.proofs.Holding.{Holds-kept}
-use Rattle.held_zone.specs.State.{State}
+use Rattle.held_zone.specs.State.{State, with_no_asks}
 use Rattle.held_zone.specs.Told.{Makes, StaysLent}
 
 -- by what the Memory Manager keeps
@@ -34,3 +35,16 @@ pub made-queued : (old new : State) (call : MemoryCall) (made : Option Outcome) 
     → IfSome made (λ outcome. Makes old call outcome new)
 made-queued old new call (Some outcome) steps took out loans keeps = (exact-queued old.zone.shape old.zone.heap call outcome new.zone.heap new.asks new.left old.left steps.1 took out, steps.2, loans, stays_lent keeps)
 made-queued old new call None steps took out loans keeps = tt
+
+-- the state of these parts
+abbrev state : ZoneState → Loans → List Answer → List Ask → State
+state zone loans left asks = record { zone = zone; loans = loans; left = left; asks = asks }
+
+-- a call that wasn't made changed nothing but what was asked
+pub not-made : (zone new : ZoneState) (loans : Loans) (source left : List Answer) (before asks : List Ask) (made : Option Outcome) → IfNone made (new ≡ zone) → IfNone made (asks ≡ []) → taken asks left ≡ source
+    → IfNone made (state new loans left asks ≡ with_no_asks (state zone loans source before))
+not-made zone new loans source left before asks (Some outcome) same unasked took = tt
+not-made zone new loans source left before asks None same unasked took =
+    ap (λ (z : ZoneState). state z loans left asks) same
+    ∙ ap (λ (made_asks : List Ask). state zone loans left made_asks) unasked
+    ∙ ap (λ (front : List Answer). state zone loans front []) (ap (λ (made_asks : List Ask). taken made_asks left) (sym unasked) ∙ took)

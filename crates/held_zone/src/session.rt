@@ -51,7 +51,7 @@ impl Drop for Session {
 }
 
 impl Session {
-    ghost use Rattle.std.specs.Prelude.{◌<◌, ◌++◌, ◌∷◌, not, length, is_some, IfOk, IfErr, IfSome, OnOk, OnErr};
+    ghost use Rattle.std.specs.Prelude.{◌<◌, ◌++◌, ◌∷◌, not, length, is_some, IfOk, IfErr, IfSome, IfNone, OnOk, OnErr};
     ghost use Rattle.std.specs.Result.{result_err};
     ghost use Rattle.linked_zone.specs.Image.{IsImage};
     ghost use Rattle.mac_base.specs.declared.error.OsErr.TheVariants.{MemLockedErr};
@@ -79,10 +79,12 @@ impl Session {
         Ok(Box::new(alloc, session)?)
     }
 
-    /// Makes a call, unless it gives a copy of what the zone has; one that finds no room takes the answers that are left.
+    /// Makes a call; one that finds no room takes the answers that are left. For a call that gives a copy of what the zone has it returns
+    /// none, and only what was asked is forgotten.
     pub fn make(&mut self, call: &MemoryCall<'_>) -> Option<Outcome>
         ensures makes { IfSome result (λ outcome. Makes self.old call.now outcome self.new) }
         ensures plain { is_some result ≡ not (copies call.now) }
+        ensures unmade { IfNone result (self.new ≡ with_no_asks self.old) }
     {
         self.answers.begin();
         let outcome = making::make_plain(&mut self.memory, call, &mut self.answers);

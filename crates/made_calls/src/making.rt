@@ -39,7 +39,7 @@ pub fn make<G: GrowZone>(
     }
 }
 
-/// Makes a call as `make` does, unless it gives a copy of what the zone has: such a call is none of these, and nothing is done.
+/// Makes a call as `make` does. For one that gives a copy of what the zone has it returns none, and does nothing.
 pub fn make_plain<G: GrowZone>(
     memory: &mut MemoryManager,
     call: &MemoryCall<'_>,

@@ -1,4 +1,4 @@
-use Rattle.std.proofs.Common.{◌≡◌, sym, arith, length-append}
+use Rattle.std.proofs.Common.{sym, arith, length-append}
 use Rattle.std.proofs.lemmas.List.{append-nil}
 use Rattle.made_calls.proofs.Queued.{told-more}
 use Rattle.made_calls.proofs.answers.answered.Goals.{in-Some, in_default}
