@@ -79,8 +79,8 @@ impl Session {
         Ok(Box::new(alloc, session)?)
     }
 
-    /// Makes a call; one that finds no room takes the answers that are left. For a call that gives a copy of what the zone has it returns
-    /// none, and only what was asked is forgotten.
+    /// Makes a call; one that finds no room takes the answers that are left. For a call that gives a copy of what the
+    /// zone has it returns none, and only what was asked is forgotten.
     pub fn make(&mut self, call: &MemoryCall<'_>) -> Option<Outcome>
         ensures makes { IfSome result (λ outcome. Makes self.old call.now outcome self.new) }
         ensures plain { is_some result ≡ not (copies call.now) }

@@ -139,8 +139,8 @@ impl MadeAsk {
     }
 }
 
-/// The answers that are left, which are given first in, first out, and what the last call asked. With none left there is no procedure.
-/// `ROOM` answers may wait without more memory of the host.
+/// The answers that are left, which are given first in, first out, and what the last call asked. With none left there
+/// is no procedure. `ROOM` answers may wait without more memory of the host.
 #[derive(Drop)]
 pub struct AnswerQueue<const ROOM: usize> {
     left: VecDeque<Answer>,
@@ -191,8 +191,8 @@ impl<const ROOM: usize> AnswerQueue<ROOM> {
         ROOM <= self.left.len()
     }
 
-    /// Queues an answer behind the others, for the calls to come: nothing is asked then. `HostFull` where it takes more memory than the host
-    /// has.
+    /// Queues an answer behind the others, for the calls to come: nothing is asked then. `HostFull` where it takes more
+    /// memory than the host has.
     pub fn push(&mut self, answer: Answer) -> Result<(), HostFull>
         ensures queued { OnOk result (self.new ≡ waits answer self.old) }
         ensures unchanged { OnErr result (self.new ≡ record self.old { asks = [] }) }

@@ -18,9 +18,9 @@ use mac_calls::{Outcome, Results};
 use mem_calls::MemoryManager;
 use std::alloc::Global;
 
-/// Peek: `count` bytes of a block, from an offset on. It is refused in this order: nilHandleErr where its number is 0, memWZErr where no
-/// handle or pointer of that number is live, nilHandleErr where it is empty, memLockedErr where it is lent, and paramErr where it has too
-/// few bytes.
+/// Peek: `count` bytes of a block, from an offset on. It is refused in this order: nilHandleErr where its number is 0,
+/// memWZErr where no handle or pointer of that number is live, nilHandleErr where it is empty, memLockedErr where it is
+/// lent, and paramErr where it has too few bytes.
 pub fn peek(memory: &MemoryManager, block: u32, offset: u32, count: usize) -> Result<&[u8], OsErr>
     ensures step { IfOk result (λ bytes. MemorySteps memory.now (call.Peek block offset count) [] (Ok (results.Bytes bytes.now)) memory.now) }
     ensures refused { IfErr result (λ code. MemorySteps memory.now (call.Peek block offset count) [] (Err code) memory.now) }

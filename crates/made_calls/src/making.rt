@@ -16,8 +16,9 @@ use mac_calls::{GrowZone, MemoryCall, Outcome, Results};
 use mem_calls::MemoryManager;
 use std::alloc::Global;
 
-/// Makes a call; one that finds no room asks the grow-zone procedure. What is lent stays so, and where it is. `HostFull` comes only from
-/// a call that gives a copy of what the zone has, and only where it isn't refused: nothing has changed then, and nothing was asked.
+/// Makes a call; one that finds no room asks the grow-zone procedure. What is lent stays so, and where it is.
+/// `HostFull` comes only from a call that gives a copy of what the zone has, and only where it isn't refused: nothing
+/// has changed then, and nothing was asked.
 pub fn make<G: GrowZone>(
     memory: &mut MemoryManager,
     alloc: Global,
