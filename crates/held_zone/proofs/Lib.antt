@@ -1,6 +1,4 @@
 pub mod Made
-mod Queued
 pub mod Shown
-mod Steps
 mod Words
 mod Written

@@ -1,8 +1,21 @@
--- What a call leaves of what is lent.
-use Rattle.std.proofs.Common.{◌≡◌, sym, subst}
+-- What a call leaves of what is lent, and of the answers that wait.
+use Rattle.std.proofs.Common.{◌≡◌, ◌∙◌, List, [], Option, Some, None, sym, ap, subst}
+use Rattle.std.specs.Prelude.{IfNone, IfSome}
 use Rattle.mac_base.specs.ZoneState.{ZoneState}
 use Rattle.linked_zone.specs.Loans.{KeepsLoans}
-use Rattle.held_zone.specs.Told.{StaysLent}
+use Rattle.mac_calls.specs.declared.memory_call.MemoryCall.{MemoryCall}
+use Rattle.mac_calls.specs.GrowZone.{Answer, Ask}
+use Rattle.mac_calls.specs.Loans.{Loans}
+use Rattle.mac_calls.specs.Outcomes.{Outcome}
+use Rattle.call_laws.proofs.LentSteps.{step_keeps_lent}
+use Rattle.made_calls.specs.Answers.{OutOfAnswers, taken}
+use Rattle.made_calls.specs.Making.{MemorySteps}
+use Rattle.made_calls.proofs.Steps.{exact-queued}
+use Rattle.held_loans.specs.declared.loans.Held.{Held}
+use Rattle.held_loans.specs.Holding.{Holds}
+use Rattle.held_loans.proofs.Holding.{Holds-kept}
+use Rattle.held_zone.specs.State.{State, with_no_asks}
+use Rattle.held_zone.specs.Told.{Makes, StaysLent}
 
 -- by what the Memory Manager keeps
 pub stays_lent : {old new : ZoneState} → KeepsLoans old new → StaysLent old new
@@ -11,3 +24,27 @@ stays_lent keeps = record { keeps = keeps }
 -- where the zone is the same
 pub same_lent : {old new : ZoneState} → new ≡ old → StaysLent old new
 same_lent {old = old} is = subst (λ (z : ZoneState). StaysLent old z) (sym is) (record { keeps = λ x loan held. held })
+
+-- what is held is what is lent, after a call that was made or not
+pub holds-made : (old new : ZoneState) (held : List Held) (call : MemoryCall) (asks : List Ask) (made : Option Outcome) → IfSome made (λ outcome. MemorySteps old call asks outcome new) → IfNone made (new ≡ old) → KeepsLoans old new → Holds old held → Holds new held
+holds-made old new held call asks (Some outcome) steps same keeps holds = Holds-kept old new held keeps (step_keeps_lent old.shape old.heap call asks outcome new.heap steps.0) holds
+holds-made old new held call asks None steps same keeps holds = Holds-kept old new held keeps (ap (λ (z : ZoneState). z.heap.table.lent) same) holds
+
+-- a call that was made took its answers from the front of those that were left
+pub made-queued : (old new : State) (call : MemoryCall) (made : Option Outcome) → IfSome made (λ outcome. MemorySteps old.zone call new.asks outcome new.zone) → taken new.asks new.left ≡ old.left → OutOfAnswers new.asks new.left → new.loans ≡ old.loans → KeepsLoans old.zone new.zone
+    → IfSome made (λ outcome. Makes old call outcome new)
+made-queued old new call (Some outcome) steps took out loans keeps = (exact-queued old.zone.shape old.zone.heap call outcome new.zone.heap new.asks new.left old.left steps.1 took out, steps.2, loans, stays_lent keeps)
+made-queued old new call None steps took out loans keeps = tt
+
+-- the state of these parts
+abbrev state : ZoneState → Loans → List Answer → List Ask → State
+state zone loans left asks = record { zone = zone; loans = loans; left = left; asks = asks }
+
+-- a call that wasn't made changed nothing but what was asked
+pub not-made : (zone new : ZoneState) (loans : Loans) (source left : List Answer) (before asks : List Ask) (made : Option Outcome) → IfNone made (new ≡ zone) → IfNone made (asks ≡ []) → taken asks left ≡ source
+    → IfNone made (state new loans left asks ≡ with_no_asks (state zone loans source before))
+not-made zone new loans source left before asks (Some outcome) same unasked took = tt
+not-made zone new loans source left before asks None same unasked took =
+    ap (λ (z : ZoneState). state z loans left asks) same
+    ∙ ap (λ (made_asks : List Ask). state zone loans left made_asks) unasked
+    ∙ ap (λ (front : List Answer). state zone loans front []) (ap (λ (made_asks : List Ask). taken made_asks left) (sym unasked) ∙ took)

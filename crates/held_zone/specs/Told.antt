@@ -1,5 +1,5 @@
 -- What C is told of a call.
-use Rattle.std.specs.Prelude.{◌≡◌, ℕ, ℤ, pos, List, [], Result, Bool, true, false, Option, Some, None, Ok, Err, unwrap_or}
+use Rattle.std.specs.Prelude.{◌≡◌, ℕ, ℤ, pos, List, [], Result, Option, Some, None, Ok, Err, unwrap_or}
 use Rattle.mac_base.specs.Codes.{code_of, minus}
 use Rattle.mac_base.specs.declared.error.OsErr.{OsErr}
 use Rattle.held_loans.specs.declared.window.Window.{Window}
@@ -9,47 +9,12 @@ use Rattle.mac_base.specs.ZoneState.{ZoneState}
 use Rattle.mac_calls.specs.declared.loan_call.LoanCall.{LoanCall}
 use Rattle.mac_calls.specs.declared.loan_call.LoanCall.TheVariants.{Return}
 use Rattle.mac_calls.specs.declared.memory_call.MemoryCall.{MemoryCall}
-use Rattle.mac_calls.specs.declared.memory_call.MemoryCall.TheVariants as memory_call
 use Rattle.mac_calls.specs.declared.reply.Results.{Results}
 use Rattle.mac_calls.specs.declared.reply.Results.TheVariants.{Handle, Pointer, Address, Number, TwoNumbers, Bytes}
 use Rattle.mac_calls.specs.ExactStep.{exact_step}
 use Rattle.mac_calls.specs.Loans.{Loans, LoanStep, loan_refusal}
 use Rattle.mac_calls.specs.Outcomes.{Outcome}
 use Rattle.held_zone.specs.State.{State, with_no_asks}
-
--- whether a call neither shows nor is given bytes or blocks
-abbrev pub is_plain : MemoryCall → Bool
-is_plain (memory_call.Peek block offset count) = false
-is_plain (memory_call.Poke block offset bytes) = false
-is_plain memory_call.ZoneMap = false
-is_plain _ = true
-
--- whether such a call needs no more room in the zone
-abbrev pub is_quiet : MemoryCall → Bool
-is_quiet (memory_call.NewHandle size) = false
-is_quiet memory_call.NewEmptyHandle = false
-is_quiet (memory_call.NewPtr size) = false
-is_quiet (memory_call.SetHandleSize handle size) = false
-is_quiet (memory_call.SetPtrSize pointer size) = false
-is_quiet (memory_call.ReallocateHandle handle size) = false
-is_quiet (memory_call.ReserveMem size) = false
-is_quiet memory_call.MoreMasters = false
-is_quiet (memory_call.HandToHand handle) = false
-is_quiet (memory_call.PtrToHand pointer count) = false
-is_quiet (memory_call.PtrToXHand pointer handle count) = false
-is_quiet (memory_call.PtrAndHand pointer handle count) = false
-is_quiet (memory_call.HandAndHand one other) = false
-is_quiet call = is_plain call
-
--- whether a call changes nothing, and shows no bytes or blocks
-abbrev pub only_looks : MemoryCall → Bool
-only_looks (memory_call.GetHandleSize handle) = true
-only_looks (memory_call.GetPtrSize pointer) = true
-only_looks (memory_call.HGetState handle) = true
-only_looks memory_call.FreeMem = true
-only_looks (memory_call.RecoverHandle address) = true
-only_looks (memory_call.Deref handle) = true
-only_looks _ = false
 
 -- the code by which C is told that there is no zone: paramErr
 abbrev pub no_zone : ℤ

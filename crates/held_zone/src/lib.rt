@@ -1,9 +1,6 @@
 //! The zone that a program in C holds: what is behind it, the calls on it, and what C is told of them.
 #![tactic(auto)]
 
-pub mod answers;
-mod bytes;
-mod calls;
 mod lent;
 mod parked;
 pub mod session;

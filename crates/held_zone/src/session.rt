@@ -1,25 +1,29 @@
 //! What is behind a zone that C holds.
 
-ghost use Rattle.std.specs.Prelude.{◌≡◌, [], IsTrue};
+ghost use Rattle.std.specs.Prelude.{◌≡◌, []};
 
-use crate::answers::{Answers, MadeAsk, Queued};
-use crate::{bytes, calls, lent};
+use crate::lent;
 use held_loans::lending;
 use held_loans::loans::Loans;
 use held_loans::window::Window;
 use mac_base::block::Block;
 use mac_base::error::{HostFull, OsErr};
 use mac_base::zone_spec::ZoneSpec;
-use mac_calls::{MemoryCall, Outcome};
+use mac_calls::{Answer, MemoryCall, Outcome};
+use made_calls::answers::{AnswerQueue, MOST_ASKS, MadeAsk};
+use made_calls::{bytes, making};
 use mem_calls::MemoryManager;
 use std::alloc::Global;
 use std::marker::Model;
+
+/// How many answers may wait.
+const MOST_WAITING: usize = 16;
 
 /// The Memory Manager with its zone, the loans that C has of it, and the answers of its grow-zone procedure.
 pub struct Session {
     memory: MemoryManager,
     loans: Loans,
-    answers: Answers,
+    answers: AnswerQueue<MOST_WAITING>,
 }
 
 impl Model for Session {
@@ -47,7 +51,7 @@ impl Drop for Session {
 }
 
 impl Session {
-    ghost use Rattle.std.specs.Prelude.{◌<◌, ◌++◌, ◌∷◌, length, IfOk, IfErr, OnOk, OnErr};
+    ghost use Rattle.std.specs.Prelude.{◌<◌, ◌++◌, ◌∷◌, not, length, is_some, IfOk, IfErr, IfSome, IfNone, OnOk, OnErr};
     ghost use Rattle.std.specs.Result.{result_err};
     ghost use Rattle.linked_zone.specs.Image.{IsImage};
     ghost use Rattle.mac_base.specs.declared.error.OsErr.TheVariants.{MemLockedErr};
@@ -56,17 +60,17 @@ impl Session {
     ghost use Rattle.mac_calls.specs.declared.loan_call.LoanCall.TheVariants as loan_call;
     ghost use Rattle.mac_calls.specs.declared.memory_call.MemoryCall.TheVariants as call;
     ghost use Rattle.mac_calls.specs.Loans.{loan_refusal};
-    ghost use Rattle.mac_calls.specs.Outcomes.{done_outcome};
+    ghost use Rattle.made_calls.specs.Making.{copies};
     ghost use Rattle.held_loans.specs.Holding.{IsWindow};
     ghost use Rattle.held_zone.specs.State.{IsNew, queue_refusal, with_no_asks};
-    ghost use Rattle.held_zone.specs.Told.{Makes, MakesLoan, is_plain, shown_outcome};
+    ghost use Rattle.held_zone.specs.Told.{Makes, MakesLoan, shown_outcome};
 
     /// A new zone. Nothing is lent, no answer waits, and nothing was asked.
     pub fn create(alloc: Global, spec: ZoneSpec) -> Result<Box<Session>, HostFull>
         ensures { IfOk result (λ session. IsNew spec session.value) }
     {
+        let answers = AnswerQueue::with_room(alloc)?;
         let memory = MemoryManager::create(alloc, spec)?;
-        let answers = Answers::none();
         let session = Session {
             memory,
             loans: Loans::new(),
@@ -75,14 +79,17 @@ impl Session {
         Ok(Box::new(alloc, session)?)
     }
 
-    /// Makes a call; one that finds no room takes the answers that are left.
-    pub fn make(&mut self, call: &MemoryCall<'_>) -> Outcome
-        requires { IsTrue (is_plain call.now) }
-        ensures { Makes self.old call.now result self.new }
+    /// Makes a call; one that finds no room takes the answers that are left. For a call that gives a copy of what the
+    /// zone has it returns none, and only what was asked is forgotten.
+    pub fn make(&mut self, call: &MemoryCall<'_>) -> Option<Outcome>
+        ensures makes { IfSome result (λ outcome. Makes self.old call.now outcome self.new) }
+        ensures plain { is_some result ≡ not (copies call.now) }
+        ensures unmade { IfNone result (self.new ≡ with_no_asks self.old) }
     {
         self.answers.begin();
-        let outcome = calls::make(&mut self.memory, call, &mut self.answers);
-        self.answers.end();
+        let outcome = making::make_plain(&mut self.memory, call, &mut self.answers);
+        // What was asked says whether answers are left.
+        prove!(self.answers.asks().len() <= MOST_ASKS);
         outcome
     }
 
@@ -93,16 +100,9 @@ impl Session {
         ensures kept { OnErr result (bytes.new ≡ bytes.old) }
     {
         self.answers.begin();
-        bytes::peek(&self.memory, block, offset, bytes)
-    }
-
-    /// Poke: copies bytes over those of a block, from an offset on.
-    #[tactic(auto, using(crate::proofs::Made::stays_lent, crate::proofs::Made::same_lent))]
-    pub fn poke(&mut self, block: u32, offset: u32, bytes: &[u8]) -> Result<(), OsErr>
-        ensures { Makes self.old (call.Poke block offset bytes.now) (done_outcome result) self.new }
-    {
-        self.answers.begin();
-        bytes::poke(&mut self.memory, block, offset, bytes)
+        let shown = bytes::peek(&self.memory, block, offset, bytes.len())?;
+        bytes.copy_from_slice(shown);
+        Ok(())
     }
 
     /// Lend: C has the bytes of a pointer's or a locked handle's block, until it gives them back.
@@ -172,12 +172,16 @@ impl Session {
     }
 
     /// Queues an answer behind the others: nothing is asked then. Sixteen may wait.
-    pub fn queue(&mut self, answer: Queued) -> Result<(), OsErr>
+    pub fn queue(&mut self, answer: Answer) -> Result<(), OsErr>
         ensures queued { OnOk result (self.new ≡ record { zone = self.old.zone; loans = self.old.loans; left = self.old.left ++ answer ∷ []; asks = [] }) }
         ensures refusal { result_err result ≡ queue_refusal self.old }
         ensures unchanged { OnErr result (self.new ≡ self.old) }
     {
-        self.answers.push(answer)
+        if self.answers.is_full() {
+            return Err(OsErr::ParamErr);
+        }
+        self.answers.push_within(answer);
+        Ok(())
     }
 
     /// How often the last call asked.

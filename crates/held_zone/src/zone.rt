@@ -1,6 +1,6 @@
 //! A zone that C holds.
 
-ghost use Rattle.std.specs.Prelude.{◌≡◌, Option, Some, None, IsTrue};
+ghost use Rattle.std.specs.Prelude.{◌≡◌, Option, Some, None, IsTrue, IsFalse};
 ghost use Rattle.std.specs.Option.{option_map};
 ghost use Rattle.held_zone.specs.Held.{is_there};
 ghost use Rattle.held_zone.specs.State.{State};
@@ -126,22 +126,23 @@ impl MhZone {
 }
 
 impl MhZone {
-    ghost use Rattle.held_zone.specs.Told.{Called, Told, ToldNumber, ToldNumbers, is_plain};
+    ghost use Rattle.made_calls.specs.Making.{copies};
+    ghost use Rattle.held_zone.specs.Told.{Called, Told, ToldNumber, ToldNumbers};
 
     /// Makes a call of the Memory Manager, where there is a zone.
     pub fn call(&mut self, alloc: Global, call: &MemoryCall<'_>) -> Option<Outcome>
-        requires { IsTrue (is_plain call.now) }
+        requires { IsFalse (copies call.now) }
         ensures { Called self.old.held.session call.now result self.new.held.session }
     {
         let mut session = self.take(alloc)?;
         let outcome = session.make(call);
         self.put(session);
-        Some(outcome)
+        outcome
     }
 
     /// Makes a call, and tells its code.
     pub fn code(&mut self, alloc: Global, call: &MemoryCall<'_>) -> i16
-        requires { IsTrue (is_plain call.now) }
+        requires { IsFalse (copies call.now) }
         ensures { Told self.old.held.session call.now result self.new.held.session }
     {
         told::code(&self.call(alloc, call))
@@ -149,7 +150,7 @@ impl MhZone {
 
     /// Makes a call, tells its code, and writes its number, where it gives one.
     pub fn number(&mut self, alloc: Global, call: &MemoryCall<'_>, number: &mut u32) -> i16
-        requires { IsTrue (is_plain call.now) }
+        requires { IsFalse (copies call.now) }
         ensures { ToldNumber self.old.held.session call.now result number.old number.new self.new.held.session }
     {
         told::number(&self.call(alloc, call), number)
@@ -163,7 +164,7 @@ impl MhZone {
         first: &mut u32,
         second: &mut u32,
     ) -> i16
-        requires { IsTrue (is_plain call.now) }
+        requires { IsFalse (copies call.now) }
         ensures { ToldNumbers self.old.held.session call.now result (first.old, second.old) (first.new, second.new) self.new.held.session }
     {
         told::numbers(&self.call(alloc, call), first, second)

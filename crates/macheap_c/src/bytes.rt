@@ -6,6 +6,7 @@ ghost use Rattle.held_zone.specs.Told.{Told, ToldBytes};
 
 use held_zone::told::{self, NO_ZONE};
 use held_zone::zone::MhZone;
+use mac_calls::{MemoryCall, Span};
 use std::alloc::Global;
 
 /// Copies `bytes.len()` bytes of a block, from an offset on, to C.
@@ -38,10 +39,13 @@ pub extern "C" fn mh_poke(
 ) -> i16
     ensures { Told zone.old.held.session (call.Poke block offset bytes.now) result zone.new.held.session }
 {
-    let Some(mut session) = zone.take(alloc) else {
-        return NO_ZONE;
-    };
-    let done = session.poke(block, offset, bytes);
-    zone.put(session);
-    told::done(done)
+    let bytes = Span::new(bytes);
+    zone.code(
+        alloc,
+        &MemoryCall::Poke {
+            block,
+            offset,
+            bytes,
+        },
+    )
 }

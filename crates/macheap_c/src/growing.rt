@@ -5,16 +5,23 @@ ghost use Rattle.std.specs.List.{list_all, slice_get};
 ghost use Rattle.mac_calls.specs.GrowZone.{Ask};
 ghost use Rattle.macheap_c.specs.Growing.{AnswerTold, IsShown, answer_of, ask_at, asks_made, carried_at, carried_for, is_known, release_of, shown_ask, shown_carried};
 
-use held_zone::answers::{Carried, MadeAsk, Queued};
 use held_zone::told::{self, NO_ZONE};
 use held_zone::zone::MhZone;
 use mac_base::error::{NO_ERR, OsErr};
 use mac_base::handle::{Handle, Ptr};
 use mac_base::releasing::ReleasingCall;
+use mac_calls::Answer;
+use made_calls::answers::{Carried, MadeAsk};
 use std::alloc::Global;
 
-/// The kind of a call of an answer with the largest number.
-const LAST_KIND: u32 = 3;
+/// The kind of a call DisposeHandle of an answer.
+const DISPOSE_HANDLE: u32 = 1;
+
+/// That of a DisposePtr.
+const DISPOSE_PTR: u32 = 2;
+
+/// That of an EmptyHandle, the last of the kinds. Where there is no call, the kind is 0.
+const EMPTY_HANDLE: u32 = 3;
 
 /// A call of an answer, or none: its kind (0 none, 1 DisposeHandle, 2 DisposePtr, 3 EmptyHandle) and its operand.
 #[repr(C)]
@@ -78,7 +85,7 @@ pub extern "C" fn mh_queue_answer(alloc: Global, zone: &mut MhZone, answer: &MhA
 }
 
 /// The answer that C gives, if all its places are of known kinds.
-fn queued(answer: &MhAnswer) -> Option<Queued>
+fn queued(answer: &MhAnswer) -> Option<Answer>
     ensures { result ≡ answer_of answer.now }
 {
     let MhAnswer {
@@ -105,14 +112,14 @@ fn queued(answer: &MhAnswer) -> Option<Queued>
         release(seventh),
         release(eighth),
     ];
-    Some(Queued::new(calls, value))
+    Some(Answer::new(calls, value))
 }
 
 /// Whether all these places are of known kinds.
 fn are_known(places: &[MhRelease]) -> bool
     ensures { result ≡ list_all is_known places.now }
 {
-    places.iter().all(|place| place.kind <= LAST_KIND)
+    places.iter().all(|place| place.kind <= EMPTY_HANDLE)
 }
 
 /// The call at a place of an answer, if it has one.
@@ -120,9 +127,9 @@ fn release(place: MhRelease) -> Option<ReleasingCall>
     ensures { result ≡ release_of place }
 {
     match place.kind {
-        1 => Some(ReleasingCall::DisposesHandle(Handle::new(place.operand))),
-        2 => Some(ReleasingCall::DisposesPtr(Ptr::new(place.operand))),
-        3 => Some(ReleasingCall::Empties(Handle::new(place.operand))),
+        DISPOSE_HANDLE => Some(ReleasingCall::DisposesHandle(Handle::new(place.operand))),
+        DISPOSE_PTR => Some(ReleasingCall::DisposesPtr(Ptr::new(place.operand))),
+        EMPTY_HANDLE => Some(ReleasingCall::Empties(Handle::new(place.operand))),
         _ => None,
     }
 }
@@ -231,9 +238,9 @@ fn shown_carried(carried: &Carried) -> MhCarried
     ensures { result ≡ shown_carried carried.now }
 {
     let (kind, operand) = match carried.call() {
-        ReleasingCall::DisposesHandle(handle) => (1, handle.number()),
-        ReleasingCall::DisposesPtr(pointer) => (2, pointer.number()),
-        ReleasingCall::Empties(handle) => (3, handle.number()),
+        ReleasingCall::DisposesHandle(handle) => (DISPOSE_HANDLE, handle.number()),
+        ReleasingCall::DisposesPtr(pointer) => (DISPOSE_PTR, pointer.number()),
+        ReleasingCall::Empties(handle) => (EMPTY_HANDLE, handle.number()),
     };
     let code = match carried.code() {
         None => NO_ERR,

@@ -10,6 +10,15 @@ use mac_base::block::{Block, Entry, Flags, Kind};
 use mac_base::error::{NO_ERR, OsErr};
 use std::alloc::Global;
 
+/// The flag of a block that is locked.
+const LOCK: u32 = 128;
+
+/// That of one that may be purged.
+const PURGE: u32 = 64;
+
+/// That of one that has the contents of a resource.
+const RESOURCE: u32 = 32;
+
 /// A block: its header's address, its physical size, its kind (0 free, 1 master, 2 nonrelocatable, 3 relocatable), the
 /// pointer or handle whose block it is, and the bytes of contents and the flags that this one has.
 #[repr(C)]
@@ -92,8 +101,8 @@ fn kind_and_owner(kind: Kind) -> (u32, u32)
 fn state_of(flags: Flags) -> u32
     ensures { result ≡ state_of flags }
 {
-    let lock = if flags.lock { 128 } else { 0 };
-    let purge = if flags.purge { 64 } else { 0 };
-    let resource = if flags.resource { 32 } else { 0 };
+    let lock = if flags.lock { LOCK } else { 0 };
+    let purge = if flags.purge { PURGE } else { 0 };
+    let resource = if flags.resource { RESOURCE } else { 0 };
     lock + purge + resource
 }

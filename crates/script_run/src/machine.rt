@@ -99,7 +99,13 @@ impl<S: ForkStore> Machine<S> {
         let call = resolve(line, &self.variables);
         let reply = self.toolbox.step_queued(&call, &mut self.answers)?;
         assign(&mut self.variables, line.assigned, first_number(&reply))?;
-        render(text, number, line.call, &reply, self.answers.asked())
+        render(
+            text,
+            number,
+            line.call,
+            &reply,
+            self.answers.asked().as_slice(),
+        )
     }
 }
 

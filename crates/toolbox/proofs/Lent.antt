@@ -11,7 +11,7 @@ use Rattle.call_laws.proofs.LentSteps.{step_keeps_lent}
 use Rattle.held_loans.specs.Holding.{Holds}
 use Rattle.held_loans.specs.declared.loans.Held.{Held}
 use Rattle.held_loans.proofs.Holding.{Holds-kept}
-use Rattle.toolbox.specs.Steps.{MemorySteps}
+use Rattle.made_calls.specs.Making.{MemorySteps}
 
 -- what is lent stays what is held over a call of the Memory Manager
 pub Holds-stepped : (old new : ZoneState) (held : List Held) (call : MemoryCall) (asks : List Ask) (result : Result Outcome HostFull) → IfOk result (λ outcome. MemorySteps old call asks outcome new) → OnErr result (new ≡ old) → KeepsLoans old new → Holds old held → Holds new held

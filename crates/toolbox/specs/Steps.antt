@@ -1,15 +1,12 @@
 -- What a call of the toolbox does.
-use Rattle.std.specs.Prelude.{◌≡◌, Bool, true, false, not, List, [], ◌++◌, length, Option, None, Ok, OnOk}
+use Rattle.std.specs.Prelude.{◌≡◌, Bool, true, false, List, [], ◌++◌, length, Option, None, Ok, OnOk}
 use Rattle.std.specs.Result.{result_err}
 use Rattle.mac_base.specs.declared.error.OsErr.{OsErr}
-use Rattle.mac_base.specs.ZoneState.{ZoneState}
 use Rattle.mac_calls.specs.declared.call.Call.{Call}
 use Rattle.mac_calls.specs.declared.call.Call.TheVariants.{Memory, Loan, Resource, MemError, ResError}
 use Rattle.mac_calls.specs.declared.loan_call.LoanCall.{LoanCall}
 use Rattle.mac_calls.specs.declared.loan_call.LoanCall.TheVariants as loan_call
 use Rattle.mac_calls.specs.Loans.{LoanStep, loan_refusal}
-use Rattle.mac_calls.specs.declared.memory_call.MemoryCall.{MemoryCall}
-use Rattle.mac_calls.specs.declared.memory_call.MemoryCall.TheVariants as memory_call
 use Rattle.mac_calls.specs.declared.reply.Results.TheVariants.{Code}
 use Rattle.mac_calls.specs.declared.resource_call.ResourceCall.{ResourceCall}
 use Rattle.mac_calls.specs.ExactStep.{IsExactStep, exact_step}
@@ -19,6 +16,7 @@ use Rattle.mac_calls.specs.Outcomes.{Outcome}
 use Rattle.mac_calls.specs.Released.{disposed_of}
 use Rattle.mac_calls.specs.Tests.{refusal}
 use Rattle.fork_disk.specs.declared.store.ForkStore.{Ghosts}
+use Rattle.made_calls.specs.Making.{copies}
 use Rattle.res_calls.specs.Answered.{AnswersStep, IsAnswered}
 use Rattle.res_calls.specs.Steps.{MemoryRelation, work_of, Memory as MayStep, ReadsBack, update_in}
 use Rattle.res_calls.specs.Tests.{resource_refusal}
@@ -26,11 +24,6 @@ use Rattle.res_files.specs.FilesOn.{FailedAt, NoneFailed}
 use Rattle.res_manager.specs.Crash.{CrashLeaves, IsSettled, file_settled}
 use Rattle.res_manager.specs.Steps.{takes_memory as resource_takes_memory}
 use Rattle.toolbox.specs.ToolState.{ToolState, IsHonest, resource_state, without_handles}
-
--- From the old zone, the call with these asks may have this outcome and leave the new zone: it is a memory step, and just that
--- which is made where the procedure gives the answers that it gave.
-abbrev pub MemorySteps : ZoneState → MemoryCall → List Ask → Outcome → ZoneState → Type 0
-MemorySteps old call asks outcome new = MemoryStep old.shape old.heap call asks outcome new.heap × IsExactStep old.shape old.heap call asks outcome new.heap × (new.shape ≡ old.shape)
 
 -- What a call of the Resource Manager gives and does, by what the devices answered, where those of the Memory Manager step so.
 abbrev pub ResourceGives : {S : Type 0} → Ghosts S → MemoryRelation → ToolState S → ResourceCall → List Ask → Outcome → ToolState S → Type 0
@@ -95,34 +88,6 @@ Unchanged store old (Resource call) new = (new ≡ record old { resources = new.
     × (IsHonest store new → IsHonest store old) × (length new.resources.stores ≡ length old.resources.stores)
     × (IsHonest store new → CrashLeaves store None old.resources.stores new.resources.stores)
 Unchanged store old call new = new ≡ old
-
--- whether a call gives a copy of what the zone has
-abbrev pub copies : MemoryCall → Bool
-copies (memory_call.Peek block offset count) = true
-copies memory_call.ZoneMap = true
-copies _ = false
-
--- whether a call neither shows nor is given bytes or blocks
-abbrev pub is_plain : MemoryCall → Bool
-is_plain (memory_call.Poke block offset bytes) = false
-is_plain call = not (copies call)
-
--- whether such a call needs no more room in the zone
-abbrev pub is_quiet : MemoryCall → Bool
-is_quiet (memory_call.NewHandle size) = false
-is_quiet memory_call.NewEmptyHandle = false
-is_quiet (memory_call.NewPtr size) = false
-is_quiet (memory_call.SetHandleSize handle size) = false
-is_quiet (memory_call.SetPtrSize pointer size) = false
-is_quiet (memory_call.ReserveMem size) = false
-is_quiet memory_call.MoreMasters = false
-is_quiet (memory_call.ReallocateHandle handle size) = false
-is_quiet (memory_call.HandToHand handle) = false
-is_quiet (memory_call.PtrToHand pointer count) = false
-is_quiet (memory_call.PtrToXHand pointer handle count) = false
-is_quiet (memory_call.PtrAndHand pointer handle count) = false
-is_quiet (memory_call.HandAndHand one other) = false
-is_quiet call = is_plain call
 
 -- whether a call on a loan gives a copy of its bytes
 abbrev pub shows : LoanCall → Bool

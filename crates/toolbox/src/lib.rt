@@ -2,9 +2,9 @@
 #![tactic(auto)]
 
 mod lending;
-mod memory;
-mod queue;
 mod toolbox;
 
-pub use queue::AnswerQueue;
 pub use toolbox::Toolbox;
+
+/// The answers of the grow-zone procedure that a script has queued.
+pub type AnswerQueue = made_calls::answers::AnswerQueue<0>;

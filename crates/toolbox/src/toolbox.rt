@@ -4,15 +4,17 @@ ghost use Rattle.std.specs.Prelude.{◌≡◌, [], None, IfOk, OnErr, IsTrue};
 ghost use Rattle.linked_zone.specs.Loans.{KeepsLoans};
 ghost use Rattle.mac_calls.specs.Tests.{refusal};
 ghost use Rattle.mac_calls.specs.Released.{disposed_itself};
-ghost use Rattle.toolbox.specs.Steps.{MemorySteps, copies, refused_after, resource_refused_after};
+ghost use Rattle.made_calls.specs.Making.{MemorySteps, copies};
+ghost use Rattle.toolbox.specs.Steps.{refused_after, resource_refused_after};
 
-use crate::queue::AnswerQueue;
-use crate::{lending, memory};
+use crate::{AnswerQueue, lending};
 use fork_disk::store::ForkStore;
 use held_loans::loans::Loans;
 use mac_base::error::{HostFull, OsErr};
 use mac_base::handle::Handle;
 use mac_calls::{Call, GrowZone, MemoryCall, Outcome, Reply, ResourceCall, Results};
+use made_calls::answers::MOST_ASKS;
+use made_calls::making;
 use mem_calls::MemoryManager;
 use res_files::ResourceFiles;
 use res_manager::watch::Watched;
@@ -205,7 +207,8 @@ impl<S: ForkStore> Toolbox<S> {
     {
         queue.begin();
         let reply = self.step(call, queue);
-        queue.end();
+        // What was asked says whether answers are left.
+        prove!(queue.asks().len() <= MOST_ASKS);
         reply
     }
 
@@ -246,7 +249,7 @@ fn make_watched<G: GrowZone>(
     ensures full { OnErr result (IsTrue (copies call.now)) }
     ensures late { OnErr result (refusal memory.old.shape memory.old.heap call.now ≡ None) }
 {
-    memory::make(memory, alloc, call, watched)
+    making::make(memory, alloc, call, watched)
 }
 
 /// The handle that a call of the Memory Manager disposed of itself, if it did.
