@@ -1,12 +1,12 @@
 -- AppleSingle and AppleDouble: a header of 26 bytes, a list of entries of 12 bytes each, and the bytes of the entries.
-use Rattle.std.specs.Prelude.{ℕ, zero, suc, ◌+◌, ◌*◌, ◌==◌, nat_le, ◌||◌, if◌then◌else◌, Bool, List, [], ◌∷◌, take, drop, find, Option, None, Some, option_map, option_and_then}
+use Rattle.std.specs.Prelude.{ℕ, zero, suc, ◌+◌, ◌*◌, ◌==◌, nat_le, ◌||◌, if◌then◌else◌, not, Bool, List, [], ◌∷◌, length, take, drop, find, Option, None, Some, option_map, option_and_then}
 use Rattle.byteorder.specs.Endian.{big_from}
 use Rattle.mac_files.specs.declared.part.Part.{Part}
 use Rattle.mac_files.specs.declared.fault.Entry.{Entry}
 use Rattle.mac_files.specs.declared.contents.FinderInfo.{FinderInfo}
 use Rattle.mac_files.specs.declared.contents.Dates.{Dates}
 use Rattle.mac_files.specs.declared.contents.Contents.{Contents}
-use Rattle.mac_files.specs.Parts.{has_bytes}
+use Rattle.mac_files.specs.Parts.{has_bytes, lies_within}
 
 -- the version, and whether it is known
 abbrev pub version : List ℕ → ℕ
@@ -38,6 +38,10 @@ entries_from file at (suc count) = entry_at file at ∷ entries_from file (at + 
 -- the entries of the list
 abbrev pub entries_of : List ℕ → List Entry
 entries_of file = entries_from file 26 (entry_count file)
+
+-- the first entry that has bytes outside the file
+abbrev pub entry_outside : List ℕ → Option Entry
+entry_outside file = find (λ (e : Entry). not (lies_within (length file) e.part)) (entries_of file)
 
 -- the bytes of the first entry with an id, if it has any
 abbrev pub part_of : ℕ → List ℕ → Option Part

@@ -3,11 +3,11 @@ use Rattle.std.specs.Prelude.{ℕ, ◌*◌, ◌-◌, nat_lt, if◌then◌else◌
 use Rattle.std.specs.Fn.{iterate}
 
 -- the remainder after one more bit: where a bit leaves at the top, the polynomial is taken away
-abbrev pub with_bit : ℕ → ℕ
+unfoldable pub with_bit : ℕ → ℕ
 with_bit crc = if nat_lt crc 0x8000 then crc * 2 else bit_xor ((crc - 0x8000) * 2) 0x1021
 
 -- the remainder after one more byte
-abbrev pub with_byte : ℕ → ℕ → ℕ
+unfoldable pub with_byte : ℕ → ℕ → ℕ
 with_byte crc byte = iterate with_bit 8 (bit_xor crc (byte * 256))
 
 -- the checksum of bytes

@@ -1,5 +1,5 @@
 -- Why a container isn't read: each fault with its condition, and their order.
-use Rattle.std.specs.Prelude.{ℕ, ◌+◌, ◌==◌, nat_lt, if◌then◌else◌, not, List, length, take, find, Option, None, Some, option_map}
+use Rattle.std.specs.Prelude.{ℕ, ◌+◌, ◌==◌, nat_lt, if◌then◌else◌, List, length, take, Option, None, Some, option_map}
 use Rattle.std.specs.Option.{option_or}
 use Rattle.byteorder.specs.Endian.{big_from}
 use Rattle.mac_files.specs.declared.part.Part.{Part}
@@ -12,7 +12,7 @@ use Rattle.mac_files.specs.declared.fault.ContainerFault.{ContainerFault}
 use Rattle.mac_files.specs.declared.fault.ContainerFault.TheVariants.{EndsInHeader, UnknownVersion, EntriesOutside, EntryOutside, ChecksumDiffers, ForkOutside}
 use Rattle.mac_files.specs.Parts.{lies_within}
 use Rattle.mac_files.specs.Crc.{crc_of}
-use Rattle.mac_files.specs.Apple.{version, is_known, entry_count, list_end, entries_of}
+use Rattle.mac_files.specs.Apple.{version, is_known, entry_count, list_end, entry_outside}
 use Rattle.mac_files.specs.MacBinary.{data_fork, resource_fork}
 
 -- the file has fewer bytes than the header
@@ -29,8 +29,7 @@ list_fault file = if nat_lt (length file) (list_end file) then Some (EntriesOuts
 
 -- an entry has bytes outside the file: the first of the list
 abbrev pub entry_fault : List ℕ → Option ContainerFault
-entry_fault file = option_map (λ (e : Entry). EntryOutside e (length file))
-    (find (λ (e : Entry). not (lies_within (length file) e.part)) (entries_of file))
+entry_fault file = option_map (λ (e : Entry). EntryOutside e (length file)) (entry_outside file)
 
 -- the first fault of AppleSingle or AppleDouble
 abbrev pub apple_fault : List ℕ → Option ContainerFault

@@ -10,20 +10,20 @@ use Rattle.mac_files.specs.declared.contents.Contents.{Contents}
 use Rattle.mac_files.specs.Parts.{has_bytes}
 
 -- what all versions have: a header of 128 bytes with zeros at 0, 74 and 82, and a name of 1 to 63 bytes, whose length is at 1
-abbrev pub has_form : List ℕ → Bool
+unfoldable pub has_form : List ℕ → Bool
 has_form file = nat_le 128 (length file) && (slice_index file 0 == 0) && (slice_index file 74 == 0) && (slice_index file 82 == 0)
     && nat_le 1 (slice_index file 1) && nat_le (slice_index file 1) 63
 
 -- version III has a signature
-abbrev pub says_three : List ℕ → Bool
+unfoldable pub says_three : List ℕ → Bool
 says_three file = starts_with nat_eq (drop 102 file) (codes "mBIN")
 
 -- version II has the version that wrote it, from 129 on, and 129 as the least that reads it
-abbrev pub says_two : List ℕ → Bool
+unfoldable pub says_two : List ℕ → Bool
 says_two file = nat_le 129 (slice_index file 122) && (slice_index file 123 == 129)
 
 -- version I has zeros from 101 to 125, and no fork of more than $7FFFFF bytes
-abbrev pub says_one : List ℕ → Bool
+unfoldable pub says_one : List ℕ → Bool
 says_one file = list_all (λ byte. byte == 0) (slice_range file 101 126)
     && nat_le (big_from 83 4 file) 0x7FFFFF && nat_le (big_from 87 4 file) 0x7FFFFF
 
@@ -54,12 +54,16 @@ header_finder file = record {
   flags = 256 * slice_index file 73 + slice_index file 101;
 }
 
+-- the name, unless it is too long
+abbrev pub header_name : List ℕ → Option Part
+header_name file = if nat_le (slice_index file 1) 63 then has_bytes (record { offset = 2; length = slice_index file 1 }) else None
+
 -- what the header tells
 abbrev pub mac_binary_contents : List ℕ → Contents
 mac_binary_contents file = record {
   resource_fork = has_bytes (resource_fork file);
   data_fork = has_bytes (data_fork file);
-  name = has_bytes (record { offset = 2; length = slice_index file 1 });
+  name = header_name file;
   finder = Some (header_finder file);
   dates = Some (record { created = big_from 91 4 file; modified = big_from 95 4 file });
 }

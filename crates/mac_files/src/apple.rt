@@ -1,8 +1,9 @@
 //! AppleSingle and AppleDouble: a header, a list of entries, and the bytes of each. The entries come in any order.
 
-ghost use Rattle.std.specs.Prelude.{◌≡◌, ◌≤◌, ◌+◌, ◌*◌, length, IfOk, OnOk, None};
+ghost use Rattle.std.specs.Prelude.{◌≡◌, ◌≤◌, ◌+◌, ◌*◌, length, IfOk, IfSome, OnOk, None, true};
 ghost use Rattle.std.specs.Result.{result_err};
-ghost use Rattle.mac_files.specs.Apple.{apple_contents, dates_in, entry_at, entry_count, finder_in, part_of};
+ghost use Rattle.mac_files.specs.Apple.{apple_contents, dates_in, entry_at, entry_count, entry_outside, finder_in, part_of};
+ghost use Rattle.mac_files.specs.Parts.{lies_within, AreWithin};
 ghost use Rattle.mac_files.specs.Faults.{apple_fault, entry_fault, list_fault, version_fault};
 
 use crate::check::check_header;
@@ -77,13 +78,16 @@ fn check_list(file: &[u8]) -> Result<(), ContainerFault>
 }
 
 /// Checks that each entry lies within the file.
+#[tactic(auto, using(crate::proofs::Steps::entries_step))]
 fn check_entries(file: &[u8]) -> Result<(), ContainerFault>
     requires header { 26 ≤ length file.now }
     requires list { 26 + 12 * entry_count file.now ≤ length file.now }
-    ensures { result_err result ≡ entry_fault file.now }
+    ensures fault { result_err result ≡ entry_fault file.now }
+    ensures within { OnOk result (entry_outside file.now ≡ None) }
 {
     let length = file.len();
-    for index in 0..entry_count(file) as usize {
+    let count = entry_count(file) as usize;
+    for index in 0..count {
         let entry = entry_at(file, HEADER_LENGTH + ENTRY_LENGTH * index);
         if !entry.part.lies_within(length) {
             return Err(ContainerFault::EntryOutside { entry, length });
@@ -97,7 +101,7 @@ fn check(file: &[u8]) -> Result<(), ContainerFault>
     ensures fault { result_err result ≡ apple_fault file.now }
     ensures header { OnOk result (26 ≤ length file.now) }
     ensures list { OnOk result (26 + 12 * entry_count file.now ≤ length file.now) }
-    ensures entries { OnOk result (entry_fault file.now ≡ None) }
+    ensures entries { OnOk result (entry_outside file.now ≡ None) }
 {
     check_header(HEADER_LENGTH, file)?;
     check_version(file)?;
@@ -106,12 +110,16 @@ fn check(file: &[u8]) -> Result<(), ContainerFault>
 }
 
 /// The bytes of the first entry with an id.
+#[tactic(auto, using(crate::proofs::Steps::entries_step))]
 fn part_of(file: &[u8], id: u32) -> Option<Part>
     requires header { 26 ≤ length file.now }
     requires list { 26 + 12 * entry_count file.now ≤ length file.now }
-    ensures { result ≡ part_of id file.now }
+    requires entries { entry_outside file.now ≡ None }
+    ensures part { result ≡ part_of id file.now }
+    ensures within { IfSome result (λ part. lies_within (length file.now) part ≡ true) }
 {
-    for index in 0..entry_count(file) as usize {
+    let count = entry_count(file) as usize;
+    for index in 0..count {
         let entry = entry_at(file, HEADER_LENGTH + ENTRY_LENGTH * index);
         if entry.id == id {
             return entry.part.if_any();
@@ -122,7 +130,7 @@ fn part_of(file: &[u8], id: u32) -> Option<Part>
 
 /// What the Finder knows of the file, where the entry has it.
 fn finder_in(file: &[u8], part: Part) -> Option<FinderInfo>
-    requires { part.offset + part.length ≤ length file.now }
+    requires { lies_within (length file.now) part ≡ true }
     ensures { result ≡ finder_in file.now part }
 {
     if part.length < 10 {
@@ -137,7 +145,7 @@ fn finder_in(file: &[u8], part: Part) -> Option<FinderInfo>
 
 /// The dates of the file, where the entry has them.
 fn dates_in(file: &[u8], part: Part) -> Option<Dates>
-    requires { part.offset + part.length ≤ length file.now }
+    requires { lies_within (length file.now) part ≡ true }
     ensures { result ≡ dates_in file.now part }
 {
     if part.length < 8 {
@@ -153,6 +161,7 @@ fn dates_in(file: &[u8], part: Part) -> Option<Dates>
 pub(crate) fn read_apple(file: &[u8]) -> Result<Contents, ContainerFault>
     ensures fault { result_err result ≡ apple_fault file.now }
     ensures contents { IfOk result (λ contents. contents ≡ apple_contents file.now) }
+    ensures within { IfOk result (AreWithin (length file.now)) }
 {
     check(file)?;
     let finder = part_of(file, FINDER_INFO).and_then(|part| finder_in(file, part));

@@ -7,6 +7,7 @@ ghost use Rattle.mac_files.specs.Crc.{crc_of, with_bit, with_byte};
 const POLYNOMIAL: u16 = 0x1021;
 
 /// The remainder after one more bit, which is zero.
+#[tactic(auto, unfolding(crate::specs::Crc::with_bit))]
 fn with_bit(crc: u16) -> u16
     ensures { result ≡ with_bit crc }
 {
@@ -18,11 +19,12 @@ fn with_bit(crc: u16) -> u16
 }
 
 /// The remainder after one more byte.
+#[tactic(auto, using(crate::proofs::Steps::iterate_step), unfolding(crate::specs::Crc::with_byte))]
 fn with_byte(crc: u16, byte: u8) -> u16
     ensures { result ≡ with_byte crc byte }
 {
     let mut next = crc ^ ((byte as u16) << 8);
-    for _ in 0..8 {
+    for _bit in 0..u8::BITS {
         next = with_bit(next);
     }
     next
@@ -32,9 +34,5 @@ fn with_byte(crc: u16, byte: u8) -> u16
 pub(crate) fn crc_of(bytes: &[u8]) -> u16
     ensures { result ≡ crc_of bytes.now }
 {
-    let mut crc = 0;
-    for byte in bytes {
-        crc = with_byte(crc, *byte);
-    }
-    crc
+    bytes.iter().fold(0, |crc, byte| with_byte(crc, *byte))
 }

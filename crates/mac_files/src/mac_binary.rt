@@ -1,10 +1,12 @@
 //! MacBinary: a header, a second header that later versions may have, the data fork and the resource fork. Each begins at a
 //! multiple of 128.
 
-ghost use Rattle.std.specs.Prelude.{◌≡◌, ◌≤◌, ◌<◌, ◌^◌, length, IfOk, OnOk, true};
+ghost use Rattle.std.specs.Prelude.{◌≡◌, ◌==◌, ◌≤◌, ◌<◌, ◌^◌, length, IfOk, IfSome, OnOk, true};
+ghost use Rattle.std.specs.List.{list_all};
 ghost use Rattle.std.specs.Result.{result_err};
-ghost use Rattle.mac_files.specs.MacBinary.{data_fork, has_form, header_finder, mac_binary_contents, padded, resource_fork, says_one, version_of};
-ghost use Rattle.mac_files.specs.Faults.{checksum_fault, fork_fault, mac_binary_fault};
+ghost use Rattle.mac_files.specs.MacBinary.{data_fork, has_form, header_finder, header_name, mac_binary_contents, padded, resource_fork, says_one, says_three, says_two, version_of};
+ghost use Rattle.mac_files.specs.Faults.{checksum_fault, fork_fault, mac_binary_fault, sum_fault};
+ghost use Rattle.mac_files.specs.Parts.{lies_within, AreWithin};
 
 use crate::check::check_header;
 use crate::container::Version;
@@ -20,10 +22,14 @@ const HEADER_LENGTH: usize = 128;
 /// How many bytes of the header the checksum is of. It follows them.
 const SUMMED_LENGTH: usize = 124;
 
+/// The most bytes of a file's name.
+const LONGEST_NAME: usize = 63;
+
 /// The most bytes of a fork in MacBinary I.
 const LONGEST_FORK: u32 = 0x007F_FFFF;
 
 /// Whether the file has what all versions have: a header, three zeros in it, and a name of 1 to 63 bytes.
+#[tactic(auto, unfolding(crate::specs::MacBinary::has_form))]
 fn has_form(file: &[u8]) -> bool
     ensures form { result ≡ has_form file.now }
     ensures whole { result ≡ true → 128 ≤ length file.now }
@@ -33,15 +39,41 @@ fn has_form(file: &[u8]) -> bool
         && file[74] == 0
         && file[82] == 0
         && 1 <= file[1]
-        && file[1] <= 63
+        && file[1] as usize <= LONGEST_NAME
+}
+
+/// Whether the bytes are all zero.
+fn are_zeros(bytes: &[u8]) -> bool
+    ensures { result ≡ list_all (λ byte. byte == 0) bytes.now }
+{
+    bytes.iter().all(|byte| *byte == 0)
+}
+
+/// Whether the header has what version III has: a signature.
+#[tactic(auto, unfolding(crate::specs::MacBinary::says_three))]
+fn says_three(file: &[u8]) -> bool
+    requires { 128 ≤ length file.now }
+    ensures { result ≡ says_three file.now }
+{
+    file[102..].starts_with(b"mBIN")
+}
+
+/// Whether the header has what version II has: the version that wrote it, and the least that reads it.
+#[tactic(auto, unfolding(crate::specs::MacBinary::says_two))]
+fn says_two(file: &[u8]) -> bool
+    requires { 128 ≤ length file.now }
+    ensures { result ≡ says_two file.now }
+{
+    file[122] >= 129 && file[123] == 129
 }
 
 /// Whether the header has what version I has: zeros from 101 to 125, and forks that aren't too long.
+#[tactic(auto, unfolding(crate::specs::MacBinary::says_one))]
 fn says_one(file: &[u8]) -> bool
     requires { 128 ≤ length file.now }
     ensures { result ≡ says_one file.now }
 {
-    file[101..126].iter().all(|byte| *byte == 0)
+    are_zeros(&file[101..126])
         && read_four(file, 83) <= LONGEST_FORK
         && read_four(file, 87) <= LONGEST_FORK
 }
@@ -52,9 +84,9 @@ pub(crate) fn version_of(file: &[u8]) -> Option<Version>
 {
     if !has_form(file) {
         None
-    } else if file[102..].starts_with(b"mBIN") {
+    } else if says_three(file) {
         Some(Version::III)
-    } else if file[122] >= 129 && file[123] == 129 {
+    } else if says_two(file) {
         Some(Version::II)
     } else if says_one(file) {
         Some(Version::I)
@@ -94,25 +126,36 @@ fn resource_fork(file: &[u8]) -> Part
     }
 }
 
-/// Checks the checksum, which version I doesn't have.
-fn check_sum(version: Version, file: &[u8]) -> Result<(), ContainerFault>
+/// Checks the checksum.
+fn check_sum(file: &[u8]) -> Result<(), ContainerFault>
+    requires { 128 ≤ length file.now }
+    ensures { result_err result ≡ sum_fault file.now }
+{
+    let summed = &file[..SUMMED_LENGTH];
+    let computed = crc_of(summed);
+    let stored = read_two(file, SUMMED_LENGTH);
+    if stored == computed {
+        Ok(())
+    } else {
+        Err(ContainerFault::ChecksumDiffers { stored, computed })
+    }
+}
+
+/// Checks the checksum, where the version has one.
+fn check_version(version: Version, file: &[u8]) -> Result<(), ContainerFault>
     requires { 128 ≤ length file.now }
     ensures { result_err result ≡ checksum_fault version file.now }
 {
-    if version == Version::I {
-        return Ok(());
+    match version {
+        Version::I => Ok(()),
+        Version::II | Version::III => check_sum(file),
     }
-    let stored = read_two(file, SUMMED_LENGTH);
-    let computed = crc_of(&file[..SUMMED_LENGTH]);
-    if stored != computed {
-        return Err(ContainerFault::ChecksumDiffers { stored, computed });
-    }
-    Ok(())
 }
 
 /// Checks that a fork lies within the file.
 fn check_fork(fork: Fork, part: Part, file: &[u8]) -> Result<(), ContainerFault>
-    ensures { result_err result ≡ fork_fault fork part file.now }
+    ensures fault { result_err result ≡ fork_fault fork part file.now }
+    ensures within { OnOk result (lies_within (length file.now) part ≡ true) }
 {
     let length = file.len();
     if !part.lies_within(length) {
@@ -125,9 +168,11 @@ fn check_fork(fork: Fork, part: Part, file: &[u8]) -> Result<(), ContainerFault>
 fn check(version: Version, file: &[u8]) -> Result<(), ContainerFault>
     ensures fault { result_err result ≡ mac_binary_fault version file.now }
     ensures whole { OnOk result (128 ≤ length file.now) }
+    ensures data { OnOk result (lies_within (length file.now) (data_fork file.now) ≡ true) }
+    ensures resources { OnOk result (lies_within (length file.now) (resource_fork file.now) ≡ true) }
 {
     check_header(HEADER_LENGTH, file)?;
-    check_sum(version, file)?;
+    check_version(version, file)?;
     check_fork(Fork::Data, data_fork(file), file)?;
     check_fork(Fork::Resource, resource_fork(file), file)
 }
@@ -144,20 +189,34 @@ fn finder_in(file: &[u8]) -> FinderInfo
     }
 }
 
-/// What MacBinary tells of a file.
-pub(crate) fn read_mac_binary(version: Version, file: &[u8]) -> Result<Contents, ContainerFault>
-    ensures fault { result_err result ≡ mac_binary_fault version file.now }
-    ensures contents { IfOk result (λ contents. contents ≡ mac_binary_contents file.now) }
+/// Where the name of the file is. One of more than 63 bytes is none.
+fn name_in(file: &[u8]) -> Option<Part>
+    requires { 128 ≤ length file.now }
+    ensures name { result ≡ header_name file.now }
+    ensures within { IfSome result (λ part. lies_within (length file.now) part ≡ true) }
 {
-    check(version, file)?;
     let name = Part {
         offset: 2,
         length: file[1] as usize,
     };
+    if name.length <= LONGEST_NAME {
+        name.if_any()
+    } else {
+        None
+    }
+}
+
+/// What MacBinary tells of a file.
+pub(crate) fn read_mac_binary(version: Version, file: &[u8]) -> Result<Contents, ContainerFault>
+    ensures fault { result_err result ≡ mac_binary_fault version file.now }
+    ensures contents { IfOk result (λ contents. contents ≡ mac_binary_contents file.now) }
+    ensures within { IfOk result (AreWithin (length file.now)) }
+{
+    check(version, file)?;
     Ok(Contents {
         resource_fork: resource_fork(file).if_any(),
         data_fork: data_fork(file).if_any(),
-        name: name.if_any(),
+        name: name_in(file),
         finder: Some(finder_in(file)),
         dates: Some(Dates {
             created: read_four(file, 91),

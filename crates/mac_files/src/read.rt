@@ -1,10 +1,10 @@
 //! What a container tells of a file.
 
-ghost use Rattle.std.specs.Prelude.{◌≡◌, length, IfOk, IfSome, true};
+ghost use Rattle.std.specs.Prelude.{◌≡◌, length, IfOk};
 ghost use Rattle.std.specs.Result.{result_err};
 ghost use Rattle.std.specs.Option.{option_copied};
 ghost use Rattle.mac_files.specs.Containers.{contents_of, fault_of, fork_in};
-ghost use Rattle.mac_files.specs.Parts.{lies_within};
+ghost use Rattle.mac_files.specs.Parts.{AreWithin};
 
 use crate::apple::read_apple;
 use crate::container::Container;
@@ -15,7 +15,8 @@ use crate::part::Part;
 
 /// What a file of nothing but a resource fork tells.
 fn read_raw(file: &[u8]) -> Contents
-    ensures { result ≡ contents_of Container.Raw file.now }
+    ensures contents { result ≡ contents_of Container.Raw file.now }
+    ensures within { AreWithin (length file.now) result }
 {
     let fork = Part {
         offset: 0,
@@ -35,9 +36,7 @@ fn read_raw(file: &[u8]) -> Contents
 pub fn read_contents(container: Container, file: &[u8]) -> Result<Contents, ContainerFault>
     ensures fault { result_err result ≡ fault_of container file.now }
     ensures contents { IfOk result (λ contents. contents ≡ contents_of container file.now) }
-    ensures resource_fork { IfOk result (λ contents. IfSome contents.resource_fork (λ part. lies_within (length file.now) part ≡ true)) }
-    ensures data_fork { IfOk result (λ contents. IfSome contents.data_fork (λ part. lies_within (length file.now) part ≡ true)) }
-    ensures name { IfOk result (λ contents. IfSome contents.name (λ part. lies_within (length file.now) part ≡ true)) }
+    ensures within { IfOk result (AreWithin (length file.now)) }
 {
     match container {
         Container::Raw => Ok(read_raw(file)),
