@@ -2,7 +2,7 @@
 # check_c.sh PROGRAM LISTER FOLDER: runs the C programs of c/ over the static libraries that `build_c.sh FOLDER` builds: the calls, whose
 # answers are compared with what stands there, plainly and with the sanitizers over the C side; 100,000 random calls, of which
 # PROGRAM, a macheap, prints the same; a zone that the host has no memory for; the example, in C and, where there is a
-# compiler, in C++ and in Rust; a fork, of which LISTER, a forklist, prints the same; and forks whose bytes are known, written anew. It
+# compiler, in C++ and in Rust; a fork, of which LISTER, a resfork, prints the same; and forks whose bytes are known, written anew. It
 # needs a C compiler, Python, and the kit's C code for the heap (RATTLE_KIT: the kit's folder).
 set -e
 program=$(realpath "$1")
@@ -46,6 +46,6 @@ else
     echo "check_c.sh: there is no rustc, so the example was not built in Rust" >&2
 fi
 built fork_c forks -O1 -fsanitize=address,undefined
-"$room/forks" "$top/crates/forklist/data/sample.rsrc" > "$room/list"
-"$lister" "$top/crates/forklist/data/sample.rsrc" | cmp - "$room/list"
+"$room/forks" "$top/crates/resfork/data/sample.rsrc" > "$room/list"
+"$lister" ls --raw "$top/crates/resfork/data/sample.rsrc" | cmp - "$room/list"
 "$top/tools/check_written.py" "$room/forks"
