@@ -1,0 +1,3 @@
+pub mod BinHex
+pub mod BinHexLeft
+pub mod BinHexFiles
