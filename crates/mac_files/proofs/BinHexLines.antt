@@ -1,5 +1,5 @@
 -- Where a line begins with a mark, one character after the other.
-use Rattle.std.proofs.Common.{◌≡◌, ℕ, ◌+◌, ◌<◌, ◌≤◌, nat_eq, Bool, true, false, ◌&&◌, List, ◌∷◌, ◌-◌, length, take, drop, get_or, drop-cons, Option, None, Some, refl, ap, subst, ◌∙◌, add-one, arith, length-drop}
+use Rattle.std.proofs.Common.{◌≡◌, ℕ, ◌+◌, ◌<◌, ◌≤◌, nat_eq, Bool, true, false, ◌&&◌, List, ◌∷◌, ◌-◌, length, take, drop, get_or, drop-cons, None, Some, refl, ap, subst, ◌∙◌, add-one, arith, length-drop}
 use Rattle.std.specs.List.{starts_with}
 use Rattle.std.proofs.lemmas.List.{drop_all, take_all}
 use Rattle.mac_files.specs.BinHex.{is_line_end, line_from}

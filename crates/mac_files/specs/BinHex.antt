@@ -1,8 +1,8 @@
 -- BinHex 4.0 (RFC 1741): which file a text stands for, and the first fault of a text that stands for none.
-use Rattle.std.specs.Prelude.{ℕ, zero, suc, ◌+◌, ◌-◌, ◌*◌, ◌/◌, ◌%◌, ◌^◌, ◌==◌, nat_lt, nat_eq, Bool, true, false, ◌&&◌, ◌||◌, if◌then◌else◌, List, [], ◌∷◌, ◌++◌, length, map, take, drop, replicate, fold, position, slice_index, slice_range, codes, Option, None, Some, is_some, unwrap_or, Result, Ok, Err}
+use Rattle.std.specs.Prelude.{ℕ, zero, suc, ◌+◌, ◌-◌, ◌*◌, ◌/◌, ◌%◌, ◌^◌, ◌==◌, nat_lt, nat_eq, Bool, true, ◌&&◌, ◌||◌, if◌then◌else◌, List, [], ◌∷◌, ◌++◌, length, map, take, drop, replicate, fold, position, slice_index, slice_range, codes, Option, None, Some, is_some, unwrap_or, Result, Ok, Err}
 use Rattle.std.specs.List.{starts_with}
 use Rattle.std.specs.Int.Bits.{bit_xor}
-use Rattle.byteorder.specs.Endian.{big_number}
+use Rattle.byteorder.specs.Endian.{big_from}
 use Rattle.mac_files.specs.declared.bin_hex.digits.Placed.{Placed}
 use Rattle.mac_files.specs.declared.bin_hex.fault.Section.{Section}
 use Rattle.mac_files.specs.declared.bin_hex.fault.Section.TheVariants.{Header, Data, Resource}
@@ -148,20 +148,20 @@ pub record File : Type 0 where
   pub data_fork : List ℕ
   pub resource_fork : List ℕ
 
-abbrev pub number_at : ℕ → ℕ → List ℕ → ℕ
-number_at n at bytes = big_number n (drop at bytes)
+-- a byte of length and the name, a version, type, creator, flags, and the lengths of both forks
+abbrev pub name_length : List ℕ → ℕ
+name_length bytes = slice_index bytes 0
 
--- a byte of length and the name, a version, type, creator, flags, both lengths: where the CRC of the header stands
+unfoldable pub data_length : List ℕ → ℕ
+data_length bytes = big_from (name_length bytes + 12) 4 bytes
+
+unfoldable pub resource_length : List ℕ → ℕ
+resource_length bytes = big_from (name_length bytes + 16) 4 bytes
+
+-- where the CRC of each section is, in two bytes; the forks are after the CRC before them
 abbrev pub header_end : List ℕ → ℕ
-header_end bytes = slice_index bytes 0 + 20
+header_end bytes = name_length bytes + 20
 
-abbrev pub data_length : List ℕ → ℕ
-data_length bytes = number_at 4 (header_end bytes - 8) bytes
-
-abbrev pub resource_length : List ℕ → ℕ
-resource_length bytes = number_at 4 (header_end bytes - 4) bytes
-
--- where the CRC of each fork stands: two bytes before it are the CRC before
 abbrev pub data_end : List ℕ → ℕ
 data_end bytes = header_end bytes + 2 + data_length bytes
 
@@ -170,10 +170,10 @@ resource_end bytes = data_end bytes + 2 + resource_length bytes
 
 abbrev pub file_of : List ℕ → File
 file_of bytes = record {
-  name = slice_range bytes 1 (1 + slice_index bytes 0);
-  kind = slice_range bytes (header_end bytes - 18) (header_end bytes - 14);
-  creator = slice_range bytes (header_end bytes - 14) (header_end bytes - 10);
-  flags = number_at 2 (header_end bytes - 10) bytes;
+  name = slice_range bytes 1 (1 + name_length bytes);
+  kind = take 4 (drop (name_length bytes + 2) bytes);
+  creator = take 4 (drop (name_length bytes + 6) bytes);
+  flags = big_from (name_length bytes + 10) 2 bytes;
   data_fork = slice_range bytes (header_end bytes + 2) (data_end bytes);
   resource_fork = slice_range bytes (data_end bytes + 2) (resource_end bytes);
 }
@@ -189,7 +189,7 @@ cut_by section (Err fault) = fault
 abbrev pub section_fault : Section → ℕ → ℕ → Reading → Option BinHexFault
 section_fault section start end reading =
     let bytes = values_of reading in
-    let stored = number_at 2 end bytes in
+    let stored = big_from end 2 bytes in
     let computed = crc_of (slice_range bytes start end) in
     if nat_lt (length bytes) (end + 2) then Some (cut_by section reading.ending)
     else (if stored == computed then None else Some (WrongCrc section (slice_index (places_of reading) (end + 1)) stored computed))

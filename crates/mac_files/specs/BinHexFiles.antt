@@ -1,5 +1,5 @@
 -- What the code gives of a BinHex text.
-use Rattle.std.specs.Prelude.{◌≡◌, ℕ, ◌+◌, List, slice_range, Result, Ok, Err, ⊤}
+use Rattle.std.specs.Prelude.{◌≡◌, ◌+◌, slice_range, Result, Ok, Err, ⊤}
 use Rattle.mac_files.specs.declared.bin_hex.decode.Decoded.{Decoded}
 use Rattle.mac_files.specs.declared.bin_hex.file.BinHexFile.{BinHexFile}
 use Rattle.mac_files.specs.declared.bin_hex.fault.BinHexFault.{BinHexFault}
@@ -13,8 +13,8 @@ view file = record {
   kind = file.kind;
   creator = file.creator;
   flags = file.flags;
-  data_fork = slice_range file.bytes.items (file.name_length + 22) (file.name_length + 22 + file.data_length);
-  resource_fork = slice_range file.bytes.items (file.name_length + 24 + file.data_length) (file.name_length + 24 + file.data_length + file.resource_length);
+  data_fork = slice_range file.bytes.items (file.name_length + 20 + 2) (file.name_length + 20 + 2 + file.data_length);
+  resource_fork = slice_range file.bytes.items (file.name_length + 20 + 2 + file.data_length + 2) (file.name_length + 20 + 2 + file.data_length + 2 + file.resource_length);
 }
 
 -- what its text stands for, from its offset on

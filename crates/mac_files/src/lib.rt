@@ -2,3 +2,4 @@
 #![tactic(auto)]
 
 pub mod bin_hex;
+mod number;

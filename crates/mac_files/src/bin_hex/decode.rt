@@ -49,6 +49,7 @@ pub fn place_of(text: &[u8], from: usize, index: usize) -> usize
 fn push_run(bytes: &mut Vec<u8>, run: Run)
     requires { vec_len bytes.old + run.count ≤ vec_capacity bytes.old }
     ensures items { bytes.new.items ≡ bytes.old.items ++ replicate run.count run.value }
+    ensures len { vec_len bytes.new ≡ vec_len bytes.old + run.count }
     ensures room { vec_capacity bytes.new ≡ vec_capacity bytes.old }
 {
     for _ in 0..run.count {

@@ -1,4 +1,4 @@
-use Rattle.std.proofs.Common.{◌≡◌, refl, ◌∙◌, add-one}
+use Rattle.std.proofs.Common.{refl, ◌∙◌, add-one}
 use Rattle.mac_files.specs.BinHex.{crc_bits}
 use Rattle.mac_files.proofs.bin_hex.crc.add_byte.Goals as goal
 

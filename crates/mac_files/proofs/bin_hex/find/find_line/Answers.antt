@@ -1,4 +1,4 @@
-use Rattle.std.proofs.Common.{◌≡◌, sym, ◌∙◌, refl}
+use Rattle.std.proofs.Common.{sym, ◌∙◌, refl}
 use Rattle.mac_files.proofs.BinHexLines.{line_at_end, line_here, line_past, marked}
 use Rattle.mac_files.proofs.bin_hex.find.find_line.Goals as goal
 use Rattle.mac_files.proofs.bin_hex.find.find_line.Goals.{else-begins-via-then-begins+else-starts_with, else-begins-via-else-begins}

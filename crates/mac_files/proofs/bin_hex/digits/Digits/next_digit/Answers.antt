@@ -1,4 +1,4 @@
-use Rattle.std.proofs.Common.{◌≡◌, sym, ◌∙◌, arith}
+use Rattle.std.proofs.Common.{sym, ◌∙◌, arith}
 use Rattle.mac_files.proofs.BinHexDigits.{digits_at_colon, digits_at_digit, digits_at_end, digits_at_line_end, digits_at_other}
 use Rattle.mac_files.proofs.bin_hex.digits.Digits.next_digit.Goals as goal
 

@@ -1,4 +1,3 @@
-use Rattle.std.proofs.Common.{◌≡◌, ◌∙◌}
 use Rattle.std.proofs.lemmas.Result.{err_from_is_err_and}
 use Rattle.mac_files.proofs.BinHexBytes.{bytes_end, bytes_end_inside, bytes_first, bytes_second, bytes_third}
 use Rattle.mac_files.proofs.bin_hex.packed.Packed.next_byte.Goals as goal

@@ -1,4 +1,3 @@
-use Rattle.std.proofs.Common.{◌≡◌, ◌∙◌}
 use Rattle.std.proofs.lemmas.Result.{err_from_is_err_and}
 use Rattle.mac_files.proofs.BinHexRuns.{runs_cut, runs_end, runs_literal, runs_more, runs_no_count, runs_nothing, runs_plain}
 use Rattle.mac_files.proofs.bin_hex.runs.Runs.next_run.Goals as goal
