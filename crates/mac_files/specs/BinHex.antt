@@ -1,8 +1,12 @@
 -- BinHex 4.0 (RFC 1741): which file a text stands for, and the first fault of a text that stands for none.
-use Rattle.std.specs.Prelude.{ℕ, zero, suc, ◌+◌, ◌-◌, ◌*◌, ◌/◌, ◌%◌, ◌^◌, ◌==◌, nat_lt, nat_eq, Bool, true, ◌&&◌, ◌||◌, if◌then◌else◌, List, [], ◌∷◌, ◌++◌, length, map, take, drop, replicate, fold, position, slice_index, slice_range, codes, Option, None, Some, is_some, unwrap_or, Result, Ok, Err}
+use Rattle.std.specs.Prelude.{ℕ, ◌+◌, ◌-◌, ◌*◌, ◌/◌, ◌%◌, ◌==◌, nat_lt, nat_eq, Bool, true, ◌&&◌, ◌||◌, if◌then◌else◌, List, [], ◌∷◌, ◌++◌, length, map, take, drop, replicate, fold, position, slice_index, slice_range, codes, Option, None, Some, is_some, unwrap_or, Result, Ok, Err}
 use Rattle.std.specs.List.{starts_with}
+use Rattle.std.specs.Fn.{iterate}
 use Rattle.std.specs.Int.Bits.{bit_xor}
+use Rattle.std.specs.Option.{option_or}
+use Rattle.std.specs.Result.{result_err}
 use Rattle.byteorder.specs.Endian.{big_from}
+use Rattle.mac_files.specs.Crc.{with_bit}
 use Rattle.mac_files.specs.declared.bin_hex.digits.Placed.{Placed}
 use Rattle.mac_files.specs.declared.bin_hex.fault.Section.{Section}
 use Rattle.mac_files.specs.declared.bin_hex.fault.Section.TheVariants.{Header, Data, Resource}
@@ -122,21 +126,13 @@ decoded_from from text = let digits = digits_from from (drop from text) in expan
 
 -- The CRC.
 
--- one more bit: x^16 + x^12 + x^5 + 1 is subtracted where it goes in
-abbrev pub crc_bit : ℕ → ℕ → ℕ
-crc_bit crc bit = let shifted = crc % 32768 * 2 + bit in if nat_lt crc 32768 then shifted else bit_xor shifted 4129
+-- the remainder after one more byte, which comes in at the low end as eight bits leave at the high end
+unfoldable pub with_low_byte : ℕ → ℕ → ℕ
+with_low_byte crc byte = bit_xor (iterate with_bit 8 crc) byte
 
--- the first k bits of a byte, the highest first
-unfoldable pub crc_bits : ℕ → ℕ → ℕ → ℕ
-crc_bits crc byte zero = crc
-crc_bits crc byte (suc k) = crc_bit (crc_bits crc byte k) (byte / 2 ^ (7 - k) % 2)
-
-abbrev pub crc_byte : ℕ → ℕ → ℕ
-crc_byte crc byte = crc_bits crc byte 8
-
--- the CRC of bytes, with two zero bytes in its place
-abbrev pub crc_of : List ℕ → ℕ
-crc_of bytes = fold crc_byte 0 (bytes ++ 0 ∷ 0 ∷ [])
+-- the CRC of bytes: the remainder of these and of two zero bytes, which stand where it will be
+unfoldable pub bin_hex_crc : List ℕ → ℕ
+bin_hex_crc bytes = fold with_low_byte 0 (bytes ++ 0 ∷ 0 ∷ [])
 
 -- The file.
 
@@ -190,27 +186,17 @@ abbrev pub section_fault : Section → ℕ → ℕ → Reading → Option BinHex
 section_fault section start end reading =
     let bytes = values_of reading in
     let stored = big_from end 2 bytes in
-    let computed = crc_of (slice_range bytes start end) in
+    let computed = bin_hex_crc (slice_range bytes start end) in
     if nat_lt (length bytes) (end + 2) then Some (cut_by section reading.ending)
     else (if stored == computed then None else Some (WrongCrc section (slice_index (places_of reading) (end + 1)) stored computed))
-
--- the one, or else the other
-abbrev pub or_else : Option BinHexFault → Option BinHexFault → Option BinHexFault
-or_else (Some fault) other = Some fault
-or_else None other = other
-
--- the fault that ends a reading
-abbrev pub ending_fault : Result ℕ BinHexFault → Option BinHexFault
-ending_fault (Ok at) = None
-ending_fault (Err fault) = Some fault
 
 -- the first fault of what was read, in the order of the text
 abbrev pub first_fault : Reading → Option BinHexFault
 first_fault reading =
     let bytes = values_of reading in
-    or_else (section_fault Header 0 (header_end bytes) reading)
-    (or_else (section_fault Data (header_end bytes + 2) (data_end bytes) reading)
-    (or_else (section_fault Resource (data_end bytes + 2) (resource_end bytes) reading) (ending_fault reading.ending)))
+    option_or (section_fault Header 0 (header_end bytes) reading)
+    (option_or (section_fault Data (header_end bytes + 2) (data_end bytes) reading)
+    (option_or (section_fault Resource (data_end bytes + 2) (resource_end bytes) reading) (result_err reading.ending)))
 
 -- the file of what was read, unless there is a fault
 abbrev pub file_unless : Option BinHexFault → List ℕ → Result File BinHexFault
