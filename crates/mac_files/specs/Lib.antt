@@ -5,3 +5,6 @@ pub mod MacBinary
 pub mod Faults
 pub mod Containers
 pub mod Archives
+pub mod BinHex
+pub mod BinHexLeft
+pub mod BinHexFiles

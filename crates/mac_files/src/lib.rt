@@ -4,6 +4,7 @@
 
 mod apple;
 pub mod archive;
+pub mod bin_hex;
 mod check;
 pub mod container;
 pub mod contents;
