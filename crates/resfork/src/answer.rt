@@ -48,7 +48,7 @@ impl From<AllocError> for Failure {
 }
 
 /// The table of a fork. A fork without bytes is that of a file without resources.
-fn read_table(alloc: Global, fork: &[u8]) -> Result<Table, ForkFault>
+pub(crate) fn read_table(alloc: Global, fork: &[u8]) -> Result<Table, ForkFault>
     ensures { IsReadOf fork.now result }
 {
     if fork.is_empty() {
@@ -78,8 +78,8 @@ pub fn answer<W: Write>(
     ensures answer { Answers request.now file.now (W.contents output.old) (W.contents output.new) result }
     ensures quiet { IfErr result (λ failure. IsQuiet failure → output.new ≡ output.old) }
 {
-    match resource_fork(file) {
-        Ok(fork) => answer_of_fork(alloc, request, fork, output),
+    match resource_fork(alloc, file) {
+        Ok(found) => answer_of_fork(alloc, request, found.fork(), output),
         Err(fault) => Err(Failure::NoFork(fault)),
     }
 }

@@ -22,6 +22,8 @@ pub enum Asked<'a> {
         files: Vec<&'a str>,
         output: Option<&'a str>,
     },
+    /// To tell about each of these files.
+    Info(Vec<&'a str>),
     /// To write this text: the help, or the version.
     Tell(clap::Error),
 }
@@ -67,13 +69,19 @@ pub fn asked_by<'a, S: AsStr>(alloc: Global, words: &'a [S]) -> Result<Asked<'a>
     match name {
         "ls" => asked_to_list(alloc, matches),
         "get" => asked_to_get(alloc, matches),
+        "info" => Ok(Asked::Info(files_named(alloc, matches)?)),
         _ => Err(NotAsked::NoCommand),
     }
 }
 
+/// The files that a command names.
+fn files_named<'a>(alloc: Global, matches: &ArgMatches<'a>) -> Result<Vec<&'a str>, AllocError> {
+    Vec::from_slice(alloc, matches.get_strs("file").unwrap_or(&[]))
+}
+
 /// What `ls` asks for.
 fn asked_to_list<'a>(alloc: Global, matches: &ArgMatches<'a>) -> Result<Asked<'a>, NotAsked> {
-    let files = Vec::from_slice(alloc, matches.get_strs("file").unwrap_or(&[]))?;
+    let files = files_named(alloc, matches)?;
     let mut kinds = Vec::new(alloc);
     for word in matches.get_strs("type").unwrap_or(&[]) {
         let kind = kind_named(alloc, word)?;
@@ -99,7 +107,7 @@ fn asked_to_list<'a>(alloc: Global, matches: &ArgMatches<'a>) -> Result<Asked<'a
 
 /// What `get` asks for.
 fn asked_to_get<'a>(alloc: Global, matches: &ArgMatches<'a>) -> Result<Asked<'a>, NotAsked> {
-    let files = Vec::from_slice(alloc, matches.get_strs("file").unwrap_or(&[]))?;
+    let files = files_named(alloc, matches)?;
     let kind = kind_named(alloc, matches.get_str("type").unwrap_or(""))?;
     let key = key_named(alloc, matches.get_str("key").unwrap_or(""))?;
     let nth = nth_named(matches.get_str("nth").unwrap_or("1"))?;

@@ -8,7 +8,7 @@ const ABOUT: &str = "Shows what the resource forks of old Macintosh files hold";
 
 /// What its help ends with.
 const EXAMPLES: &str =
-    "FILE is a file that holds a resource fork, alone or in AppleSingle, AppleDouble or MacBinary.
+    "FILE is a file that holds a resource fork, alone or in AppleSingle, AppleDouble, MacBinary or BinHex.
 - is the standard input.
 
 Examples:
@@ -16,6 +16,7 @@ Examples:
   resfork ls -t STR# -t TEXT *.rsrc    those of two types, of several files
   resfork get Game.rsrc TEXT 128       the bytes of a resource, by its id
   resfork get Game.rsrc TEXT 'Read me' -o readme.txt
+  resfork info Game.bin                what a file is
 
 Exit status:
   0  done
@@ -78,6 +79,16 @@ fn list<'a>(alloc: Global) -> Result<Command<'a>, AllocError> {
         .arg(files(alloc))
 }
 
+/// `info`.
+fn info<'a>(alloc: Global) -> Result<Command<'a>, AllocError> {
+    Command::new(alloc, "info")
+        .about("Tells what a file is")
+        .long_about(
+            "Tells what a file is: its container, its type and creator, how many bytes its forks have, and how many resources of each type there are",
+        )
+        .arg(files(alloc))
+}
+
 /// `get`.
 fn get<'a>(alloc: Global) -> Result<Command<'a>, AllocError> {
     let kind = Arg::new(alloc, "type")
@@ -121,5 +132,6 @@ pub fn command<'a>(alloc: Global) -> Result<Command<'a>, AllocError> {
         .subcommand_required(true)
         .arg_required_else_help(true)
         .subcommand(list(alloc)?)?
-        .subcommand(get(alloc)?)
+        .subcommand(get(alloc)?)?
+        .subcommand(info(alloc)?)
 }

@@ -6,6 +6,7 @@ mod asked;
 mod attribute;
 mod command;
 mod find;
+mod info;
 mod input;
 mod kind;
 mod letters;
@@ -19,6 +20,7 @@ mod types;
 
 use answer::answer;
 use asked::{Asked, NotAsked, asked_by};
+use info::info_text;
 use input::read_all;
 use message::{BAD_WORDS, CANT_GO_ON, DONE, Problem, tell_bad_words, tell_problem};
 use request::Request;
@@ -51,6 +53,7 @@ fn run(rt: &HostRuntime) -> u8 {
                 output,
             },
         ) => show_all(rt, &request, files.as_slice(), output),
+        Ok(Asked::Info(files)) => tell_about_all(rt, files.as_slice()),
         Ok(Asked::Tell(text)) => tell(rt, &text),
         Err(error) => tell_bad_words(rt, &error),
     }
@@ -84,11 +87,39 @@ fn show(
     }
     let bytes = read(rt, file).map_err(Problem::Read)?;
     let Some(output) = output else {
-        return answer(alloc, request, &bytes, &mut rt.stdout()).map_err(Problem::Show);
+        return answer(alloc, request, &bytes, &mut rt.stdout()).map_err(
+            |failure| Problem::of_failure(failure, &bytes),
+        );
     };
     let mut text = Vec::new(alloc);
-    answer(alloc, request, &bytes, &mut text).map_err(Problem::Show)?;
+    answer(alloc, request, &bytes, &mut text).map_err(|failure| Problem::of_failure(
+        failure, &bytes,
+    ))?;
     fs::write(rt, output, text.as_slice()).map_err(Problem::Save)
+}
+
+/// Tells about each of these files, and why of some nothing is told. The result is the highest status of them.
+fn tell_about_all(rt: &HostRuntime, files: &[&str]) -> u8 {
+    let mut status = DONE;
+    for file in files {
+        if files.len() > 1 && println!(rt; "{file}:").is_err() {
+            return CANT_GO_ON;
+        }
+        if let Err(problem) = tell_about(rt, file) {
+            tell_problem(rt, file, &problem);
+            status = status.max(problem.status());
+        }
+    }
+    status
+}
+
+/// Tells about the file of this name.
+fn tell_about(rt: &HostRuntime, file: &str) -> Result<(), Problem> {
+    let bytes = read(rt, file).map_err(Problem::Read)?;
+    let text = info_text(rt.alloc(), &bytes).map_err(|failure| Problem::of_failure(
+        failure, &bytes,
+    ))?;
+    print!(rt; "{text}").map_err(Problem::Print)
 }
 
 /// The bytes of the file of this name, or of the standard input.

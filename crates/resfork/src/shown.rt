@@ -62,14 +62,14 @@ impl fmt::Display for Shown {
 
 /// A name in double quotes: different names give different texts.
 #[derive(Clone, Copy)]
-struct NameText<'a> {
+pub(crate) struct NameText<'a> {
     letters: Letters,
     name: &'a [u8],
 }
 
 impl<'a> NameText<'a> {
     /// The text of a name.
-    fn new(letters: Letters, name: &'a [u8]) -> NameText<'a>
+    pub(crate) fn new(letters: Letters, name: &'a [u8]) -> NameText<'a>
         ensures letters { result.letters ≡ letters }
         ensures name { result.name ≡ name.entry }
     {
