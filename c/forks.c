@@ -1,4 +1,4 @@
-/* Lists the resource fork that a file holds as forklist does, with all bytes of each resource read as well, and writes the fork of
+/* Lists the resource fork that a file holds as `resfork ls --raw` does, with all bytes of each resource read as well, and writes the fork of
  * what was read, to the second file where one is named: the code of that is the last line. Then the fork is refused cut short, row by row
  * behind the last, and into too little room, and tables that aren't written are refused. */
 #include "macheap_fork.h"
@@ -22,17 +22,32 @@ static void must(int line, int holds) {
 }
 #define MUST(holds) must(__LINE__, holds)
 
-static void quoted(char quote, const uint8_t *text, size_t length) {
-    putchar(quote);
-    for (size_t n = 0; n < length; n++) {
-        if (text[n] < 0x20 || text[n] > 0x7E) {
-            printf("\\x%02X", text[n]);
-        } else {
-            if (text[n] == quote || text[n] == '\\') putchar('\\');
-            putchar(text[n]);
-        }
+/* A byte as text: itself with a backslash before a quote and a backslash, or digits. */
+static void shown(char quote, uint8_t byte) {
+    if (byte < 0x20 || byte > 0x7E) {
+        printf("\\x%02X", byte);
+    } else {
+        if (byte == quote || byte == '\\') putchar('\\');
+        putchar(byte);
     }
-    putchar(quote);
+}
+
+/* A name, in quotes. */
+static void quoted(const uint8_t *name, size_t length) {
+    putchar('"');
+    for (size_t n = 0; n < length; n++) shown('"', name[n]);
+    putchar('"');
+}
+
+/* A type as a column: blanks at its end fill it up, but not the first one. */
+static void column(const uint8_t *kind) {
+    size_t bare = 4;
+    while (bare > 1 && kind[bare - 1] == ' ') bare--;
+    for (size_t n = 0; n < 4; n++) {
+        if (n >= bare) putchar(' ');
+        else if (kind[n] == ' ') printf("\\x20");
+        else shown('\'', kind[n]);
+    }
 }
 
 static void attributes(uint8_t set) {
@@ -66,15 +81,14 @@ static void list(size_t length, size_t n) {
     MUST(mf_row(fork, length, n, row) == MF_NO_ERR && row->data_length <= MOST - data_at);
     MUST(mf_data(fork, length, n, data + data_at, row->data_length) == MF_NO_ERR);
     MUST(mf_data(fork, length, n, bytes, row->data_length + 1) == MF_PARAM_ERR);
-    quoted('\'', row->kind, 4);
-    printf(" %" PRId16 " ", row->id);
+    column(row->kind);
+    printf(" %6" PRId16 " %8zu ", row->id, row->data_length);
     attributes(row->attributes);
-    printf(" %zu", row->data_length);
     MUST(row->name_length <= (row->has_name ? 255 : 0));
     if (row->has_name) {
         MUST(mf_name(fork, length, n, names + name_at, row->name_length) == MF_NO_ERR);
         putchar(' ');
-        quoted('"', names + name_at, row->name_length);
+        quoted(names + name_at, row->name_length);
     }
     putchar('\n');
 }
@@ -181,7 +195,6 @@ int main(int count, char **word) {
     if (!file) return 2;
     size_t length = fread(fork, 1, sizeof fork, file), resources = 0;
     MUST(mf_count(fork, length, &resources) == MF_NO_ERR && resources < MOST_ROWS);
-    printf("resources: %zu\n", resources);
     for (size_t n = 0; n < resources; n++) list(length, n);
     whole(length, resources);
     MUST(mf_extra(fork, length, &extra) == MF_NO_ERR);

@@ -1,5 +1,5 @@
 #!/usr/bin/env python3
-"""Shows files that hold resource forks: how many bytes each has, its list of resources as forklist prints it, and all bytes.
+"""Shows files that hold resource forks: how many bytes each has, its list of resources as `resfork ls` prints it, and all bytes.
 
     tests/show_forks.py FILE..
 

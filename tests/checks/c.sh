@@ -1,8 +1,8 @@
 #!/bin/sh
 # Runs the C programs of c/ over the static libraries that build_c.sh builds: the calls, whose answers are compared with what is there,
 # plainly and with the sanitizers over the C side; 100,000 random calls, of which macheap prints the same; a zone that the host has no
-# memory for; the example, in C and, where there is a compiler, in C++ and in Rust; a fork, of which forklist prints the same; and forks
-# whose bytes are known, written anew. Words: the programs macheap and forklist, and the libraries' folder. It needs a C compiler,
+# memory for; the example, in C and, where there is a compiler, in C++ and in Rust; a fork, of which resfork prints the same; and forks
+# whose bytes are known, written anew. Words: the programs macheap and resfork, and the libraries' folder. It needs a C compiler,
 # Python, and the kit's C code for the heap (RATTLE_KIT: the kit's folder).
 set -e
 program=$(realpath "$1")
@@ -46,6 +46,6 @@ else
     echo "c.sh: there is no rustc, so the example was not built in Rust" >&2
 fi
 built fork_c forks -O1 -fsanitize=address,undefined
-"$room/forks" "$top/crates/forklist/data/sample.rsrc" > "$room/list"
-"$lister" "$top/crates/forklist/data/sample.rsrc" | cmp - "$room/list"
+"$room/forks" "$top/crates/resfork/data/sample.rsrc" > "$room/list"
+"$lister" ls --raw "$top/crates/resfork/data/sample.rsrc" | cmp - "$room/list"
 "$top/tests/run" --forks "$room/forks" written

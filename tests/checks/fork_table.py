@@ -1,7 +1,7 @@
-"""Checks what forklist and macheap read of the forks of tests/cases/forks.txt, and what macheap writes of them.
+"""Checks what resfork and macheap read of the forks of tests/cases/forks.txt, and what macheap writes of them.
 
-Of each fork the list and every extracted resource of forklist are compared, and what macheap tells of each resource: its type, id, name,
-attributes and bytes. Where the bytes are no fork, forklist tells the condition, and macheap's OpenResFile its code. Nothing
+Of each fork resfork's list and the bytes of every resource are compared, and what macheap tells of each resource: its type, id, name,
+attributes and bytes. Where the bytes are no fork, resfork tells the condition, and macheap's OpenResFile its code. Nothing
 but an update changes the file.
 """
 import os
@@ -96,18 +96,20 @@ def read_table(table):
 
 
 def try_list(program, path, case):
-    """Compares what forklist writes of a fork, the first resource of each type and id extracted."""
+    """Compares what resfork writes of a fork, with the bytes of the first resource of each type and id."""
     with open(path, "wb") as file:
         file.write(case.fork)
-    if isinstance(case.answer, str):
-        compare("the list", run(program, [path]), 1, b"", TOLD[case.answer])
+    # a file without bytes has no resources
+    answer = case.answer if case.fork else []
+    if isinstance(answer, str):
+        compare("ls", run(program, ["ls", path]), 3, b"", TOLD[answer])
         return
-    compare("the list", run(program, [path]), 0, listing(case.answer).encode(), "")
+    compare("ls", run(program, ["ls", path]), 0, listing(answer).encode(), "")
     first = {}
-    for row in case.answer if len(case.answer) <= MOST_ROWS else case.answer[:: len(case.answer) - 1]:
+    for row in answer if len(answer) <= MOST_ROWS else answer[:: len(answer) - 1]:
         first.setdefault((row.kind, row.ident), row.data)
     for (kind, ident), data in first.items():
-        compare(f"{kind} {ident}", run(program, [path, "--extract", quoted("'", kind), str(ident)]), 0, data, "")
+        compare(f"get {kind} {ident}", run(program, ["get", path, quoted("'", kind), str(ident)]), 0, data, "")
 
 
 def try_open(program, path, case, forks):
@@ -126,7 +128,7 @@ def try_open(program, path, case, forks):
         raise Difference("its script makes other bytes")
 
 
-def main(forklist, macheap):
+def main(resfork, macheap):
     with open(TABLE, encoding="utf-8") as table:
         forks, cases = read_table(table)
     failed = 0
@@ -134,7 +136,7 @@ def main(forklist, macheap):
         path = os.path.join(folder, "fork")
         for case in cases:
             try:
-                try_list(forklist, path, case)
+                try_list(resfork, path, case)
                 try_open(macheap, path, case, forks)
             except Difference as difference:
                 failed += 1

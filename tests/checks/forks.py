@@ -1,19 +1,20 @@
-"""Checks forklist and macheap programs against a small model of resource forks, on random forks.
+"""Checks resfork and macheap programs against a small model of resource forks, on random forks.
 
 The forks are such as the Resource Manager and other tools write: with the data or the map first, with data and names that are shared, with gaps, with
-reserved fields of any value; many of them are then cut or damaged. Of each fork the list is compared, and a few extracted
+reserved fields of any value; many of them are then cut or damaged. Of each fork the list is compared, and the bytes of a few
 resources, with their exit statuses and with what is told of a fork that is none; and macheap opens it, and tells of each resource its
 type, id, name, attributes and bytes. By default it tries 200 forks. Each is made from its number, so a difference can be made
 again. Before them come command lines, and forks at the limits. Numbers: how many forks, and the number of the first.
 """
 import os
 import random
+import re
 import struct
 import subprocess
 import tempfile
 
 from checks.fork_questions import Difference, expect, opening_is_refused, questions
-from model.fork import MOST_BYTES, NoFork, Row, TOLD, listing, open_code, quoted, read_fork
+from model.fork import MOST_BYTES, NoFork, Row, TOLD, column, listing, open_code, quoted, read_fork, types
 
 # the forks
 
@@ -189,38 +190,50 @@ def limits():
 # command lines, with their status, and words of what is told on standard error
 LINES = [
     (["--help"], 0, ""),
+    (["--version"], 0, ""),
+    (["ls", "--help"], 0, ""),
     ([], 2, "Usage"),
-    (["FILE", "more"], 2, "Usage"),
-    (["--what", "FILE"], 2, "--what"),
-    (["FILE", "--extract"], 2, "--extract"),
-    (["FILE", "--extract", "TEXT"], 2, "--extract"),
-    (["FILE", "--extract", "TEXT", "5", "6"], 2, "Usage"),
-    (["FILE", "--extract", "TEXT", "5x"], 2, "id"),
-    (["FILE", "--extract", "TEXT", ""], 2, "id"),
-    (["FILE", "--extract", "TEXT", "32768"], 2, "id"),
-    (["FILE", "--extract", "TEXT", "-32769"], 2, "id"),
-    (["FILE", "--extract", "", "5"], 2, "type"),
-    (["FILE", "--extract", "''", "5"], 2, "type"),
-    (["FILE", "--extract", "TEXTS", "5"], 2, "type"),
-    (["FILE", "--extract", "'TEXT", "5"], 2, "type"),
-    (["FILE", "--extract", "TEXT'", "5"], 2, "type"),
-    (["FILE", "--extract", "'", "5"], 2, "type"),
-    (["FILE", "--extract", "\\x4", "5"], 2, "type"),
-    (["FILE", "--extract", "\\x4g45", "5"], 2, "type"),
-    (["FILE", "--extract", "\\q", "5"], 2, "type"),
-    (["FILE", "--extract", "caf\u00e9", "5"], 2, "type"),
-    (["FILE", "--extract", "TEXT", "5"], 0, ""),
-    (["--extract", "TEXT", "5", "FILE"], 0, ""),
-    (["FILE", "--extract", "'TEXT'", "005"], 0, ""),
-    (["FILE", "--extract", "\\x54E\\x58T", "5"], 0, ""),
-    (["FILE", "--extract", "'\\x54\\x45\\x58\\x54'", "5"], 0, ""),
-    (["FILE", "--extract", "TEXT", "-5"], 1, "no resource"),
-    (["FILE", "--extract", "'-abc'", "5"], 1, "no resource"),
-    (["FILE", "--extract", "-abc", "5"], 2, "Usage"),
-    (["FILE", "--extract", "-123", "5"], 1, "no resource"),
-    (["FILE", "--extract", "TEX", "5"], 1, "no resource"),
-    (["FILE", "--extract", "TEX ", "5"], 1, "no resource"),
-    (["NO_SUCH_FILE"], 1, "NO_SUCH_FILE"),
+    (["what"], 2, "what"),
+    (["ls"], 2, "Usage"),
+    (["ls", "--what", "FILE"], 2, "--what"),
+    (["ls", "FILE", "-t"], 2, "--type"),
+    (["ls", "FILE", "-t", "TEXTS"], 2, "type"),
+    (["ls", "FILE", "FILE"], 0, ""),
+    (["ls", "-t", "TEXT", "-t", "STR", "FILE"], 0, ""),
+    (["get", "FILE"], 2, "Usage"),
+    (["get", "FILE", "TEXT"], 2, "Usage"),
+    (["get", "FILE", "TEXT", "5", "6"], 2, "Usage"),
+    (["get", "FILE", "TEXT", "5x"], 1, "no such resource"),
+    (["get", "FILE", "TEXT", ""], 1, "no such resource"),
+    (["get", "FILE", "TEXT", "32768"], 1, "no such resource"),
+    (["get", "FILE", "TEXT", "\\q"], 2, "name"),
+    (["get", "FILE", "TEXT", "\u4e2d"], 2, "name"),
+    (["get", "FILE", "", "5"], 2, "type"),
+    (["get", "FILE", "''", "5"], 2, "type"),
+    (["get", "FILE", "TEXTS", "5"], 2, "type"),
+    (["get", "FILE", "'TEXT", "5"], 2, "type"),
+    (["get", "FILE", "TEXT'", "5"], 2, "type"),
+    (["get", "FILE", "'", "5"], 2, "type"),
+    (["get", "FILE", "\\x4", "5"], 2, "type"),
+    (["get", "FILE", "\\x4g45", "5"], 2, "type"),
+    (["get", "FILE", "\\q", "5"], 2, "type"),
+    (["get", "FILE", "\u4e2d", "5"], 2, "type"),
+    (["get", "FILE", "caf\u00e9", "5"], 1, "no such resource"),
+    (["get", "FILE", "TEXT", "5"], 0, ""),
+    (["get", "--nth", "1", "FILE", "TEXT", "5"], 0, ""),
+    (["get", "FILE", "TEXT", "5", "--nth", "2"], 1, "no such resource"),
+    (["get", "FILE", "TEXT", "5", "--nth", "0"], 2, "--nth"),
+    (["get", "FILE", "'TEXT'", "005"], 0, ""),
+    (["get", "FILE", "\\x54E\\x58T", "5"], 0, ""),
+    (["get", "FILE", "'\\x54\\x45\\x58\\x54'", "5"], 0, ""),
+    (["get", "FILE", "TEXT", "-5"], 1, "no such resource"),
+    (["get", "FILE", "'-abc'", "5"], 1, "no such resource"),
+    (["get", "FILE", "-abc", "5"], 2, "Usage"),
+    (["get", "FILE", "TEX", "5"], 1, "no such resource"),
+    (["get", "FILE", "TEX ", "5"], 1, "no such resource"),
+    (["ls", "NO_SUCH_FILE"], 4, "NO_SUCH_FILE"),
+    (["ls", "NO_SUCH_FILE", "FILE"], 4, "NO_SUCH_FILE"),
+    (["get", "FILE", "TEXT", "5", "-o", "NO_SUCH_FOLDER/out"], 4, "-o"),
 ]
 
 
@@ -240,15 +253,16 @@ def compare(what, got, status, output, told):
 
 
 def operand(kind, choice):
-    """A type as a word of the command line: as the list shows it, or without its quotes or last blanks where it can. One that begins with a hyphen keeps its quotes."""
-    shown = quoted("'", kind)
-    if kind.startswith(b"-"):
-        return shown
-    if choice == 1:
-        return shown[1:-1]
-    if choice == 2 and kind.rstrip(b" "):
-        return quoted("'", kind.rstrip(b" "))[1:-1]
-    return shown
+    """A type as a word of the command line: between quotes, or as the list shows it without its last blanks. One that begins with a hyphen keeps its quotes."""
+    if choice == 2 and not kind.startswith(b"-"):
+        return column(kind).rstrip(" ")
+    return quoted("'", kind, choice == 1)
+
+
+def name_operand(name, choice):
+    """A name as a word of the command line: as the list shows it, or without its quotes where it can."""
+    text = quoted('"', name, choice == 1)
+    return text[1:-1] if choice == 2 and not name.startswith(b"-") and not re.fullmatch(rb"[+-]?[0-9]+|\".*\"", name, re.DOTALL) else text
 
 
 def try_open(program, path, fork):
@@ -261,27 +275,41 @@ def try_open(program, path, fork):
     expect(program, path, fork, *questions(rows), fork)
 
 
+def try_get(program, path, rows, kind, words, is_it):
+    """Compares the bytes of the first resource of a type that is it."""
+    found = next((row.data for row in rows if row.kind == kind and is_it(row)), None)
+    got = run(program, ["get", path, *words])
+    if found is None:
+        compare(f"get {words}", got, 1, b"", "no such resource")
+    else:
+        compare(f"get {words}", got, 0, found, "")
+
+
 def try_fork(program, path, fork, choices):
-    """Compares the list of a fork and a few extracted resources."""
+    """Compares the lists of a fork and the bytes of a few resources."""
     with open(path, "wb") as file:
         file.write(fork)
     try:
-        rows = read_fork(fork)
+        rows = read_fork(fork) if fork else []
     except NoFork as fault:
         told = TOLD[fault.args[0]]
-        compare("the list", run(program, [path]), 1, b"", told)
-        compare("--extract", run(program, [path, "--extract", "TEXT", "128"]), 1, b"", told)
+        compare("ls", run(program, ["ls", path]), 3, b"", told)
+        compare("get", run(program, ["get", path, "TEXT", "128"]), 3, b"", told)
         return fault.args[0]
-    compare("the list", run(program, [path]), 0, listing(rows).encode(), "")
-    wanted = [(row.kind, row.ident) for row in choices.sample(rows, min(2, len(rows)))] + [(b"none", 7)][: choices.randrange(2)]
-    for kind, ident in wanted:
-        found = next((row.data for row in rows if (row.kind, row.ident) == (kind, ident)), None)
-        word = operand(kind, choices.randrange(3))
-        got = run(program, [path, "--extract", word, str(ident)])
-        if found is None:
-            compare(f"--extract {word} {ident}", got, 1, b"", "no resource")
-        else:
-            compare(f"--extract {word} {ident}", got, 0, found, "")
+    compare("ls", run(program, ["ls", path]), 0, listing(rows).encode(), "")
+    if choices.randrange(4) == 0:
+        compare("ls --raw", run(program, ["ls", "--raw", path]), 0, listing(rows, True).encode(), "")
+        compare("ls --types", run(program, ["ls", "--types", path]), 0, types(rows).encode(), "")
+        one = choices.choice([row.kind for row in rows] + [b"none"])
+        some = [row for row in rows if row.kind == one]
+        compare("ls -t", run(program, ["ls", "-t", operand(one, 0), path]), 0, listing(some).encode(), "")
+    wanted = choices.sample(rows, min(2, len(rows))) + [Row(b"none", 7, b"none", 0, b"")][: choices.randrange(2)]
+    for row in wanted:
+        word = operand(row.kind, choices.randrange(3))
+        try_get(program, path, rows, row.kind, [word, str(row.ident)], lambda other, row=row: other.ident == row.ident)
+        if row.name is not None:
+            named = name_operand(row.name, choices.randrange(3))
+            try_get(program, path, rows, row.kind, [word, named], lambda other, row=row: other.name == row.name)
     return "fork"
 
 
@@ -302,16 +330,16 @@ def forks(first, count):
         yield f"fork {number}", Choices(number).fork(), random.Random(number)
 
 
-def main(forklist, macheap, count=200, first=1):
+def main(resfork, macheap, count=200, first=1):
     """Tries the command lines, the forks at the limits, and so many random forks from this number on."""
     seen = {}
     with tempfile.TemporaryDirectory() as folder:
         path = os.path.join(folder, "fork")
         what = "the command lines"
         try:
-            try_lines(forklist, path)
+            try_lines(resfork, path)
             for what, fork, choices in forks(first, count):
-                result = try_fork(forklist, path, fork, choices)
+                result = try_fork(resfork, path, fork, choices)
                 try_open(macheap, path, fork)
                 seen[result] = seen.get(result, 0) + 1
         except Difference as difference:

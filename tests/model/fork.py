@@ -76,24 +76,37 @@ def read_fork(fork):
     return rows
 
 
-def quoted(quote, data):
-    """Bytes between quotes: printable ones as they are, a backslash before a quote and a backslash, and others as digits."""
-    shown = ""
-    for byte in data:
-        if chr(byte) in (quote, "\\"):
-            shown += "\\" + chr(byte)
-        elif 0x20 <= byte <= 0x7E:
-            shown += chr(byte)
-        else:
-            shown += f"\\x{byte:02X}"
-    return quote + shown + quote
+def shown(byte, quote, raw):
+    """A byte as text: its character in MacRoman, with a backslash before a quote and a backslash, or digits."""
+    if chr(byte) in (quote, "\\"):
+        return "\\" + chr(byte)
+    if 0x20 <= byte <= 0x7E:
+        return chr(byte)
+    return bytes([byte]).decode("mac_roman") if byte >= 0x80 and not raw else f"\\x{byte:02X}"
 
 
-def line_of(row):
+def quoted(quote, data, raw=False):
+    """Bytes between quotes."""
+    return quote + "".join(shown(byte, quote, raw) for byte in data) + quote
+
+
+def column(kind, raw=False):
+    """A type without blanks, but at its end."""
+    bare = max(len(kind.rstrip(b" ")), 1)
+    return "".join("\\x20" if byte == 0x20 else shown(byte, "'", raw) for byte in kind[:bare]) + " " * (4 - bare)
+
+
+def line_of(row, raw):
     attributes = ",".join(word for bit, word in WORDS if row.attributes & bit) or "-"
-    name = "" if row.name is None else " " + quoted('"', row.name)
-    return f"{quoted(chr(39), row.kind)} {row.ident} {attributes} {len(row.data)}{name}\n"
+    name = "" if row.name is None else " " + quoted('"', row.name, raw)
+    return f"{column(row.kind, raw)} {row.ident:>6} {len(row.data):>8} {attributes}{name}\n"
 
 
-def listing(rows):
-    return f"resources: {len(rows)}\n" + "".join(map(line_of, rows))
+def listing(rows, raw=False):
+    return "".join(line_of(row, raw) for row in rows)
+
+
+def types(rows):
+    """The types in the order of their first rows, each with how many rows have it."""
+    kinds = list(dict.fromkeys(row.kind for row in rows))
+    return "".join(f"{column(kind)} {sum(row.kind == kind for row in rows):>6}\n" for kind in kinds)

@@ -1,4 +1,1 @@
-pub mod Attributes
-pub mod Find
-pub mod Kind
 pub mod Listing

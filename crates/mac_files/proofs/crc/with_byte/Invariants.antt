@@ -1,0 +1,9 @@
+use Rattle.std.proofs.Common.{◌≡◌, ◌-◌, ◌*◌}
+use Rattle.std.specs.Fn.{iterate}
+use Rattle.std.specs.Prelude.{bit_xor}
+use Rattle.mac_files.specs.Crc.{with_bit}
+use Rattle.mac_files.proofs.crc.with_byte.Given as goal
+
+-- what the bits that are left make of the remainder is what all eight make
+abbrev pub invariant-loop-bit : goal.invariant-loop-bit
+invariant-loop-bit l = iterate with_bit (8 - l._bit) l.next ≡ iterate with_bit 8 l.initial.next

@@ -1,0 +1,52 @@
+-- By which bytes a container is known, and what it tells.
+use Rattle.std.specs.Prelude.{ℕ, ◌==◌, nat_le, ◌&&◌, if◌then◌else◌, Bool, List, [], ◌∷◌, length, slice_index, nat_eq, Option, None, Some, option_map}
+use Rattle.std.specs.List.{starts_with}
+use Rattle.byteorder.specs.Endian.{big_from}
+use Rattle.mac_files.specs.declared.container.Container.{Container}
+use Rattle.mac_files.specs.declared.container.Container.TheVariants.{Raw, AppleSingle, AppleDouble, MacBinary}
+use Rattle.mac_files.specs.declared.contents.Contents.{Contents}
+use Rattle.mac_files.specs.declared.fault.ContainerFault.{ContainerFault}
+use Rattle.mac_files.specs.Parts.{bytes_of, has_bytes}
+use Rattle.mac_files.specs.Apple.{apple_contents}
+use Rattle.mac_files.specs.MacBinary.{version_of, mac_binary_contents}
+use Rattle.mac_files.specs.Faults.{apple_fault, mac_binary_fault}
+
+-- the file begins with the header of a resource fork: two offsets and two lengths, all below 2^24, and the map has its 28 bytes
+abbrev pub is_fork_header : List ℕ → Bool
+is_fork_header file = nat_le 16 (length file) && (slice_index file 0 == 0) && (slice_index file 4 == 0) && (slice_index file 8 == 0)
+    && (slice_index file 12 == 0) && nat_le 28 (big_from 12 4 file)
+
+-- the container that a file is known as; no container begins with the header of a resource fork
+abbrev pub container_of : List ℕ → Option Container
+container_of file =
+    if is_fork_header file then Some Raw
+    else if starts_with nat_eq file (0 ∷ 5 ∷ 22 ∷ 0 ∷ []) then Some AppleSingle
+    else if starts_with nat_eq file (0 ∷ 5 ∷ 22 ∷ 7 ∷ []) then Some AppleDouble
+    else option_map MacBinary (version_of file)
+
+-- the first fault of a file that is read as this container
+abbrev pub fault_of : Container → List ℕ → Option ContainerFault
+fault_of Raw file = None
+fault_of AppleSingle file = apple_fault file
+fault_of AppleDouble file = apple_fault file
+fault_of (MacBinary version) file = mac_binary_fault version file
+
+-- what the container tells of a file
+abbrev pub contents_of : Container → List ℕ → Contents
+contents_of Raw file = record {
+  resource_fork = has_bytes (record { offset = 0; length = length file });
+  data_fork = None;
+  name = None;
+  finder = None;
+  dates = None;
+}
+contents_of AppleSingle file = apple_contents file
+contents_of AppleDouble file = apple_contents file
+contents_of (MacBinary version) file = mac_binary_contents file
+
+-- the bytes of the resource fork and of the data fork
+abbrev pub fork_in : Container → List ℕ → Option (List ℕ)
+fork_in container file = option_map (λ part. bytes_of part file) (contents_of container file).resource_fork
+
+abbrev pub data_in : Container → List ℕ → Option (List ℕ)
+data_in container file = option_map (λ part. bytes_of part file) (contents_of container file).data_fork

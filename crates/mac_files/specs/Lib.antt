@@ -1,0 +1,10 @@
+pub mod Parts
+pub mod Crc
+pub mod Apple
+pub mod MacBinary
+pub mod Faults
+pub mod Containers
+pub mod Archives
+pub mod BinHex
+pub mod BinHexLeft
+pub mod BinHexFiles

@@ -1,0 +1,14 @@
+//! BinHex 4.0 (RFC 1741): a file with both its forks as a text of 64 characters.
+
+mod crc;
+mod decode;
+mod digits;
+pub mod fault;
+pub mod file;
+mod find;
+mod packed;
+mod read;
+mod runs;
+
+pub use find::is_bin_hex;
+pub use read::read_bin_hex;

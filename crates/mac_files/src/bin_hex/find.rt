@@ -1,0 +1,46 @@
+//! Where a BinHex text begins.
+
+ghost use Rattle.std.specs.Prelude.{◌≡◌, ◌<◌, ◌≤◌, ◌+◌, length, drop, true, IfSome};
+ghost use Rattle.mac_files.specs.BinHex.{is_bin_hex, is_line_end, line_from, colon_of};
+
+/// With this the line begins that each tool writes before the text.
+const COMMENT: &[u8] = b"(This file must be converted";
+
+/// Whether a character ends a line.
+pub fn ends_line(character: u8) -> bool
+    ensures { result ≡ is_line_end character }
+{
+    character == b'\r' || character == b'\n'
+}
+
+/// The first place, from the beginning of a line on, at which a line begins with a mark.
+fn find_line(text: &[u8], from: usize, mark: &[u8]) -> Option<usize>
+    requires { from ≤ length text.now }
+    ensures place { result ≡ line_from mark.now true from (drop from text.now) }
+    ensures inside { IfSome result (λ at. at < length text.now) }
+{
+    let mut begins = true;
+    for at in from..text.len() {
+        if begins && text[at..].starts_with(mark) {
+            return Some(at);
+        }
+        begins = ends_line(text[at]);
+    }
+    None
+}
+
+/// Whether a text is BinHex: a line begins with the comment that each tool writes before it.
+pub fn is_bin_hex(text: &[u8]) -> bool
+    ensures { result ≡ is_bin_hex text.now }
+{
+    find_line(text, 0, COMMENT).is_some()
+}
+
+/// Where the colon stands that begins the text: the first that begins a line, after the comment if there is one.
+pub fn find_colon(text: &[u8]) -> Option<usize>
+    ensures place { result ≡ colon_of text.now }
+    ensures inside { IfSome result (λ at. at < length text.now) }
+{
+    let comment = find_line(text, 0, COMMENT).unwrap_or(0);
+    find_line(text, comment, b":")
+}

@@ -1,0 +1,63 @@
+//! By which bytes a container is known.
+
+ghost use Rattle.std.specs.Prelude.{◌≡◌};
+ghost use Rattle.mac_files.specs.Containers.{container_of, is_fork_header};
+
+use crate::mac_binary::version_of;
+use crate::number::read_four;
+
+/// The version of MacBinary.
+#[derive(Clone, Copy, Debug, PartialEq, Eq)]
+pub enum Version {
+    I,
+    II,
+    III,
+}
+
+/// What the bytes of a file are.
+#[derive(Clone, Copy, Debug, PartialEq, Eq)]
+pub enum Container {
+    /// A resource fork and nothing else.
+    Raw,
+    /// Both forks.
+    AppleSingle,
+    /// All but the data fork, which is a file of its own.
+    AppleDouble,
+    /// Both forks.
+    MacBinary(Version),
+}
+
+/// How many bytes the header of a resource fork has.
+const FORK_HEADER_LENGTH: usize = 16;
+
+/// The first four bytes of AppleSingle and of AppleDouble.
+const APPLE_SINGLE: &[u8; 4] = b"\x00\x05\x16\x00";
+
+const APPLE_DOUBLE: &[u8; 4] = b"\x00\x05\x16\x07";
+
+/// Whether the file begins with the header of a resource fork: no offset and no length reaches 2^24, and the map has its 28 bytes.
+fn is_fork_header(file: &[u8]) -> bool
+    ensures { result ≡ is_fork_header file.now }
+{
+    file.len() >= FORK_HEADER_LENGTH
+        && file[0] == 0
+        && file[4] == 0
+        && file[8] == 0
+        && file[12] == 0
+        && read_four(file, 12) >= 28
+}
+
+/// The container that the bytes of a file are known as, or None. A file that begins with the header of a resource fork is Raw.
+pub fn container_of(file: &[u8]) -> Option<Container>
+    ensures { result ≡ container_of file.now }
+{
+    if is_fork_header(file) {
+        Some(Container::Raw)
+    } else if file.starts_with(APPLE_SINGLE) {
+        Some(Container::AppleSingle)
+    } else if file.starts_with(APPLE_DOUBLE) {
+        Some(Container::AppleDouble)
+    } else {
+        version_of(file).map(Container::MacBinary)
+    }
+}

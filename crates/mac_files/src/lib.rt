@@ -1,0 +1,20 @@
+//! The containers in which files of old Macintoshes come: AppleSingle, AppleDouble and MacBinary. A file is known by its bytes
+//! (`container_of`), and `read_contents` gives the places of its forks in it, and what the container tells of the file.
+#![tactic(auto)]
+
+mod apple;
+pub mod archive;
+pub mod bin_hex;
+mod check;
+pub mod container;
+pub mod contents;
+mod crc;
+pub mod fault;
+mod mac_binary;
+mod number;
+pub mod part;
+mod read;
+
+pub use archive::archive_of;
+pub use container::container_of;
+pub use read::{fork_in, read_contents};

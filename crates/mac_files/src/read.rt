@@ -1,0 +1,56 @@
+//! What a container tells of a file.
+
+ghost use Rattle.std.specs.Prelude.{◌≡◌, length, IfOk};
+ghost use Rattle.std.specs.Result.{result_err};
+ghost use Rattle.std.specs.Option.{option_copied};
+ghost use Rattle.mac_files.specs.Containers.{contents_of, fault_of, fork_in};
+ghost use Rattle.mac_files.specs.Parts.{AreWithin};
+
+use crate::apple::read_apple;
+use crate::container::Container;
+use crate::contents::Contents;
+use crate::fault::ContainerFault;
+use crate::mac_binary::read_mac_binary;
+use crate::part::Part;
+
+/// What a file of nothing but a resource fork tells.
+fn read_raw(file: &[u8]) -> Contents
+    ensures contents { result ≡ contents_of Container.Raw file.now }
+    ensures within { AreWithin (length file.now) result }
+{
+    let fork = Part {
+        offset: 0,
+        length: file.len(),
+    };
+    Contents {
+        resource_fork: fork.if_any(),
+        data_fork: None,
+        name: None,
+        finder: None,
+        dates: None,
+    }
+}
+
+/// What a file tells that is read as this container: where its forks are, and more. An error comes exactly where the container has
+/// a fault, and is the first. The places of the forks and the name lie within the file.
+pub fn read_contents(container: Container, file: &[u8]) -> Result<Contents, ContainerFault>
+    ensures fault { result_err result ≡ fault_of container file.now }
+    ensures contents { IfOk result (λ contents. contents ≡ contents_of container file.now) }
+    ensures within { IfOk result (AreWithin (length file.now)) }
+{
+    match container {
+        Container::Raw => Ok(read_raw(file)),
+        Container::AppleSingle | Container::AppleDouble => read_apple(file),
+        Container::MacBinary(version) => read_mac_binary(version, file),
+    }
+}
+
+/// The bytes of the resource fork in a file that is read as this container, or None if it has none. An error comes exactly where the
+/// container has a fault, and is the first.
+pub fn fork_in(container: Container, file: &[u8]) -> Result<Option<&[u8]>, ContainerFault>
+    ensures fault { result_err result ≡ fault_of container file.now }
+    ensures fork { IfOk result (λ fork. option_copied fork ≡ fork_in container file.now) }
+{
+    let contents = read_contents(container, file)?;
+    Ok(contents.resource_fork.map(|part| part.bytes(file)))
+}

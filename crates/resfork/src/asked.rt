@@ -1,0 +1,159 @@
+//! The words of the command line.
+
+use crate::command::command;
+use crate::kind::kind_of;
+use crate::letters::Letters;
+use crate::name::name_of;
+use crate::request::{Choice, Key, Request, Wanted};
+use clap::ArgMatches;
+use clap::error::ErrorKind;
+use mac_text::bytes_of;
+use res_base::resource::ResType;
+use std::alloc::{AllocError, Global};
+use std::convert::AsStr;
+use thiserror::Error;
+
+/// What the words ask for.
+#[derive(Drop)]
+pub enum Asked<'a> {
+    /// To show something of each of these files, on the standard output or in a file of this name.
+    Show {
+        request: Request,
+        files: Vec<&'a str>,
+        output: Option<&'a str>,
+    },
+    /// To tell about each of these files.
+    Info(Vec<&'a str>),
+    /// To write this text: the help, or the version.
+    Tell(clap::Error),
+}
+
+/// Why the words ask for nothing.
+#[derive(Debug, Drop, Error)]
+pub enum NotAsked {
+    /// A word is no option, or an operand is missing.
+    #[error("{0}")]
+    Words(clap::Error),
+    /// There is no command.
+    #[error("error: no such command; see 'resfork --help'\n")]
+    NoCommand,
+    /// A type is none.
+    #[error("error: a type has four bytes, as TEXT or 'STR '; write it as resfork ls shows it, with \\xHH for a byte that isn't a letter\n")]
+    NoType,
+    /// A resource is named by nothing that may be an id or a name.
+    #[error("error: a resource is named by its id, from -32768 to 32767, or by its name, as resfork ls shows it, with \\xHH for a byte that isn't a letter\n")]
+    NoKey,
+    /// What `--nth` has is no count from 1 on.
+    #[error("error: --nth takes a count from 1 on\n")]
+    NoCount,
+    /// The host has no memory for the words.
+    #[error("error: the host has no memory\n")]
+    HostFull,
+}
+
+impl From<AllocError> for NotAsked {
+    fn from(_: AllocError) -> NotAsked {
+        NotAsked::HostFull
+    }
+}
+
+/// What the words ask for, of which the first is the program's name.
+pub fn asked_by<'a, S: AsStr>(alloc: Global, words: &'a [S]) -> Result<Asked<'a>, NotAsked> {
+    let matches = match command(alloc)?.try_get_matches_from(words) {
+        Ok(matches) => matches,
+        Err(error) => return not_matched(error),
+    };
+    let Some((name, matches)) = matches.subcommand() else {
+        return Err(NotAsked::NoCommand);
+    };
+    match name {
+        "ls" => asked_to_list(alloc, matches),
+        "get" => asked_to_get(alloc, matches),
+        "info" => Ok(Asked::Info(files_named(alloc, matches)?)),
+        _ => Err(NotAsked::NoCommand),
+    }
+}
+
+/// The files that a command names.
+fn files_named<'a>(alloc: Global, matches: &ArgMatches<'a>) -> Result<Vec<&'a str>, AllocError> {
+    Vec::from_slice(alloc, matches.get_strs("file").unwrap_or(&[]))
+}
+
+/// What `ls` asks for.
+fn asked_to_list<'a>(alloc: Global, matches: &ArgMatches<'a>) -> Result<Asked<'a>, NotAsked> {
+    let files = files_named(alloc, matches)?;
+    let mut kinds = Vec::new(alloc);
+    for word in matches.get_strs("type").unwrap_or(&[]) {
+        let kind = kind_named(alloc, word)?;
+        kinds.push(kind).map_err(AllocError::from)?;
+    }
+    let letters = if matches.get_flag("raw") {
+        Letters::Raw
+    } else {
+        Letters::Roman
+    };
+    let choice = Choice { letters, kinds };
+    let request = if matches.get_flag("types") {
+        Request::Types(choice)
+    } else {
+        Request::List(choice)
+    };
+    Ok(Asked::Show {
+        request,
+        files,
+        output: None,
+    })
+}
+
+/// What `get` asks for.
+fn asked_to_get<'a>(alloc: Global, matches: &ArgMatches<'a>) -> Result<Asked<'a>, NotAsked> {
+    let files = files_named(alloc, matches)?;
+    let kind = kind_named(alloc, matches.get_str("type").unwrap_or(""))?;
+    let key = key_named(alloc, matches.get_str("key").unwrap_or(""))?;
+    let nth = nth_named(matches.get_str("nth").unwrap_or("1"))?;
+    let wanted = Wanted { kind, key, nth };
+    Ok(Asked::Show {
+        request: Request::Get(wanted),
+        files,
+        output: matches.get_str("output"),
+    })
+}
+
+/// The type that a word names.
+fn kind_named(alloc: Global, word: &str) -> Result<ResType, NotAsked> {
+    let Some(bytes) = bytes_of(alloc, word)? else {
+        return Err(NotAsked::NoType);
+    };
+    kind_of(bytes.as_slice()).ok_or(NotAsked::NoType)
+}
+
+/// The id that a word names, or the name.
+fn key_named(alloc: Global, word: &str) -> Result<Key, NotAsked> {
+    if let Ok(id) = word.parse::<i16>() {
+        return Ok(Key::Id(id));
+    }
+    let Some(bytes) = bytes_of(alloc, word)? else {
+        return Err(NotAsked::NoKey);
+    };
+    match name_of(alloc, bytes.as_slice())? {
+        Some(name) => Ok(Key::Name(name)),
+        None => Err(NotAsked::NoKey),
+    }
+}
+
+/// How many resources to pass over, by a word that counts from 1.
+fn nth_named(word: &str) -> Result<usize, NotAsked> {
+    match word.parse::<usize>() {
+        Ok(nth) if nth > 0 => Ok(nth - 1),
+        _ => Err(NotAsked::NoCount),
+    }
+}
+
+/// What it means that the words don't match.
+fn not_matched<'a>(error: clap::Error) -> Result<Asked<'a>, NotAsked> {
+    match error.kind() {
+        ErrorKind::DisplayHelp | ErrorKind::DisplayVersion => Ok(Asked::Tell(error)),
+        ErrorKind::OutOfMemory => Err(NotAsked::HostFull),
+        _ => Err(NotAsked::Words(error)),
+    }
+}

@@ -1,0 +1,137 @@
+//! The commands and options of the command line.
+
+use clap::{Arg, ArgAction, Command};
+use std::alloc::{AllocError, Global};
+
+/// What the program is for.
+const ABOUT: &str = "Shows what the resource forks of old Macintosh files hold";
+
+/// What its help ends with.
+const EXAMPLES: &str =
+    "FILE is a file that holds a resource fork, alone or in AppleSingle, AppleDouble, MacBinary or BinHex.
+- is the standard input.
+
+Examples:
+  resfork ls Game.rsrc                 all resources of a file
+  resfork ls -t STR# -t TEXT *.rsrc    those of two types, of several files
+  resfork get Game.rsrc TEXT 128       the bytes of a resource, by its id
+  resfork get Game.rsrc TEXT 'Read me' -o readme.txt
+  resfork info Game.bin                what a file is
+
+Exit status:
+  0  done
+  1  there is no such resource
+  2  the words of the command line are bad
+  3  a file holds no resource fork, or a damaged one
+  4  a file can't be read, or the output can't be written";
+
+/// The files that a command is for.
+fn files<'a>(alloc: Global) -> Arg<'a> {
+    Arg::new(alloc, "file")
+        .value_name("FILE")
+        .required(true)
+        .num_args(1..)
+        .action(ArgAction::Append)
+        .help("The files; - is the standard input")
+}
+
+/// The file that a command is for.
+fn file<'a>(alloc: Global) -> Arg<'a> {
+    Arg::new(alloc, "file")
+        .value_name("FILE")
+        .required(true)
+        .action(ArgAction::Set)
+        .help("The file; - is the standard input")
+}
+
+/// The types that a command is for.
+fn types<'a>(alloc: Global) -> Arg<'a> {
+    Arg::new(alloc, "type")
+        .short('t')
+        .long("type")
+        .value_name("TYPE")
+        .action(ArgAction::Append)
+        .help(
+            "Only resources of this type, as ls shows it (STR is 'STR '); it may stand several times",
+        )
+}
+
+/// `ls`.
+fn list<'a>(alloc: Global) -> Result<Command<'a>, AllocError> {
+    let only_types = Arg::new(alloc, "types")
+        .long("types")
+        .action(ArgAction::SetTrue)
+        .help("Lists types: a line for each, with how many resources it has");
+    let raw = Arg::new(alloc, "raw")
+        .long("raw")
+        .action(ArgAction::SetTrue)
+        .help(
+            "Shows letters that aren't ASCII as \\xHH, and not as the characters that they are in MacRoman",
+        );
+    Command::new(alloc, "ls")
+        .about("Lists resources")
+        .long_about(
+            "Lists resources: a line for each, with its type, its id, how many bytes it has, its attributes, and its name in double quotes",
+        )
+        .arg(types(alloc))?
+        .arg(only_types)?
+        .arg(raw)?
+        .arg(files(alloc))
+}
+
+/// `info`.
+fn info<'a>(alloc: Global) -> Result<Command<'a>, AllocError> {
+    Command::new(alloc, "info")
+        .about("Tells what a file is")
+        .long_about(
+            "Tells what a file is: its container, its type and creator, how many bytes its forks have, and how many resources of each type there are",
+        )
+        .arg(files(alloc))
+}
+
+/// `get`.
+fn get<'a>(alloc: Global) -> Result<Command<'a>, AllocError> {
+    let kind = Arg::new(alloc, "type")
+        .value_name("TYPE")
+        .required(true)
+        .action(ArgAction::Set)
+        .help("The resource's type, as ls shows it (STR is 'STR ')");
+    let key = Arg::new(alloc, "key")
+        .value_name("ID|NAME")
+        .required(true)
+        .allow_negative_numbers(true)
+        .action(ArgAction::Set)
+        .help("Its id, or its name; a name that is a number has double quotes");
+    let nth = Arg::new(alloc, "nth")
+        .long("nth")
+        .value_name("N")
+        .action(ArgAction::Set)
+        .help("Of several such resources the N-th, counted from 1");
+    let output = Arg::new(alloc, "output")
+        .short('o')
+        .long("output")
+        .value_name("OUT")
+        .action(ArgAction::Set)
+        .help("The file that the bytes are written to, in place of the standard output");
+    Command::new(alloc, "get")
+        .about("Writes the bytes of a resource")
+        .arg(file(alloc))?
+        .arg(kind)?
+        .arg(key)?
+        .arg(nth)?
+        .arg(output)
+}
+
+/// The program, with its commands.
+pub fn command<'a>(alloc: Global) -> Result<Command<'a>, AllocError> {
+    Command::new(alloc, "resfork")
+        .bin_name("resfork")?
+        .version("1.0")
+        .about(ABOUT)
+        .after_long_help(EXAMPLES)
+        .subcommand_required(true)
+        .arg_required_else_help(true)
+        .subcommand(list(alloc)?)?
+        .subcommand(get(alloc)?)?
+        .subcommand(info(alloc)?)
+}

@@ -1,0 +1,135 @@
+//! What is told on the standard error, and the exit statuses.
+
+use crate::answer::Failure;
+use crate::asked::NotAsked;
+use crate::source::{NoFork, name_of_container};
+use fork_bytes::fault::ForkFault;
+use mac_files::archive::Archive;
+use mac_files::{archive_of, container_of};
+use std::io;
+use std::io::ErrorKind;
+use thiserror::Error;
+
+/// The exit status where all was done.
+pub const DONE: u8 = 0;
+
+/// The exit status where there is no such resource.
+pub const NOT_FOUND: u8 = 1;
+
+/// The exit status where the words of the command line are bad.
+pub const BAD_WORDS: u8 = 2;
+
+/// The exit status where a file holds no resource fork, or a damaged one.
+pub const NO_FORK: u8 = 3;
+
+/// The exit status where something can't be read or written, or the host has no memory.
+pub const CANT_GO_ON: u8 = 4;
+
+/// Why a file isn't shown, or not all of it.
+#[derive(Debug, Drop, Error)]
+pub enum Problem {
+    /// The file can't be read.
+    #[error("can't be read: {0}")]
+    Read(io::Error),
+    /// What it holds can't be shown.
+    #[error("{0}")]
+    Show(Failure),
+    /// Its container or its text is damaged, or has no resource fork.
+    #[error("{container}: {fault}")]
+    Container {
+        container: &'static str,
+        fault: NoFork,
+    },
+    /// It is an archive or a disk image.
+    #[error("{0}")]
+    Archive(Archive),
+    /// It is nothing that is known.
+    #[error("neither a resource fork nor a file that has one in it: {0}")]
+    Unknown(ForkFault),
+    /// The file that was to be written can't be.
+    #[error("the file named with -o can't be written: {0}")]
+    Save(io::Error),
+    /// The standard output takes no more.
+    #[error("the output can't be written: {0}")]
+    Print(io::Error),
+    /// The standard output is a terminal.
+    #[error("the bytes of a resource aren't for a terminal: name a file with -o OUT, or pipe them on")]
+    Terminal,
+}
+
+impl Problem {
+    /// Why what this file holds can't be shown, told by what the file is known as.
+    pub fn of_failure(failure: Failure, file: &[u8]) -> Problem {
+        match (failure, container_of(file)) {
+            (Failure::Fork(fault), None) => match archive_of(file) {
+                Some(archive) => Problem::Archive(archive),
+                None => Problem::Unknown(fault),
+            },
+            (Failure::NoFork(NoFork::HostFull), _) => Problem::Show(Failure::HostFull),
+            (Failure::NoFork(fault), container) => Problem::Container {
+                container: container.map_or("a BinHex file", name_of_container),
+                fault,
+            },
+            (failure, _) => Problem::Show(failure),
+        }
+    }
+
+    /// The exit status that says so.
+    pub fn status(&self) -> u8 {
+        match self {
+            Problem::Show(Failure::NotFound) => NOT_FOUND,
+            Problem::Terminal => BAD_WORDS,
+            Problem::Show(Failure::Fork(_))
+            | Problem::Show(Failure::NoFork(_))
+            | Problem::Container { .. }
+            | Problem::Archive(_)
+            | Problem::Unknown(_) => NO_FORK,
+            Problem::Read(_)
+            | Problem::Save(_)
+            | Problem::Print(_)
+            | Problem::Show(Failure::HostFull)
+            | Problem::Show(Failure::Write(_)) => CANT_GO_ON,
+        }
+    }
+
+    /// Whether nothing is told of it: whoever read the output has gone away.
+    fn is_silent(&self) -> bool {
+        match self {
+            Problem::Show(Failure::Write(error)) | Problem::Print(error) => {
+                error.kind() == ErrorKind::BrokenPipe
+            }
+            _ => false,
+        }
+    }
+}
+
+/// Tells why the file of this name isn't shown, or not all of it.
+pub fn tell_problem(rt: &HostRuntime, file: &str, problem: &Problem) {
+    if problem.is_silent() {
+        return;
+    }
+    let _ = match problem {
+        Problem::Archive(archive) => tell_archive(rt, file, *archive),
+        problem => eprintln!(rt; "{file}: {problem}"),
+    };
+}
+
+/// Tells that the file of this name is an archive, and what opens it.
+fn tell_archive(rt: &HostRuntime, file: &str, archive: Archive) -> io::Result<()> {
+    let name = archive.name();
+    match archive.command().split_once("FILE") {
+        Some((before, after)) => {
+            eprintln!(rt; "{file}: a {name}, which resfork doesn't unpack: {before}{file}{after}")
+        }
+        None => eprintln!(rt; "{file}: a {name}, which resfork doesn't unpack"),
+    }
+}
+
+/// Tells why the words ask for nothing. The result is the exit status.
+pub fn tell_bad_words(rt: &HostRuntime, error: &NotAsked) -> u8 {
+    let _ = eprint!(rt; "{error}");
+    match error {
+        NotAsked::HostFull => CANT_GO_ON,
+        _ => BAD_WORDS,
+    }
+}
