@@ -1,6 +1,6 @@
 //! A file of the system, and how often it has failed.
 
-ghost use Rattle.std.specs.Prelude.{◌≡◌, true, false, length, OnOk, OnErr};
+ghost use Rattle.std.specs.Prelude.{◌≡◌, true, false, length, IfOk, OnOk, OnErr};
 ghost use Rattle.fork_disk.specs.Disk.{Counts};
 
 use crate::disk::DiskFault;
@@ -30,8 +30,11 @@ fn counted<T: Drop>(failures: &mut Failures, answer: io::Result<T>) -> Result<T,
 }
 
 impl HostFile {
-    /// Opens a file to read and to write it. A missing one is made, with length 0.
-    pub fn open<R: Files<File = File>, P: AsPath>(files: &R, path: P) -> io::Result<HostFile> {
+    /// Opens a file to read and to write it. A missing one is made, with length 0. No call on it has failed, and no sync of `settle`.
+    pub fn open<R: Files<File = File>, P: AsPath>(files: &R, path: P) -> io::Result<HostFile>
+        ensures unfailed { IfOk result (λ file. file.failures ≡ 0) }
+        ensures unspent { IfOk result (λ file. file.is_spent ≡ false) }
+    {
         let file = OpenOptions::new()
             .read(true)
             .write(true)

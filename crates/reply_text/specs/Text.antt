@@ -118,6 +118,10 @@ asked_text asked = codes "  gz " ++ decimal asked.needed ++ spaced (decimal aske
 abbrev pub reply_text : ℕ → CallName → Reply → List Asked → List ℕ
 reply_text number call reply asked = call_text number (signature call).name reply ++ flat_map asked_text asked
 
+-- how many bytes a reply may have for which the host isn't asked for memory
+abbrev pub reply_room : ℕ
+reply_room = 1024
+
 -- what is printed for a script that is none, and no more
 abbrev pub fault_text : ℕ → List ℕ
 fault_text line = codes "script fault at line " ++ decimal line ++ 10 ∷ []

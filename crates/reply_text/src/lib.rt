@@ -3,5 +3,7 @@
 
 mod literal;
 mod printing;
+mod reply;
 
-pub use printing::{NO_MEMORY, fault_line, render};
+pub use printing::{NO_MEMORY, fault_line};
+pub use reply::ReplyText;

@@ -1,8 +1,9 @@
 //! How numbers, bytes and types are written.
 
-ghost use Rattle.std.specs.Prelude.{◌≡◌, ◌<◌, ◌*◌, ◌++◌, true, length, OnOk};
+ghost use Rattle.std.specs.Prelude.{◌≡◌, ◌<◌, ◌*◌, true, length};
 ghost use Rattle.std.specs.Fmt.{digit_glyph};
 ghost use Rattle.std.specs.List.{list_all};
+ghost use Rattle.reply_text.specs.Adding.{Adds};
 ghost use Rattle.reply_text.specs.Text as texts;
 
 use itoa::{Buffer, Integer};
@@ -11,7 +12,7 @@ use res_base::resource::ResType;
 
 /// Adds a number in decimal, with a minus where it is negative.
 pub(crate) fn push_number<I: Integer>(text: &mut Vec<u8>, number: I) -> Result<(), HostFull>
-    ensures { OnOk result (text.new.items ≡ text.old.items ++ I.text number) }
+    ensures { Adds text.old text.new result (I.text number) }
 {
     let mut buffer = Buffer::new();
     text.extend_from_slice(buffer.format(number).as_bytes())?;
@@ -42,20 +43,22 @@ fn write_digits(digits: &mut [u8], bytes: &[u8])
 }
 
 /// Adds bytes as upper-case hexadecimal digits, two for each.
+#[tactic(auto, using(crate::proofs::Lengths::digits_long))]
 fn push_digits(text: &mut Vec<u8>, bytes: &[u8]) -> Result<(), HostFull>
-    ensures { OnOk result (text.new.items ≡ text.old.items ++ texts.in_digits bytes.now) }
+    ensures { Adds text.old text.new result (texts.in_digits bytes.now) }
 {
     let start = text.len();
     let count = bytes.len().checked_mul(2).ok_or(HostFull)?;
-    let end = start.checked_add(count).ok_or(HostFull)?;
-    text.resize(end, 0)?;
+    text.reserve(count)?;
+    text.resize(start + count, 0)?;
     write_digits(&mut text[start..], bytes);
     Ok(())
 }
 
 /// Adds a handle or an address: `$` and eight hexadecimal digits.
+#[tactic(auto, unfolding(crate::specs::Text::address))]
 pub(crate) fn push_address(text: &mut Vec<u8>, address: u32) -> Result<(), HostFull>
-    ensures { OnOk result (text.new.items ≡ text.old.items ++ texts.address address) }
+    ensures { Adds text.old text.new result (texts.address address) }
 {
     let mut digits = [0u8; 8];
     write_digits(&mut digits, &address.to_be_bytes());
@@ -80,7 +83,7 @@ fn are_plain(quote: u8, bytes: &[u8]) -> bool
 
 /// Adds bytes between these quotes where each can stand there, else as `$"`, hexadecimal digits and `"`.
 fn push_quoted(text: &mut Vec<u8>, quote: u8, bytes: &[u8]) -> Result<(), HostFull>
-    ensures { OnOk result (text.new.items ≡ text.old.items ++ texts.between quote bytes.now) }
+    ensures { Adds text.old text.new result (texts.between quote bytes.now) }
 {
     if are_plain(quote, bytes) {
         text.push(quote)?;
@@ -96,14 +99,14 @@ fn push_quoted(text: &mut Vec<u8>, quote: u8, bytes: &[u8]) -> Result<(), HostFu
 
 /// Adds bytes in double quotes.
 pub(crate) fn push_bytes(text: &mut Vec<u8>, bytes: &[u8]) -> Result<(), HostFull>
-    ensures { OnOk result (text.new.items ≡ text.old.items ++ texts.bytes_text bytes.now) }
+    ensures { Adds text.old text.new result (texts.bytes_text bytes.now) }
 {
     push_quoted(text, b'"', bytes)
 }
 
 /// Adds a type in single quotes.
 pub(crate) fn push_type(text: &mut Vec<u8>, kind: ResType) -> Result<(), HostFull>
-    ensures { OnOk result (text.new.items ≡ text.old.items ++ texts.type_text kind) }
+    ensures { Adds text.old text.new result (texts.type_text kind) }
 {
     push_quoted(text, b'\'', &kind.bytes())
 }

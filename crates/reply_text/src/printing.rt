@@ -1,8 +1,9 @@
 //! What a run prints.
 
-ghost use Rattle.std.specs.Prelude.{◌≡◌, ◌++◌, IfOk, OnOk};
+ghost use Rattle.std.specs.Prelude.{◌≡◌, IfOk};
 ghost use Rattle.std.specs.List.{flat_map};
 ghost use Rattle.std.specs.Option.{option_copied};
+ghost use Rattle.reply_text.specs.Adding.{Adds};
 ghost use Rattle.reply_text.specs.Text as texts;
 
 use crate::literal::{push_address, push_bytes, push_number, push_type};
@@ -27,7 +28,7 @@ fn code_number(refused: Option<OsErr>) -> i16
 
 /// Adds the name of a resource: its bytes, or `none`.
 fn push_name(text: &mut Vec<u8>, name: Option<&Name>) -> Result<(), HostFull>
-    ensures { OnOk result (text.new.items ≡ text.old.items ++ texts.name_text (option_copied name.entry)) }
+    ensures { Adds text.old text.new result (texts.name_text (option_copied name.entry)) }
 {
     match name {
         Some(name) => push_bytes(text, name.as_slice()),
@@ -40,7 +41,7 @@ fn push_name(text: &mut Vec<u8>, name: Option<&Name>) -> Result<(), HostFull>
 
 /// Adds what a resource is called: its id, its type and its name.
 fn push_info(text: &mut Vec<u8>, info: &ResourceInfo) -> Result<(), HostFull>
-    ensures { OnOk result (text.new.items ≡ text.old.items ++ texts.info_text info.now) }
+    ensures { Adds text.old text.new result (texts.info_text info.now) }
 {
     push_number(text, info.id)?;
     text.push(b' ')?;
@@ -51,7 +52,7 @@ fn push_info(text: &mut Vec<u8>, info: &ResourceInfo) -> Result<(), HostFull>
 
 /// Adds a space and what a call gave, if it gave something.
 fn push_results(text: &mut Vec<u8>, results: &Results) -> Result<(), HostFull>
-    ensures { OnOk result (text.new.items ≡ text.old.items ++ texts.results_text results.now) }
+    ensures { Adds text.old text.new result (texts.results_text results.now) }
 {
     if let Results::Nothing = results {
         return Ok(());
@@ -78,8 +79,7 @@ fn push_results(text: &mut Vec<u8>, results: &Results) -> Result<(), HostFull>
 
 /// Adds a reply's results and its code.
 fn push_outcome(text: &mut Vec<u8>, reply: &Reply) -> Result<(), HostFull>
-    ensures { OnOk result
-        (text.new.items ≡ text.old.items ++ texts.outcome_text reply.now.outcome) }
+    ensures { Adds text.old text.new result (texts.outcome_text reply.now.outcome) }
 {
     match &reply.outcome {
         Ok(results) => {
@@ -107,7 +107,7 @@ fn flag_letters(flags: Flags) -> [u8; 3]
 
 /// Adds what stands in a block, whose owner has so many bytes and these flags.
 fn push_kind(text: &mut Vec<u8>, kind: Kind, length: u32, flags: Flags) -> Result<(), HostFull>
-    ensures { OnOk result (text.new.items ≡ text.old.items ++ texts.kind_text kind length flags) }
+    ensures { Adds text.old text.new result (texts.kind_text kind length flags) }
 {
     match kind {
         Kind::Free => text.extend_from_slice(b" free")?,
@@ -130,7 +130,7 @@ fn push_kind(text: &mut Vec<u8>, kind: Kind, length: u32, flags: Flags) -> Resul
 
 /// Adds the line of a block.
 fn push_block(text: &mut Vec<u8>, block: Block) -> Result<(), HostFull>
-    ensures { OnOk result (text.new.items ≡ text.old.items ++ texts.block_text block) }
+    ensures { Adds text.old text.new result (texts.block_text block) }
 {
     text.extend_from_slice(b"  ")?;
     push_address(text, block.address)?;
@@ -143,8 +143,7 @@ fn push_block(text: &mut Vec<u8>, block: Block) -> Result<(), HostFull>
 
 /// Adds the lines of blocks.
 fn push_blocks(text: &mut Vec<u8>, blocks: &[Block]) -> Result<(), HostFull>
-    ensures { OnOk result
-        (text.new.items ≡ text.old.items ++ flat_map texts.block_text blocks.now) }
+    ensures { Adds text.old text.new result (flat_map texts.block_text blocks.now) }
 {
     for block in blocks {
         push_block(text, *block)?;
@@ -154,7 +153,7 @@ fn push_blocks(text: &mut Vec<u8>, blocks: &[Block]) -> Result<(), HostFull>
 
 /// Adds the lines of the blocks that a reply shows.
 fn push_shown(text: &mut Vec<u8>, reply: &Reply) -> Result<(), HostFull>
-    ensures { OnOk result (text.new.items ≡ text.old.items ++ texts.blocks_text reply.now.outcome) }
+    ensures { Adds text.old text.new result (texts.blocks_text reply.now.outcome) }
 {
     match &reply.outcome {
         Ok(Results::Blocks(blocks)) => push_blocks(text, blocks.as_slice()),
@@ -164,7 +163,7 @@ fn push_shown(text: &mut Vec<u8>, reply: &Reply) -> Result<(), HostFull>
 
 /// Adds the line of an ask.
 fn push_ask(text: &mut Vec<u8>, asked: Asked) -> Result<(), HostFull>
-    ensures { OnOk result (text.new.items ≡ text.old.items ++ texts.asked_text asked) }
+    ensures { Adds text.old text.new result (texts.asked_text asked) }
 {
     text.extend_from_slice(b"  gz ")?;
     push_number(text, asked.needed)?;
@@ -176,8 +175,7 @@ fn push_ask(text: &mut Vec<u8>, asked: Asked) -> Result<(), HostFull>
 
 /// Adds the lines of asks.
 fn push_asked(text: &mut Vec<u8>, asked: &[Asked]) -> Result<(), HostFull>
-    ensures { OnOk result
-        (text.new.items ≡ text.old.items ++ flat_map texts.asked_text asked.now) }
+    ensures { Adds text.old text.new result (flat_map texts.asked_text asked.now) }
 {
     for ask in asked {
         push_ask(text, *ask)?;
@@ -187,15 +185,14 @@ fn push_asked(text: &mut Vec<u8>, asked: &[Asked]) -> Result<(), HostFull>
 
 /// Adds what the reply to a line's call prints: the line's number, the call's name, its results and its code, a line for
 /// each block that the call shows, and a line for each time that it asked the grow-zone procedure and had an answer.
-pub fn render(
+pub(crate) fn render(
     text: &mut Vec<u8>,
     number: u32,
     call: CallName,
     reply: &Reply,
     asked: &[Asked],
 ) -> Result<(), HostFull>
-    ensures { OnOk result
-        (text.new.items ≡ text.old.items ++ texts.reply_text number call reply.now asked.now) }
+    ensures { Adds text.old text.new result (texts.reply_text number call reply.now asked.now) }
 {
     push_number(text, number)?;
     text.push(b' ')?;

@@ -6,16 +6,16 @@ use Rattle.std.proofs.lemmas.List.{append-nil, take_more, take-append-drop}
 use Rattle.std.proofs.lemmas.Option.{get_or_from_slice_get, slice_get_within}
 use Rattle.fork_disk.specs.declared.store.ForkStore.{Ghosts}
 use Rattle.script_lines.specs.declared.line.Line.{Line}
-use Rattle.script_lines.specs.declared.line.Statement.{Statement}
-use Rattle.script_lines.specs.declared.line.Statement.TheVariants.{Answer}
-use Rattle.script_lines.specs.declared.line.WrittenAnswer.{WrittenAnswer}
 use Rattle.script_text.specs.Script.{IsScript, IsFaultAt}
 use Rattle.reply_text.specs.Text.{fault_text, no_memory_text}
 use Rattle.script_run.specs.declared.end.RunEnd.{RunEnd}
 use Rattle.script_run.specs.declared.end.RunEnd.TheVariants.{Finished, ScriptFault, NoMemory, WriteFault}
 use Rattle.script_run.specs.declared.machine.Machine.{Machine}
 use Rattle.script_run.specs.Line.{LineDoes}
-use Rattle.script_run.specs.Run.{AreRun, IsRun, Ran, LacksMemory, at_start, IsProperFront, Ends, TakesMemory, Tells, stores_of}
+use Rattle.script_run.specs.Run.{AreRun, IsRun, Ran, IsProperFront, Ends, Makes, Tells, stores_of}
+use Rattle.script_run.specs.Starting.{IsNoScript, TellsNoScript}
+use Rattle.script_run.specs.declared.reading.NoScript.{NoScript}
+use Rattle.script_run.specs.declared.reading.NoScript.TheVariants as why
 use Rattle.script_run.proofs.Opening.{same_forks}
 
 pub concat-push : (texts : List (List ℕ)) (text : List ℕ) → concat (texts ++ text ∷ []) ≡ concat texts ++ text
@@ -67,20 +67,20 @@ module _ {S : Type 0} (store : Ghosts S) (start : Machine S) (input : List ℕ) 
   reply_cut ran whole last front are same is = (WriteFault, ran.texts, (ran, refl, same), (whole, last, front, are, is, refl))
 
   -- it was told that host memory ended
-  pub none_told : (replies : List (List ℕ)) (end : RunEnd) (written : List ℕ) → LacksMemory store start input replies left → Tells NoMemory no_memory_text end written
+  pub none_told : (replies : List (List ℕ)) (end : RunEnd) (written : List ℕ) → Makes store start input NoMemory (replies ++ no_memory_text ∷ []) left → Tells NoMemory no_memory_text end written
       → Ends store start input end (concat replies ++ written) left
-  none_told replies end written lacks (inl told) = subst (λ (e : RunEnd). Ends store start input e (concat replies ++ written) left) (sym told.0)
-      (replies ++ no_memory_text ∷ [], (replies, lacks, refl), ap (λ (t : List ℕ). concat replies ++ t) told.1 ∙ sym (concat-push replies no_memory_text))
-  none_told replies end written lacks (inr cut) = subst (λ (e : RunEnd). Ends store start input e (concat replies ++ written) left) (sym cut.0)
-      (NoMemory, replies ++ no_memory_text ∷ [], (replies, lacks, refl), (replies, no_memory_text, written, refl, cut.1, refl))
+  none_told replies end written makes (inl told) = subst (λ (e : RunEnd). Ends store start input e (concat replies ++ written) left) (sym told.0)
+      (replies ++ no_memory_text ∷ [], makes, ap (λ (t : List ℕ). concat replies ++ t) told.1 ∙ sym (concat-push replies no_memory_text))
+  none_told replies end written makes (inr cut) = subst (λ (e : RunEnd). Ends store start input e (concat replies ++ written) left) (sym cut.0)
+      (NoMemory, replies ++ no_memory_text ∷ [], makes, (replies, no_memory_text, written, refl, cut.1, refl))
 
   module _ (same : left ≡ stores_of start) where
     -- before any line was run, the host had no memory
     pub none_at_start : (end : RunEnd) (written : List ℕ) → Tells NoMemory no_memory_text end written → Ends store start input end written left
-    none_at_start end written told = none_told [] end written (at_start refl (same_forks store (stores_of start) left same)) told
+    none_at_start end written told = none_told [] end written (inl (refl, same_forks store (stores_of start) left same)) told
 
     -- it was told which line is none
-    pub fault_told : (line : ℕ) (end : RunEnd) (written : List ℕ) → IsFaultAt input line → Tells (ScriptFault line) (fault_text line) end written ⊎ Tells NoMemory no_memory_text end written
+    fault_told : (line : ℕ) (end : RunEnd) (written : List ℕ) → IsFaultAt input line → Tells (ScriptFault line) (fault_text line) end written ⊎ Tells NoMemory no_memory_text end written
         → Ends store start input end written left
     fault_told line end written is (inl (inl told)) = subst (λ (e : RunEnd). Ends store start input e written left) (sym told.0)
         (fault_text line ∷ [], (is, refl, same), told.1 ∙ sym (append-nil (fault_text line)))
@@ -88,6 +88,8 @@ module _ {S : Type 0} (store : Ghosts S) (start : Machine S) (input : List ℕ) 
         (ScriptFault line, fault_text line ∷ [], (is, refl, same), ([], fault_text line, written, refl, cut.1, refl))
     fault_told line end written is (inr told) = none_at_start end written told
 
--- an answer takes memory where it is queued
-pub takes_answer : {S : Type 0} (store : Ghosts S) (old new : Machine S) (statement : Statement) (answer : WrittenAnswer) → statement ≡ Answer answer → TakesMemory store old statement new
-takes_answer store old new statement answer is = subst (λ (s : Statement). TakesMemory store old s new) (sym is) tt
+    -- it was told why there is no script
+    pub no_script_told : (fault : NoScript) (end : RunEnd) (written : List ℕ) → IsNoScript input fault → TellsNoScript fault end written → Ends store start input end written left
+    no_script_told (why.BadLine line) end written is told = fault_told line end written is told
+    no_script_told why.HostFull end written is told = none_at_start end written told
+    no_script_told why.ReadFault end written is told = subst (λ (e : RunEnd). Ends store start input e written left) (sym told.0) ([], (refl, same), told.1)

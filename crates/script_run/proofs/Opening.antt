@@ -83,3 +83,7 @@ on_value Said More (Err fault) so said = said
 pub on_fault : {T E Said : Type 0} (result : Result T E) → Said → OnErr result Said
 on_fault (Ok value) said = tt
 on_fault (Err fault) said = said
+
+pub on_fault_of : {T E Said More : Type 0} (result : Result T E) → (Said → More) → OnErr result Said → OnErr result More
+on_fault_of (Ok value) so said = said
+on_fault_of (Err fault) so said = so said

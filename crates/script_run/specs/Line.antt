@@ -1,5 +1,5 @@
 -- What one line of a script does.
-use Rattle.std.specs.Prelude.{◌≡◌, ◌⊎◌, ℕ, true, List, [], ◌∷◌, ◌++◌, map, All, Option, None, Some, Ok, Err}
+use Rattle.std.specs.Prelude.{◌≡◌, ◌<◌, ◌⊎◌, ℕ, IsTrue, true, List, [], ◌∷◌, ◌++◌, length, map, All, Option, None, Some, Ok, Err}
 use Rattle.mac_base.specs.Heap.{new_heap}
 use Rattle.mac_base.specs.ZoneSizes.{ZoneSizes, shape_of}
 use Rattle.mac_calls.specs.declared.call.Call.TheVariants.{Resource}
@@ -12,13 +12,13 @@ use Rattle.fork_disk.specs.declared.store.ForkStore.{Ghosts}
 use Rattle.res_manager.specs.Crash.{CrashLeaves}
 use Rattle.res_table.specs.OpenFiles.{no_files}
 use Rattle.made_calls.specs.Answers.{no_answers}
-use Rattle.toolbox.specs.Steps.{Gives, LeavesAnswers, Steps}
+use Rattle.toolbox.specs.Steps.{Gives, LeavesAnswers, Steps, Unchanged, takes_memory}
 use Rattle.script_lines.specs.declared.line.CallLine.{CallLine}
 use Rattle.script_lines.specs.declared.line.Line.{Line}
 use Rattle.script_lines.specs.declared.line.Statement.{Statement}
 use Rattle.script_lines.specs.declared.line.Statement.TheVariants.{Call, Answer}
 use Rattle.script_lines.specs.declared.line.WrittenAnswer.{WrittenAnswer}
-use Rattle.reply_text.specs.Text.{reply_text}
+use Rattle.reply_text.specs.Text.{reply_room, reply_text}
 use Rattle.script_vars.specs.Answers.{answer_with}
 use Rattle.script_vars.specs.Taken.{first_number}
 use Rattle.script_vars.specs.Variables.{Variables, call_of, with_value}
@@ -90,11 +90,19 @@ LineDoes store old line text new = StatementDoes store old line.number line.stat
 abbrev pub SameForks : {S : Type 0} → Ghosts S → List S → List S → Type 0
 SameForks store old new = All store.is_honest new → All store.is_honest old × (map store.fork new ≡ map store.fork old) × CrashLeaves store None old new
 
--- From old, the call of a statement is made, and leaves new.
-abbrev pub IsMade : {S : Type 0} → Ghosts S → Machine S → Statement → Machine S → Type 0
-IsMade store old (Call line) new = (outcome : Outcome) × (asks : List Ask) × Steps store old.toolbox (call_of old.variables line) asks outcome new.toolbox
-IsMade store old (Answer line) new = ⊥
+-- From old, the call of a line isn't made for want of host memory: all is as it was, and it is a call that takes some.
+abbrev pub IsUnmade : {S : Type 0} → Ghosts S → Machine S → CallLine → Machine S → Type 0
+IsUnmade store old line new = let call = call_of old.variables line in
+    Unchanged store old.toolbox call new.toolbox × IsTrue (takes_memory store old.toolbox call)
 
--- Host memory ends at a line: its call isn't made, and the forks stay, or it is made, and its reply can't be assigned or printed.
-abbrev pub StopsAt : {S : Type 0} → Ghosts S → Machine S → Line → Machine S → Type 0
-StopsAt store old line new = SameForks store old.toolbox.resources.stores new.toolbox.resources.stores ⊎ IsMade store old line.statement new
+-- From old, the call of the line of this number is made, and leaves new; but its reply has more bytes than there is room for.
+abbrev pub IsTooLong : {S : Type 0} → Ghosts S → Machine S → ℕ → CallLine → Machine S → Type 0
+IsTooLong store old number line new = (reply : Reply)
+    × (asks : List Ask)
+    × Steps store old.toolbox (call_of old.variables line) asks reply.outcome new.toolbox
+    × (reply_room < length (reply_text number line.call reply (answered asks)))
+
+-- From old, host memory ends at what the line of this number says: its call isn't made, or its reply is too long; or its answer isn't queued.
+abbrev pub StopsAt : {S : Type 0} → Ghosts S → Machine S → ℕ → Statement → Machine S → Type 0
+StopsAt store old number (Call line) new = IsUnmade store old line new ⊎ IsTooLong store old number line new
+StopsAt store old number (Answer line) new = new.toolbox ≡ old.toolbox

@@ -6,6 +6,7 @@ mod end;
 mod machine;
 mod passed;
 mod reading;
+mod ready;
 mod running;
 mod writing;
 

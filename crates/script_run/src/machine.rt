@@ -3,16 +3,14 @@
 ghost use Rattle.std.specs.Prelude.{◌≡◌, ◌≤◌, ◌⊎◌, [], length, OnOk, OnErr};
 ghost use Rattle.mac_base.specs.Heap.{new_heap};
 ghost use Rattle.mac_base.specs.ZoneSizes.{ZoneSizes, shape_of};
-ghost use Rattle.script_run.specs.Line.{start_of, assigned, CallDoes, IsMade, LineDoes, OpensFirst, SameForks, StopsAt};
-ghost use Rattle.script_run.specs.Run.{IsUnmade, TakesMemory};
-ghost use Rattle.script_lines.specs.declared.line.Statement.TheVariants as statement;
+ghost use Rattle.script_run.specs.Line.{start_of, assigned, CallDoes, IsTooLong, IsUnmade, LineDoes, OpensFirst, SameForks, StopsAt};
 
 use fork_disk::store::ForkStore;
 use mac_base::error::HostFull;
 use mac_base::zone_spec::ZoneSpec;
 use mac_calls::{CallName, Outcome, Reply};
 use mem_calls::MemoryManager;
-use reply_text::render;
+use reply_text::ReplyText;
 use res_files::ResourceFiles;
 use script_lines::{CallLine, Line, Name, Statement};
 use script_vars::{Vars, answer_of, first_number, resolve};
@@ -28,21 +26,22 @@ pub struct Machine<S: ForkStore> {
 
 impl<S: ForkStore> Machine<S> {
     /// A toolbox over a new zone and these stores, of which no file is open, no variables, and no answers.
-    pub fn new(alloc: Global, memory: MemoryManager, stores: Vec<S>) -> Machine<S>
+    pub fn new(alloc: Global, memory: MemoryManager, variables: Vars, stores: Vec<S>) -> Machine<S>
         requires few { length stores.items ≤ 8 }
         requires nothing_lent { memory.heap.table.lent ≡ [] }
+        requires no_variables { variables ≡ [] }
         ensures zone { (spec : ZoneSizes) → memory.shape ≡ shape_of spec → memory.heap ≡ new_heap (shape_of spec) spec.size → result ≡ start_of spec stores.items }
     {
         Machine {
             toolbox: Toolbox::open(alloc, memory, ResourceFiles::new(alloc, stores)),
-            variables: Vars::new(alloc),
+            variables,
             answers: AnswerQueue::new(alloc),
         }
     }
 
     /// Opens file 1, and puts what that prints in place of the text: the line of number 0 where it is refused.
-    pub fn open_first(&mut self, text: &mut Vec<u8>) -> Result<(), HostFull>
-        ensures opens { OnOk result (OpensFirst S.ForkStore self.old text.new.items self.new) }
+    pub fn open_first(&mut self, text: &mut ReplyText) -> Result<(), HostFull>
+        ensures opens { OnOk result (OpensFirst S.ForkStore self.old text.new self.new) }
         ensures unchanged { OnErr result (SameForks S.ForkStore self.old.toolbox.resources.stores self.new.toolbox.resources.stores) }
     {
         text.clear();
@@ -50,7 +49,7 @@ impl<S: ForkStore> Machine<S> {
             Ok(_) => Ok(()),
             Err(code) => {
                 let reply = Reply { outcome: Err(code) };
-                render(text, 0, CallName::OpenResFile, &reply, &[])
+                text.put(0, CallName::OpenResFile, &reply, &[])
             }
         }
     }
@@ -71,10 +70,9 @@ impl<S: ForkStore> Machine<S> {
 
     /// Makes the call of a line and assigns its first result, or queues its answer, and puts what it prints in place of
     /// the text.
-    pub fn run_line(&mut self, line: &Line<'_>, text: &mut Vec<u8>) -> Result<(), HostFull>
-        ensures does { OnOk result (LineDoes S.ForkStore self.old line.now text.new.items self.new) }
-        ensures stops { OnErr result (StopsAt S.ForkStore self.old line.now self.new) }
-        ensures memory { OnErr result (TakesMemory S.ForkStore self.old line.now.statement self.new) }
+    pub fn run_line(&mut self, line: &Line<'_>, text: &mut ReplyText) -> Result<(), HostFull>
+        ensures does { OnOk result (LineDoes S.ForkStore self.old line.now text.new self.new) }
+        ensures stops { OnErr result (StopsAt S.ForkStore self.old line.now.number line.now.statement self.new) }
     {
         text.clear();
         match &line.statement {
@@ -83,38 +81,28 @@ impl<S: ForkStore> Machine<S> {
         }
     }
 
-    /// Makes the call of the line of this number, assigns its first result, and adds what it prints to an empty text.
+    /// Makes the call of the line of this number, assigns its first result, and puts what it prints in place of the text.
     fn run_call(
         &mut self,
         number: u32,
         line: &CallLine<'_>,
-        text: &mut Vec<u8>,
+        text: &mut ReplyText,
     ) -> Result<(), HostFull>
-        requires { text.old.items ≡ [] }
-        ensures does { OnOk result (CallDoes S.ForkStore self.old number line.now text.new.items self.new) }
-        ensures stops { OnErr result (SameForks S.ForkStore self.old.toolbox.resources.stores self.new.toolbox.resources.stores
-            ⊎ IsMade S.ForkStore self.old (statement.Call line.now) self.new) }
-        ensures memory { OnErr result (IsUnmade S.ForkStore self.old line.now self.new ⊎ IsMade S.ForkStore self.old (statement.Call line.now) self.new) }
+        ensures does { OnOk result (CallDoes S.ForkStore self.old number line.now text.new self.new) }
+        ensures stops { OnErr result (IsUnmade S.ForkStore self.old line.now self.new ⊎ IsTooLong S.ForkStore self.old number line.now self.new) }
     {
         let call = resolve(line, &self.variables);
         let reply = self.toolbox.step_queued(&call, &mut self.answers)?;
-        assign(&mut self.variables, line.assigned, first_number(&reply))?;
-        render(
-            text,
-            number,
-            line.call,
-            &reply,
-            self.answers.asked().as_slice(),
-        )
+        assign(&mut self.variables, line.assigned, first_number(&reply));
+        text.put(number, line.call, &reply, self.answers.asked().as_slice())
     }
 }
 
 /// Gives a value to the variable that a line assigns, if it assigns one.
-fn assign(variables: &mut Vars, name: Option<Name>, value: u32) -> Result<(), HostFull>
-    ensures { OnOk result (variables.new ≡ assigned name value variables.old) }
+fn assign(variables: &mut Vars, name: Option<Name>, value: u32)
+    ensures { variables.new ≡ assigned name value variables.old }
 {
-    match name {
-        Some(name) => variables.assign(name, value),
-        None => Ok(()),
+    if let Some(name) = name {
+        variables.assign(name, value);
     }
 }

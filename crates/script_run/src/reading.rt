@@ -2,54 +2,63 @@
 
 ghost use Rattle.std.specs.Prelude.{◌≡◌, ◌≢◌, ℕ, List, Err, IsErrOf, unwrap_or};
 ghost use Rattle.script_run.specs.Counting.{Gave, Rose};
-ghost use Rattle.script_run.specs.Run.{Reads};
-ghost use Rattle.script_run.specs.declared.reading.ReadEnd.TheVariants.{Memory};
+ghost use Rattle.script_run.specs.Starting.{Reads};
+ghost use Rattle.script_run.specs.declared.reading.NoScript.TheVariants as why;
 
 use crate::counted::Counted;
+use mac_base::error::HostFull;
 use script_text::MAX_SCRIPT;
 use std::alloc::{AllocError, Global};
 use std::io::Read;
 
-/// Why there is no script.
+/// Why no line of a script is run.
 #[derive(Clone, Copy)]
-pub enum ReadEnd {
+pub enum NoScript {
     /// The host had no memory.
-    Memory,
+    HostFull,
     /// The reader failed.
-    Fault,
-    /// There are more bytes than a script may have.
-    TooLong,
+    ReadFault,
+    /// The first line that is none. It is 0 where there are more bytes than a script may have.
+    BadLine(u32),
 }
 
-impl From<AllocError> for ReadEnd {
-    ghost from_gives = { λ _ e. e ≡ Memory };
+impl From<AllocError> for NoScript {
+    ghost from_gives = { λ _ e. e ≡ why.HostFull };
 
-    fn from(_: AllocError) -> ReadEnd {
-        ReadEnd::Memory
+    fn from(_: AllocError) -> NoScript {
+        NoScript::HostFull
+    }
+}
+
+impl From<HostFull> for NoScript {
+    ghost from_gives = { λ _ e. e ≡ why.HostFull };
+
+    fn from(_: HostFull) -> NoScript {
+        NoScript::HostFull
     }
 }
 
 /// All that the reader gives, in at most two reads more than a script may have bytes.
-pub fn read_script<R: Read>(alloc: Global, reader: &mut Counted<R>) -> Result<Vec<u8>, ReadEnd>
+pub fn read_script<R: Read>(alloc: Global, reader: &mut Counted<R>) -> Result<Vec<u8>, NoScript>
     // The input is the bytes that the reader tells; of one that doesn't tell, those that it gave.
     ensures read { (given : List ℕ) × Gave R.remaining reader.old given reader.new
         × Reads (unwrap_or (R.remaining reader.old.inner) given) result }
-    ensures fault { IsErrOf result ReadEnd.Fault → Rose reader.old.failures reader.new.failures }
-    ensures no_fault { result ≢ Err ReadEnd.Fault → reader.new.failures ≡ reader.old.failures }
+    ensures fault { IsErrOf result NoScript.ReadFault → Rose reader.old.failures reader.new.failures }
+    ensures no_fault { result ≢ Err NoScript.ReadFault → reader.new.failures ≡ reader.old.failures }
 {
     let mut text = Vec::new(alloc);
     let mut buffer = [0u8; 4096];
     for _ in 0..MAX_SCRIPT + 2 {
         let Ok(count) = reader.read(&mut buffer) else {
-            return Err(ReadEnd::Fault);
+            return Err(NoScript::ReadFault);
         };
         if count == 0 {
             return Ok(text);
         }
         text.extend_from_slice(&buffer[..count])?;
         if text.len() > MAX_SCRIPT {
-            return Err(ReadEnd::TooLong);
+            return Err(NoScript::BadLine(0));
         }
     }
-    Err(ReadEnd::TooLong)
+    Err(NoScript::BadLine(0))
 }

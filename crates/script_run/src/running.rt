@@ -1,6 +1,6 @@
 //! Runs a script.
 
-ghost use Rattle.std.specs.Prelude.{◌≡◌, ◌≢◌, ◌≤◌, ◌⊎◌, ℕ, List, length, unwrap_or};
+ghost use Rattle.std.specs.Prelude.{◌≡◌, ◌≢◌, ◌≤◌, ◌⊎◌, ◌↔◌, ℕ, List, length, unwrap_or};
 ghost use Rattle.script_text.specs.Script.{IsScript};
 ghost use Rattle.reply_text.specs.Text.{fault_text, no_memory_text};
 ghost use Rattle.script_run.specs.Counting.{Gave, Rose, Took};
@@ -9,18 +9,19 @@ ghost use Rattle.script_run.specs.Headline.{RunShows};
 ghost use Rattle.script_run.specs.Line.{start_of};
 ghost use Rattle.script_run.specs.Recovery.{RunRecovers};
 ghost use Rattle.script_run.specs.Run.{Ends, Tells, stores_of};
+ghost use Rattle.script_run.specs.Starting.{TellsNoScript};
 
 use crate::counted::Counted;
 use crate::end::RunEnd;
 use crate::machine::Machine;
-use crate::reading::{ReadEnd, read_script};
+use crate::reading::NoScript;
+use crate::ready::{Ready, make_ready};
 use crate::writing::write_whole;
 use fork_disk::store::ForkStore;
 use mac_base::zone_spec::ZoneSpec;
 use mem_calls::MemoryManager;
-use reply_text::{NO_MEMORY, fault_line};
+use reply_text::{NO_MEMORY, ReplyText, fault_line};
 use script_lines::Script;
-use script_text::{Fault, parse_script};
 use std::alloc::Global;
 use std::io::{Read, Write};
 
@@ -57,34 +58,28 @@ pub fn run<S: ForkStore, R: Read, W: Write>(
     ensures write_fault { result.0 ≡ RunEnd.WriteFault → Rose writer.old.failures writer.new.failures }
     ensures no_write_failed { result.0 ≢ RunEnd.WriteFault → writer.new.failures ≡ writer.old.failures }
 {
-    let mut text = match read_script(alloc, reader) {
-        Ok(text) => text,
-        Err(ReadEnd::TooLong) => return (tell_fault(alloc, writer, 0), stores),
-        Err(ReadEnd::Memory) => return (tell_no_memory(writer), stores),
-        Err(ReadEnd::Fault) => return (RunEnd::ReadFault, stores),
+    let ready = match make_ready(alloc, reader) {
+        Ok(ready) => ready,
+        Err(why) => return (tell_no_script(alloc, writer, why), stores),
     };
-    let script = match parse_script(alloc, &text) {
-        Ok(script) => script,
-        Err(Fault::Line(line)) => return (tell_fault(alloc, writer, line), stores),
-        Err(Fault::HostFull) => return (tell_no_memory(writer), stores),
-    };
-    // The text is given up but for a byte: a long list that is freed as a whole makes the C library keep others in its heap, where
-    // those that grow leave holes.
-    text.clear();
-    text.shrink_to(1);
     let Ok(memory) = MemoryManager::create(alloc, spec) else {
         return (tell_no_memory(writer), stores);
     };
-    let mut machine = Machine::new(alloc, memory, stores);
-    let end = run_lines(alloc, &mut machine, &script, writer);
+    let Ready {
+        script,
+        variables,
+        mut reply,
+    } = ready;
+    let mut machine = Machine::new(alloc, memory, variables, stores);
+    let end = run_lines(&mut machine, &script, &mut reply, writer);
     (end, machine.into_stores())
 }
 
 /// Opens the first file, runs the lines, and writes what each prints when it is made.
 fn run_lines<S: ForkStore, W: Write>(
-    alloc: Global,
     machine: &mut Machine<S>,
     script: &Script,
+    reply: &mut ReplyText,
     writer: &mut Counted<W>,
 ) -> RunEnd
     ensures ends { (written : List ℕ) × Took W.contents writer.old written writer.new
@@ -93,23 +88,36 @@ fn run_lines<S: ForkStore, W: Write>(
     ensures write_fault { result ≡ RunEnd.WriteFault → Rose writer.old.failures writer.new.failures }
     ensures no_write_failed { result ≢ RunEnd.WriteFault → writer.new.failures ≡ writer.old.failures }
 {
-    let mut reply = Vec::new(alloc);
-    let Ok(()) = machine.open_first(&mut reply) else {
+    let Ok(()) = machine.open_first(reply) else {
         return tell_no_memory(writer);
     };
-    if !write_whole(writer, &reply) {
+    if !write_whole(writer, reply.as_slice()) {
         return RunEnd::WriteFault;
     }
     let mut lines = script.lines();
     while let Some(line) = lines.next() {
-        let Ok(()) = machine.run_line(&line, &mut reply) else {
+        let Ok(()) = machine.run_line(&line, reply) else {
             return tell_no_memory(writer);
         };
-        if !write_whole(writer, &reply) {
+        if !write_whole(writer, reply.as_slice()) {
             return RunEnd::WriteFault;
         }
     }
     RunEnd::Finished
+}
+
+/// Writes why there is no script, and says how the run ended by that.
+fn tell_no_script<W: Write>(alloc: Global, writer: &mut Counted<W>, why: NoScript) -> RunEnd
+    ensures ends { (written : List ℕ) × Took W.contents writer.old written writer.new × TellsNoScript why result written }
+    ensures read_fault { (result ≡ RunEnd.ReadFault) ↔ (why ≡ NoScript.ReadFault) }
+    ensures write_fault { result ≡ RunEnd.WriteFault → Rose writer.old.failures writer.new.failures }
+    ensures no_write_failed { result ≢ RunEnd.WriteFault → writer.new.failures ≡ writer.old.failures }
+{
+    match why {
+        NoScript::HostFull => tell_no_memory(writer),
+        NoScript::ReadFault => RunEnd::ReadFault,
+        NoScript::BadLine(line) => tell_fault(alloc, writer, line),
+    }
 }
 
 /// Writes which line is the first that is none.

@@ -1,6 +1,5 @@
-use Rattle.std.proofs.Common.{◌≡◌, ◌≤◌, ◌<◌, ◌++◌, ℕ, List, [], length, take, ap, ◌∙◌, subst, refl, arith, rules}
+use Rattle.std.proofs.Common.{◌≡◌, ◌<◌, ◌++◌, ℕ, List, [], length, take, ap, ◌∙◌, subst, refl, arith, rules}
 use Rattle.std.proofs.lemmas.List.{append-nil}
-use Rattle.script_text.specs.Script.{max_script}
 use Rattle.script_run.specs.Counting.{Gave}
 use Rattle.script_run.proofs.Known.{read_all, read_more, Gave-none, Gave-then}
 use Rattle.script_run.proofs.reading.read_script.Goals as goal
@@ -18,7 +17,7 @@ returns-then-count-eq0-clause-read g c =
     let whole = read_all _ _ _ text (take c.in-Ok.count c.read.new.buf) c.loop.invariant.read.bytes h.bytes.0 nothing (h.bytes.1 c.if-count-eq0.true room) in (
       text,
       subst (λ (t : List ℕ). Gave g.R.Read.remaining c.args.reader.now t c.read.new.self) (ap (λ (t : List ℕ). text ++ t) nothing ∙ append-nil text) both,
-      (whole, subst (λ (t : List ℕ). length t ≤ max_script) whole c.loop.invariant.small),
+      whole,
     )
 
 pub returns-then-len-gt-MAX_SCRIPT-clause-read : goal.returns-then-len-gt-MAX_SCRIPT-clause-read

@@ -1,8 +1,8 @@
-use Rattle.std.proofs.Common.{◌≡◌, ◌+◌, ℕ, List, [], ◌∷◌, ◌++◌, refl, sym, subst, ◌∙◌}
+use Rattle.std.proofs.Common.{◌≡◌, ◌+◌, ℕ, List, [], ◌∷◌, ◌++◌, inl, inr, refl, sym, subst, ◌∙◌}
 use Rattle.std.specs.List.{concat}
 use Rattle.std.proofs.lemmas.List.{append-nil}
 use Rattle.script_run.specs.Counting.{Took}
-use Rattle.script_run.specs.Run.{IsProperFront, at_start, at_line}
+use Rattle.script_run.specs.Run.{IsProperFront}
 use Rattle.script_run.proofs.Known.{Took-then}
 use Rattle.script_run.proofs.Left.{next_at, left_behind}
 use Rattle.script_run.proofs.Ending.{IsRun-step, all_told, concat-push, none_told, ran_of, reply_cut}
@@ -11,33 +11,32 @@ use Rattle.script_run.proofs.running.run_lines.Goals as goal
 pub returns-in_default-clause-ends : goal.returns-in_default-clause-ends
 returns-in_default-clause-ends g c =
     let told = c.tell_no_memory.ensures.ends in
-    (told.0, told.1, λ input is. none_told g.S.ForkStore c.args.machine.now input _ [] _ told.0 (at_start refl c.in_default.ensures.unchanged) told.2)
+    (told.0, told.1, λ input is. none_told g.S.ForkStore c.args.machine.now input _ [] _ told.0 (inl (refl, c.in_default.ensures.unchanged)) told.2)
 
 pub returns-then-not-write_whole-clause-ends : goal.returns-then-not-write_whole-clause-ends
 returns-then-not-write_whole-clause-ends g c =
     let w = c.if-not-write_whole.ensures.written in
     let machine = c.open_first.new.self in
-    let text = c.open_first.new.text.items in
-    let front : IsProperFront w.0 text = rw (← c.deref.ensures.value) w.2 in
+    let text = c.open_first.new.text in
+    let front : IsProperFront w.0 text = rw (← c.as_slice.ensures) w.2 in
     (w.0, w.1, λ input is. reply_cut g.S.ForkStore c.args.machine.now input _ (ran_of g.S.ForkStore c.args.machine.now input c.args.script.now 0 (text ∷ []) machine is (machine, c.in-Ok.ensures.opens, refl)) [] text w.0 refl refl front)
 
 pub loop-line-init : goal.loop-line-init
 loop-line-init g c =
     let w = c.if-not-write_whole.ensures.written in
-    let text = c.open_first.new.text.items in
-    let whole : w.0 ≡ text ++ [] = w.2 ∙ c.deref.ensures.value ∙ sym (append-nil text) in
+    let text = c.open_first.new.text in
+    let whole : w.0 ≡ text ++ [] = w.2 ∙ c.as_slice.ensures ∙ sym (append-nil text) in
     (text ∷ [], subst (λ (t : List ℕ). Took g.W.Write.contents c.args.writer.now t c.write_whole.new.writer) whole w.1, 0, sym c.lines-lines.ensures, (c.open_first.new.self, c.in-Ok.ensures.opens, refl), c.if-not-write_whole.ensures.failures)
 
 pub returns-in_default-run_line-clause-ends : goal.returns-in_default-run_line-clause-ends
 returns-in_default-run_line-clause-ends g c =
     let told = c.tell_no_memory-in_default-run_line.ensures.ends in
     let i = c.loop-line.invariant in
-    let stopped = c.in_default-run_line.ensures in (
+    let stopped = c.in_default-run_line.ensures.stops in (
       concat i.0 ++ told.0,
       Took-then _ _ _ _ _ _ i.1 told.1,
       λ input is. none_told g.S.ForkStore c.args.machine.now input _ i.0 _ told.0
-          (at_line (ran_of g.S.ForkStore c.args.machine.now input c.args.script.now i.2 i.0 c.loop-line.machine is i.4) c.in-Some.line _ c.run_line.new.self
-          (i.3 ∙ c.in-Some.ensures.some) refl stopped.stops stopped.memory refl) told.2,
+          (inr (ran_of g.S.ForkStore c.args.machine.now input c.args.script.now i.2 i.0 c.loop-line.machine is i.4, c.in-Some.line, _, c.run_line.new.self, i.3 ∙ c.in-Some.ensures.some, stopped, refl, refl)) told.2,
     )
 
 pub returns-in_default-run_line-clause-write_fault : goal.returns-in_default-run_line-clause-write_fault
@@ -52,10 +51,10 @@ returns-then-not-write_whole-2-clause-ends g c =
     let i = c.loop-line.invariant in
     let lines = c.args.script.now in
     let machine = c.run_line.new.self in
-    let text = c.run_line.new.text.items in
+    let text = c.run_line.new.text in
     let at = next_at lines _ i.2 c.in-Some.line (i.3 ∙ c.in-Some.ensures.some) in
     let run = IsRun-step g.S.ForkStore c.args.machine.now lines i.2 i.0 c.loop-line.machine c.in-Some.line text machine at i.4 c.in-Ok-run_line.ensures.does in
-    let front : IsProperFront w.0 text = rw (← c.deref-in-Some.ensures.value) w.2 in (
+    let front : IsProperFront w.0 text = rw (← c.as_slice-in-Some.ensures) w.2 in (
       concat i.0 ++ w.0,
       Took-then _ _ _ _ _ _ i.1 w.1,
       λ input is. reply_cut g.S.ForkStore c.args.machine.now input _ (ran_of g.S.ForkStore c.args.machine.now input lines (i.2 + 1) (i.0 ++ text ∷ []) machine is run) i.0 text w.0 refl refl front,
@@ -69,8 +68,8 @@ loop-line-preserved g c =
     let w = c.if-not-write_whole-2.ensures.written in
     let i = c.loop-line.invariant in
     let left = i.3 ∙ c.in-Some.ensures.some in
-    let text = c.run_line.new.text.items in
-    let whole : w.0 ≡ text = w.2 ∙ c.deref-in-Some.ensures.value in
+    let text = c.run_line.new.text in
+    let whole : w.0 ≡ text = w.2 ∙ c.as_slice-in-Some.ensures in
     let at = next_at c.args.script.now _ i.2 c.in-Some.line left in
     let run = IsRun-step g.S.ForkStore c.args.machine.now c.args.script.now i.2 i.0 c.loop-line.machine c.in-Some.line text c.run_line.new.self at i.4 c.in-Ok-run_line.ensures.does in
     let both : concat i.0 ++ w.0 ≡ concat (i.0 ++ text ∷ []) = rw whole (sym (concat-push i.0 text)) in (

@@ -5,5 +5,5 @@ use Rattle.script_run.proofs.machine.Machine.new.Goals as goal
 pub returns : goal.returns
 returns g c = record {
   zone = λ spec shape heap.
-      is_start spec c.args.stores.items c.args.memory.shape c.args.memory.heap c.new.result c.open.result c.new-2.result c.new-3.result shape heap c.new.ensures c.open.ensures c.new-2.ensures c.new-3.ensures;
+      is_start spec c.args.stores.items c.args.memory.shape c.args.memory.heap c.new.result c.open.result c.args.variables c.new-2.result shape heap c.new.ensures c.open.ensures c.requires.no_variables c.new-2.ensures;
 }

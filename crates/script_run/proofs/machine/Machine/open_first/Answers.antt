@@ -8,8 +8,8 @@ pub returns-clause-opens : goal.returns-clause-opens
 returns-clause-opens g c =
     let outcome = c.in_ok-code.field-0 in
     let opened = c.in_ok-code.ensures in
-    let text : OnOk c.match-branch-2.result (c.match-branch-2.text.items ≡ opening_text outcome) = search rules in
-    on_value _ _ c.match-branch-2.result (machine_opened g.S.ForkStore c.args.self.now c.open_first.new.self outcome c.match-branch-2.text.items opened.opens opened.shape opened.refused opened.resource_refused) text
+    let text : OnOk c.match-branch-2.result (c.match-branch-2.text ≡ opening_text outcome) = search rules in
+    on_value _ _ c.match-branch-2.result (machine_opened g.S.ForkStore c.args.self.now c.open_first.new.self outcome c.match-branch-2.text opened.opens opened.shape opened.refused opened.resource_refused) text
 
 pub returns-clause-unchanged : goal.returns-clause-unchanged
 returns-clause-unchanged g c = on_fault c.match-branch-2.result (opening_keeps_forks g.S.ForkStore c.args.self.now.toolbox c.open_first.new.self 1 [] _ c.in_ok-code.ensures.opens)
