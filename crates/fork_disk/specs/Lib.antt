@@ -4,3 +4,6 @@ pub mod Calls
 pub mod Crash
 pub mod Faults
 pub mod Record
+pub mod OnDisk
+pub mod OnStore
+pub mod Stores

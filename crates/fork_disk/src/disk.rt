@@ -1,7 +1,8 @@
 //! A disk as the Resource Manager sees it.
 
-ghost use Rattle.std.specs.Prelude.{◌≡◌, ◌+◌, ◌≤◌, List, ℕ, length, take, IfOk, OnOk, OnErr};
-ghost use Rattle.fork_disk.specs.Disk.{bytes_at, put_at, Torn, CutShort, Counts};
+ghost use Rattle.std.specs.Prelude.{◌+◌, ◌≤◌, List, ℕ, length};
+ghost use Rattle.fork_disk.specs.Disk.{Counts};
+ghost use Rattle.fork_disk.specs.OnDisk.{MeasuresDisk, ReadsDisk, WritesDisk, CutsDisk, SyncsDisk};
 
 use thiserror::Error;
 
@@ -31,43 +32,30 @@ pub trait ForkDisk {
 
     /// How many bytes there are.
     fn len(&mut self) -> Result<u64, DiskFault>
-        ensures value { is_honest self.new → IfOk result (λ n. n ≡ length (seen self.old)) }
-        ensures same { is_honest self.new → seen self.new ≡ seen self.old }
-        ensures stable { is_honest self.new → is_stable self.old → is_stable self.new }
-        ensures honest { is_honest self.new → is_honest self.old }
+        ensures measures { is_honest self.new → MeasuresDisk seen is_honest is_stable self.old self.new result }
         ensures cause { Counts (failures self.old) (failures self.new) result };
 
     /// Fills the buffer with the bytes at an offset. After a fault the buffer holds any bytes.
     fn read_at(&mut self, at: u64, buffer: &mut [u8]) -> Result<(), DiskFault>
         requires { is_honest self.old → at + length buffer.old ≤ length (seen self.old) }
-        ensures read { is_honest self.new → OnOk result (buffer.new ≡ bytes_at (length buffer.old) at (seen self.old)) }
-        ensures same { is_honest self.new → seen self.new ≡ seen self.old }
-        ensures stable { is_honest self.new → is_stable self.old → is_stable self.new }
-        ensures honest { is_honest self.new → is_honest self.old }
+        ensures reads { is_honest self.new → ReadsDisk seen is_honest is_stable self.old self.new at buffer.old buffer.new result }
         ensures cause { Counts (failures self.old) (failures self.new) result };
 
     /// Writes over what is there, and past the end. A write that failed may have been done in part.
     fn write_at(&mut self, at: u64, bytes: &[u8]) -> Result<(), DiskFault>
         requires { is_honest self.old → at ≤ length (seen self.old) }
-        ensures written { is_honest self.new → OnOk result (seen self.new ≡ put_at at bytes.now (seen self.old)) }
-        ensures torn { is_honest self.new → OnErr result (Torn at (length bytes.now) (seen self.old) (seen self.new)) }
-        ensures honest { is_honest self.new → is_honest self.old }
+        ensures writes { is_honest self.new → WritesDisk seen is_honest is_stable self.old self.new at bytes.now result }
         ensures cause { Counts (failures self.old) (failures self.new) result };
 
     /// Cuts the bytes to a length that is not above theirs. A cut that failed may have been done in part.
     fn cut(&mut self, len: u64) -> Result<(), DiskFault>
         requires { is_honest self.old → len ≤ length (seen self.old) }
-        ensures cut { is_honest self.new → OnOk result (seen self.new ≡ take len (seen self.old)) }
-        ensures torn { is_honest self.new → OnErr result (CutShort len (seen self.old) (seen self.new)) }
-        ensures honest { is_honest self.new → is_honest self.old }
+        ensures cuts { is_honest self.new → CutsDisk seen is_honest is_stable self.old self.new len result }
         ensures cause { Counts (failures self.old) (failures self.new) result };
 
     /// Makes what was written stable, so that a crash leaves it. A sync that failed makes nothing stable. The bytes are the same
     /// either way.
     fn sync(&mut self) -> Result<(), DiskFault>
-        ensures same { is_honest self.new → seen self.new ≡ seen self.old }
-        ensures synced { is_honest self.new → OnOk result (is_stable self.new) }
-        ensures stable { is_honest self.new → is_stable self.old → is_stable self.new }
-        ensures honest { is_honest self.new → is_honest self.old }
+        ensures syncs { is_honest self.new → SyncsDisk seen is_honest is_stable self.old self.new result }
         ensures cause { Counts (failures self.old) (failures self.new) result };
 }

@@ -1,8 +1,9 @@
 //! A disk that fails once.
 
-ghost use Rattle.std.specs.Prelude.{◌≡◌, ◌+◌, ◌≤◌, ◌↔◌, length, take, IfOk, OnOk, OnErr, IsErr};
-ghost use Rattle.fork_disk.specs.Disk.{bytes_at, put_at, Torn, CutShort, Counts};
+ghost use Rattle.std.specs.Prelude.{◌≡◌, ◌+◌, ◌≤◌, ◌↔◌, length, IsErr};
+ghost use Rattle.fork_disk.specs.Disk.{Counts};
 ghost use Rattle.fork_disk.specs.Calls.{next_call, Takes};
+ghost use Rattle.fork_disk.specs.OnDisk.{MeasuresDisk, ReadsDisk, WritesDisk, CutsDisk, SyncsDisk};
 
 use crate::disk::{DiskFault, ForkDisk};
 use crate::failures::Failures;
@@ -79,10 +80,7 @@ impl<D: ForkDisk> ForkDisk for FailAt<D> {
     ghost failures = { λ s. D.failures s.disk + s.failures };
 
     fn len(&mut self) -> Result<u64, DiskFault>
-        ensures value { D.is_honest self.new.disk → IfOk result (λ n. n ≡ length (D.seen self.old.disk)) }
-        ensures same { D.is_honest self.new.disk → D.seen self.new.disk ≡ D.seen self.old.disk }
-        ensures stable { D.is_honest self.new.disk → D.is_stable self.old.disk → D.is_stable self.new.disk }
-        ensures honest { D.is_honest self.new.disk → D.is_honest self.old.disk }
+        ensures measures { D.is_honest self.new.disk → MeasuresDisk D.seen D.is_honest D.is_stable self.old.disk self.new.disk result }
         ensures cause { Counts (D.failures self.old.disk + self.old.failures) (D.failures self.new.disk + self.new.failures) result }
         ensures call { Takes D.failures self.old self.new result }
     {
@@ -92,10 +90,7 @@ impl<D: ForkDisk> ForkDisk for FailAt<D> {
 
     fn read_at(&mut self, at: u64, buffer: &mut [u8]) -> Result<(), DiskFault>
         requires { D.is_honest self.old.disk → at + length buffer.old ≤ length (D.seen self.old.disk) }
-        ensures read { D.is_honest self.new.disk → OnOk result (buffer.new ≡ bytes_at (length buffer.old) at (D.seen self.old.disk)) }
-        ensures same { D.is_honest self.new.disk → D.seen self.new.disk ≡ D.seen self.old.disk }
-        ensures stable { D.is_honest self.new.disk → D.is_stable self.old.disk → D.is_stable self.new.disk }
-        ensures honest { D.is_honest self.new.disk → D.is_honest self.old.disk }
+        ensures reads { D.is_honest self.new.disk → ReadsDisk D.seen D.is_honest D.is_stable self.old.disk self.new.disk at buffer.old buffer.new result }
         ensures cause { Counts (D.failures self.old.disk + self.old.failures) (D.failures self.new.disk + self.new.failures) result }
         ensures call { Takes D.failures self.old self.new result }
         ensures buffer { self.new.calls ≡ self.old.turn → buffer.new ≡ buffer.old }
@@ -106,9 +101,7 @@ impl<D: ForkDisk> ForkDisk for FailAt<D> {
 
     fn write_at(&mut self, at: u64, bytes: &[u8]) -> Result<(), DiskFault>
         requires { D.is_honest self.old.disk → at ≤ length (D.seen self.old.disk) }
-        ensures written { D.is_honest self.new.disk → OnOk result (D.seen self.new.disk ≡ put_at at bytes.now (D.seen self.old.disk)) }
-        ensures torn { D.is_honest self.new.disk → OnErr result (Torn at (length bytes.now) (D.seen self.old.disk) (D.seen self.new.disk)) }
-        ensures honest { D.is_honest self.new.disk → D.is_honest self.old.disk }
+        ensures writes { D.is_honest self.new.disk → WritesDisk D.seen D.is_honest D.is_stable self.old.disk self.new.disk at bytes.now result }
         ensures cause { Counts (D.failures self.old.disk + self.old.failures) (D.failures self.new.disk + self.new.failures) result }
         ensures call { Takes D.failures self.old self.new result }
     {
@@ -118,9 +111,7 @@ impl<D: ForkDisk> ForkDisk for FailAt<D> {
 
     fn cut(&mut self, len: u64) -> Result<(), DiskFault>
         requires { D.is_honest self.old.disk → len ≤ length (D.seen self.old.disk) }
-        ensures cut { D.is_honest self.new.disk → OnOk result (D.seen self.new.disk ≡ take len (D.seen self.old.disk)) }
-        ensures torn { D.is_honest self.new.disk → OnErr result (CutShort len (D.seen self.old.disk) (D.seen self.new.disk)) }
-        ensures honest { D.is_honest self.new.disk → D.is_honest self.old.disk }
+        ensures cuts { D.is_honest self.new.disk → CutsDisk D.seen D.is_honest D.is_stable self.old.disk self.new.disk len result }
         ensures cause { Counts (D.failures self.old.disk + self.old.failures) (D.failures self.new.disk + self.new.failures) result }
         ensures call { Takes D.failures self.old self.new result }
     {
@@ -129,10 +120,7 @@ impl<D: ForkDisk> ForkDisk for FailAt<D> {
     }
 
     fn sync(&mut self) -> Result<(), DiskFault>
-        ensures same { D.is_honest self.new.disk → D.seen self.new.disk ≡ D.seen self.old.disk }
-        ensures synced { D.is_honest self.new.disk → OnOk result (D.is_stable self.new.disk) }
-        ensures stable { D.is_honest self.new.disk → D.is_stable self.old.disk → D.is_stable self.new.disk }
-        ensures honest { D.is_honest self.new.disk → D.is_honest self.old.disk }
+        ensures syncs { D.is_honest self.new.disk → SyncsDisk D.seen D.is_honest D.is_stable self.old.disk self.new.disk result }
         ensures cause { Counts (D.failures self.old.disk + self.old.failures) (D.failures self.new.disk + self.new.failures) result }
         ensures call { Takes D.failures self.old self.new result }
     {

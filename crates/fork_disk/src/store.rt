@@ -1,10 +1,11 @@
 //! Where the fork of a resource file is kept.
 
-ghost use Rattle.std.specs.Prelude.{◌≡◌, ◌+◌, ◌<◌, ◌≤◌, ◌^◌, ⊤, List, [], ℕ, length, IfOk, OnOk, IsErrOf};
-ghost use Rattle.fork_disk.specs.Crash.{AlwaysFinds, Finds, FoundBeforeOr};
-ghost use Rattle.fork_disk.specs.Disk.{bytes_at, Counts};
+ghost use Rattle.std.specs.Prelude.{◌≡◌, ◌<◌, ◌^◌, ⊤, List, [], ℕ, length};
+ghost use Rattle.fork_disk.specs.Crash.{Finds};
+ghost use Rattle.fork_disk.specs.Disk.{Counts};
 ghost use Rattle.fork_disk.specs.Faults.{CountsDevice};
 ghost use Rattle.fork_disk.specs.Fork.{IsPartly};
+ghost use Rattle.fork_disk.specs.OnStore.{CanRead, RecoversFork, MeasuresFork, ReadsFork, ReplacesFork};
 
 use crate::disk::{DiskFault, ForkDisk};
 use crate::faults::RecoverFault;
@@ -65,54 +66,29 @@ pub trait ForkStore {
     /// same. Whenever a crash comes, a start finds a fork that it might have found before. The host's memory is asked for only where
     /// a fork is copied.
     fn recover(&mut self) -> Result<(), RecoverFault>
-        ensures same { is_honest self.new → fork self.new ≡ fork self.old }
-        ensures ready { is_honest self.new → OnOk result (is_ready self.new) }
-        ensures still { is_honest self.new → is_ready self.old → is_ready self.new }
-        ensures stable { is_honest self.new → is_stable self.old → is_stable self.new }
-        ensures honest { is_honest self.new → is_honest self.old }
-        ensures cause { CountsDevice (failures self.old) (failures self.new) result }
-        ensures memory { is_honest self.new → IsErrOf result RecoverFault.Host → 1 ≤ copied self.old }
-        ensures any_moment { is_honest self.new → AlwaysFinds may_find (may_find (history self.old)) (history self.old) (history self.new) };
+        ensures recovers { is_honest self.new → RecoversFork fork is_ready is_stable is_honest history self.old self.new may_find copied result }
+        ensures cause { CountsDevice (failures self.old) (failures self.new) result };
 
     /// How many bytes the fork has.
     fn len(&mut self) -> Result<u64, DiskFault>
         requires { is_honest self.old → is_ready self.old }
-        ensures value { is_honest self.new → IfOk result (λ n. n ≡ length (fork self.old)) }
-        ensures same { is_honest self.new → fork self.new ≡ fork self.old }
-        ensures ready { is_honest self.new → is_ready self.new }
-        ensures stable { is_honest self.new → is_stable self.old → is_stable self.new }
-        ensures honest { is_honest self.new → is_honest self.old }
-        ensures cause { Counts (failures self.old) (failures self.new) result }
-        ensures calm { is_honest self.new → history self.new ≡ history self.old };
+        ensures measures { is_honest self.new → MeasuresFork fork is_ready is_stable is_honest history self.old self.new result }
+        ensures cause { Counts (failures self.old) (failures self.new) result };
 
     /// Fills the buffer with the fork's bytes at an offset. After a fault the buffer holds any bytes.
     fn read_at(&mut self, at: u64, buffer: &mut [u8]) -> Result<(), DiskFault>
-        requires ready { is_honest self.old → is_ready self.old }
-        requires there { is_honest self.old → at + length buffer.old ≤ length (fork self.old) }
-        ensures read { is_honest self.new → OnOk result (buffer.new ≡ bytes_at (length buffer.old) at (fork self.old)) }
-        ensures same { is_honest self.new → fork self.new ≡ fork self.old }
-        ensures ready { is_honest self.new → is_ready self.new }
-        ensures stable { is_honest self.new → is_stable self.old → is_stable self.new }
-        ensures honest { is_honest self.new → is_honest self.old }
-        ensures cause { Counts (failures self.old) (failures self.new) result }
-        ensures calm { is_honest self.new → history self.new ≡ history self.old };
+        requires { is_honest self.old → CanRead fork is_ready self.old at (length buffer.old) }
+        ensures reads { is_honest self.new → ReadsFork fork is_ready is_stable is_honest history self.old self.new at buffer.old buffer.new result }
+        ensures cause { Counts (failures self.old) (failures self.new) result };
 
     /// Puts another fork, whose length four bytes hold, in the place of the one that is there. Where it succeeds, a crash leaves the
     /// new one. Whenever a crash comes, a start finds a fork that it might have found before, or the new one.
     fn replace(&mut self, new: &[u8]) -> Result<(), ReplaceFault>
         requires ready { is_honest self.old → is_ready self.old }
         requires short { length new.now < 2 ^ 32 }
-        ensures replaced { is_honest self.new → OnOk result (fork self.new ≡ new.now) }
-        ensures before { is_honest self.new → IsErrOf result ReplaceFault.BeforeFirstWrite → fork self.new ≡ fork self.old }
-        ensures left { is_honest self.new → IsErrOf result ReplaceFault.Later → may_leave new.now (fork self.old) (fork self.new) }
-        ensures ready { is_honest self.new → OnOk result (is_ready self.new) }
-        ensures still { is_honest self.new → IsErrOf result ReplaceFault.BeforeFirstWrite → is_ready self.new }
-        ensures stable { is_honest self.new → OnOk result (is_stable self.new) }
-        ensures honest { is_honest self.new → is_honest self.old }
-        ensures cause { Counts (failures self.old) (failures self.new) result }
-        ensures any_moment { is_honest self.new
-            → AlwaysFinds may_find (FoundBeforeOr may_find (history self.old) new.now) (history self.old) (history self.new) }
-        ensures calm { is_honest self.new → IsErrOf result ReplaceFault.BeforeFirstWrite → history self.new ≡ history self.old };
+        ensures replaces { is_honest self.new → ReplacesFork fork is_ready is_stable is_honest history self.old self.new may_leave may_find
+            ReplaceFault.BeforeFirstWrite ReplaceFault.Later new.now result }
+        ensures cause { Counts (failures self.old) (failures self.new) result };
 
     /// A crash leaves something: a start may find the fork that is there now.
     ghost crash_leaves: { (store : Self) → has_journal → is_honest store → may_find (history store) (fork store) };
