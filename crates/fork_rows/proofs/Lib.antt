@@ -1,3 +1,4 @@
 mod Front
+mod Kept
 mod Opened
 pub mod Grouped

@@ -1,5 +1,5 @@
 -- What the pieces of a fork that were read say of it, and what a fault says.
-use Rattle.std.proofs.Common.{◌≡◌, ℕ, ◌≤◌, List, length, map, subst, refl, sym, ap, ◌∙◌, arith}
+use Rattle.std.proofs.Common.{◌≡◌, ℕ, ◌≤◌, List, Ok, Err, length, map, subst, refl, sym, ap, ◌∙◌, arith}
 use Rattle.std.specs.List.{AllByRecursion}
 use Rattle.fork_bytes.specs.declared.fault.Condition.{Condition}
 use Rattle.fork_bytes.specs.declared.fault.Condition.TheVariants.{Parts, Places, ByteCount}
@@ -7,6 +7,8 @@ use Rattle.fork_bytes.specs.declared.fault.ForkFault.TheVariants.{BadMap}
 use Rattle.fork_bytes.specs.declared.layout.Header.{Header}
 use Rattle.fork_bytes.specs.Rows.{MapRow}
 use Rattle.fork_bytes.specs.Fork.{bytes_at, header_of, data_of, map_of, map_rows, extra_of, attributes_of, HasParts, HasData, StandsFor, Refuses}
+use Rattle.fork_disk.specs.declared.store.ForkStore.{Ghosts}
+use Rattle.fork_disk.specs.Stores.{OnlyReads}
 use Rattle.fork_reader.specs.Reading.{PlacedRow, placed_row, placed_rows, row_at, IsMap, IsWithin, FaultsAt, AreFewBytes}
 use Rattle.fork_reader.proofs.Faults.{faults_less, places_refuse, bytes_refuse, is_fork}
 use Rattle.fork_reader.proofs.Placing.{few_from_placed, few_to_placed, rows_are_within}
@@ -14,7 +16,8 @@ use Rattle.fork_reader.proofs.Whole.{parts_of_fork, map_is, stands}
 use Rattle.fork_rows.specs.declared.fault.OpenFault.{OpenFault}
 use Rattle.fork_rows.specs.declared.fault.OpenFault.TheVariants.{Fork, Device}
 use Rattle.fork_rows.specs.declared.table.PlacedTable.{PlacedTable}
-use Rattle.fork_rows.specs.Opening.{FaultsIn, HasPlaces, RefusesToOpen, filled}
+use Rattle.fork_rows.specs.Opening.{Reads, FaultsIn, HasPlaces, OpensAs, RefusesToOpen, filled}
+use Rattle.fork_rows.proofs.Kept.{read_twice}
 
 -- what is said of a fault at a condition, where less is said of it
 pub fault_less : (condition : Condition) (P Q : Type 0) → (P → Q) → (fault : OpenFault) → FaultsIn condition P fault → FaultsIn condition Q fault
@@ -30,17 +33,28 @@ pub record Mapped (fork : List ℕ) (header : Header) (m : List ℕ) (rows : Lis
   pub holds : IsMap m
   pub listed : rows ≡ map_rows m
 
--- It was read piece by piece, and the fork is the same for each piece.
-pub mapped : (fork first second : List ℕ) (header : Header) (n : ℕ) (m seen : List ℕ) (rows : List MapRow) → first ≡ fork → second ≡ fork → n ≡ length fork → 16 ≤ n →
-    header ≡ header_of first → HasParts n header → m ≡ bytes_at header.map_length header.map_offset second → seen ≡ m → IsMap seen → rows ≡ map_rows seen → Mapped fork header m rows
-mapped fork first second header n m seen rows same again long whole head parts cut is holds listed =
-    let P : ℕ → Type 0 = λ k. HasParts k header in let Q : List ℕ → Type 0 = IsMap in record {
-      whole = omega arith;
-      head = head ∙ ap header_of same;
-      parts = subst P long parts;
-      bytes = cut ∙ ap (bytes_at header.map_length header.map_offset) again;
-      holds = subst Q is holds;
-      listed = listed ∙ ap map_rows is;
+-- It was read piece by piece: its length, its header with the extra bytes, its map, and what is read after it.
+pub read_in_turn : {S : Type 0} (store : Ghosts S) (start counted fronted seen last : S) (n : ℕ) (header : Header) (extra m bytes : List ℕ) (rows : List MapRow) (P : List ℕ → Type 0)
+    → OnlyReads store start counted → n ≡ length (store.fork start) → 16 ≤ n
+    → Reads store counted fronted (λ fork. (header ≡ header_of fork) × (extra ≡ extra_of fork)) → HasParts n header
+    → Reads store fronted seen (λ fork. m ≡ bytes_at header.map_length header.map_offset fork) → bytes ≡ m → IsMap bytes → rows ≡ map_rows bytes
+    → Reads store seen last P → Reads store start last (λ fork. Mapped fork header m rows × (extra ≡ extra_of fork) × P fork)
+read_in_turn store start counted fronted seen last n header extra m bytes rows P count long whole front parts part same holds listed after =
+    let one = read_twice store _ _ _ count front.keeps in let two = read_twice store _ _ _ one part.keeps in
+    let Q : ℕ → Type 0 = λ k. HasParts k header in let R : List ℕ → Type 0 = IsMap in record {
+      keeps = read_twice store _ _ _ two after.keeps;
+      told = (
+        record {
+          whole = omega (arith, long, whole);
+          head = front.told.0 ∙ ap header_of count.same;
+          parts = subst Q long parts;
+          bytes = part.told ∙ ap (bytes_at header.map_length header.map_offset) one.same;
+          holds = subst R same holds;
+          listed = listed ∙ ap map_rows same;
+        },
+        front.told.1 ∙ ap extra_of count.same,
+        subst P two.same after.told,
+      );
     }
 
 parts_of : (fork : List ℕ) (header : Header) (m : List ℕ) (rows : List MapRow) → Mapped fork header m rows → HasParts (length fork) (header_of fork)
@@ -94,13 +108,20 @@ has_places fork header m rows read has placed is few extra attributes behind mar
     )
 
 -- the fork stands for the table with the bytes at the places
-pub has_table : (fork : List ℕ) (table : PlacedTable) → HasPlaces fork table → StandsFor fork (filled fork table)
+has_table : (fork : List ℕ) (table : PlacedTable) → HasPlaces fork table → StandsFor fork (filled fork table)
 has_table fork table has =
     let P : PlacedTable → Type 0 = λ t. StandsFor fork (filled fork t) in
     subst P (sym has.1) (stands fork (map (row_at fork) (placed_rows fork)) (extra_of fork) (attributes_of (map_of fork)) has.0 refl refl refl)
 
 -- the places lie within the fork
-pub are_within : (fork : List ℕ) (table : PlacedTable) → HasPlaces fork table → AllByRecursion (IsWithin fork) table.rows
+are_within : (fork : List ℕ) (table : PlacedTable) → HasPlaces fork table → AllByRecursion (IsWithin fork) table.rows
 are_within fork table has =
     let P : PlacedTable → Type 0 = λ t. AllByRecursion (IsWithin fork) t.rows in
     subst P (sym has.1) (rows_are_within fork (has.0.holds Parts) (map_rows (map_of fork)) (has.0.holds Places))
+
+-- a fork that was opened, and one that is refused once it has a header
+pub opened_as : (fork : List ℕ) (table : PlacedTable) → HasPlaces fork table → OpensAs (Ok table) fork
+opened_as fork table has = record { rows = has; table = has_table fork table has; within = are_within fork table has; refuses = tt; end = λ short. tt }
+
+pub refused_as : (fork : List ℕ) (fault : OpenFault) → 16 ≤ length fork → RefusesToOpen fork fault → OpensAs (Err fault) fork
+refused_as fork fault whole refuses = record { rows = tt; table = tt; within = tt; refuses = refuses; end = λ short. absurd (omega arith) }

@@ -1,14 +1,18 @@
 -- What a fork is read as that stays on its disk.
-use Rattle.std.specs.Prelude.{◌≡◌, ℕ, ◌+◌, ◌≤◌, List, map, ⊤, Result, MatchResult}
+use Rattle.std.specs.Prelude.{◌≡◌, ℕ, ◌+◌, ◌<◌, ◌≤◌, ◌⊎◌, List, length, map, ⊤, Result, MatchResult, IfOk, IfErr}
+use Rattle.std.specs.List.{AllByRecursion}
 use Rattle.fork_bytes.specs.declared.fault.Condition.{Condition}
+use Rattle.fork_bytes.specs.declared.layout.Header.{Header}
 use Rattle.fork_bytes.specs.declared.table.Table.{Table}
-use Rattle.fork_bytes.specs.Fork.{map_of, extra_of, attributes_of, max_fork, IsFork, Refuses}
+use Rattle.fork_bytes.specs.Fork.{header_of, map_of, extra_of, attributes_of, max_fork, HasParts, IsFork, Refuses, StandsFor}
 use Rattle.fork_bytes.specs.Laws.{IsGrouped}
-use Rattle.fork_bytes.specs.declared.fault.ForkFault.TheVariants.{HostFull}
+use Rattle.fork_bytes.specs.declared.fault.ForkFault.TheVariants.{EndOfFile, HostFull}
 use Rattle.fork_disk.specs.declared.faults.RecoverFault.{RecoverFault}
 use Rattle.fork_disk.specs.declared.faults.RecoverFault.TheVariants as recover
+use Rattle.fork_disk.specs.declared.store.ForkStore.{Ghosts}
 use Rattle.fork_disk.specs.Disk.{Rose}
-use Rattle.fork_reader.specs.Reading.{PlacedRow, placed_rows, row_at, FaultsAt}
+use Rattle.fork_disk.specs.Stores.{OnlyReads}
+use Rattle.fork_reader.specs.Reading.{PlacedRow, placed_rows, row_at, IsWithin, FaultsAt}
 use Rattle.res_base.specs.declared.resource.Resource.{Resource}
 use Rattle.fork_rows.specs.declared.fault.OpenFault.{OpenFault}
 use Rattle.fork_rows.specs.declared.fault.OpenFault.TheVariants.{Fork, Device}
@@ -55,6 +59,27 @@ RefusesToOpen fork Device = ⊤
 abbrev pub FaultsIn : Condition → Type 0 → OpenFault → Type 0
 FaultsIn condition P (Fork fault) = FaultsAt condition P fault
 FaultsIn condition P Device = ⊤
+
+-- where a store is honest it is ready, with such a fork
+abbrev pub IsReadyWith : {S : Type 0} → Ghosts S → S → (List ℕ → Type 0) → Type 0
+IsReadyWith store s P = store.is_honest s → store.is_ready s × P (store.fork s)
+
+-- a store is only read, and so the fork is that it has
+pub record Reads {S : Type 0} (store : Ghosts S) (old new : S) (P : List ℕ → Type 0) : Type 0 where
+  pub keeps : OnlyReads store old new
+  pub told : P (store.fork old)
+
+-- a fork has this header, and its parts lie within it
+abbrev pub HasHeader : Header → List ℕ → Type 0
+HasHeader header fork = (header ≡ header_of fork) × HasParts (length fork) header
+
+-- What a fork is opened as: its table, with the places of the resources' bytes, or why there is none.
+pub record OpensAs (result : Result PlacedTable OpenFault) (fork : List ℕ) : Type 0 where
+  pub rows : IfOk result (HasPlaces fork)
+  pub table : IfOk result (λ table. StandsFor fork (filled fork table))
+  pub within : IfOk result (λ table. AllByRecursion (IsWithin fork) table.rows)
+  pub refuses : IfErr result (RefusesToOpen fork)
+  pub end : length fork < 16 → IfErr result (λ fault. (fault ≡ Fork EndOfFile) ⊎ (fault ≡ Device))
 
 -- the fault of opening a file whose fork couldn't be made ready
 abbrev pub unrecovered : RecoverFault → OpenFault

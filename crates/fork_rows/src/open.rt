@@ -1,10 +1,10 @@
 //! A fork is opened on its disk.
 
-ghost use Rattle.std.specs.Prelude.{◌≡◌, ◌<◌, ◌≤◌, ◌⊎◌, length, IfOk, IfErr};
+ghost use Rattle.std.specs.Prelude.{◌≤◌, length, IfOk};
 ghost use Rattle.std.specs.List.{AllByRecursion};
-ghost use Rattle.fork_bytes.specs.Fork.{max_rows, StandsFor};
-ghost use Rattle.fork_reader.specs.Reading.{IsWithin, AreFewBytes};
-ghost use Rattle.fork_rows.specs.Opening.{HasPlaces, FitsInFork, AreGrouped, filled, RefusesToOpen, CountsDevice};
+ghost use Rattle.fork_bytes.specs.Fork.{max_rows};
+ghost use Rattle.fork_reader.specs.Reading.{AreFewBytes};
+ghost use Rattle.fork_rows.specs.Opening.{Reads, OpensAs, FitsInFork, AreGrouped, CountsDevice};
 
 use crate::fault::OpenFault;
 use crate::part::{find_rows, read_front, read_part};
@@ -21,21 +21,11 @@ use std::alloc::Global;
 /// any case.
 pub fn read_rows<S: ForkStore>(alloc: Global, store: &mut S) -> Result<PlacedTable, OpenFault>
     requires { S.is_honest store.old → S.is_ready store.old }
-    ensures rows { S.is_honest store.new → IfOk result (HasPlaces (S.fork store.old)) }
-    ensures table { S.is_honest store.new → IfOk result (λ table. StandsFor (S.fork store.old) (filled (S.fork store.old) table)) }
-    ensures within { S.is_honest store.new → IfOk result (λ table. AllByRecursion (IsWithin (S.fork store.old)) table.rows) }
+    ensures reads { S.is_honest store.new → Reads S.ForkStore store.old store.new (OpensAs result) }
     ensures inside { IfOk result (λ table. AllByRecursion FitsInFork table.rows) }
     ensures most { IfOk result (λ table. length table.rows ≤ max_rows) }
     ensures few { IfOk result (λ table. AreFewBytes table.rows) }
     ensures grouped { IfOk result (λ table. AreGrouped table.rows) }
-    ensures refuses { S.is_honest store.new → IfErr result (RefusesToOpen (S.fork store.old)) }
-    ensures end { S.is_honest store.new → length (S.fork store.old) < 16
-        → IfErr result (λ fault. (fault ≡ OpenFault.Fork ForkFault.EndOfFile) ⊎ (fault ≡ OpenFault.Device)) }
-    ensures same { S.is_honest store.new → S.fork store.new ≡ S.fork store.old }
-    ensures ready { S.is_honest store.new → S.is_ready store.new }
-    ensures stable { S.is_honest store.new → S.is_stable store.old → S.is_stable store.new }
-    ensures calm { S.is_honest store.new → S.history store.new ≡ S.history store.old }
-    ensures honest { S.is_honest store.new → S.is_honest store.old }
     ensures cause { CountsDevice (S.failures store.old) (S.failures store.new) result }
 {
     let fork_length = store.len()? as usize;

@@ -1,10 +1,10 @@
 //! Parts of a fork, read from its disk.
 
-ghost use Rattle.std.specs.Prelude.{◌≡◌, ◌<◌, ◌≤◌, ◌+◌, ◌⊎◌, length, map, IfOk, IfErr};
-ghost use Rattle.fork_bytes.specs.Fork.{bytes_at, header_of, data_of, extra_of, max_fork, HasParts, HasData};
+ghost use Rattle.std.specs.Prelude.{◌≡◌, ◌≤◌, ◌+◌, ◌⊎◌, length, map, IfOk, IfErr, MatchResult};
+ghost use Rattle.fork_bytes.specs.Fork.{bytes_at, header_of, data_of, extra_of, max_fork, HasData};
 ghost use Rattle.std.specs.List.{AllByRecursion};
 ghost use Rattle.fork_reader.specs.Reading.{placed_row, HasDatum};
-ghost use Rattle.fork_rows.specs.Opening.{FaultsIn, FitsInFork, CountsDevice, kinds_in};
+ghost use Rattle.fork_rows.specs.Opening.{IsReadyWith, Reads, HasHeader, FaultsIn, FitsInFork, CountsDevice, kinds_in};
 
 use crate::fault::OpenFault;
 use byteorder::{BigEndian, ByteOrder};
@@ -32,16 +32,10 @@ pub(crate) fn read_part<S: ForkStore>(
     at: u32,
     count: u32,
 ) -> Result<Vec<u8>, OpenFault>
-    requires ready { S.is_honest store.old → S.is_ready store.old }
-    requires there { S.is_honest store.old → at + count ≤ length (S.fork store.old) }
-    ensures part { S.is_honest store.new → IfOk result (λ part. part.items ≡ bytes_at count at (S.fork store.old)) }
+    requires { IsReadyWith S.ForkStore store.old (λ fork. at + count ≤ length fork) }
+    ensures reads { S.is_honest store.new → Reads S.ForkStore store.old store.new (λ fork. IfOk result (λ part. part.items ≡ bytes_at count at fork)) }
     ensures long { IfOk result (λ part. length part.items ≡ count) }
     ensures fault { IfErr result (λ fault. (fault ≡ OpenFault.Fork ForkFault.HostFull) ⊎ (fault ≡ OpenFault.Device)) }
-    ensures same { S.is_honest store.new → S.fork store.new ≡ S.fork store.old }
-    ensures ready { S.is_honest store.new → S.is_ready store.new }
-    ensures stable { S.is_honest store.new → S.is_stable store.old → S.is_stable store.new }
-    ensures calm { S.is_honest store.new → S.history store.new ≡ S.history store.old }
-    ensures honest { S.is_honest store.new → S.is_honest store.old }
     ensures cause { CountsDevice (S.failures store.old) (S.failures store.new) result }
 {
     let Ok(mut part) = vec![in alloc; 0; count as usize] else {
@@ -57,17 +51,11 @@ pub(crate) fn read_front<S: ForkStore>(
     store: &mut S,
     fork_length: usize,
 ) -> Result<Front, OpenFault>
-    requires ready { S.is_honest store.old → S.is_ready store.old }
     requires whole { 16 ≤ fork_length }
-    requires long { S.is_honest store.old → fork_length ≡ length (S.fork store.old) }
-    ensures header { S.is_honest store.new → IfOk result (λ front. front.header ≡ header_of (S.fork store.old)) }
-    ensures extra { S.is_honest store.new → IfOk result (λ front. front.extra ≡ extra_of (S.fork store.old)) }
+    requires long { IsReadyWith S.ForkStore store.old (λ fork. fork_length ≡ length fork) }
+    ensures reads { S.is_honest store.new
+        → Reads S.ForkStore store.old store.new (λ fork. IfOk result (λ front. (front.header ≡ header_of fork) × (front.extra ≡ extra_of fork))) }
     ensures fault { IfErr result (λ fault. (fault ≡ OpenFault.Fork ForkFault.HostFull) ⊎ (fault ≡ OpenFault.Device)) }
-    ensures same { S.is_honest store.new → S.fork store.new ≡ S.fork store.old }
-    ensures ready { S.is_honest store.new → S.is_ready store.new }
-    ensures stable { S.is_honest store.new → S.is_stable store.old → S.is_stable store.new }
-    ensures calm { S.is_honest store.new → S.history store.new ≡ S.history store.old }
-    ensures honest { S.is_honest store.new → S.is_honest store.old }
     ensures cause { CountsDevice (S.failures store.old) (S.failures store.new) result }
 {
     let count = fork_length.min(FRONT_LENGTH);
@@ -84,20 +72,12 @@ fn read_row<S: ForkStore>(
     header: Header,
     row: MapRow,
 ) -> Result<PlacedRow, OpenFault>
-    requires ready { S.is_honest store.old → S.is_ready store.old }
     requires small { header.data_offset + header.data_length ≤ max_fork }
-    requires header { S.is_honest store.old → header ≡ header_of (S.fork store.old) }
-    requires parts { S.is_honest store.old → HasParts (length (S.fork store.old)) header }
-    ensures row { S.is_honest store.new → IfOk result (λ found. found ≡ placed_row (S.fork store.old) row) }
-    ensures has { S.is_honest store.new → IfOk result (λ _. HasDatum (data_of (S.fork store.old)) row) }
+    requires header { IsReadyWith S.ForkStore store.old (HasHeader header) }
+    ensures reads { S.is_honest store.new → Reads S.ForkStore store.old store.new (λ fork. MatchResult result
+        (λ found. (found ≡ placed_row fork row) × HasDatum (data_of fork) row) (FaultsIn Condition.Places (¬ HasDatum (data_of fork) row))) }
     ensures kind { IfOk result (λ found. found.kind ≡ row.kind) }
     ensures inside { IfOk result FitsInFork }
-    ensures refuses { S.is_honest store.new → IfErr result (FaultsIn Condition.Places (¬ HasDatum (data_of (S.fork store.old)) row)) }
-    ensures same { S.is_honest store.new → S.fork store.new ≡ S.fork store.old }
-    ensures ready { S.is_honest store.new → S.is_ready store.new }
-    ensures stable { S.is_honest store.new → S.is_stable store.old → S.is_stable store.new }
-    ensures calm { S.is_honest store.new → S.history store.new ≡ S.history store.old }
-    ensures honest { S.is_honest store.new → S.is_honest store.old }
     ensures cause { CountsDevice (S.failures store.old) (S.failures store.new) result }
 {
     let at = length_place(header, &row)?;
@@ -113,21 +93,14 @@ pub(crate) fn find_rows<S: ForkStore>(
     header: Header,
     rows: Vec<MapRow>,
 ) -> Result<Vec<PlacedRow>, OpenFault>
-    requires ready { S.is_honest store.old → S.is_ready store.old }
     requires small { header.data_offset + header.data_length ≤ max_fork }
-    requires header { S.is_honest store.old → header ≡ header_of (S.fork store.old) }
-    requires parts { S.is_honest store.old → HasParts (length (S.fork store.old)) header }
-    ensures rows { S.is_honest store.new → IfOk result (λ found. found.items ≡ map (placed_row (S.fork store.old)) rows.items) }
-    ensures has { S.is_honest store.new → IfOk result (λ _. HasData (data_of (S.fork store.old)) rows.items) }
+    requires header { IsReadyWith S.ForkStore store.old (HasHeader header) }
+    ensures reads { S.is_honest store.new → Reads S.ForkStore store.old store.new (λ fork. MatchResult result
+        (λ found. (found.items ≡ map (placed_row fork) rows.items) × HasData (data_of fork) rows.items)
+        (FaultsIn Condition.Places (¬ HasData (data_of fork) rows.items))) }
     ensures count { IfOk result (λ found. length found.items ≡ length rows.items) }
     ensures kinds { IfOk result (λ found. kinds_in found.items ≡ kinds_in rows.items) }
     ensures inside { IfOk result (λ found. AllByRecursion FitsInFork found.items) }
-    ensures refuses { S.is_honest store.new → IfErr result (FaultsIn Condition.Places (¬ HasData (data_of (S.fork store.old)) rows.items)) }
-    ensures same { S.is_honest store.new → S.fork store.new ≡ S.fork store.old }
-    ensures ready { S.is_honest store.new → S.is_ready store.new }
-    ensures stable { S.is_honest store.new → S.is_stable store.old → S.is_stable store.new }
-    ensures calm { S.is_honest store.new → S.history store.new ≡ S.history store.old }
-    ensures honest { S.is_honest store.new → S.is_honest store.old }
     ensures cause { CountsDevice (S.failures store.old) (S.failures store.new) result }
 {
     let mut placed = Vec::new(alloc);
