@@ -7,3 +7,4 @@ pub mod Measuring
 pub mod Counting
 pub mod Listing
 pub mod ReadAgain
+mod Replacing

@@ -21,7 +21,7 @@ use Rattle.res_table.specs.Saved.{saved_row}
 use Rattle.res_calls.specs.Changes.{FileRow, saved_table}
 use Rattle.res_calls.specs.Updates.{fits_fork}
 use Rattle.res_update.specs.declared.selection.Selection.{Selection}
-use Rattle.res_update.specs.Drafts.{is_selected, row_bytes, draft_bytes, rows_with, draft_table, fits_as_fork, new_places, kept_ranges}
+use Rattle.res_update.specs.Drafts.{is_selected, row_bytes, draft_bytes, rows_with, draft_table, fits_as_fork, new_places, kept_ranges, IsDraft}
 use Rattle.res_update.specs.Placed.{bytes_on, table_on, AreInside, IsInside, IsNear}
 use Rattle.res_update.specs.Selected.{updated}
 use Rattle.res_update.proofs.PlaceBytes.{length-on, on-inside}
@@ -173,13 +173,16 @@ data_within table long =
     let whole = length-append (front_text table) (data_text table.rows ++ map_text table) in
     let rest = length-append (data_text table.rows) (map_text table) in omega arith
 
--- the draft of an update: its bytes, the places of its rows and what it keeps
-pub record IsDraft (t : HandleTable) (s : Selection) (table : ResourceTable Place) (draft : List ℕ) (places : List Place) (kept : List Kept) : Type 0 where
-  pub extra : length table.extra ≡ 240
-  pub bytes_are : draft ≡ written (draft_table t s table)
-  pub small : length draft ≤ max_fork
-  pub places_are : places ≡ new_places 256 (draft_table t s table).rows
-  pub kept_are : kept ≡ kept_ranges s 0 table.rows places
+-- the same draft as lists that are read
+pub seen_draft : (t : HandleTable) (s : Selection) (table : ResourceTable Place) (draft : List ℕ) (places : List Place) (kept : List Kept) (bytes : List ℕ) (ranges : List Kept)
+    → IsDraft t s table draft places kept → bytes ≡ draft → ranges ≡ kept → IsDraft t s table bytes places ranges
+seen_draft t s table draft places kept bytes ranges is same same_kept = record {
+  extra = is.extra;
+  bytes_are = same ∙ is.bytes_are;
+  small = subst (λ (xs : List ℕ). length xs ≤ max_fork) (sym same) is.small;
+  places_are = is.places_are;
+  kept_are = same_kept ∙ is.kept_are;
+}
 
 module _ (t : HandleTable) (s : Selection) (table : ResourceTable Place) (draft : List ℕ) (places : List Place) (kept : List Kept) where
   -- the rows of the draft

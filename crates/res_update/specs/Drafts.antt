@@ -1,5 +1,5 @@
 -- The draft of an update: the table that it writes, with zeros for the bytes that the new fork keeps of the old one.
-use Rattle.std.specs.Prelude.{◌≡◌, ℕ, ◌+◌, ◌==◌, Bool, ◌&&◌, nat_le, List, [], ◌∷◌, length, replicate, if◌then◌else◌}
+use Rattle.std.specs.Prelude.{◌≡◌, ℕ, ◌+◌, ◌≤◌, ◌==◌, Bool, ◌&&◌, nat_le, List, [], ◌∷◌, length, replicate, if◌then◌else◌}
 use Rattle.mac_base.specs.HandleTable.{HandleTable}
 use Rattle.fork_bytes.specs.declared.table.Table.{Table}
 use Rattle.fork_bytes.specs.Fork.{max_fork}
@@ -65,3 +65,11 @@ kept_ranges selection at (r ∷ rows) (place ∷ places) =
     let others = kept_ranges selection (at + 1) rows places in
     if is_selected selection at r then others
     else record { from = r.resource.datum.offset; to = place.offset; length = r.resource.datum.length } ∷ others
+
+-- the draft of an update: its bytes, the places of its rows, and what it keeps of the old fork
+pub record IsDraft (t : HandleTable) (selection : Selection) (table : ResourceTable Place) (draft : List ℕ) (places : List Place) (kept : List Kept) : Type 0 where
+  pub extra : length table.extra ≡ 240
+  pub bytes_are : draft ≡ written (draft_table t selection table)
+  pub small : length draft ≤ max_fork
+  pub places_are : places ≡ new_places 256 (draft_table t selection table).rows
+  pub kept_are : kept ≡ kept_ranges selection 0 table.rows places

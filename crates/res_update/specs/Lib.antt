@@ -1,3 +1,4 @@
 pub mod Placed
 pub mod Selected
 pub mod Drafts
+pub mod Writing

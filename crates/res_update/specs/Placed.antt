@@ -46,3 +46,7 @@ AreInside fork rows = All (λ r. IsInside fork r.resource.datum) rows
 -- the places of rows end where the longest fork does at the latest
 abbrev pub AreNear : List (Row Place) → Type 0
 AreNear rows = All (λ r. IsNear r.resource.datum) rows
+
+-- where a store is honest it is ready, and the places of the rows lie within its fork
+abbrev pub Holds : {S : Type 0} → (S → List ℕ) → (S → Type 0) → (S → Type 0) → List (Row Place) → S → Type 0
+Holds fork is_ready is_honest rows store = is_honest store → is_ready store × AreInside (fork store) rows

@@ -1,15 +1,15 @@
 //! A table is written over the fork of which it was read.
 
-ghost use Rattle.std.specs.Prelude.{◌≡◌, ◌≤◌, ◌↔◌, length, map, All, IsTrue, IsFalse, OnOk, IfOk, IsErrOf};
-ghost use Rattle.fork_bytes.specs.Fork.{max_fork, max_rows, StandsFor};
+ghost use Rattle.std.specs.Prelude.{◌≡◌, ◌≤◌, ◌↔◌, length, map, All, IsFalse, IfOk, IsErrOf};
+ghost use Rattle.fork_bytes.specs.Fork.{max_rows};
 ghost use Rattle.fork_bytes.specs.Laws.{AreBytes, IsGrouped, IsTable};
 ghost use Rattle.fork_bytes.specs.Written.{written, Fits};
-ghost use Rattle.fork_disk.specs.Crash.{AlwaysFinds, FoundBeforeOr};
 ghost use Rattle.res_calls.specs.Changes.{saved_table};
 ghost use Rattle.res_calls.specs.Updates.{fits_fork};
-ghost use Rattle.res_update.specs.Drafts.{draft_table, new_places, kept_ranges};
-ghost use Rattle.res_update.specs.Placed.{table_on, rows_on, bytes_on, AreInside, AreNear, IsInside, IsNear};
+ghost use Rattle.res_update.specs.Drafts.{draft_table, IsDraft};
+ghost use Rattle.res_update.specs.Placed.{table_on, bytes_on, AreNear, Holds, IsNear};
 ghost use Rattle.res_update.specs.Selected.{updated, reads_lent, CountsUpdate};
+ghost use Rattle.res_update.specs.Writing.{Writes};
 
 use crate::contents::Contents;
 use crate::draft::{draft_rows, known};
@@ -18,7 +18,7 @@ use crate::ranges::{kept_ranges, new_places};
 use crate::selection::Selection;
 use crate::sizes::fits;
 use fork_bytes::{fork_laws, write_rows};
-use fork_disk::store::{ForkStore, ReplaceFault};
+use fork_disk::store::ForkStore;
 use fork_disk::update::{Kept, update};
 use fork_reader::place::Place;
 use mac_base::error::HostFull;
@@ -49,14 +49,10 @@ fn make_draft<C: Contents>(
     handles: &C,
 ) -> Result<Draft, HostFull>
     requires { IsFalse (reads_lent (C.table handles.now) selection table.now.rows) }
-    ensures fork { IfOk result (λ draft. draft.fork.items ≡ written (draft_table (C.table handles.now) selection table.now)) }
-    ensures extra { IfOk result (λ _. length table.now.extra ≡ 240) }
-    ensures small { IfOk result (λ draft. length draft.fork.items ≤ max_fork) }
+    ensures draft { IfOk result (λ draft. IsDraft (C.table handles.now) selection table.now draft.fork.items draft.places.items draft.kept.items) }
     ensures fits { IfOk result (λ _. Fits (draft_table (C.table handles.now) selection table.now)) }
     ensures table { IfOk result (λ _. IsGrouped (draft_table (C.table handles.now) selection table.now).rows
         → IsTable (draft_table (C.table handles.now) selection table.now)) }
-    ensures places { IfOk result (λ draft. draft.places.items ≡ new_places 256 (draft_table (C.table handles.now) selection table.now).rows) }
-    ensures kept { IfOk result (λ draft. draft.kept.items ≡ kept_ranges selection 0 table.now.rows draft.places.items) }
 {
     known(table.extra);
     let rows = draft_rows(alloc, &table.rows, selection, handles)?;
@@ -81,39 +77,23 @@ pub fn write_table<S: ForkStore, C: Contents>(
     selection: Selection,
     contents: &C,
 ) -> Result<Vec<Place>, UpdateFault>
-    requires ready { S.is_honest store.old → S.is_ready store.old }
-    requires inside { S.is_honest store.old → AreInside (S.fork store.old) table.now.rows }
+    requires held { Holds S.fork S.is_ready S.is_honest table.now.rows store.old }
     requires near { AreNear table.now.rows }
     requires few { length table.now.rows ≤ max_rows }
     requires unlent { IsFalse (reads_lent (C.table contents.now) selection table.now.rows) }
-    ensures written { S.is_honest store.new → OnOk result
-        (S.fork store.new ≡ written (saved_table (updated (C.table contents.now) selection (table_on (S.fork store.old) table.now)))) }
-    ensures stands { S.is_honest store.new → OnOk result
-        (IsGrouped (saved_table (updated (C.table contents.now) selection (table_on (S.fork store.old) table.now))).rows
-        → StandsFor (S.fork store.new) (saved_table (updated (C.table contents.now) selection (table_on (S.fork store.old) table.now)))) }
+    ensures writes { S.is_honest store.new
+        → Writes S.ForkStore store.old store.new (updated (C.table contents.now) selection (table_on (S.fork store.old) table.now)) result }
     // Whatever the store did, these are the places in the fork that was to be written.
     ensures places { IfOk result (λ places.
         map (bytes_on (written (saved_table (updated (C.table contents.now) selection (table_on (S.fork store.old) table.now))))) places.items
         ≡ map (λ r. r.resource.datum) (updated (C.table contents.now) selection (table_on (S.fork store.old) table.now)).rows) }
-    ensures inside { S.is_honest store.new → IfOk result (λ places. All (IsInside (S.fork store.new)) places.items) }
     ensures near { IfOk result (λ places. All IsNear places.items) }
     ensures each { IfOk result (λ places. length places.items ≡ length table.now.rows) }
     ensures too_big { IsErrOf result UpdateFault.TooBig
         ↔ IsFalse (fits_fork (updated (C.table contents.now) selection (table_on (S.fork store.old) table.now))) }
     ensures untouched { IsErrOf result UpdateFault.TooBig → store.new ≡ store.old }
     ensures unasked { IsErrOf result UpdateFault.HostFull → store.new ≡ store.old }
-    ensures before { S.is_honest store.new → IsErrOf result (UpdateFault.Device ReplaceFault.BeforeFirstWrite) → S.fork store.new ≡ S.fork store.old }
-    ensures left { S.is_honest store.new → IsErrOf result (UpdateFault.Device ReplaceFault.Later)
-        → S.may_leave (written (saved_table (updated (C.table contents.now) selection (table_on (S.fork store.old) table.now)))) (S.fork store.old) (S.fork store.new) }
-    ensures ready { S.is_honest store.new → OnOk result (S.is_ready store.new) }
-    ensures still { S.is_honest store.new → IsErrOf result (UpdateFault.Device ReplaceFault.BeforeFirstWrite) → S.is_ready store.new }
-    ensures stable { S.is_honest store.new → OnOk result (S.is_stable store.new) }
-    ensures honest { S.is_honest store.new → S.is_honest store.old }
     ensures cause { CountsUpdate (S.failures store.old) (S.failures store.new) result }
-    ensures any_moment { S.is_honest store.new → AlwaysFinds S.may_find
-        (FoundBeforeOr S.may_find (S.history store.old) (written (saved_table (updated (C.table contents.now) selection (table_on (S.fork store.old) table.now)))))
-        (S.history store.old) (S.history store.new) }
-    ensures calm { S.is_honest store.new → IsErrOf result (UpdateFault.Device ReplaceFault.BeforeFirstWrite) → S.history store.new ≡ S.history store.old }
 {
     if !fits(table, selection, contents) {
         return Err(UpdateFault::TooBig);

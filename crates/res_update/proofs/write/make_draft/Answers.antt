@@ -1,4 +1,4 @@
-use Rattle.std.proofs.Common.{◌≡◌, ◌≤◌, ℕ, List, length, ap, ◌∙◌, sym, subst, arith}
+use Rattle.std.proofs.Common.{◌≡◌, ◌≤◌, ℕ, List, length, ap, ◌∙◌, sym, subst, arith, rules}
 use Rattle.fork_bytes.specs.declared.table.Table.{Table}
 use Rattle.fork_bytes.specs.Fork.{max_fork}
 use Rattle.fork_bytes.specs.Rows as fork
@@ -6,7 +6,7 @@ use Rattle.fork_bytes.specs.Laws.{AreBytes, IsGrouped, IsTable}
 use Rattle.fork_bytes.specs.Written.{data_text, plain_table, written, Fits}
 use Rattle.fork_bytes.proofs.Plain.{bytes_same, table_same}
 use Rattle.fork_reader.specs.declared.place.Place.{Place}
-use Rattle.res_update.specs.Drafts.{draft_bytes, draft_table, rows_with, new_places}
+use Rattle.res_update.specs.Drafts.{draft_bytes, draft_table, rows_with, new_places, kept_ranges}
 use Rattle.res_update.proofs.Measuring.{length-over}
 use Rattle.res_update.proofs.Placing.{length-places}
 use Rattle.res_update.proofs.Shaping.{same_count}
@@ -19,17 +19,20 @@ kept_ranges-requires g c =
     ap (λ (ps : List Place). length ps) (c.deref-4.ensures.value ∙ c.in_ok-places.ensures ∙ ap (new_places 256) same)
     ∙ length-places 256 (rows_with f 0 rows) ∙ same_count f 0 rows
 
-pub returns-clause-fork : goal.returns-clause-fork
-returns-clause-fork g c =
+pub returns-clause-draft : goal.returns-clause-draft
+returns-clause-draft g c =
     let t = g.C.Contents.table c.args.handles.now in let table = c.args.table.now in
     let made = c.deref.ensures.value ∙ c.in_ok-rows.ensures in
     let same : plain_table (λ (bytes : List ℕ). bytes) c.deref.result.now table.extra table.map_attributes ≡ draft_table t c.args.selection table =
     ap (λ (rows : List fork.Row). plain_table (λ (bytes : List ℕ). bytes) rows table.extra table.map_attributes) made
     ∙ table_same (draft_table t c.args.selection table) in
-    c.in-Ok.ensures.written ∙ ap written same
-
-pub returns-clause-small : goal.returns-clause-small
-returns-clause-small g c = subst (λ (xs : List ℕ). length xs ≤ max_fork) (sym c.in-Ok.ensures.written) c.in-Ok.ensures.small
+    record {
+      extra = search rules;
+      bytes_are = c.in-Ok.ensures.written ∙ ap written same;
+      small = subst (λ (xs : List ℕ). length xs ≤ max_fork) (sym c.in-Ok.ensures.written) c.in-Ok.ensures.small;
+      places_are = c.in_ok-places.ensures ∙ ap (new_places 256) (c.deref-3.ensures.value ∙ c.in_ok-rows.ensures);
+      kept_are = c.in_ok-kept.ensures ∙ ap (kept_ranges c.args.selection 0 table.rows) c.deref-4.ensures.value;
+    }
 
 pub returns-clause-fits : goal.returns-clause-fits
 returns-clause-fits g c =
