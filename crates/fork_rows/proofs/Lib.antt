@@ -1,4 +1,4 @@
 mod Front
-mod Kept
+pub mod Kept
 mod Opened
 pub mod Grouped

@@ -1,11 +1,13 @@
 -- A file is opened on its store: how the files stand then, and how they are seen.
-use Rattle.std.proofs.Common.{◌≡◌, refl, sym, ap, ◌∙◌, subst, arith, ℕ, ◌-◌, ◌<◌, ◌≤◌, List, [], length, map, set, get_or, slice_get, unwrap_or, Bool, false, Option, Some, Result, Ok, Err, OnErr, All, ◌⊎◌, inl, inr}
-use Rattle.std.specs.Prelude.{IsFalse}
+use Rattle.std.proofs.Common.{◌≡◌, refl, sym, ap, ◌∙◌, subst, arith, ℕ, ◌-◌, ◌<◌, ◌≤◌, List, [], length, map, set, get_or, slice_get, unwrap_or, Bool, false, Option, Some, Result, Ok, Err, OnOk, OnErr, IfOk, All, ◌⊎◌, inl, inr}
+use Rattle.std.specs.Prelude.{IsFalse, ⊤}
 use Rattle.std.specs.Option.{option_map, option_map_or}
 use Rattle.std.proofs.lemmas.List.{length-set}
 use Rattle.std.proofs.lemmas.Option.{slice_get-map, slice_get_read}
+use Rattle.mac_base.specs.declared.error.HostFull.{HostFull}
 use Rattle.mac_base.specs.declared.error.OsErr.{OsErr}
 use Rattle.mac_base.specs.declared.error.OsErr.TheVariants.{IoErr}
+use Rattle.fork_disk.specs.declared.store.ForkStore.{Ghosts}
 use Rattle.fork_disk.specs.Disk.{Rose}
 use Rattle.fork_reader.specs.declared.place.Place.{Place}
 use Rattle.fork_rows.specs.declared.fault.OpenFault.{OpenFault}
@@ -16,10 +18,12 @@ use Rattle.res_table.specs.OpenFiles.{OpenFiles, is_open, file_opened}
 use Rattle.res_calls.specs.Answered.{IsOpening}
 use Rattle.res_calls.specs.Changes.{Files, FileTable}
 use Rattle.res_calls.specs.Device.{Reads}
-use Rattle.res_update.specs.Placed.{table_on, AreInside}
+use Rattle.res_update.specs.Placed.{table_on, AreInside, Holds}
 use Rattle.res_files.specs.FilesOn.{FilesOn, FailedAt, NoneFailed, fork_of}
-use Rattle.res_files.specs.Opening.{RefusesFile, code_of}
-use Rattle.res_files.specs.Standing.{fork_at, files_on, AreSmall, Holds, StandOn}
+use Rattle.res_files.specs.Opening.{RefusesFile, MayRead, code_of}
+use Rattle.res_files.specs.Standing.{fork_at, files_on, AreSmall, StandOn}
+use Rattle.res_files.specs.Stores.{ReadsTable, FindsAsRead, OpensStore}
+use Rattle.res_files.proofs.Crash.{found_always, others_calm, found_there}
 use Rattle.res_files.proofs.Mapped.{open-mapped, opened-mapped, set-mapped}
 use Rattle.res_files.proofs.On.{seen, bytes_in, asked}
 use Rattle.res_files.proofs.Stands.{stand_opened}
@@ -28,9 +32,15 @@ use Rattle.res_files.proofs.TablesRead.{told_by_code}
 use Rattle.res_files.proofs.Written.{from_one, others_seen}
 use Rattle.res_files.proofs.Using.{mine, same_forks, same_honest, none_failed, this_failed}
 
-module _ {S : Type 0} (fork : S → List ℕ) (is_ready is_honest : S → Type 0) (chain : OpenFiles Place) (loads : Bool) (stores : List S) (now : FilesOn S) (view_is : seen fork chain loads stores ≡ now)
+module _ {S : Type 0} (store : Ghosts S) (chain : OpenFiles Place) (loads : Bool) (stores : List S) (now : FilesOn S) (view_is : seen store.fork chain loads stores ≡ now)
     (k : ℕ) (low : 1 ≤ k) (high : k ≤ length now.stores) (old new : S) (value : old ≡ get_or stores (k - 1) old)
-    (same : is_honest new → is_honest old) (forks : is_honest new → fork new ≡ fork old) where
+    (read : Result (ResourceTable Place) OpenFault) (known : store.is_honest new → ReadsTable store old new read) where
+  same : store.is_honest new → store.is_honest old
+  same h = (known h).honest
+
+  forks : store.is_honest new → store.fork new ≡ store.fork old
+  forks h = (known h).same
+
   stores_are : now.stores ≡ stores
   stores_are = ap (λ (v : FilesOn S). v.stores) (sym view_is)
 
@@ -44,74 +54,90 @@ module _ {S : Type 0} (fork : S → List ℕ) (is_ready is_honest : S → Type 0
   here = slice_get_read stores (length stores) (k - 1) old refl within value
 
   -- the files stand on the stores still
-  pub stand_kept : (is_honest new → is_ready old → is_ready new) → StandOn fork is_ready is_honest stores chain → StandOn fork is_ready is_honest (set stores (k - 1) new) chain
-  stand_kept still stand = stand_set fork is_ready is_honest stores (k - 1) new old
-      (λ h. (subst is_honest value (same h), forks h ∙ ap fork value, λ ready. still h (subst is_ready (sym value) ready))) chain stand
+  pub stand_kept : StandOn store.fork store.is_ready store.is_honest stores chain → StandOn store.fork store.is_ready store.is_honest (set stores (k - 1) new) chain
+  stand_kept stand = stand_set store.fork store.is_ready store.is_honest stores (k - 1) new old
+      (λ h. (subst store.is_honest value (same h), forks h ∙ ap store.fork value, λ ready. (known h).still (subst store.is_ready (sym value) ready))) chain stand
 
   -- so does the one that is opened
-  pub stand_more : (table : ResourceTable Place) → is_open k chain ≡ false → AreSmall table.rows → (is_honest new → AreInside (fork old) table.rows) → (is_honest new → is_ready new)
-      → StandOn fork is_ready is_honest stores chain → StandOn fork is_ready is_honest (set stores (k - 1) new) (file_opened k table chain)
+  pub stand_more : (table : ResourceTable Place) → is_open k chain ≡ false → AreSmall table.rows → (store.is_honest new → AreInside (store.fork old) table.rows) → (store.is_honest new → store.is_ready new)
+      → StandOn store.fork store.is_ready store.is_honest stores chain → StandOn store.fork store.is_ready store.is_honest (set stores (k - 1) new) (file_opened k table chain)
   stand_more table closed small inside ready stand =
-      let held : Holds fork is_ready is_honest table.rows new = λ h. (ready h, subst (λ (bytes : List ℕ). AreInside bytes table.rows) (sym (forks h)) (inside h)) in
-      stand_opened fork is_ready is_honest (set stores (k - 1) new) k table chain closed low (subst (λ (n : ℕ). k ≤ n) (sym (length-set stores (k - 1) new)) there) small
-      (new_set (Holds fork is_ready is_honest table.rows) stores (k - 1) new held)
-      (stand_kept (λ h _. ready h) stand)
+      let held : Holds store.fork store.is_ready store.is_honest table.rows new = λ h. (ready h, subst (λ (bytes : List ℕ). AreInside bytes table.rows) (sym (forks h)) (inside h)) in
+      stand_opened store.fork store.is_ready store.is_honest (set stores (k - 1) new) k table chain closed low (subst (λ (n : ℕ). k ≤ n) (sym (length-set stores (k - 1) new)) there) small
+      (new_set (Holds store.fork store.is_ready store.is_honest table.rows) stores (k - 1) new held)
+      (stand_kept stand)
 
   -- a file that isn't seen open isn't
   pub closed_there : IsFalse (is_open k now.files) → is_open k chain ≡ false
-  closed_there closed = asked fork chain loads stores now view_is (is_open k) (is_open k chain) (sym (open-mapped (bytes_in (map fork stores)) k chain)) ∙ closed
+  closed_there closed = asked store.fork chain loads stores now view_is (is_open k) (is_open k chain) (sym (open-mapped (bytes_in (map store.fork stores)) k chain)) ∙ closed
 
   -- the files that are open are seen as before: none of them stands on this store
-  pub files_kept : StandOn fork is_ready is_honest stores chain → IsFalse (is_open k now.files) → files_on (map fork (set stores (k - 1) new)) chain ≡ now.files
+  pub files_kept : StandOn store.fork store.is_ready store.is_honest stores chain → IsFalse (is_open k now.files) → files_on (map store.fork (set stores (k - 1) new)) chain ≡ now.files
   files_kept stand closed =
-      ap (λ (forks : List (List ℕ)). files_on forks chain) (sym (set-mapped fork stores (k - 1) new))
+      ap (λ (forks : List (List ℕ)). files_on forks chain) (sym (set-mapped store.fork stores (k - 1) new))
       ∙ ap (λ (files : List (OpenFile (List ℕ))). let all : Files = record { files = files; current = chain.current } in all)
-      (others_seen k low (map fork stores) (fork new) chain.files (from_one fork is_ready is_honest stores chain.files stand.each) (closed_there closed))
+      (others_seen k low (map store.fork stores) (store.fork new) chain.files (from_one store.fork store.is_ready store.is_honest stores chain.files stand.each) (closed_there closed))
       ∙ ap (λ (v : FilesOn S). v.files) view_is
 
-  pub forks_kept : All is_honest (set stores (k - 1) new) → map fork (set stores (k - 1) new) ≡ map fork now.stores
-  forks_kept = same_forks fork is_honest chain loads stores now view_is (k - 1) within old new value forks
+  pub forks_kept : All store.is_honest (set stores (k - 1) new) → map store.fork (set stores (k - 1) new) ≡ map store.fork now.stores
+  forks_kept = same_forks store.fork store.is_honest chain loads stores now view_is (k - 1) within old new value forks
 
-  pub honest_kept : All is_honest (set stores (k - 1) new) → All is_honest now.stores
-  honest_kept = same_honest fork is_honest chain loads stores now view_is (k - 1) within old new value same
+  pub honest_kept : All store.is_honest (set stores (k - 1) new) → All store.is_honest now.stores
+  honest_kept = same_honest store.fork store.is_honest chain loads stores now view_is (k - 1) within old new value same
 
-  fork_is : fork_of fork k now.stores ≡ fork old
-  fork_is = ap (λ (xs : List S). fork_of fork k xs) stores_are ∙ ap (λ (found : Option S). option_map_or fork found []) here
+  fork_is : fork_of store.fork k now.stores ≡ store.fork old
+  fork_is = ap (λ (xs : List S). fork_of store.fork k xs) stores_are ∙ ap (λ (found : Option S). option_map_or store.fork found []) here
 
-  fork_there : fork_at (map fork (set stores (k - 1) new)) k ≡ fork new
-  fork_there = ap (λ (o : Option (List ℕ)). unwrap_or o []) (slice_get-map fork (set stores (k - 1) new) (k - 1) ∙ ap (option_map fork) (get_set stores (k - 1) new within))
+  fork_there : fork_at (map store.fork (set stores (k - 1) new)) k ≡ store.fork new
+  fork_there = ap (λ (o : Option (List ℕ)). unwrap_or o []) (slice_get-map store.fork (set stores (k - 1) new) (k - 1) ∙ ap (option_map store.fork) (get_set stores (k - 1) new within))
 
   -- what is seen of the one that is opened
-  pub seen_more : (table : ResourceTable Place) (more : OpenFiles Place) → more ≡ file_opened k table chain → StandOn fork is_ready is_honest stores chain → IsFalse (is_open k now.files)
-      → ((bytes : List ℕ) → IsOpening (Ok (table_on bytes table))) → (is_honest new → Reads (fork old) (Ok (table_on (fork old) table)))
-      → (t : FileTable) × IsOpening (Ok t) × (All is_honest (set stores (k - 1) new) → Reads (fork_of fork k now.stores) (Ok t)) × (files_on (map fork (set stores (k - 1) new)) more ≡ file_opened k t now.files)
+  pub seen_more : (table : ResourceTable Place) (more : OpenFiles Place) → more ≡ file_opened k table chain → StandOn store.fork store.is_ready store.is_honest stores chain → IsFalse (is_open k now.files)
+      → ((bytes : List ℕ) → IsOpening (Ok (table_on bytes table))) → (store.is_honest new → Reads (store.fork old) (Ok (table_on (store.fork old) table)))
+      → (t : FileTable) × MayRead (All store.is_honest (set stores (k - 1) new)) (fork_of store.fork k now.stores) (Ok t) × (files_on (map store.fork (set stores (k - 1) new)) more ≡ file_opened k t now.files)
   seen_more table more is stand closed opening reads = (
-    table_on (fork new) table,
-    opening (fork new),
-    (λ honest.
-        let was = mine fork is_honest chain loads stores now view_is (k - 1) within old new value honest in
-        subst (λ (bytes : List ℕ). Reads bytes (Ok (table_on (fork new) table))) (sym fork_is) (subst (λ (bytes : List ℕ). Reads (fork old) (Ok (table_on bytes table))) (sym (forks was)) (reads was))),
-    ap (files_on (map fork (set stores (k - 1) new))) is
-        ∙ sym (opened-mapped (bytes_in (map fork (set stores (k - 1) new))) k table chain)
-        ∙ ap (λ (bytes : List ℕ). file_opened k (table_on bytes table) (files_on (map fork (set stores (k - 1) new)) chain)) fork_there
-        ∙ ap (file_opened k (table_on (fork new) table)) (files_kept stand closed),
+    table_on (store.fork new) table,
+    (
+      opening (store.fork new),
+      λ honest.
+          let was = mine store.fork store.is_honest chain loads stores now view_is (k - 1) within old new value honest in
+          subst (λ (bytes : List ℕ). Reads bytes (Ok (table_on (store.fork new) table))) (sym fork_is) (subst (λ (bytes : List ℕ). Reads (store.fork old) (Ok (table_on bytes table))) (sym (forks was)) (reads was)),
+    ),
+    ap (files_on (map store.fork (set stores (k - 1) new))) is
+        ∙ sym (opened-mapped (bytes_in (map store.fork (set stores (k - 1) new))) k table chain)
+        ∙ ap (λ (bytes : List ℕ). file_opened k (table_on bytes table) (files_on (map store.fork (set stores (k - 1) new)) chain)) fork_there
+        ∙ ap (file_opened k (table_on (store.fork new) table)) (files_kept stand closed),
   )
 
   -- what the code of a fault says
-  pub seen_refused : (failures : S → ℕ) (fault : OpenFault) (c : OsErr) → Ok c ≡ code_of fault → (is_honest new → RefusesFile (fork old) fault) → CountsFault (failures old) (failures new) fault
-      → (IsOpening (Err c) × (All is_honest (set stores (k - 1) new) → Reads (fork_of fork k now.stores) (Err c)) × NoneFailed failures now.stores (set stores (k - 1) new))
+  pub seen_refused : (failures : S → ℕ) (fault : OpenFault) (c : OsErr) → Ok c ≡ code_of fault → (store.is_honest new → RefusesFile (store.fork old) fault) → CountsFault (failures old) (failures new) fault
+      → (MayRead (All store.is_honest (set stores (k - 1) new)) (fork_of store.fork k now.stores) (Err c) × NoneFailed failures now.stores (set stores (k - 1) new))
       ⊎ ((c ≡ IoErr) × FailedAt failures k now.stores (set stores (k - 1) new))
-  seen_refused failures fault c is told counts = by (told_by_code (is_honest new) (fork old) (failures old) (failures new) fault c is told counts)
+  seen_refused failures fault c is told counts = by (told_by_code (store.is_honest new) (store.fork old) (failures old) (failures new) fault c is told counts)
     where
-      by : (IsOpening (Err c) × (is_honest new → Reads (fork old) (Err c)) × (failures new ≡ failures old)) ⊎ ((c ≡ IoErr) × Rose (failures old) (failures new))
-          → (IsOpening (Err c) × (All is_honest (set stores (k - 1) new) → Reads (fork_of fork k now.stores) (Err c)) × NoneFailed failures now.stores (set stores (k - 1) new))
+      by : (IsOpening (Err c) × (store.is_honest new → Reads (store.fork old) (Err c)) × (failures new ≡ failures old)) ⊎ ((c ≡ IoErr) × Rose (failures old) (failures new))
+          → (MayRead (All store.is_honest (set stores (k - 1) new)) (fork_of store.fork k now.stores) (Err c) × NoneFailed failures now.stores (set stores (k - 1) new))
           ⊎ ((c ≡ IoErr) × FailedAt failures k now.stores (set stores (k - 1) new))
       by (inl refused) = inl (
-        refused.0,
-        (λ honest. subst (λ (bytes : List ℕ). Reads bytes (Err c)) (sym fork_is) (refused.1 (mine fork is_honest chain loads stores now view_is (k - 1) within old new value honest))),
-        none_failed fork is_honest chain loads stores now view_is (k - 1) within old new value failures refused.2,
+        (refused.0, λ honest. subst (λ (bytes : List ℕ). Reads bytes (Err c)) (sym fork_is) (refused.1 (mine store.fork store.is_honest chain loads stores now view_is (k - 1) within old new value honest))),
+        none_failed store.fork store.is_honest chain loads stores now view_is (k - 1) within old new value failures refused.2,
       )
-      by (inr failed) = inr (failed.0, this_failed fork is_honest chain loads stores now view_is (k - 1) within old new value failures failed.1)
+      by (inr failed) = inr (failed.0, this_failed store.fork store.is_honest chain loads stores now view_is (k - 1) within old new value failures failed.1)
+
+  -- a start finds what is read, once the store is ready
+  pub found_as_read : (store.is_honest new → store.is_ready new) → All store.is_honest (set stores (k - 1) new) → FindsAsRead store k (set stores (k - 1) new)
+  found_as_read ready honest journalled =
+      found_there store.fork store.is_honest store.history chain loads stores now view_is k within old new value store.may_find (λ h. store.ready_finds new journalled h (ready h)) honest
+
+  -- what an opening does to the stores
+  pub opens_store : (result : Result (Result ⊤ OsErr) HostFull) → (All store.is_honest (set stores (k - 1) new) → IfOk result (λ done. OnOk done (FindsAsRead store k (set stores (k - 1) new))))
+      → All store.is_honest (set stores (k - 1) new) → OpensStore store k now.stores (set stores (k - 1) new) result
+  opens_store result settled honest = record {
+    works = record { honest = honest_kept honest; others = others_calm store.fork store.is_honest store.history chain loads stores now view_is k within old new value low };
+    forks = forks_kept honest;
+    any_moment = found_always store.fork store.is_honest store.history chain loads stores now view_is k within old new value store.may_find store.may_find (λ h. (known h).any_moment) honest;
+    settled = settled honest;
+  }
 
 -- what holds in any case holds where there is an error
 pub on_err : {A E : Type 0} (r : Result A E) (P : Type 0) → P → OnErr r P

@@ -14,8 +14,8 @@ use Rattle.res_table.specs.declared.chain.OpenFile.{OpenFile}
 use Rattle.res_table.specs.declared.chain.RowPlace.{RowPlace}
 use Rattle.res_table.specs.Rows.{is_of_type, has_handle, added, changed_at, removed_at, forgotten, forgetting, with_handle}
 use Rattle.res_table.specs.OpenFiles.{OpenFiles, is_numbered, is_open, table_in, table_of, row_at, with_rows, changed_file, rows_changed, without, last_number, is_current, file_closed, file_opened, file_used, file_forgotten, handle_forgotten}
-use Rattle.res_update.specs.Placed.{AreInside, IsInside, IsNear}
-use Rattle.res_files.specs.Standing.{AreSmall, Holds, StandsOn, AreApart, StandOn, placed_rows, placed_rows_of}
+use Rattle.res_update.specs.Placed.{AreInside, IsInside, IsNear, Holds}
+use Rattle.res_files.specs.Standing.{AreSmall, StandsOn, AreApart, StandOn, placed_rows, placed_rows_of}
 use Rattle.res_files.proofs.Grouped.{changed_grouped, removed_grouped, forgotten_grouped, added_grouped}
 
 -- a change of rows after which they stand where they stood

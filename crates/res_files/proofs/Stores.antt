@@ -7,9 +7,9 @@ use Rattle.fork_disk.specs.Disk.{Rose}
 use Rattle.fork_reader.specs.declared.place.Place.{Place}
 use Rattle.res_table.specs.declared.chain.OpenFile.{OpenFile}
 use Rattle.res_table.specs.OpenFiles.{OpenFiles}
-use Rattle.res_update.specs.Placed.{AreInside}
+use Rattle.res_update.specs.Placed.{AreInside, Holds}
 use Rattle.res_files.specs.FilesOn.{failures_at}
-use Rattle.res_files.specs.Standing.{Holds, StandsOn, StandOn}
+use Rattle.res_files.specs.Standing.{StandsOn, StandOn}
 
 -- what was set is there
 pub get_set : {X : Type 0} (xs : List X) (i : ℕ) (y : X) → i < length xs → slice_get (set xs i y) i ≡ Some y

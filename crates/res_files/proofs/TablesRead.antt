@@ -1,12 +1,17 @@
 -- The table of a file that was read, and why it isn't.
-use Rattle.std.proofs.Common.{◌≡◌, refl, sym, ap, ◌∙◌, subst, arith, ℕ, ◌≤◌, ◌<◌, List, [], ◌∷◌, length, map, replicate, Result, Ok, Err, All, ◌⊎◌, inl, inr}
+use Rattle.std.proofs.Common.{◌≡◌, refl, sym, ap, ◌∙◌, subst, arith, ℕ, ◌≤◌, ◌<◌, List, [], ◌∷◌, length, map, replicate, Result, Ok, Err, OnOk, IfOk, IfErr, All, ◌⊎◌, inl, inr}
 use Rattle.std.specs.List.{AllByRecursion}
 use Rattle.std.proofs.lemmas.List.{length-map}
 use Rattle.std.proofs.lemmas.List.Elements.{All-cons, All-nil}
 use Rattle.mac_base.specs.declared.error.HostFull.{HostFull}
 use Rattle.mac_base.specs.declared.error.OsErr.{OsErr}
 use Rattle.mac_base.specs.declared.error.OsErr.TheVariants.{EofErr, MapReadErr, IoErr}
+use Rattle.fork_disk.specs.declared.faults.RecoverFault.{RecoverFault}
+use Rattle.fork_disk.specs.declared.store.ForkStore.{Ghosts}
+use Rattle.fork_disk.specs.Crash.{AlwaysFinds}
 use Rattle.fork_disk.specs.Disk.{Rose}
+use Rattle.fork_disk.specs.OnStore.{RecoversFork}
+use Rattle.fork_disk.specs.Stores.{OnlyReads}
 use Rattle.fork_bytes.specs.Fork.{max_rows, StandsFor}
 use Rattle.fork_bytes.specs.Rows as fork
 use Rattle.fork_bytes.specs.declared.fault.ForkFault.TheVariants as bytes
@@ -16,6 +21,7 @@ use Rattle.fork_rows.specs.declared.fault.OpenFault.{OpenFault}
 use Rattle.fork_rows.specs.declared.fault.OpenFault.TheVariants.{Fork, Device}
 use Rattle.fork_rows.specs.declared.table.PlacedTable.{PlacedTable}
 use Rattle.fork_rows.specs.Opening.{FitsInFork, AreGrouped, filled, RefusesToOpen, CountsFault}
+use Rattle.res_table.specs.declared.chain.ResourceTable.{ResourceTable}
 use Rattle.res_table.specs.declared.row.Row.{Row}
 use Rattle.res_table.specs.Rows.{opened_row}
 use Rattle.res_calls.specs.Answered.{IsOpening}
@@ -25,6 +31,7 @@ use Rattle.res_calls.specs.Device as device
 use Rattle.res_update.specs.Placed.{bytes_on, row_on, rows_on, table_on, AreInside, IsInside, IsNear}
 use Rattle.res_update.proofs.PlaceBytes.{on-inside}
 use Rattle.res_files.specs.Opening.{RefusesFile, code_of}
+use Rattle.res_files.specs.Stores.{ReadsTable}
 use Rattle.res_files.specs.Standing.{AreSmall}
 use Rattle.res_files.proofs.Grouped.{opened_grouped}
 
@@ -111,3 +118,24 @@ told_by_code honest disk before now (Fork (bytes.BadMap condition)) c is told co
     inl (inr same, λ h. subst (λ (e : OsErr). Reads disk (Err e)) (sym same) (told h), counts)
 told_by_code honest disk before now (Fork bytes.HostFull) c is told counts = absurd (cc is)
 told_by_code honest disk before now Device c is told counts = inr (ap (λ r. code r IoErr) is, counts)
+
+-- what holds in any case holds where there is a value
+on_ok : {A E : Type 0} (r : Result A E) (P : Type 0) → P → OnOk r P
+on_ok (Ok x) P holds = holds
+on_ok (Err e) P holds = tt
+
+-- what is read of a store once it was made ready
+pub read_ready : {S T : Type 0} (store : Ghosts S) (old made new : S) (recovery : Result T RecoverFault) (result : Result (ResourceTable Place) OpenFault)
+    → RecoversFork store.fork store.is_ready store.is_stable store.is_honest store.history old made store.may_find store.copied recovery → OnlyReads store made new
+    → IfOk result (λ table. Reads (store.fork old) (Ok (table_on (store.fork old) table))) → IfOk result (λ table. AreInside (store.fork old) table.rows) → IfErr result (RefusesFile (store.fork old))
+    → ReadsTable store old new result
+read_ready store old made new recovery result recovers keeps reads inside refuses = record {
+  honest = recovers.honest;
+  same = keeps.same ∙ recovers.same;
+  ready = on_ok result (store.is_ready new) keeps.ready;
+  still = λ _. keeps.ready;
+  any_moment = subst (λ h. AlwaysFinds store.may_find (store.may_find (store.history old)) (store.history old) h) (sym keeps.calm) recovers.any_moment;
+  reads = reads;
+  inside = inside;
+  refuses = refuses;
+}

@@ -11,8 +11,8 @@ use Rattle.res_table.specs.declared.chain.ResourceTable.{ResourceTable}
 use Rattle.res_table.specs.declared.chain.OpenFile.{OpenFile}
 use Rattle.res_table.specs.OpenFiles.{is_numbered, table_in, with_rows, changed_file, without}
 use Rattle.res_calls.specs.Changes.{FileRow}
-use Rattle.res_update.specs.Placed.{rows_on}
-use Rattle.res_files.specs.Standing.{fork_at, file_on, AreSmall, Holds, StandsOn, AreApart}
+use Rattle.res_update.specs.Placed.{rows_on, Holds}
+use Rattle.res_files.specs.Standing.{fork_at, file_on, AreSmall, StandsOn, AreApart}
 use Rattle.res_files.proofs.Stores.{new_set}
 
 -- what stands at another index

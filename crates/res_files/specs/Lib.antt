@@ -4,3 +4,4 @@ pub mod Opening
 pub mod Handles
 pub mod Standing
 pub mod Updating
+pub mod Stores

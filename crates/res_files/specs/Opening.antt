@@ -6,6 +6,8 @@ use Rattle.mac_base.specs.declared.error.OsErr.TheVariants.{EofErr, MapReadErr, 
 use Rattle.fork_bytes.specs.declared.fault.ForkFault.TheVariants as fork
 use Rattle.fork_rows.specs.declared.fault.OpenFault.{OpenFault}
 use Rattle.fork_rows.specs.declared.fault.OpenFault.TheVariants.{Fork, Device}
+use Rattle.res_calls.specs.Answered.{IsOpening}
+use Rattle.res_calls.specs.Changes.{FileTable}
 use Rattle.res_calls.specs.Device.{Reads}
 
 -- what a fault says of the bytes of a file that is to be opened
@@ -21,3 +23,7 @@ code_of (Fork fork.EndOfFile) = Ok EofErr
 code_of (Fork (fork.BadMap condition)) = Ok MapReadErr
 code_of (Fork fork.HostFull) = Err (record {})
 code_of Device = Ok IoErr
+
+-- an opening may give this, and where the devices are honest, it is what the disk has
+abbrev pub MayRead : Type 0 → List ℕ → Result FileTable OsErr → Type 0
+MayRead honest disk read = IsOpening read × (honest → Reads disk read)

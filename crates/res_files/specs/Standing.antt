@@ -11,7 +11,7 @@ use Rattle.res_table.specs.declared.chain.OpenFile.{OpenFile}
 use Rattle.res_table.specs.OpenFiles.{OpenFiles, is_numbered, is_open, table_of}
 use Rattle.res_table.specs.Saved.{bare}
 use Rattle.res_calls.specs.Changes.{Files}
-use Rattle.res_update.specs.Placed.{table_on, AreInside, AreNear}
+use Rattle.res_update.specs.Placed.{table_on, AreNear, Holds}
 
 -- the fork of a number, where these are the forks in the order of numbers
 abbrev pub fork_at : List (List ℕ) → ℕ → List ℕ
@@ -30,10 +30,6 @@ pub record AreSmall (rows : List (Row Place)) : Type 0 where
   pub few : length rows ≤ max_rows
   pub grouped : IsGrouped (bare rows)
   pub near : AreNear rows
-
--- where a store is honest it is ready, and the places of the rows lie within its fork
-abbrev pub Holds : {S : Type 0} → (S → List ℕ) → (S → Type 0) → (S → Type 0) → List (Row Place) → S → Type 0
-Holds fork is_ready is_honest rows store = is_honest store → is_ready store × AreInside (fork store) rows
 
 -- a file stands on the store of its number
 pub record StandsOn {S : Type 0} (fork : S → List ℕ) (is_ready is_honest : S → Type 0) (stores : List S) (file : OpenFile Place) : Type 0 where

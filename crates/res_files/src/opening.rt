@@ -1,13 +1,11 @@
 //! A resource file is opened.
 
-ghost use Rattle.std.specs.Prelude.{◌≡◌, ◌≤◌, ◌⊎◌, length, map, All, IsFalse, IfOk, IfErr, OnOk, OnErr, Ok, Err};
+ghost use Rattle.std.specs.Prelude.{◌≡◌, ◌≤◌, ◌⊎◌, length, All, IsFalse, IfOk, IfErr, OnOk, OnErr, Ok, Err};
 ghost use Rattle.res_table.specs.OpenFiles.{is_open, file_opened};
-ghost use Rattle.res_calls.specs.Answered.{IsOpening};
 ghost use Rattle.res_calls.specs.Changes.{FileTable};
-ghost use Rattle.res_calls.specs.Device.{Reads};
-ghost use Rattle.fork_disk.specs.Crash.{AlwaysFinds, Finds};
-ghost use Rattle.res_files.specs.Crash.{history_of, OthersAreCalm};
 ghost use Rattle.res_files.specs.FilesOn.{fork_of, FailedAt, NoneFailed};
+ghost use Rattle.res_files.specs.Opening.{MayRead};
+ghost use Rattle.res_files.specs.Stores.{OpensStore};
 
 use crate::files::ResourceFiles;
 use crate::tables::{code_of, read_table};
@@ -21,26 +19,18 @@ impl<S: ForkStore> ResourceFiles<S> {
     pub fn open(&mut self, number: u8) -> Result<Result<(), OsErr>, HostFull>
         requires there { (1 ≤ number) × (number ≤ length self.old.stores) }
         requires closed { IsFalse (is_open number self.old.files) }
-        ensures opened { IfOk result (λ done. OnOk done ((table : FileTable) × IsOpening (Ok table)
-            × (All S.is_honest self.new.stores → Reads (fork_of S.fork number self.old.stores) (Ok table))
+        ensures opened { IfOk result (λ done. OnOk done ((table : FileTable)
+            × MayRead (All S.is_honest self.new.stores) (fork_of S.fork number self.old.stores) (Ok table)
             × (self.new.files ≡ file_opened number table self.old.files))) }
         ensures refused { IfOk result (λ done. IfErr done (λ code.
-            (IsOpening (Err code) × (All S.is_honest self.new.stores → Reads (fork_of S.fork number self.old.stores) (Err code))
-            × NoneFailed S.failures self.old.stores self.new.stores)
+            (MayRead (All S.is_honest self.new.stores) (fork_of S.fork number self.old.stores) (Err code) × NoneFailed S.failures self.old.stores self.new.stores)
             ⊎ ((code ≡ OsErr.IoErr) × FailedAt S.failures number self.old.stores self.new.stores))) }
         ensures works { IfOk result (λ done. OnOk done (NoneFailed S.failures self.old.stores self.new.stores)) }
         ensures same { IfOk result (λ done. OnErr done (self.new.files ≡ self.old.files)) }
         ensures full { OnErr result (self.new.files ≡ self.old.files) }
-        ensures forks { All S.is_honest self.new.stores → map S.fork self.new.stores ≡ map S.fork self.old.stores }
+        ensures opens { All S.is_honest self.new.stores → OpensStore S.ForkStore number self.old.stores self.new.stores result }
         ensures loads { self.new.loads ≡ self.old.loads }
-        ensures honest { All S.is_honest self.new.stores → All S.is_honest self.old.stores }
         ensures count { length self.new.stores ≡ length self.old.stores }
-        // Whenever a crash comes, a start finds a fork that it might have found before; once the file is open, it finds what is read.
-        ensures any_moment { All S.is_honest self.new.stores → AlwaysFinds S.may_find (S.may_find (history_of S.history number self.old.stores))
-            (history_of S.history number self.old.stores) (history_of S.history number self.new.stores) }
-        ensures others { All S.is_honest self.new.stores → OthersAreCalm S.history number self.old.stores self.new.stores }
-        ensures settled { All S.is_honest self.new.stores → S.has_journal → IfOk result (λ done. OnOk done
-            (Finds S.may_find (λ found. found ≡ fork_of S.fork number self.new.stores) (history_of S.history number self.new.stores))) }
     {
         let store = &mut self.stores[number as usize - 1];
         let table = match read_table(self.alloc, store) {

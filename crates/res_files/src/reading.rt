@@ -1,9 +1,10 @@
 //! What is read from the disks.
 
-ghost use Rattle.std.specs.Prelude.{◌≡◌, length, map, All, IfSome, OnOk, MatchResult};
+ghost use Rattle.std.specs.Prelude.{◌≡◌, length, All, IfSome, MatchResult};
 ghost use Rattle.res_table.specs.OpenFiles.{row_at};
 ghost use Rattle.res_calls.specs.Answered.{AnswersFor};
 ghost use Rattle.res_files.specs.FilesOn.{FailedAt, NoneFailed};
+ghost use Rattle.res_files.specs.Stores.{ReadsRow};
 
 use crate::files::ResourceFiles;
 use fork_disk::disk::DiskFault;
@@ -15,14 +16,11 @@ impl<S: ForkStore> ResourceFiles<S> {
     /// bytes.
     pub fn read(&mut self, place: RowPlace, buffer: &mut [u8]) -> Result<(), DiskFault>
         requires long { IfSome (row_at place self.old.files) (λ r. length buffer.old ≡ length r.resource.datum) }
-        ensures read { All S.is_honest self.new.stores → OnOk result (IfSome (row_at place self.old.files) (λ r. buffer.new ≡ r.resource.datum)) }
+        ensures reads { All S.is_honest self.new.stores → ReadsRow S.ForkStore self.old.stores self.new.stores (row_at place self.old.files) buffer.new result }
         ensures length { length buffer.new ≡ length buffer.old }
         ensures files { AnswersFor (All S.is_honest self.new.stores) self.old.files self.new.files }
-        ensures forks { All S.is_honest self.new.stores → map S.fork self.new.stores ≡ map S.fork self.old.stores }
         ensures loads { self.new.loads ≡ self.old.loads }
-        ensures honest { All S.is_honest self.new.stores → All S.is_honest self.old.stores }
         ensures count { length self.new.stores ≡ length self.old.stores }
-        ensures calm { All S.is_honest self.new.stores → map S.history self.new.stores ≡ map S.history self.old.stores }
         ensures cause { MatchResult result (λ _. NoneFailed S.failures self.old.stores self.new.stores)
             (λ _. FailedAt S.failures place.file self.old.stores self.new.stores) }
     {

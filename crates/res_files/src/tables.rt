@@ -1,13 +1,12 @@
 //! The table of a file, read from its disk.
 
-ghost use Rattle.std.specs.Prelude.{◌≡◌, ℕ, List, IfOk, IfErr, OnOk, Ok};
-ghost use Rattle.fork_disk.specs.Crash.{AlwaysFinds};
+ghost use Rattle.std.specs.Prelude.{◌≡◌, ℕ, List, IfOk, Ok};
 ghost use Rattle.fork_rows.specs.Opening.{CountsDevice};
 ghost use Rattle.res_calls.specs.Answered.{IsOpening};
-ghost use Rattle.res_calls.specs.Device.{Reads};
-ghost use Rattle.res_update.specs.Placed.{table_on, AreInside};
-ghost use Rattle.res_files.specs.Opening.{code_of, RefusesFile};
+ghost use Rattle.res_update.specs.Placed.{table_on};
+ghost use Rattle.res_files.specs.Opening.{code_of};
 ghost use Rattle.res_files.specs.Standing.{AreSmall};
+ghost use Rattle.res_files.specs.Stores.{ReadsTable};
 
 use fork_bytes::fault::ForkFault;
 use fork_disk::store::ForkStore;
@@ -36,17 +35,10 @@ pub(crate) fn read_table<S: ForkStore>(
     alloc: Global,
     store: &mut S,
 ) -> Result<ResourceTable<Place>, OpenFault>
-    ensures reads { S.is_honest store.new → IfOk result (λ table. Reads (S.fork store.old) (Ok (table_on (S.fork store.old) table))) }
+    ensures reads { S.is_honest store.new → ReadsTable S.ForkStore store.old store.new result }
     ensures opening { IfOk result (λ table. (fork : List ℕ) → IsOpening (Ok (table_on fork table))) }
-    ensures inside { S.is_honest store.new → IfOk result (λ table. AreInside (S.fork store.old) table.rows) }
     ensures small { IfOk result (λ table. AreSmall table.rows) }
-    ensures refuses { S.is_honest store.new → IfErr result (RefusesFile (S.fork store.old)) }
-    ensures same { S.is_honest store.new → S.fork store.new ≡ S.fork store.old }
-    ensures ready { S.is_honest store.new → OnOk result (S.is_ready store.new) }
-    ensures still { S.is_honest store.new → S.is_ready store.old → S.is_ready store.new }
-    ensures honest { S.is_honest store.new → S.is_honest store.old }
     ensures cause { CountsDevice (S.failures store.old) (S.failures store.new) result }
-    ensures any_moment { S.is_honest store.new → AlwaysFinds S.may_find (S.may_find (S.history store.old)) (S.history store.old) (S.history store.new) }
 {
     store.recover()?;
     if store.len()? == 0 {

@@ -1,16 +1,13 @@
 //! A resource file is written.
 
-ghost use Rattle.std.specs.Prelude.{◌≡◌, ◌↔◌, List, ℕ, length, map, All, IsTrue, IsFalse, OnOk, IfSome, IsErrOf};
-ghost use Rattle.fork_bytes.specs.Fork.{StandsFor};
-ghost use Rattle.fork_bytes.specs.Written.{written};
+ghost use Rattle.std.specs.Prelude.{◌≡◌, ◌↔◌, length, All, IsTrue, IsFalse, OnOk, IfSome, IsErrOf};
 ghost use Rattle.res_table.specs.OpenFiles.{is_open, rows_changed, file_closed, table_of};
 ghost use Rattle.res_calls.specs.Answered.{AnswersFor};
-ghost use Rattle.res_calls.specs.Changes.{rows_of, saved_table};
+ghost use Rattle.res_calls.specs.Changes.{rows_of};
 ghost use Rattle.res_calls.specs.Updates.{fits_fork};
 ghost use Rattle.res_update.specs.Selected.{updated, reads_lent};
-ghost use Rattle.fork_disk.specs.Crash.{AlwaysFinds, Finds, FoundBeforeOr};
-ghost use Rattle.res_files.specs.Crash.{history_of, OthersAreCalm};
-ghost use Rattle.res_files.specs.FilesOn.{fork_of, forks_with, FailedAt, NoneFailed};
+ghost use Rattle.res_files.specs.FilesOn.{FailedAt, NoneFailed};
+ghost use Rattle.res_files.specs.Stores.{UpdatesStore};
 
 use crate::files::ResourceFiles;
 use crate::placing::place_rows;
@@ -52,40 +49,23 @@ impl<S: ForkStore> ResourceFiles<S> {
         ensures rows { OnOk result (IfSome (table_of number self.old.files) (λ table.
             AnswersFor (All S.is_honest self.new.stores)
             (rows_changed number (λ _. (updated (C.table contents.now) selection table).rows) self.old.files) self.new.files)) }
-        ensures written { All S.is_honest self.new.stores → OnOk result (IfSome (table_of number self.old.files) (λ table.
-            map S.fork self.new.stores ≡ forks_with S.fork number (written (saved_table (updated (C.table contents.now) selection table))) self.old.stores)) }
-        ensures stands { All S.is_honest self.new.stores → OnOk result (IfSome (table_of number self.old.files) (λ table.
-            StandsFor (fork_of S.fork number self.new.stores) (saved_table (updated (C.table contents.now) selection table)))) }
         ensures too_big { IfSome (table_of number self.old.files) (λ table.
             IsErrOf result UpdateFault.TooBig ↔ IsFalse (fits_fork (updated (C.table contents.now) selection table))) }
         ensures untouched { IsErrOf result UpdateFault.TooBig → self.new ≡ self.old }
         ensures unasked { IsErrOf result UpdateFault.HostFull → self.new ≡ self.old }
         ensures before { IsErrOf result (UpdateFault.Device ReplaceFault.BeforeFirstWrite)
             → AnswersFor (All S.is_honest self.new.stores) self.old.files self.new.files }
-        ensures before_forks { All S.is_honest self.new.stores → IsErrOf result (UpdateFault.Device ReplaceFault.BeforeFirstWrite)
-            → map S.fork self.new.stores ≡ map S.fork self.old.stores }
         ensures closed { IsErrOf result (UpdateFault.Device ReplaceFault.Later)
             → self.new.files ≡ file_closed number self.old.files }
-        ensures later { All S.is_honest self.new.stores → IsErrOf result (UpdateFault.Device ReplaceFault.Later) → IfSome (table_of number self.old.files) (λ table.
-            (left : List ℕ) × S.may_leave (written (saved_table (updated (C.table contents.now) selection table))) (fork_of S.fork number self.old.stores) left
-            × (map S.fork self.new.stores ≡ forks_with S.fork number left self.old.stores)) }
+        ensures updates { All S.is_honest self.new.stores → UpdatesStore S.ForkStore number (updated (C.table contents.now) selection)
+            self.old.files self.old.stores self.new.stores result }
         ensures loads { self.new.loads ≡ self.old.loads }
-        ensures honest { All S.is_honest self.new.stores → All S.is_honest self.old.stores }
         ensures count { length self.new.stores ≡ length self.old.stores }
         ensures none { OnOk result (NoneFailed S.failures self.old.stores self.new.stores) }
         ensures cause { IsErrOf result (UpdateFault.Device ReplaceFault.BeforeFirstWrite)
             → FailedAt S.failures number self.old.stores self.new.stores }
         ensures cause_later { IsErrOf result (UpdateFault.Device ReplaceFault.Later)
             → FailedAt S.failures number self.old.stores self.new.stores }
-        // Whenever a crash comes, a start finds a fork that it might have found before or the new one; once this succeeded, the new one.
-        ensures any_moment { All S.is_honest self.new.stores → IfSome (table_of number self.old.files) (λ table. AlwaysFinds S.may_find
-            (FoundBeforeOr S.may_find (history_of S.history number self.old.stores) (written (saved_table (updated (C.table contents.now) selection table))))
-            (history_of S.history number self.old.stores) (history_of S.history number self.new.stores)) }
-        ensures others { All S.is_honest self.new.stores → OthersAreCalm S.history number self.old.stores self.new.stores }
-        ensures calm { All S.is_honest self.new.stores → IsErrOf result (UpdateFault.Device ReplaceFault.BeforeFirstWrite)
-            → history_of S.history number self.new.stores ≡ history_of S.history number self.old.stores }
-        ensures settled { All S.is_honest self.new.stores → S.has_journal → OnOk result
-            (Finds S.may_find (λ found. found ≡ fork_of S.fork number self.new.stores) (history_of S.history number self.new.stores)) }
     {
         let Some(table) = self.chain.table(number) else {
             return Ok(());
