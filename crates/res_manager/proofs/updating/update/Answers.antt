@@ -1,11 +1,9 @@
-use Rattle.std.proofs.Common.{Some, None, ap}
+use Rattle.std.proofs.Common.{None, ap}
 use Rattle.mac_calls.specs.declared.resource_call.ResourceCall.{ResourceCall}
 use Rattle.mac_calls.specs.declared.resource_call.ResourceCall.TheVariants.{CloseResFile, UpdateResFile}
-use Rattle.res_calls.specs.Steps.{work_of, update_in}
-use Rattle.res_calls.specs.Updates.{behind_update, update_of}
+use Rattle.res_calls.specs.Updates.{behind_update}
 use Rattle.res_update.specs.Selected.{updated}
 use Rattle.res_update.specs.declared.selection.Selection.TheVariants.{AllChanged}
-use Rattle.res_manager.specs.Steps.{state_of}
 use Rattle.res_manager.proofs.LeavingForks.{made_leaves}
 use Rattle.res_manager.proofs.Stepping.{if_ok}
 use Rattle.res_manager.proofs.UpdatingCalls.{closing_unlent, made_late, made_steps, makes_closed, makes_file, on_err, open_update}

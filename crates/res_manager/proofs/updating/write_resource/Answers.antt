@@ -3,7 +3,7 @@ use Rattle.mac_calls.specs.declared.reply.Results.TheVariants.{Nothing}
 use Rattle.mac_calls.specs.declared.resource_call.ResourceCall.TheVariants.{UpdateResFile, WriteResource}
 use Rattle.res_calls.specs.Changes.{FileRow}
 use Rattle.res_calls.specs.Steps.{work_of, update_in}
-use Rattle.res_calls.specs.Updates.{row_passes, update_of}
+use Rattle.res_calls.specs.Updates.{row_passes}
 use Rattle.res_table.specs.Rows.{is_changed}
 use Rattle.res_update.specs.Selected.{updated}
 use Rattle.res_update.specs.declared.selection.Selection.TheVariants.{RowAt}
