@@ -1,5 +1,5 @@
 -- How closing a file ends that was written.
-use Rattle.std.proofs.Common.{◌≡◌, ◌∙◌, ℕ, Bool, true, false, List, map, None, Err, refl, sym, ap, subst}
+use Rattle.std.proofs.Common.{◌≡◌, ◌∙◌, Bool, true, false, List, map, None, Err, refl, sym, ap, subst}
 use Rattle.std.specs.Prelude.{All, MatchBool}
 use Rattle.std.specs.Result.{is_err}
 use Rattle.mac_base.specs.ZoneState.{ZoneState}

@@ -13,16 +13,18 @@ use Rattle.fork_disk.specs.declared.store.ForkStore.{Ghosts}
 use Rattle.fork_disk.specs.Crash.{AlwaysFinds, FoundBeforeOr, at_first, and_then}
 use Rattle.res_calls.specs.Changes.{FileTable, Files, saved_table}
 use Rattle.res_calls.specs.Files.{ResState}
-use Rattle.res_calls.specs.Steps.{Work, Quiet, Opens, work_of, update_in}
+use Rattle.res_calls.specs.Steps.{Work, Quiet, Opens, IsSaved, ReadsBack, work_of, update_in}
 use Rattle.res_calls.specs.Updates.{Update, update_of}
 use Rattle.res_files.specs.Crash.{history_of, OthersAreCalm}
 use Rattle.res_files.specs.FilesOn.{FilesOn}
+use Rattle.res_files.specs.Stores.{UpdatesStore}
 use Rattle.res_table.specs.OpenFiles.{is_open, table_of}
 use Rattle.res_update.specs.Selected.{updated}
+use Rattle.res_update.specs.declared.fault.UpdateFault.{UpdateFault}
 use Rattle.res_update.specs.declared.selection.Selection.{Selection}
 use Rattle.res_manager.specs.Crash.{CrashLeaves, IsSettled, MayBeFound, file_settled}
 use Rattle.res_manager.specs.Steps.{state_of}
-use Rattle.res_manager.proofs.UpdatingCalls.{Makes}
+use Rattle.res_manager.proofs.UpdatingCalls.{Makes, open_update}
 use Rattle.res_manager.proofs.WritingFiles.{update_found}
 
 -- what is always found, where less is asked
@@ -64,7 +66,7 @@ module _ {S : Type 0} (store : Ghosts S) (old new : List S) where
   open_leaves k others finds = one_leaves None k others (weaker store.may_find _ _ _ _ (λ found may. inl may) finds)
 
   -- or written
-  pub file_leaves : (k : ℕ) (change : FileTable → FileTable) (files : Files) (u : Update) → update_of k change files ≡ Some u
+  file_leaves : (k : ℕ) (change : FileTable → FileTable) (files : Files) (u : Update) → update_of k change files ≡ Some u
       → IfSome (table_of k files) (λ table. AlwaysFinds store.may_find (FoundBeforeOr store.may_find (history_of store.history k old) (written (saved_table (change table)))) (history_of store.history k old) (history_of store.history k new))
       → OthersAreCalm store.history k old new → CrashLeaves store (Some u) old new
   file_leaves k change files u is finds others =
@@ -74,12 +76,13 @@ module _ {S : Type 0} (store : Ghosts S) (old new : List S) where
       (one_leaves (Some v) k others (weaker store.may_find _ _ _ _ (λ found. ⊎_elim inl (λ same. inr (refl, same))) (rw f.there at finds)))
 
   -- so with the contents of this zone
-  pub zone_leaves : (contents zone : ZoneState) (selection : Selection) (k : ℕ) (files : Files) (u : Update) → contents ≡ zone → update_of k (updated zone.heap.table selection) files ≡ Some u
-      → IfSome (table_of k files) (λ table. AlwaysFinds store.may_find (FoundBeforeOr store.may_find (history_of store.history k old) (written (saved_table (updated contents.heap.table selection table)))) (history_of store.history k old) (history_of store.history k new))
-      → OthersAreCalm store.history k old new → CrashLeaves store (Some u) old new
-  zone_leaves contents zone selection k files u same is finds others =
-      let Q : ZoneState → Type 0 = λ z. update_of k (updated z.heap.table selection) files ≡ Some u in
-      file_leaves k (updated contents.heap.table selection) files u (subst Q (sym same) is) finds others
+  pub zone_leaves : {T : Type 0} (contents zone : ZoneState) (selection : Selection) (k : ℕ) (files : Files) (result : Result T UpdateFault) → contents ≡ zone → is_open k files ≡ true
+      → UpdatesStore store k (updated contents.heap.table selection) files old new result → CrashLeaves store (update_of k (updated zone.heap.table selection) files) old new
+  zone_leaves contents zone selection k files result same there updates =
+      let o = open_update k (updated contents.heap.table selection) files there in
+      let P : ZoneState → Type 0 = λ z. CrashLeaves store (update_of k (updated z.heap.table selection) files) old new in
+      subst P same (subst (λ (update : Option Update). CrashLeaves store update old new) (sym o.1)
+      (file_leaves k (updated contents.heap.table selection) files o.0 o.1 updates.any_moment updates.works.others))
 
   -- by the work of a call
   pub work_leaves : {E : Type 0} (work : Work) (update : Option Update) (result : Result Outcome E) → update_in work ≡ update → CrashLeaves store update old new → IfOk result (λ outcome. CrashLeaves store (update_in work) old new)
@@ -108,3 +111,9 @@ opening_saves state k = by_case (is_open k state.files)
 pub err_anyhow : {T E : Type 0} (P : Type 0) (result : Result T E) → P → OnErr result P
 err_anyhow P (Ok x) holds = tt
 err_anyhow P (Err e) holds = holds
+
+-- and reads none back
+pub opening_reads : {E : Type 0} (old new : ResState) (k : ℕ) (result : Result Outcome E) → IfOk result (λ outcome. ReadsBack old (call.OpenResFile k) outcome new)
+opening_reads old new k (Ok (Ok done)) = subst (λ (o : Option Update). IsSaved o new) (sym (opening_saves old k)) tt
+opening_reads old new k (Ok (Err code)) = tt
+opening_reads old new k (Err full) = tt

@@ -1,5 +1,5 @@
 -- A block that is placed is filled, and what it held before leaves no trace.
-use Rattle.std.proofs.Common.{◌≡◌, ℕ, Bool, true, false, cond, eqb, List, [], ◌∷◌, Option, Some, None, Result, Ok, Err, refl, ap, sym, ◌∙◌, ◌≤◌, subst, arith, Ordering, Less, Equal, Greater, length, take, drop}
+use Rattle.std.proofs.Common.{◌≡◌, ℕ, Bool, true, false, cond, eqb, List, [], ◌∷◌, Option, None, Result, Ok, Err, refl, ap, sym, ◌∙◌, ◌≤◌, subst, arith, Ordering, Less, Equal, Greater, length, take, drop}
 use Rattle.std.specs.Prelude.{◌==◌, ◌||◌, not, filter, nat_le, is_ok, OnOk, IfSome}
 use Rattle.std.specs.FinMap.{put}
 use Rattle.std.proofs.Math.Seq.{take-length, drop-length}

@@ -20,3 +20,5 @@ pub mod Stepping
 pub mod UpdatingCalls
 pub mod WritingFiles
 pub mod GettingRows
+mod Keeping
+mod LeavingForks

@@ -15,6 +15,7 @@ use Rattle.res_calls.specs.Device.{Disk, Reads}
 use Rattle.res_calls.specs.Device as device
 use Rattle.res_calls.specs.Files.{ResState, disk_of, with_files}
 use Rattle.res_files.specs.FilesOn.{FailedAt, FilesOn, NoneFailed, fork_of}
+use Rattle.res_files.specs.Opening.{MayRead}
 use Rattle.res_table.specs.OpenFiles.{file_opened}
 use Rattle.res_manager.specs.Ends.{OpensFile}
 use Rattle.res_manager.specs.Steps.{state_of}
@@ -56,14 +57,14 @@ module _ {S : Type 0} (store : Ghosts S) (zone : ZoneState) (on after : FilesOn 
   }
 
   -- or the call is refused, and no file is opened
-  pub opens_none : (code : OsErr) → (IsOpening (Err code) × (All store.is_honest after.stores → Reads (fork_of store.fork k on.stores) (Err code)) × NoneFailed store.failures on.stores after.stores)
+  pub opens_none : (code : OsErr) → (MayRead (All store.is_honest after.stores) (fork_of store.fork k on.stores) (Err code) × NoneFailed store.failures on.stores after.stores)
       ⊎ ((code ≡ IoErr) × FailedAt store.failures k on.stores after.stores) → after.files ≡ on.files → OpensFile store zone on k (Err code) after
-  opens_none code (inl (opening, reads, works)) files = record {
+  opens_none code (inl (read, works)) files = record {
     device = device.Works;
     read = Err code;
     after = state;
     becomes = leaves_files on.files files;
-    reads = reads_disk (Err code) opening reads;
+    reads = reads_disk (Err code) read.0 read.1;
     ends = refl;
     cause = works;
   }

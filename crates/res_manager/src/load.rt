@@ -1,6 +1,6 @@
 //! Loads of resources: a row's bytes come into a block of the zone.
 
-ghost use Rattle.std.specs.Prelude.{◌≡◌, [], Some, true, false, not, ◌||◌, length, map, All, IsTrue, IsFalse, IsSome, IfOk, IfSome, OnOk, OnErr, IfErr, MatchResult, ◌≤◌, ◌<◌, ℕ, List, if◌then◌else◌};
+ghost use Rattle.std.specs.Prelude.{◌≡◌, [], Some, true, false, not, ◌||◌, length, All, IsTrue, IsFalse, IsSome, IfOk, IfSome, OnOk, OnErr, IfErr, MatchResult, ◌≤◌, ◌<◌, ℕ, List, if◌then◌else◌};
 ghost use Rattle.linked_zone.specs.Loans.{KeepsLoans};
 ghost use Rattle.mac_base.specs.declared.releasing.ReleasingCall.TheVariants.{DisposesHandle};
 ghost use Rattle.mac_base.specs.HandleTable.{is_full, with_flags};
@@ -11,6 +11,7 @@ ghost use Rattle.mac_calls.specs.Outcomes.{Outcome};
 ghost use Rattle.res_calls.specs.Changes.{handles_forgotten, row_changed};
 ghost use Rattle.mac_calls.specs.Released.{disposed_in};
 ghost use Rattle.res_files.specs.FilesOn.{FailedAt, NoneFailed};
+ghost use Rattle.res_files.specs.Stores.{KeepsStores};
 ghost use Rattle.res_calls.specs.Answered.{AnswersFor};
 ghost use Rattle.res_table.specs.OpenFiles.{row_at};
 ghost use Rattle.res_table.specs.Rows.{with_handle};
@@ -41,12 +42,11 @@ pub(crate) fn get_row<S: ForkStore, G: GrowZone>(
     requires unasked { G.asks procedure.old ≡ [] }
     requires there { IsSome (row_at place files.old.files) }
     ensures step { LoadSteps S.ForkStore memory.old files.old place loads (G.asks procedure.new) result memory.new files.new }
-    ensures calm { All S.is_honest files.new.stores → map S.history files.new.stores ≡ map S.history files.old.stores }
+    ensures keeps { All S.is_honest files.new.stores → KeepsStores S.ForkStore files.old.stores files.new.stores }
     ensures source { G.source procedure.new ≡ G.source procedure.old }
     ensures loans { KeepsLoans memory.old memory.new }
     ensures lent { memory.new.heap.table.lent ≡ memory.old.heap.table.lent }
     ensures shape { memory.new.shape ≡ memory.old.shape }
-    ensures honest { All S.is_honest files.new.stores → All S.is_honest files.old.stores }
     ensures count { length files.new.stores ≡ length files.old.stores }
 {
     let row = files.row(place).unwrap();
@@ -185,10 +185,8 @@ fn load_bytes<S: ForkStore>(
     ensures lent { memory.new.heap.table.lent ≡ memory.old.heap.table.lent }
     ensures shape { memory.new.shape ≡ memory.old.shape }
     ensures files { AnswersFor (All S.is_honest files.new.stores) files.old.files files.new.files }
-    ensures forks { All S.is_honest files.new.stores → map S.fork files.new.stores ≡ map S.fork files.old.stores }
-    ensures calm { All S.is_honest files.new.stores → map S.history files.new.stores ≡ map S.history files.old.stores }
+    ensures keeps { All S.is_honest files.new.stores → KeepsStores S.ForkStore files.old.stores files.new.stores }
     ensures loads { files.new.loads ≡ files.old.loads }
-    ensures honest { All S.is_honest files.new.stores → All S.is_honest files.old.stores }
     ensures count { length files.new.stores ≡ length files.old.stores }
     ensures cause { MatchResult result (λ _. NoneFailed S.failures files.old.stores files.new.stores) (λ _. FailedAt S.failures place.file files.old.stores files.new.stores) }
 {
@@ -217,10 +215,8 @@ fn read_bytes<S: ForkStore>(
     ensures loans { KeepsLoans memory.old memory.new }
     ensures shape { memory.new.shape ≡ memory.old.shape }
     ensures files { AnswersFor (All S.is_honest files.new.stores) files.old.files files.new.files }
-    ensures forks { All S.is_honest files.new.stores → map S.fork files.new.stores ≡ map S.fork files.old.stores }
-    ensures calm { All S.is_honest files.new.stores → map S.history files.new.stores ≡ map S.history files.old.stores }
+    ensures keeps { All S.is_honest files.new.stores → KeepsStores S.ForkStore files.old.stores files.new.stores }
     ensures loads { files.new.loads ≡ files.old.loads }
-    ensures honest { All S.is_honest files.new.stores → All S.is_honest files.old.stores }
     ensures count { length files.new.stores ≡ length files.old.stores }
     ensures cause { MatchResult result (λ _. NoneFailed S.failures files.old.stores files.new.stores) (λ _. FailedAt S.failures place.file files.old.stores files.new.stores) }
 {

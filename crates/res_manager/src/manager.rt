@@ -1,12 +1,11 @@
 //! One call of the Resource Manager.
 
-ghost use Rattle.std.specs.Prelude.{◌≡◌, [], None, length, All, IsTrue, IfOk, OnOk, OnErr};
+ghost use Rattle.std.specs.Prelude.{◌≡◌, [], None, length, All, IsTrue, IfOk, OnErr};
 ghost use Rattle.linked_zone.specs.Loans.{KeepsLoans};
 ghost use Rattle.res_calls.specs.Answered.{IsAnswered};
 ghost use Rattle.res_calls.specs.Tests.{resource_refusal};
 ghost use Rattle.mac_calls.specs.declared.resource_call.ResourceCall.TheVariants as call;
-ghost use Rattle.res_calls.specs.Steps.{work_of, ReadsBack, update_in};
-ghost use Rattle.res_manager.specs.Crash.{CrashLeaves, IsSettled, file_settled};
+ghost use Rattle.res_manager.specs.Crash.{LeavesForks};
 ghost use Rattle.res_manager.specs.Ends.{EndsQuietly, copies, is_calm, is_quiet};
 ghost use Rattle.res_manager.specs.Steps.{ResourceSteps, state_of, takes_memory};
 ghost use Rattle.res_manager.specs.Tests.{AreLent, Passes, early_tests};
@@ -41,18 +40,11 @@ pub fn make<S: ForkStore, G: GrowZone>(
     requires lent { AreLent memory.old.heap.table lent.now }
     requires unasked { G.asks procedure.old ≡ [] }
     ensures step { IfOk result (λ outcome. ResourceSteps S.ForkStore memory.old files.old call.now (G.asks procedure.new) outcome memory.new files.new) }
-    ensures reads_back { All S.is_honest files.new.stores → IfOk result (λ outcome. ReadsBack (state_of S.fork memory.old files.old) call.now outcome (state_of S.fork memory.new files.new)) }
-    // Whenever a crash comes, each file is found as before the call, or as the call saves it; once an update or an opening succeeded, as it is read.
-    ensures any_moment { All S.is_honest files.new.stores → IfOk result (λ outcome.
-        CrashLeaves S.ForkStore (update_in (work_of (state_of S.fork memory.old files.old) call.now)) files.old.stores files.new.stores) }
-    ensures settled { All S.is_honest files.new.stores → IfOk result (λ outcome. OnOk outcome
-        (IsSettled S.ForkStore (file_settled (work_of (state_of S.fork memory.old files.old) call.now)) files.new.stores)) }
-    ensures crash_full { All S.is_honest files.new.stores → OnErr result (CrashLeaves S.ForkStore None files.old.stores files.new.stores) }
+    ensures leaves { All S.is_honest files.new.stores → LeavesForks S.ForkStore memory.old files.old call.now result memory.new files.new }
     ensures source { G.source procedure.new ≡ G.source procedure.old }
     ensures loans { KeepsLoans memory.old memory.new }
     ensures lent { memory.new.heap.table.lent ≡ memory.old.heap.table.lent }
     ensures shape { memory.new.shape ≡ memory.old.shape }
-    ensures honest { All S.is_honest files.new.stores → All S.is_honest files.old.stores }
     ensures count { length files.new.stores ≡ length files.old.stores }
     ensures unchanged { OnErr result (memory.new ≡ memory.old) }
     ensures unasked { OnErr result (G.asks procedure.new ≡ []) }
@@ -84,17 +76,11 @@ fn make_calm<S: ForkStore, G: GrowZone>(
     requires passed { Passes (state_of S.fork memory.old files.old) (early_tests call.now) }
     requires unasked { G.asks procedure.old ≡ [] }
     ensures step { IfOk result (λ outcome. ResourceSteps S.ForkStore memory.old files.old call.now (G.asks procedure.new) outcome memory.new files.new) }
-    ensures reads_back { All S.is_honest files.new.stores → IfOk result (λ outcome. ReadsBack (state_of S.fork memory.old files.old) call.now outcome (state_of S.fork memory.new files.new)) }
-    ensures any_moment { All S.is_honest files.new.stores → IfOk result (λ outcome.
-        CrashLeaves S.ForkStore (update_in (work_of (state_of S.fork memory.old files.old) call.now)) files.old.stores files.new.stores) }
-    ensures settled { All S.is_honest files.new.stores → IfOk result (λ outcome. OnOk outcome
-        (IsSettled S.ForkStore (file_settled (work_of (state_of S.fork memory.old files.old) call.now)) files.new.stores)) }
-    ensures crash_full { All S.is_honest files.new.stores → OnErr result (CrashLeaves S.ForkStore None files.old.stores files.new.stores) }
+    ensures leaves { All S.is_honest files.new.stores → LeavesForks S.ForkStore memory.old files.old call.now result memory.new files.new }
     ensures source { G.source procedure.new ≡ G.source procedure.old }
     ensures loans { KeepsLoans memory.old memory.new }
     ensures lent { memory.new.heap.table.lent ≡ memory.old.heap.table.lent }
     ensures shape { memory.new.shape ≡ memory.old.shape }
-    ensures honest { All S.is_honest files.new.stores → All S.is_honest files.old.stores }
     ensures count { length files.new.stores ≡ length files.old.stores }
     ensures unchanged { OnErr result (memory.new ≡ memory.old) }
     ensures unasked { OnErr result (G.asks procedure.new ≡ []) }
@@ -160,14 +146,9 @@ fn open_file<S: ForkStore>(
 ) -> Result<Outcome, HostFull>
     requires { Passes (state_of S.fork memory.now files.old) (early_tests (call.OpenResFile number)) }
     ensures step { IfOk result (λ outcome. ResourceSteps S.ForkStore memory.now files.old (call.OpenResFile number) [] outcome memory.now files.new) }
-    ensures any_moment { All S.is_honest files.new.stores → IfOk result (λ outcome.
-        CrashLeaves S.ForkStore (update_in (work_of (state_of S.fork memory.now files.old) (call.OpenResFile number))) files.old.stores files.new.stores) }
-    ensures settled { All S.is_honest files.new.stores → IfOk result (λ outcome. OnOk outcome
-        (IsSettled S.ForkStore (file_settled (work_of (state_of S.fork memory.now files.old) (call.OpenResFile number))) files.new.stores)) }
-    ensures crash_full { All S.is_honest files.new.stores → OnErr result (CrashLeaves S.ForkStore None files.old.stores files.new.stores) }
+    ensures leaves { All S.is_honest files.new.stores → LeavesForks S.ForkStore memory.now files.old (call.OpenResFile number) result memory.now files.new }
     ensures same { OnErr result (IsAnswered (All S.is_honest files.new.stores) (state_of S.fork memory.now files.new) (state_of S.fork memory.now files.old)) }
     ensures full { OnErr result (IsTrue (takes_memory (state_of S.fork memory.now files.old) (call.OpenResFile number))) }
-    ensures honest { All S.is_honest files.new.stores → All S.is_honest files.old.stores }
     ensures count { length files.new.stores ≡ length files.old.stores }
 {
     prove!(files.count() <= MOST_FILES);

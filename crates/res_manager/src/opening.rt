@@ -1,8 +1,8 @@
 //! The call that opens a file.
 
-ghost use Rattle.std.specs.Prelude.{◌≡◌, ◌≤◌, [], All, IfOk, OnOk, OnErr, IsFalse, Some, None, length, map};
+ghost use Rattle.std.specs.Prelude.{◌≡◌, ◌≤◌, All, IfOk, OnErr, IsFalse, length};
 ghost use Rattle.mac_base.specs.ZoneState.{ZoneState};
-ghost use Rattle.res_manager.specs.Crash.{CrashLeaves, IsSettled};
+ghost use Rattle.res_manager.specs.Crash.{OpensFork};
 ghost use Rattle.res_manager.specs.Ends.{OpensFile};
 ghost use Rattle.res_table.specs.OpenFiles.{is_open};
 
@@ -20,11 +20,8 @@ pub(crate) fn open<S: ForkStore>(
     requires closed { IsFalse (is_open number files.old.files) }
     ensures opened { IfOk result (λ outcome. (zone : ZoneState) → OpensFile S.ForkStore zone files.old number outcome files.new) }
     ensures full { OnErr result (files.new.files ≡ files.old.files) }
-    ensures forks { All S.is_honest files.new.stores → map S.fork files.new.stores ≡ map S.fork files.old.stores }
-    ensures any_moment { All S.is_honest files.new.stores → CrashLeaves S.ForkStore None files.old.stores files.new.stores }
-    ensures settled { All S.is_honest files.new.stores → IfOk result (λ outcome. OnOk outcome (IsSettled S.ForkStore (Some number) files.new.stores)) }
+    ensures opens { All S.is_honest files.new.stores → OpensFork S.ForkStore number files.old.stores files.new.stores result }
     ensures loads { files.new.loads ≡ files.old.loads }
-    ensures honest { All S.is_honest files.new.stores → All S.is_honest files.old.stores }
     ensures count { length files.new.stores ≡ length files.old.stores }
 {
     match files.open(number)? {

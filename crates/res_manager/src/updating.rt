@@ -1,13 +1,12 @@
 //! The calls that write files.
 
-ghost use Rattle.std.specs.Prelude.{◌≡◌, [], All, IfOk, OnOk, OnErr, IsTrue, IsFalse, Some, None, length};
+ghost use Rattle.std.specs.Prelude.{◌≡◌, [], All, IfOk, OnErr, IsTrue, IsFalse, Some, None, length};
 ghost use Rattle.linked_zone.specs.Loans.{KeepsLoans};
 ghost use Rattle.mac_calls.specs.declared.resource_call.ResourceCall.TheVariants as call;
 ghost use Rattle.res_calls.specs.Changes.{rows_of};
-ghost use Rattle.res_calls.specs.Steps.{work_of, IsSaved, ReadsBack, update_in};
 ghost use Rattle.res_calls.specs.Tests.{resource_refusal};
 ghost use Rattle.res_calls.specs.Updates.{Update, disposed, fits_fork, handles_of, update_of};
-ghost use Rattle.res_manager.specs.Crash.{CrashLeaves, IsSettled, file_settled};
+ghost use Rattle.res_manager.specs.Crash.{LeavesForks, SavesFork};
 ghost use Rattle.res_manager.specs.Ends.{WritesFile, writes};
 ghost use Rattle.res_manager.specs.Steps.{ResourceSteps, state_of, takes_memory};
 ghost use Rattle.res_manager.specs.Tests.{Passes, early_tests};
@@ -34,15 +33,10 @@ pub(crate) fn update<S: ForkStore>(
     requires writes { IsTrue (writes call.now) }
     requires passed { Passes (state_of S.fork memory.old files.old) (early_tests call.now) }
     ensures step { IfOk result (λ outcome. ResourceSteps S.ForkStore memory.old files.old call.now [] outcome memory.new files.new) }
-    ensures reads_back { All S.is_honest files.new.stores → IfOk result (λ outcome. ReadsBack (state_of S.fork memory.old files.old) call.now outcome (state_of S.fork memory.new files.new)) }
-    ensures any_moment { All S.is_honest files.new.stores → IfOk result (λ outcome.
-        CrashLeaves S.ForkStore (update_in (work_of (state_of S.fork memory.old files.old) call.now)) files.old.stores files.new.stores) }
-    ensures settled { All S.is_honest files.new.stores → IfOk result (λ outcome. OnOk outcome
-        (IsSettled S.ForkStore (file_settled (work_of (state_of S.fork memory.old files.old) call.now)) files.new.stores)) }
+    ensures leaves { All S.is_honest files.new.stores → LeavesForks S.ForkStore memory.old files.old call.now result memory.new files.new }
     ensures loans { KeepsLoans memory.old memory.new }
     ensures lent { memory.new.heap.table.lent ≡ memory.old.heap.table.lent }
     ensures shape { memory.new.shape ≡ memory.old.shape }
-    ensures honest { All S.is_honest files.new.stores → All S.is_honest files.old.stores }
     ensures count { length files.new.stores ≡ length files.old.stores }
     ensures unchanged { OnErr result (memory.new ≡ memory.old) }
     ensures same { OnErr result (files.new ≡ files.old) }
@@ -75,12 +69,7 @@ fn write_resource<S: ForkStore>(
 ) -> Result<Outcome, HostFull>
     requires { Passes (state_of S.fork memory.now files.old) (early_tests (call.WriteResource handle)) }
     ensures step { IfOk result (λ outcome. ResourceSteps S.ForkStore memory.now files.old (call.WriteResource handle) [] outcome memory.now files.new) }
-    ensures reads_back { All S.is_honest files.new.stores → IfOk result (λ outcome. ReadsBack (state_of S.fork memory.now files.old) (call.WriteResource handle) outcome (state_of S.fork memory.now files.new)) }
-    ensures any_moment { All S.is_honest files.new.stores → IfOk result (λ outcome.
-        CrashLeaves S.ForkStore (update_in (work_of (state_of S.fork memory.now files.old) (call.WriteResource handle))) files.old.stores files.new.stores) }
-    ensures settled { All S.is_honest files.new.stores → IfOk result (λ outcome. OnOk outcome
-        (IsSettled S.ForkStore (file_settled (work_of (state_of S.fork memory.now files.old) (call.WriteResource handle))) files.new.stores)) }
-    ensures honest { All S.is_honest files.new.stores → All S.is_honest files.old.stores }
+    ensures leaves { All S.is_honest files.new.stores → LeavesForks S.ForkStore memory.now files.old (call.WriteResource handle) result memory.now files.new }
     ensures count { length files.new.stores ≡ length files.old.stores }
     ensures same { OnErr result (files.new ≡ files.old) }
     ensures late { OnErr result (resource_refusal (state_of S.fork memory.now files.old) (call.WriteResource handle) ≡ None) }
@@ -106,15 +95,10 @@ fn close<S: ForkStore>(
     ensures written { IfOk result (λ outcome. (u : Update)
         → update_of number (updated memory.old.heap.table Selection.AllChanged) files.old.files ≡ Some u
         → WritesFile S.ForkStore memory.old files.old (call.CloseResFile None) u outcome memory.new files.new) }
-    ensures saved { All S.is_honest files.new.stores → IfOk result (λ outcome.
-        OnOk outcome (IsSaved (update_of number (updated memory.old.heap.table Selection.AllChanged) files.old.files) (state_of S.fork memory.new files.new))) }
-    ensures any_moment { All S.is_honest files.new.stores → (u : Update)
-        → update_of number (updated memory.old.heap.table Selection.AllChanged) files.old.files ≡ Some u → CrashLeaves S.ForkStore (Some u) files.old.stores files.new.stores }
-    ensures settled { All S.is_honest files.new.stores → IfOk result (λ outcome. OnOk outcome (IsSettled S.ForkStore (Some number) files.new.stores)) }
+    ensures saves { All S.is_honest files.new.stores → SavesFork S.ForkStore number (update_of number (updated memory.old.heap.table Selection.AllChanged) files.old.files) files.old.stores memory.new files.new result }
     ensures loans { KeepsLoans memory.old memory.new }
     ensures lent { memory.new.heap.table.lent ≡ memory.old.heap.table.lent }
     ensures shape { memory.new.shape ≡ memory.old.shape }
-    ensures honest { All S.is_honest files.new.stores → All S.is_honest files.old.stores }
     ensures count { length files.new.stores ≡ length files.old.stores }
     ensures unchanged { OnErr result (memory.new ≡ memory.old) }
     ensures same { OnErr result (files.new ≡ files.old) }
@@ -143,12 +127,7 @@ fn write_file<S: ForkStore>(
     ensures written { IfOk result (λ outcome. (u : Update)
         → update_of number (updated memory.now.heap.table selection) files.old.files ≡ Some u
         → WritesFile S.ForkStore memory.now files.old (call.UpdateResFile None) u outcome memory.now files.new) }
-    ensures saved { All S.is_honest files.new.stores → IfOk result (λ outcome.
-        OnOk outcome (IsSaved (update_of number (updated memory.now.heap.table selection) files.old.files) (state_of S.fork memory.now files.new))) }
-    ensures any_moment { All S.is_honest files.new.stores → (u : Update)
-        → update_of number (updated memory.now.heap.table selection) files.old.files ≡ Some u → CrashLeaves S.ForkStore (Some u) files.old.stores files.new.stores }
-    ensures settled { All S.is_honest files.new.stores → IfOk result (λ outcome. OnOk outcome (IsSettled S.ForkStore (Some number) files.new.stores)) }
-    ensures honest { All S.is_honest files.new.stores → All S.is_honest files.old.stores }
+    ensures saves { All S.is_honest files.new.stores → SavesFork S.ForkStore number (update_of number (updated memory.now.heap.table selection) files.old.files) files.old.stores memory.now files.new result }
     ensures count { length files.new.stores ≡ length files.old.stores }
     ensures same { OnErr result (files.new ≡ files.old) }
     ensures fits { OnErr result ((u : Update)

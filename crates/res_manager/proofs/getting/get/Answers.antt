@@ -1,6 +1,5 @@
 use Rattle.std.proofs.Common.{Ok, Err, refl, sym, subst, ◌∙◌}
 use Rattle.mac_calls.specs.declared.reply.Results.{Results}
-use Rattle.res_calls.specs.Files.{ResState}
 use Rattle.res_manager.specs.Steps.{ResourceSteps, state_of}
 use Rattle.res_manager.proofs.GettingCalls.{get_steps}
 use Rattle.res_manager.proofs.getting.get.Goals as goal

@@ -5,12 +5,14 @@ use Rattle.mac_base.specs.Heap.{with_emptied}
 use Rattle.mac_base.specs.Releasing.{heap_released}
 use Rattle.mac_base.specs.declared.releasing.ReleasingCall.TheVariants.{DisposesHandle}
 use Rattle.res_files.specs.FilesOn.{FilesOn}
+use Rattle.res_files.specs.Stores.{KeepsStores}
 use Rattle.res_calls.specs.Answered.{AnswersFor}
 use Rattle.res_calls.specs.Changes.{row_changed}
 use Rattle.res_table.specs.OpenFiles.{row_at}
 use Rattle.res_table.specs.Rows.{with_handle}
 use Rattle.res_manager.specs.Steps.{state_of}
 use Rattle.res_manager.proofs.GettingRows.{IsGot, empty_load, failed_load, given_load, long_then, refused_load, served, some-holds}
+use Rattle.res_manager.proofs.Keeping.{kept_same, kept_then}
 use Rattle.res_manager.proofs.Lent.{lent_placed}
 use Rattle.res_manager.proofs.load.get_row.Goals as goal
 use Rattle.res_manager.proofs.load.get_row.Goals.{in-Some+else-serves, in_default, then-loads+in_ok-load_bytes, else-loads}
@@ -55,7 +57,7 @@ returns-in_err-load_bytes-clause-step g c =
     let step = c.make_place.ensures.step in
     let ends = err_from_is_err_and c.from_residual-in_err-load_bytes.result c.from_residual-in_err-load_bytes.ensures.1 in
     let load = c.in_err-load_bytes.ensures in
-    rw (ends.1, ends.2, load.code) (failed_load g.S.ForkStore c.args.memory.now c.args.files.now c.args.place c.args.loads c.match-own.own c.unwrap-row.result.now.resource.datum.length shown.0 got (g.G.GrowZone.asks c.make_place.new.procedure) c.make_place.new.memory c.make_place.new.files c.make_place.ensures.forgotten c.make_place.ensures.shape step.0 step.1 c.in_ok-handle.handle (sym c.in_ok-handle.was ∙ step.2) c.load_bytes.new.memory c.load_bytes.new.files load.shape load.files load.forks load.loads load.count c.if-loads.true load.some
+    rw (ends.1, ends.2, load.code) (failed_load g.S.ForkStore c.args.memory.now c.args.files.now c.args.place c.args.loads c.match-own.own c.unwrap-row.result.now.resource.datum.length shown.0 got (g.G.GrowZone.asks c.make_place.new.procedure) c.make_place.new.memory c.make_place.new.files c.make_place.ensures.forgotten c.make_place.ensures.shape step.0 step.1 c.in_ok-handle.handle (sym c.in_ok-handle.was ∙ step.2) c.load_bytes.new.memory c.load_bytes.new.files load.shape load.files (λ h. (load.keeps h).forks) load.loads load.count c.if-loads.true load.some
     (load.undone ∙ ap (λ b. if b then with_emptied c.make_place.new.memory.heap c.in_ok-handle.handle else heap_released (DisposesHandle c.in_ok-handle.handle) c.make_place.new.memory.heap) c.is_some.ensures) load.cause)
 
 pub returns-in_err-load_bytes-clause-loans : goal.returns-in_err-load_bytes-clause-loans
@@ -79,7 +81,7 @@ returns-clause-step g c =
           w.if-loads.false refl w.files-is c.attach.new.files c.attach.ensures.attached)
       | then-loads+in_ok-load_bytes w ↦
           let load = w.in_ok-load_bytes.ensures in
-          rw w.memory-is (given_load g.S.ForkStore c.args.memory.now c.args.files.now c.args.place c.args.loads c.match-own.own c.unwrap-row.result.now.resource.datum.length shown.0 got (g.G.GrowZone.asks c.make_place.new.procedure) c.make_place.new.memory c.make_place.new.files c.make_place.ensures.forgotten c.make_place.ensures.shape step.0 step.1 c.in_ok-handle.handle (sym c.in_ok-handle.was ∙ step.2) w.load_bytes.new.memory w.load_bytes.new.files load.shape load.files load.forks load.loads load.count
+          rw w.memory-is (given_load g.S.ForkStore c.args.memory.now c.args.files.now c.args.place c.args.loads c.match-own.own c.unwrap-row.result.now.resource.datum.length shown.0 got (g.G.GrowZone.asks c.make_place.new.procedure) c.make_place.new.memory c.make_place.new.files c.make_place.ensures.forgotten c.make_place.ensures.shape step.0 step.1 c.in_ok-handle.handle (sym c.in_ok-handle.was ∙ step.2) w.load_bytes.new.memory w.load_bytes.new.files load.shape load.files (λ h. (load.keeps h).forks) load.loads load.count
           c.unwrap-row.result.now.resource.attributes load.loaded.0 w.if-loads.true row.attributes load.loaded.1 load.loaded.2 load.cause c.attach.new.files
           (subst (λ (f : FilesOn g.row.S.Denot). IsSome (row_at c.args.place f.files) → c.attach.new.files ≡ record f { files = row_changed c.args.place (with_handle (Some c.in_ok-handle.handle)) f.files }) w.files-is c.attach.ensures.attached))
     ]
@@ -108,20 +110,6 @@ returns-clause-shape g c = elim c.if-loads.branch [
   | else-loads w ↦ rw w.memory-is c.make_place.ensures.shape
 ]
 
-pub returns-in_err-handle-clause-honest : goal.returns-in_err-handle-clause-honest
-returns-in_err-handle-clause-honest g c = λ honest. subst (λ (f : FilesOn g.row.S.Denot). All g.S.ForkStore.is_honest f.stores) c.make_place.ensures.forgotten honest
-
-pub returns-in_err-load_bytes-clause-honest : goal.returns-in_err-load_bytes-clause-honest
-returns-in_err-load_bytes-clause-honest g c = λ honest. subst (λ (f : FilesOn g.row.S.Denot). All g.S.ForkStore.is_honest f.stores) c.make_place.ensures.forgotten (c.load_bytes.ensures.honest honest)
-
-pub returns-clause-honest : goal.returns-clause-honest
-returns-clause-honest g c = λ honest.
-    let kept = subst (All g.S.ForkStore.is_honest) c.attach.ensures.stores honest in
-    elim c.if-loads.branch [
-      | then-loads+in_ok-load_bytes w ↦ subst (λ (f : FilesOn g.row.S.Denot). All g.S.ForkStore.is_honest f.stores) c.make_place.ensures.forgotten (w.load_bytes.ensures.honest (subst (λ (f : FilesOn g.row.S.Denot). All g.S.ForkStore.is_honest f.stores) w.files-is kept))
-      | else-loads w ↦ subst (λ (f : FilesOn g.row.S.Denot). All g.S.ForkStore.is_honest f.stores) c.make_place.ensures.forgotten (subst (λ (f : FilesOn g.row.S.Denot). All g.S.ForkStore.is_honest f.stores) w.files-is kept)
-    ]
-
 pub returns-clause-count : goal.returns-clause-count
 returns-clause-count g c =
     let placed = ap (λ (f : FilesOn g.row.S.Denot). length f.stores) c.make_place.ensures.forgotten in
@@ -133,18 +121,6 @@ returns-clause-count g c =
     in
     ap (λ (stores : List g.row.S.Denot). length stores) c.attach.ensures.stores ∙ loaded
 
-pub returns-clause-calm : goal.returns-clause-calm
-returns-clause-calm g c = λ honest.
-    let placed = ap (λ (f : FilesOn g.row.S.Denot). map g.S.ForkStore.history f.stores) c.make_place.ensures.forgotten in
-    let kept = subst (All g.S.ForkStore.is_honest) c.attach.ensures.stores honest in
-    let loaded : map g.S.ForkStore.history c.if-loads.files.stores ≡ map g.S.ForkStore.history c.args.files.now.stores =
-    elim c.if-loads.branch [
-      | then-loads+in_ok-load_bytes w ↦ ap (λ (f : FilesOn g.row.S.Denot). map g.S.ForkStore.history f.stores) w.files-is ∙ (w.load_bytes.ensures.calm (subst (λ (f : FilesOn g.row.S.Denot). All g.S.ForkStore.is_honest f.stores) w.files-is kept) ∙ placed)
-      | else-loads w ↦ ap (λ (f : FilesOn g.row.S.Denot). map g.S.ForkStore.history f.stores) w.files-is ∙ placed
-    ]
-    in
-    ap (map g.S.ForkStore.history) c.attach.ensures.stores ∙ loaded
-
 pub load_bytes-requires-clause-placed : goal.load_bytes-requires-clause-placed
 load_bytes-requires-clause-placed g c = c.in_ok-handle.ensures.placed c.if-loads.true
 
@@ -154,3 +130,27 @@ returns-then-serves-clause-step g c =
     let row = shown.2 in
     served g.S.ForkStore c.args.memory.now c.args.files.now c.args.place c.args.loads shown.0 c.in-Some.handle (g.G.GrowZone.asks c.args.procedure.now) c.requires.unasked shown.1 (sym row.handle ∙ c.in-Some.is)
     (sym c.serves.ensures ∙ c.if-serves.true)
+
+pub returns-in_err-handle-clause-keeps : goal.returns-in_err-handle-clause-keeps
+returns-in_err-handle-clause-keeps g c = kept_same g.S.ForkStore _ _ (ap (λ (f : FilesOn g.row.S.Denot). f.stores) c.make_place.ensures.forgotten)
+
+pub returns-in_err-load_bytes-clause-keeps : goal.returns-in_err-load_bytes-clause-keeps
+returns-in_err-load_bytes-clause-keeps g c = λ honest.
+    let load = c.load_bytes.ensures.keeps honest in
+    kept_then g.S.ForkStore _ _ _ (kept_same g.S.ForkStore _ _ (ap (λ (f : FilesOn g.row.S.Denot). f.stores) c.make_place.ensures.forgotten) load.honest) load
+
+pub returns-clause-keeps : goal.returns-clause-keeps
+returns-clause-keeps g c = λ honest.
+    let S = g.S.ForkStore in
+    let placed = kept_same S c.args.files.now.stores c.make_place.new.files.stores (ap (λ (f : FilesOn g.row.S.Denot). f.stores) c.make_place.ensures.forgotten) in
+    let here = subst (All S.is_honest) c.attach.ensures.stores honest in
+    let loaded : KeepsStores S c.args.files.now.stores c.if-loads.files.stores =
+    elim c.if-loads.branch [
+      | then-loads+in_ok-load_bytes w ↦
+          let load = w.load_bytes.ensures.keeps (subst (λ (f : FilesOn g.row.S.Denot). All S.is_honest f.stores) w.files-is here) in
+          subst (λ (f : FilesOn g.row.S.Denot). KeepsStores S c.args.files.now.stores f.stores) (sym w.files-is) (kept_then S _ _ _ (placed load.honest) load)
+      | else-loads w ↦
+          subst (λ (f : FilesOn g.row.S.Denot). KeepsStores S c.args.files.now.stores f.stores) (sym w.files-is) (placed (subst (λ (f : FilesOn g.row.S.Denot). All S.is_honest f.stores) w.files-is here))
+    ]
+    in
+    kept_then S _ _ _ loaded (kept_same S _ _ c.attach.ensures.stores honest)

@@ -1,6 +1,4 @@
-use Rattle.std.proofs.Common.{Ok}
 use Rattle.res_manager.proofs.Filling.{filled-itself}
-use Rattle.res_manager.specs.Loading.{flags_for}
 use Rattle.res_manager.proofs.load.load_bytes.Goals as goal
 
 pub returns-in-Err-clause-loans : goal.returns-in-Err-clause-loans

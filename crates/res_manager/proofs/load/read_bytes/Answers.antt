@@ -11,7 +11,7 @@ returns-clause-filled g c =
     let long = c.read.ensures.length ∙ ap (λ (l : List ℕ). length l) c.contents_mut.ensures.value in (
       c.read.new.buffer,
       filled-contents _ _ _ _ _ c.requires.placed c.number.ensures long,
-      answered-read (All g.S.ForkStore.is_honest c.read.new.self.stores) _ _ _ _ _ c.requires.placed c.number.ensures long _ _ _ c.map_err.ensures.variant c.read.ensures.read,
+      answered-read (All g.S.ForkStore.is_honest c.read.new.self.stores) _ _ _ _ _ c.requires.placed c.number.ensures long _ _ _ c.map_err.ensures.variant (λ h. (c.read.ensures.reads h).read),
     )
 
 pub returns-clause-loans : goal.returns-clause-loans

@@ -2,7 +2,6 @@ use Rattle.std.proofs.Common.{◌≡◌, List, map, None, true, rules, sym, ap, 
 use Rattle.std.specs.Prelude.{All, IfOk}
 use Rattle.mac_calls.specs.GrowZone.{Ask}
 use Rattle.res_calls.specs.Steps.{work_of, update_in}
-use Rattle.res_manager.specs.Crash.{CrashLeaves}
 use Rattle.res_manager.specs.Ends.{is_quiet}
 use Rattle.res_manager.specs.Steps.{ResourceSteps, state_of}
 use Rattle.res_manager.proofs.CalmCalls.{calm_passes, calm_reads, calm_settles, calm_work, copies_take, err_same, if_any, quiet_work}
@@ -10,22 +9,6 @@ use Rattle.res_manager.proofs.Crash.{calm_leaves, err_anyhow}
 use Rattle.res_manager.proofs.Stepping.{if_ok, quiet_steps}
 use Rattle.res_manager.proofs.UpdatingCalls.{on_err}
 use Rattle.res_manager.proofs.manager.make_calm.Goals as goal
-
-pub returns-in-GetResource-clause-reads_back : goal.returns-in-GetResource-clause-reads_back
-returns-in-GetResource-clause-reads_back g c = λ honest.
-    let old = state_of g.S.ForkStore.fork c.args.memory.now c.args.files.now in
-    let new = state_of g.S.ForkStore.fork c.get.new.memory c.get.new.files in
-    calm_reads old new c.args.call.now (calm_work old c.args.call.now c.requires.calm) c.get.result
-
-pub returns-in-GetResource-clause-any_moment : goal.returns-in-GetResource-clause-any_moment
-returns-in-GetResource-clause-any_moment g c = λ honest.
-    let work = work_of (state_of g.S.ForkStore.fork c.args.memory.now c.args.files.now) c.args.call.now in
-    calm_leaves g.S.ForkStore c.args.files.now.stores c.get.new.files.stores (update_in work) (c.get.ensures.calm honest)
-
-pub returns-in-GetResource-clause-settled : goal.returns-in-GetResource-clause-settled
-returns-in-GetResource-clause-settled g c = λ honest.
-    let old = state_of g.S.ForkStore.fork c.args.memory.now c.args.files.now in
-    calm_settles g.S.ForkStore c.get.new.files.stores (work_of old c.args.call.now) (calm_work old c.args.call.now c.requires.calm) c.get.result
 
 pub returns-in_default-clause-step : goal.returns-in_default-clause-step
 returns-in_default-clause-step g c =
@@ -35,30 +18,6 @@ returns-in_default-clause-step g c =
     let P : List Ask → Type 0 = λ asks. IfOk c.make_quiet.result (λ outcome. ResourceSteps g.S.ForkStore c.args.memory.now c.args.files.now c.args.call.now asks outcome c.make_quiet.new.memory c.make_quiet.new.files) in
     subst P (sym c.requires.unasked) (if_ok _ _ c.make_quiet.result (λ outcome ends. quiet_steps g.S.ForkStore c.args.memory.now c.make_quiet.new.memory c.args.files.now c.make_quiet.new.files call outcome
     (calm_passes old call c.requires.calm c.requires.passed) (quiet_work old call quiet) c.make_quiet.ensures.stores ends) c.make_quiet.ensures.quiet)
-
-pub returns-in_default-clause-reads_back : goal.returns-in_default-clause-reads_back
-returns-in_default-clause-reads_back g c = λ honest.
-    let old = state_of g.S.ForkStore.fork c.args.memory.now c.args.files.now in
-    let new = state_of g.S.ForkStore.fork c.make_quiet.new.memory c.make_quiet.new.files in
-    if_any _ c.make_quiet.result (calm_reads old new c.args.call.now (calm_work old c.args.call.now c.requires.calm))
-
-pub returns-in_default-clause-any_moment : goal.returns-in_default-clause-any_moment
-returns-in_default-clause-any_moment g c = λ honest.
-    let work = work_of (state_of g.S.ForkStore.fork c.args.memory.now c.args.files.now) c.args.call.now in
-    if_any _ c.make_quiet.result (λ outcome. calm_leaves g.S.ForkStore c.args.files.now.stores c.make_quiet.new.files.stores (update_in work) (ap (map g.S.ForkStore.history) c.make_quiet.ensures.stores))
-
-pub returns-in_default-clause-settled : goal.returns-in_default-clause-settled
-returns-in_default-clause-settled g c = λ honest.
-    let old = state_of g.S.ForkStore.fork c.args.memory.now c.args.files.now in
-    if_any _ c.make_quiet.result (calm_settles g.S.ForkStore c.make_quiet.new.files.stores (work_of old c.args.call.now) (calm_work old c.args.call.now c.requires.calm))
-
-pub returns-in_default-clause-crash_full : goal.returns-in_default-clause-crash_full
-returns-in_default-clause-crash_full g c = λ honest.
-    err_anyhow (CrashLeaves g.S.ForkStore None c.args.files.now.stores c.make_quiet.new.files.stores) c.make_quiet.result
-    (calm_leaves g.S.ForkStore c.args.files.now.stores c.make_quiet.new.files.stores None (ap (map g.S.ForkStore.history) c.make_quiet.ensures.stores))
-
-pub returns-in_default-clause-honest : goal.returns-in_default-clause-honest
-returns-in_default-clause-honest g c = λ honest. subst (All g.S.ForkStore.is_honest) c.make_quiet.ensures.stores honest
 
 pub returns-in_default-clause-unasked : goal.returns-in_default-clause-unasked
 returns-in_default-clause-unasked g c = err_anyhow _ c.make_quiet.result c.requires.unasked
@@ -73,3 +32,31 @@ returns-in_default-clause-full g c =
 pub returns-in_default-clause-late : goal.returns-in_default-clause-late
 returns-in_default-clause-late g c =
     err_anyhow _ c.make_quiet.result (calm_passes (state_of g.S.ForkStore.fork c.args.memory.now c.args.files.now) c.args.call.now c.requires.calm c.requires.passed)
+
+pub returns-in-GetResource-clause-leaves : goal.returns-in-GetResource-clause-leaves
+returns-in-GetResource-clause-leaves g c = λ honest.
+    let S = g.S.ForkStore in
+    let old = state_of S.fork c.args.memory.now c.args.files.now in
+    let calm = calm_work old c.args.call.now c.requires.calm in
+    let kept = c.get.ensures.keeps honest in
+    record {
+      honest = kept.honest;
+      reads_back = calm_reads old (state_of S.fork c.get.new.memory c.get.new.files) c.args.call.now calm c.get.result;
+      any_moment = calm_leaves S c.args.files.now.stores c.get.new.files.stores (update_in (work_of old c.args.call.now)) kept.calm;
+      settled = calm_settles S c.get.new.files.stores (work_of old c.args.call.now) calm c.get.result;
+      crash_full = tt;
+    }
+
+pub returns-in_default-clause-leaves : goal.returns-in_default-clause-leaves
+returns-in_default-clause-leaves g c = λ honest.
+    let S = g.S.ForkStore in
+    let old = state_of S.fork c.args.memory.now c.args.files.now in
+    let calm = calm_work old c.args.call.now c.requires.calm in
+    let same = ap (map S.history) c.make_quiet.ensures.stores in
+    record {
+      honest = subst (All S.is_honest) c.make_quiet.ensures.stores honest;
+      reads_back = if_any _ c.make_quiet.result (calm_reads old (state_of S.fork c.make_quiet.new.memory c.make_quiet.new.files) c.args.call.now calm);
+      any_moment = if_any _ c.make_quiet.result (λ outcome. calm_leaves S c.args.files.now.stores c.make_quiet.new.files.stores (update_in (work_of old c.args.call.now)) same);
+      settled = if_any _ c.make_quiet.result (calm_settles S c.make_quiet.new.files.stores (work_of old c.args.call.now) calm);
+      crash_full = err_anyhow _ c.make_quiet.result (calm_leaves S c.args.files.now.stores c.make_quiet.new.files.stores None same);
+    }

@@ -1,9 +1,11 @@
-use Rattle.std.proofs.Common.{cond, Ok, Some, None, refl, sym, ap, ◌∙◌}
+use Rattle.std.proofs.Common.{cond, Result, Ok, Some, None, refl, sym, ap, ◌∙◌}
+use Rattle.mac_base.specs.declared.error.HostFull.{HostFull}
+use Rattle.mac_calls.specs.Outcomes.{Outcome}
 use Rattle.mac_calls.specs.declared.resource_call.ResourceCall.TheVariants.{OpenResFile}
 use Rattle.res_calls.specs.Steps.{Opens, Quiet, work_of, update_in}
 use Rattle.res_manager.specs.Crash.{CrashLeaves, file_settled}
 use Rattle.res_manager.specs.Steps.{state_of}
-use Rattle.res_manager.proofs.Crash.{calm_leaves, err_anyhow, opening_saves, work_leaves, work_settles}
+use Rattle.res_manager.proofs.Crash.{calm_leaves, err_anyhow, opening_reads, opening_saves, work_leaves, work_settles}
 use Rattle.res_manager.proofs.Refusals.{passed-early}
 use Rattle.mac_calls.specs.declared.reply.Results.TheVariants.{Number}
 use Rattle.res_manager.proofs.OpenedFiles.{opens_full}
@@ -16,25 +18,6 @@ returns-clause-step g c =
     (passed-early (state_of g.S.ForkStore.fork c.args.memory.now c.args.files.now) (OpenResFile c.args.number) c.requires) (sym c.is_open.ensures ∙ c.if-is_open.false) (opens c.args.memory.now))
     c.open.ensures.opened
 
-pub returns-clause-any_moment : goal.returns-clause-any_moment
-returns-clause-any_moment g c = λ honest.
-    let state = state_of g.S.ForkStore.fork c.args.memory.now c.args.files.now in
-    work_leaves g.S.ForkStore c.args.files.now.stores c.open.new.files.stores (work_of state (OpenResFile c.args.number)) None c.open.result (opening_saves state c.args.number) (c.open.ensures.any_moment honest)
-
-pub returns-clause-settled : goal.returns-clause-settled
-returns-clause-settled g c = λ honest.
-    let state = state_of g.S.ForkStore.fork c.args.memory.now c.args.files.now in
-    work_settles g.S.ForkStore c.open.new.files.stores (work_of state (OpenResFile c.args.number)) (Some c.args.number) c.open.result
-    (ap (λ b. file_settled (cond b Quiet (Opens c.args.number))) (sym c.is_open.ensures ∙ c.if-is_open.false)) (c.open.ensures.settled honest)
-
-pub returns-clause-crash_full : goal.returns-clause-crash_full
-returns-clause-crash_full g c = λ honest. err_anyhow (CrashLeaves g.S.ForkStore None c.args.files.now.stores c.open.new.files.stores) c.open.result (c.open.ensures.any_moment honest)
-
-pub returns-then-is_open-clause-any_moment : goal.returns-then-is_open-clause-any_moment
-returns-then-is_open-clause-any_moment g c = λ honest.
-    let work = work_of (state_of g.S.ForkStore.fork c.args.memory.now c.args.files.now) (OpenResFile c.args.number) in
-    calm_leaves g.S.ForkStore c.args.files.now.stores c.args.files.now.stores (update_in work) refl
-
 pub returns-then-is_open-clause-step : goal.returns-then-is_open-clause-step
 returns-then-is_open-clause-step g c =
     let zone = c.args.memory.now in
@@ -45,4 +28,32 @@ returns-then-is_open-clause-step g c =
 
 pub returns-clause-same : goal.returns-clause-same
 returns-clause-same g c =
-    opens_full g.S.ForkStore c.args.memory.now c.args.files.now c.open.new.files c.args.number c.open.ensures.forks c.open.ensures.loads c.open.ensures.count c.open.result c.open.ensures.full
+    opens_full g.S.ForkStore c.args.memory.now c.args.files.now c.open.new.files c.args.number (λ h. (c.open.ensures.opens h).forks) c.open.ensures.loads c.open.ensures.count c.open.result c.open.ensures.full
+
+pub returns-clause-leaves : goal.returns-clause-leaves
+returns-clause-leaves g c = λ honest.
+    let old = state_of g.S.ForkStore.fork c.args.memory.now c.args.files.now in
+    let work = work_of old (OpenResFile c.args.number) in
+    let done = (c.open.ensures.opens honest).works in
+    record {
+      honest = done.honest;
+      reads_back = opening_reads old (state_of g.S.ForkStore.fork c.args.memory.now c.open.new.files) c.args.number c.open.result;
+      any_moment = work_leaves g.S.ForkStore c.args.files.now.stores c.open.new.files.stores work None c.open.result (opening_saves old c.args.number) done.any_moment;
+      settled = work_settles g.S.ForkStore c.open.new.files.stores work (Some c.args.number) c.open.result
+          (ap (λ b. file_settled (cond b Quiet (Opens c.args.number))) (sym c.is_open.ensures ∙ c.if-is_open.false)) done.settled;
+      crash_full = err_anyhow (CrashLeaves g.S.ForkStore None c.args.files.now.stores c.open.new.files.stores) c.open.result done.any_moment;
+    }
+
+pub returns-then-is_open-clause-leaves : goal.returns-then-is_open-clause-leaves
+returns-then-is_open-clause-leaves g c = λ honest.
+    let old = state_of g.S.ForkStore.fork c.args.memory.now c.args.files.now in
+    let work = work_of old (OpenResFile c.args.number) in
+    let result : Result Outcome HostFull = Ok (Ok (Number c.args.number)) in
+    record {
+      honest = honest;
+      reads_back = opening_reads old old c.args.number result;
+      any_moment = calm_leaves g.S.ForkStore c.args.files.now.stores c.args.files.now.stores (update_in work) refl;
+      settled = work_settles g.S.ForkStore c.args.files.now.stores work None result
+          (ap (λ b. file_settled (cond b Quiet (Opens c.args.number))) (sym c.is_open.ensures ∙ c.if-is_open.true)) (λ journal. tt);
+      crash_full = tt;
+    }

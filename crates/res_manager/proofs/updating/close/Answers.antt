@@ -1,13 +1,15 @@
-use Rattle.std.proofs.Common.{◌≡◌, ◌∙◌, Some, All, sym, ap, subst}
+use Rattle.std.proofs.Common.{◌≡◌, ◌∙◌, All, Result, Ok, sym, ap, subst}
 use Rattle.std.specs.Prelude.{OnOk}
+use Rattle.mac_base.specs.declared.error.HostFull.{HostFull}
 use Rattle.mac_base.specs.Heap.{Heap}
+use Rattle.mac_calls.specs.Outcomes.{Outcome}
 use Rattle.res_calls.specs.Changes.{rows_of}
 use Rattle.res_calls.specs.Updates.{Update, disposed, handles_of, update_of}
 use Rattle.res_files.specs.FilesOn.{FilesOn}
 use Rattle.res_table.specs.OpenFiles.{file_closed}
 use Rattle.res_update.specs.Selected.{updated}
 use Rattle.res_update.specs.declared.selection.Selection.TheVariants.{AllChanged}
-use Rattle.res_manager.specs.Crash.{CrashLeaves, IsSettled}
+use Rattle.res_manager.specs.Crash.{WorksOnFile}
 use Rattle.res_manager.specs.Steps.{state_of}
 use Rattle.res_calls.specs.Steps.{IsSaved}
 use Rattle.res_manager.proofs.ClosingFiles.{closes_refused, closes_written}
@@ -34,20 +36,13 @@ returns-clause-written g c = λ u is.
 pub returns-then-is_err-clause-written : goal.returns-then-is_err-clause-written
 returns-then-is_err-clause-written g c = λ u is. closes_refused g.S.ForkStore c.args.memory.now c.args.files.now c.write_file.new.files u c.in_ok-outcome.outcome (sym c.is_err.ensures.value ∙ c.if-is_err.true) (c.in_ok-outcome.ensures.written u is)
 
-pub returns-clause-saved : goal.returns-clause-saved
-returns-clause-saved g c = λ honest.
-    let mid_honest = subst (λ (f : FilesOn g.row.S.Denot). All g.S.ForkStore.is_honest f.stores) c.close.ensures honest in
-    subst (λ (f : FilesOn g.row.S.Denot). OnOk c.in_ok-outcome.outcome (IsSaved (update_of c.args.number (updated c.args.memory.now.heap.table AllChanged) c.args.files.now.files) (state_of g.S.ForkStore.fork c.dispose_all.new.memory f))) (sym c.close.ensures) (c.in_ok-outcome.ensures.saved mid_honest)
-
-pub returns-clause-any_moment : goal.returns-clause-any_moment
-returns-clause-any_moment g c = λ honest u is.
-    let mid_honest = subst (λ (f : FilesOn g.row.S.Denot). All g.S.ForkStore.is_honest f.stores) c.close.ensures honest in
-    subst (λ (f : FilesOn g.row.S.Denot). CrashLeaves g.S.ForkStore (Some u) c.args.files.now.stores f.stores) (sym c.close.ensures) (c.write_file.ensures.any_moment mid_honest u is)
-
-pub returns-clause-settled : goal.returns-clause-settled
-returns-clause-settled g c = λ honest.
-    let mid_honest = subst (λ (f : FilesOn g.row.S.Denot). All g.S.ForkStore.is_honest f.stores) c.close.ensures honest in
-    subst (λ (f : FilesOn g.row.S.Denot). OnOk c.in_ok-outcome.outcome (IsSettled g.S.ForkStore (Some c.args.number) f.stores)) (sym c.close.ensures) (c.in_ok-outcome.ensures.settled mid_honest)
-
-pub returns-clause-honest : goal.returns-clause-honest
-returns-clause-honest g c = λ honest. c.write_file.ensures.honest (subst (λ (f : FilesOn g.row.S.Denot). All g.S.ForkStore.is_honest f.stores) c.close.ensures honest)
+pub returns-clause-saves : goal.returns-clause-saves
+returns-clause-saves g c = λ honest.
+    let S = g.S.ForkStore in
+    let update = update_of c.args.number (updated c.args.memory.now.heap.table AllChanged) c.args.files.now.files in
+    let saves = c.in_ok-outcome.ensures.saves (subst (λ (f : FilesOn g.row.S.Denot). All S.is_honest f.stores) c.close.ensures honest) in
+    let result : Result Outcome HostFull = Ok c.in_ok-outcome.outcome in
+    record {
+      works = subst (λ (f : FilesOn g.row.S.Denot). WorksOnFile S c.args.number update c.args.files.now.stores f.stores result) (sym c.close.ensures) saves.works;
+      saved = subst (λ (f : FilesOn g.row.S.Denot). OnOk c.in_ok-outcome.outcome (IsSaved update (state_of S.fork c.dispose_all.new.memory f))) (sym c.close.ensures) saves.saved;
+    }

@@ -1,4 +1,4 @@
-use Rattle.res_manager.proofs.Crash.{zone_leaves}
+use Rattle.res_manager.proofs.LeavingForks.{saves_fork}
 use Rattle.std.proofs.Common.{◌≡◌, true, subst, sym, ap, refl, Ok, Err, Some, None}
 use Rattle.mac_base.specs.ZoneState.{ZoneState}
 use Rattle.fork_disk.specs.declared.store.ReplaceFault.{ReplaceFault}
@@ -24,15 +24,7 @@ returns-in-Ok-clause-written g c = λ u is.
     let big = rw f.there at c.in-Ok.ensures.too_big in
     let v : Update = record { file = c.args.number; table = updated t c.args.selection f.table } in
     let P : Update → Type 0 = λ w. WritesFile g.S.ForkStore c.args.memory.now c.args.files.now (UpdateResFile None) w (Ok Nothing) c.args.memory.now c.update.new.self in
-    subst P f.is (writes_all g.S.ForkStore c.args.memory.now c.args.files.now c.update.new.self v c.update.ensures.loads c.update.ensures.count (true_unless (fits_fork v.table) (λ h. absurd (cc (big.1 h)))) rows (λ honest. rw f.there at (c.in-Ok.ensures.written honest)) c.in-Ok.ensures.none)
-
-pub returns-in-Ok-clause-saved : goal.returns-in-Ok-clause-saved
-returns-in-Ok-clause-saved g c = λ honest.
-    let fork = g.S.ForkStore.fork in
-    let zone = c.args.memory.now in
-    let after = c.update.new.self in
-    let Q : ZoneState → Type 0 = λ z. IsSaved (update_of c.args.number (updated z.heap.table c.args.selection) c.args.files.now.files) (state_of fork zone after) in
-    subst Q c.new-contents.ensures (saved_update fork zone after c.args.number (updated c.new-contents.result.heap.table c.args.selection) c.args.files.now.files (c.in-Ok.ensures.stands honest))
+    subst P f.is (writes_all g.S.ForkStore c.args.memory.now c.args.files.now c.update.new.self v c.update.ensures.loads c.update.ensures.count (true_unless (fits_fork v.table) (λ h. absurd (cc (big.1 h)))) rows (λ honest. rw f.there at ((c.in-Ok.ensures.updates honest).replaced)) c.in-Ok.ensures.none)
 
 pub returns-in-Err-Device-clause-written : goal.returns-in-Err-Device-clause-written
 returns-in-Err-Device-clause-written g c = λ u is.
@@ -45,22 +37,10 @@ returns-in-Err-Device-clause-written g c = λ u is.
     let P : Update → Type 0 = λ w. WritesFile g.S.ForkStore c.args.memory.now c.args.files.now (UpdateResFile None) w (Err IoErr) c.args.memory.now c.update.new.self in
     subst P f.is (writes_faulted g.S.ForkStore c.args.memory.now c.args.files.now c.update.new.self v c.update.ensures.loads c.update.ensures.count c.in-Err-Device.field-0-0 (true_unless (fits_fork v.table) (λ h. absurd (cc (big.1 h))))
     (λ is. all.before (ap (λ (f : ReplaceFault). Err (Device f)) is))
-    (λ honest is. all.before_forks honest (ap (λ (f : ReplaceFault). Err (Device f)) is))
+    (λ honest is. ((all.updates honest).before (ap (λ (f : ReplaceFault). Err (Device f)) is)).forks)
     (λ is. all.closed (ap (λ (f : ReplaceFault). Err (Device f)) is))
-    (λ honest is. rw f.there at (all.later honest (ap (λ (f : ReplaceFault). Err (Device f)) is)))
+    (λ honest is. rw f.there at ((all.updates honest).later (ap (λ (f : ReplaceFault). Err (Device f)) is)))
     (λ is. all.cause (ap (λ (f : ReplaceFault). Err (Device f)) is)) (λ is. all.cause_later (ap (λ (f : ReplaceFault). Err (Device f)) is)))
-
-pub returns-in-Ok-clause-any_moment : goal.returns-in-Ok-clause-any_moment
-returns-in-Ok-clause-any_moment g c = λ honest u is. zone_leaves g.S.ForkStore c.args.files.now.stores c.update.new.self.stores c.new-contents.result c.args.memory.now c.args.selection c.args.number c.args.files.now.files u c.new-contents.ensures is (c.update.ensures.any_moment honest) (c.update.ensures.others honest)
-
-pub returns-in-Err-TooBig-clause-any_moment : goal.returns-in-Err-TooBig-clause-any_moment
-returns-in-Err-TooBig-clause-any_moment g c = λ honest u is. zone_leaves g.S.ForkStore c.args.files.now.stores c.update.new.self.stores c.new-contents.result c.args.memory.now c.args.selection c.args.number c.args.files.now.files u c.new-contents.ensures is (c.update.ensures.any_moment honest) (c.update.ensures.others honest)
-
-pub returns-in-Err-HostFull-clause-any_moment : goal.returns-in-Err-HostFull-clause-any_moment
-returns-in-Err-HostFull-clause-any_moment g c = λ honest u is. zone_leaves g.S.ForkStore c.args.files.now.stores c.update.new.self.stores c.new-contents.result c.args.memory.now c.args.selection c.args.number c.args.files.now.files u c.new-contents.ensures is (c.update.ensures.any_moment honest) (c.update.ensures.others honest)
-
-pub returns-in-Err-Device-clause-any_moment : goal.returns-in-Err-Device-clause-any_moment
-returns-in-Err-Device-clause-any_moment g c = λ honest u is. zone_leaves g.S.ForkStore c.args.files.now.stores c.update.new.self.stores c.new-contents.result c.args.memory.now c.args.selection c.args.number c.args.files.now.files u c.new-contents.ensures is (c.update.ensures.any_moment honest) (c.update.ensures.others honest)
 
 pub returns-in-Err-TooBig-clause-written : goal.returns-in-Err-TooBig-clause-written
 returns-in-Err-TooBig-clause-written g c = λ u is.
@@ -81,3 +61,19 @@ returns-in-Err-HostFull-clause-fits g c = λ u is.
     let all = rw c.in-Err-HostFull.field-0-is at c.in-Err-HostFull.ensures in
     let big = rw f.there at all.too_big in
     subst (λ (w : Update). fits_fork w.table ≡ true) f.is (true_unless (fits_fork (updated t c.args.selection f.table)) (λ h. absurd (cc (big.1 h))))
+
+pub returns-in-Ok-clause-saves : goal.returns-in-Ok-clause-saves
+returns-in-Ok-clause-saves g c = λ honest.
+    let done = c.in-Ok.ensures.updates honest in
+    let Q : ZoneState → Type 0 = λ z. IsSaved (update_of c.args.number (updated z.heap.table c.args.selection) c.args.files.now.files) (state_of g.S.ForkStore.fork c.args.memory.now c.update.new.self) in
+    saves_fork g.S.ForkStore c.new-contents.result c.args.memory.now c.args.selection c.args.number c.args.files.now.files c.args.files.now.stores c.update.new.self _ _ c.new-contents.ensures c.requires.open (c.update.ensures.updates honest) done.settled
+    (subst Q c.new-contents.ensures (saved_update g.S.ForkStore.fork c.args.memory.now c.update.new.self c.args.number (updated c.new-contents.result.heap.table c.args.selection) c.args.files.now.files done.stands))
+
+pub returns-in-Err-TooBig-clause-saves : goal.returns-in-Err-TooBig-clause-saves
+returns-in-Err-TooBig-clause-saves g c = λ honest. saves_fork g.S.ForkStore c.new-contents.result c.args.memory.now c.args.selection c.args.number c.args.files.now.files c.args.files.now.stores c.update.new.self _ _ c.new-contents.ensures c.requires.open (c.update.ensures.updates honest) tt tt
+
+pub returns-in-Err-HostFull-clause-saves : goal.returns-in-Err-HostFull-clause-saves
+returns-in-Err-HostFull-clause-saves g c = λ honest. saves_fork g.S.ForkStore c.new-contents.result c.args.memory.now c.args.selection c.args.number c.args.files.now.files c.args.files.now.stores c.update.new.self _ _ c.new-contents.ensures c.requires.open (c.update.ensures.updates honest) tt tt
+
+pub returns-in-Err-Device-clause-saves : goal.returns-in-Err-Device-clause-saves
+returns-in-Err-Device-clause-saves g c = λ honest. saves_fork g.S.ForkStore c.new-contents.result c.args.memory.now c.args.selection c.args.number c.args.files.now.files c.args.files.now.stores c.update.new.self _ _ c.new-contents.ensures c.requires.open (c.update.ensures.updates honest) tt tt

@@ -1,0 +1,55 @@
+-- What calls leave of the forks, by what was done to the stores.
+use Rattle.std.proofs.Common.{◌≡◌, true, List, map, Option, Some, None, Result, ℕ, ap, subst}
+use Rattle.std.specs.Prelude.{IfOk, OnOk, OnErr, ⊤}
+use Rattle.mac_base.specs.ZoneState.{ZoneState}
+use Rattle.mac_base.specs.declared.error.HostFull.{HostFull}
+use Rattle.mac_base.specs.declared.error.OsErr.{OsErr}
+use Rattle.mac_calls.specs.declared.resource_call.ResourceCall.{ResourceCall}
+use Rattle.mac_calls.specs.Outcomes.{Outcome}
+use Rattle.fork_disk.specs.declared.store.ForkStore.{Ghosts}
+use Rattle.res_table.specs.OpenFiles.{is_open}
+use Rattle.res_calls.specs.Changes.{FileTable, Files}
+use Rattle.res_calls.specs.Steps.{IsSaved, update_in, work_of}
+use Rattle.res_calls.specs.Updates.{Update, update_of}
+use Rattle.res_update.specs.Selected.{updated}
+use Rattle.res_update.specs.declared.fault.UpdateFault.{UpdateFault}
+use Rattle.res_update.specs.declared.selection.Selection.{Selection}
+use Rattle.res_files.specs.FilesOn.{FilesOn}
+use Rattle.res_files.specs.Stores.{OpensStore, UpdatesStore}
+use Rattle.res_manager.specs.Crash.{CrashLeaves, IsSettled, LeavesForks, OpensFork, SavesFork}
+use Rattle.res_manager.specs.Steps.{state_of}
+use Rattle.res_manager.proofs.Crash.{calm_leaves, made_file, open_leaves, work_leaves, work_settles, zone_leaves}
+use Rattle.res_manager.proofs.ReadingBack.{made_reads}
+use Rattle.res_manager.proofs.Stepping.{if_ok}
+use Rattle.res_manager.proofs.UpdatingCalls.{Makes, on_err}
+
+-- a file is opened, or isn't
+pub opens_fork : {S E : Type 0} (store : Ghosts S) (k : ℕ) (old new : List S) (opening : Result (Result ⊤ OsErr) HostFull) (result : Result Outcome E) → OpensStore store k old new opening
+    → IfOk result (λ outcome. OnOk outcome (IsSettled store (Some k) new)) → OpensFork store k old new result
+opens_fork store k old new opening result opens settled = record {
+  works = record { honest = opens.works.honest; any_moment = open_leaves store old new k opens.works.others opens.any_moment; settled = settled };
+  forks = opens.forks;
+}
+
+-- a file is written, or isn't
+pub saves_fork : {S T E : Type 0} (store : Ghosts S) (contents zone : ZoneState) (selection : Selection) (k : ℕ) (files : Files) (old : List S) (after : FilesOn S) (writing : Result T UpdateFault) (result : Result Outcome E)
+    → contents ≡ zone → is_open k files ≡ true → UpdatesStore store k (updated contents.heap.table selection) files old after.stores writing
+    → IfOk result (λ outcome. OnOk outcome (IsSettled store (Some k) after.stores))
+    → IfOk result (λ outcome. OnOk outcome (IsSaved (update_of k (updated zone.heap.table selection) files) (state_of store.fork zone after)))
+    → SavesFork store k (update_of k (updated zone.heap.table selection) files) old zone after result
+saves_fork store contents zone selection k files old after writing result same there updates settled saved = record {
+  works = record { honest = updates.works.honest; any_moment = zone_leaves store old after.stores contents zone selection k files writing same there updates; settled = settled };
+  saved = saved;
+}
+
+-- so a call leaves the forks that makes this update
+pub made_leaves : {S E : Type 0} (store : Ghosts S) (zone new : ZoneState) (on after : FilesOn S) (c : ResourceCall) (k : ℕ) (change : FileTable → FileTable) (u : Update) (result : Result Outcome E) → update_of k change on.files ≡ Some u
+    → Makes store.fork zone on c u → OnErr result (after ≡ on) → SavesFork store k (update_of k change on.files) on.stores new after result → LeavesForks store zone on c result new after
+made_leaves {S} store zone new on after c k change u result is made same saves =
+    let work = work_of (state_of store.fork zone on) c in record {
+      honest = saves.works.honest;
+      reads_back = if_ok _ _ result (λ outcome saved. made_reads store.fork zone on c u (update_of k change on.files) outcome (state_of store.fork new after) made is saved) saves.saved;
+      any_moment = work_leaves store on.stores after.stores work (Some u) result (ap update_in made.work) (subst (λ (o : Option Update). CrashLeaves store o on.stores after.stores) is saves.works.any_moment);
+      settled = work_settles store after.stores work (Some k) result (made_file store.fork zone on c k change u is made) saves.works.settled;
+      crash_full = on_err _ _ result (λ unchanged. calm_leaves store on.stores after.stores None (ap (λ (f : FilesOn S). map store.history f.stores) unchanged)) same;
+    }
