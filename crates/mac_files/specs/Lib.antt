@@ -5,3 +5,4 @@ pub mod MacBinary
 pub mod Faults
 pub mod Containers
 pub mod Archives
+pub mod Laws
