@@ -1,13 +1,12 @@
 -- What files are known as.
-use Rattle.std.proofs.Common.{◌≡◌, ◌≢◌, ◌⊎◌, inl, inr, ℕ, List, [], ◌∷◌, Some, true, false, ap, refl, arith, ◌∙◌}
+use Rattle.std.proofs.Common.{◌≡◌, ◌≢◌, inl, inr, ℕ, List, [], ◌∷◌, true, false, ap, refl, arith, ◌∙◌}
 use Rattle.std.specs.Prelude.{slice_index, nat_eq, nat_le, option_map}
 use Rattle.std.specs.List.{starts_with}
 use Rattle.std.proofs.lemmas.Bool.{and_left, and_right, cond-true, cond-false, false_from_ne_true, ne_eqb}
 use Rattle.std.proofs.lemmas.Bool.Decides.{Decides-eqb}
 use Rattle.std.proofs.lemmas.Slice.Eq.{starts_is}
-use Rattle.byteorder.specs.Endian.{big_from}
 use Rattle.mac_files.specs.declared.container.Container.TheVariants.{MacBinary}
-use Rattle.mac_files.specs.Containers.{is_fork_header, container_of}
+use Rattle.mac_files.specs.Containers.{is_fork_header}
 use Rattle.mac_files.specs.Laws.{HasFiller, HasName, SingleIsKnown, DoubleIsKnown, MacBinaryIsKnown}
 
 -- no length of data or no map, so no header of a fork

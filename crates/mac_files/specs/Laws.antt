@@ -1,9 +1,8 @@
 -- What a file that is written as its format says is known as.
-use Rattle.std.specs.Prelude.{◌≡◌, ◌≢◌, ◌⊎◌, ℕ, List, [], ◌∷◌, slice_index, nat_eq, Option, Some, true}
+use Rattle.std.specs.Prelude.{◌≡◌, ◌≢◌, ◌⊎◌, ℕ, List, [], ◌∷◌, slice_index, nat_eq, Some, true}
 use Rattle.std.specs.List.{starts_with}
 use Rattle.byteorder.specs.Endian.{big_from}
 use Rattle.mac_files.specs.declared.container.Version.{Version}
-use Rattle.mac_files.specs.declared.container.Container.{Container}
 use Rattle.mac_files.specs.declared.container.Container.TheVariants.{AppleSingle, AppleDouble, MacBinary}
 use Rattle.mac_files.specs.MacBinary.{version_of}
 use Rattle.mac_files.specs.Containers.{container_of}
