@@ -553,6 +553,24 @@ static void images(void) {
               {0x13C, 0x000003F0}, {0x52C, 0x800003F0}, {0x530, 0x00000040}, {0x534, 0x42420000}, {0x91C, 0x800003F0}, {0x920, 0x00000044},
               {0xD0C, 0x000002F4});
     ended(&zone);
+    /* The next handle moves the second block down: it takes the first slot, and the lowest free block comes last. */
+    zone = fresh();
+    first = new_handle(&zone, 1000), second = new_handle(&zone, 1000);
+    new_handle(&zone, 1000);
+    poke(&zone, second, "BB");
+    IS(mh_dispose_handle(&zone, first), MH_NO_ERR);
+    IS(new_handle(&zone, 1500), first);
+    HAS_BYTES(&zone, 0x48, 61, 0x01100004, 0x01000000, {0x00, 0x00101000}, {0x08, 0x00100048}, {0x0C, 0x00000100}, {0x14, 0x00400000},
+              {0x30, 0x00100F00}, {0x34, 0x50000108}, {0x38, 0x00100000}, {0x3C, 0x00100924}, {0x40, 0x00100144}, {0x44, 0x00100534},
+              {0x13C, 0x800003F0}, {0x140, 0x00000040}, {0x144, 0x42420000}, {0x52C, 0x800003F0}, {0x530, 0x00000044},
+              {0x91C, 0x800005E4}, {0x920, 0x0000003C}, {0xF00, 0x00000100});
+    ended(&zone);
+    /* A block that takes all that is free: no lowest free block is there. */
+    zone = fresh();
+    new_handle(&zone, 3772);
+    HAS_BYTES(&zone, 0x40, 63, 0x01100004, 0x01000000, {0x00, 0x00101000}, {0x08, 0x00100040}, {0x14, 0x00400000}, {0x34, 0x50000108},
+              {0x38, 0x00100000}, {0x3C, 0x00100144}, {0x13C, 0x80000EC4}, {0x140, 0x0000003C});
+    ended(&zone);
     zone = sized(4096, 4096, 32);
     uint32_t h = new_handle(&zone, 100), p = 0;
     HAS_BYTES(&zone, 0x44, 63, 0x00100005, 0x00000001, {0x00, 0x00101000}, {0x08, 0x00100044}, {0x0C, 0x00000E50}, {0x14, 0x00400000},

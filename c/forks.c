@@ -79,6 +79,29 @@ static void list(size_t length, size_t n) {
     putchar('\n');
 }
 
+/* All resources at once are those that were read one by one; into other room than theirs nothing is written. */
+static void whole(size_t length, size_t count) {
+    static MfRow all[MOST_ROWS + 1];
+    static uint8_t all_names[MOST_ROWS * 255 + 1], all_data[MOST + 1];
+    MfSizes sizes;
+    MUST(mf_sizes(fork, length, &sizes) == MF_NO_ERR && sizes.rows == count);
+    MUST(sizes.names == names_of(count) && sizes.data == data_of(count));
+    memset(all, 0xEE, sizeof all);
+    memset(all_names, 0xEE, sizeof all_names);
+    memset(all_data, 0xEE, sizeof all_data);
+    MUST(mf_rows(fork, length, all, count + 1, all_names, sizes.names, all_data, sizes.data) == MF_PARAM_ERR);
+    MUST(mf_rows(fork, length, all, count, all_names, sizes.names + 1, all_data, sizes.data) == MF_PARAM_ERR);
+    MUST(mf_rows(fork, length, all, count, all_names, sizes.names, all_data, sizes.data + 1) == MF_PARAM_ERR);
+    MUST(all[0].attributes == 0xEE && all_names[0] == 0xEE && all_data[0] == 0xEE);
+    MUST(mf_rows(fork, length, all, count, all_names, sizes.names, all_data, sizes.data) == MF_NO_ERR);
+    for (size_t n = 0; n < count; n++) {
+        MUST(!memcmp(all[n].kind, rows[n].kind, 4) && all[n].id == rows[n].id && all[n].attributes == rows[n].attributes);
+        MUST(all[n].has_name == rows[n].has_name && all[n].name_length == rows[n].name_length && all[n].data_length == rows[n].data_length);
+    }
+    MUST(!memcmp(all_names, names, sizes.names) && !memcmp(all_data, data, sizes.data));
+    MUST(all_names[sizes.names] == 0xEE && all_data[sizes.data] == 0xEE);
+}
+
 static MfErr length_of(size_t count, size_t *length) {
     return mf_written_length(rows, count, names, names_of(count), data, data_of(count), &extra, length);
 }
@@ -160,6 +183,7 @@ int main(int count, char **word) {
     MUST(mf_count(fork, length, &resources) == MF_NO_ERR && resources < MOST_ROWS);
     printf("resources: %zu\n", resources);
     for (size_t n = 0; n < resources; n++) list(length, n);
+    whole(length, resources);
     MUST(mf_extra(fork, length, &extra) == MF_NO_ERR);
     MfErr code = write(resources, count == 3 ? word[2] : NULL);
     if (count == 3) printf("%d\n", code);
@@ -169,6 +193,7 @@ int main(int count, char **word) {
     for (size_t cut = 0; cut < length && count == 2; cut++) {
         size_t found = 77;
         MUST(mf_count(fork, cut, &found) == (cut < 16 ? MF_EOF_ERR : MF_MAP_READ_ERR) && found == 77);
+        MUST(mf_rows(fork, cut, rows, resources, names, names_of(resources), data, data_of(resources)) == (cut < 16 ? MF_EOF_ERR : MF_MAP_READ_ERR));
     }
     refused();
     return 0;

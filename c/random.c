@@ -1,5 +1,6 @@
 /* Makes random calls on a zone, and writes them as a script to the first file and what C is told as replies to the second: macheap
- * prints the same replies for that script. Its words: the files, a seed, and how many calls. */
+ * prints the same replies for that script. Its words: the files, a seed, and how many calls. With an odd seed no block is lent, and
+ * after each call the words of the zone's header are compared with a walk over its blocks. */
 #include "macheap.h"
 
 #include <inttypes.h>
@@ -169,12 +170,40 @@ static void bytes(void) {
     fprintf(replies, " %d\n", code);
 }
 
+static uint32_t word_at(const uint8_t *bytes, uint32_t at) {
+    return (uint32_t)bytes[at] << 24 | (uint32_t)bytes[at + 1] << 16 | (uint32_t)bytes[at + 2] << 8 | bytes[at + 3];
+}
+
+/* Whether bkLim, zcbFree and allocPtr are the end of the zone, the sum of its free blocks, and the lowest of these, or 0. */
+static bool is_walked(void) {
+    enum { BASE = 0x100000, HEADER = 52, MOST = 8192 };
+    static uint8_t bytes[MOST];
+    size_t size = 0;
+    if (mh_image_size(&zone, &size) != MH_NO_ERR || size > MOST || mh_image(&zone, bytes, size) != MH_NO_ERR) return false;
+    uint32_t at = HEADER, sum = 0, lowest = 0;
+    while (at < size) {
+        uint32_t length = word_at(bytes, at) & 0xFFFFFF;
+        if (length < 12 || length > size - at) return false;
+        if (bytes[at] >> 6 == 0) {
+            sum += length;
+            if (lowest == 0) lowest = BASE + at;
+        }
+        at += length;
+    }
+    return word_at(bytes, 0) == BASE + size && word_at(bytes, 12) == sum && word_at(bytes, 48) == lowest;
+}
+
 int main(int count, char **words) {
     if (count != 5 || !(script = fopen(words[1], "w")) || !(replies = fopen(words[2], "w"))) return 2;
     state = strtoull(words[3], NULL, 10);
     int calls = atoi(words[4]);
     if (mh_make_zone(&zone, 0x100000, 4096, 8192, 24) != MH_NO_ERR) return 1;
     static void (*const kinds[])(void) = {one_operand, one_operand, one_operand, two_operands, looks, looks_around, lends, comes, comes, comes, bytes, bytes};
-    for (line = 1; line <= calls; line++) kinds[below(sizeof kinds / sizeof kinds[0])]();
+    bool walks = state % 2 == 1;
+    for (line = 1; line <= calls; line++) {
+        void (*kind)(void) = kinds[below(sizeof kinds / sizeof kinds[0])];
+        (walks && kind == lends ? comes : kind)();
+        if (walks && !is_walked()) return fprintf(stderr, "line %d: a word of the zone's header is another than the walk's\n", line), 3;
+    }
     return mh_end_zone(&zone) != MH_NO_ERR || fclose(script) || fclose(replies);
 }

@@ -49,6 +49,18 @@ MfErr mf_row(const uint8_t *fork, size_t fork_length, size_t index, MfRow *row);
 MfErr mf_name(const uint8_t *fork, size_t fork_length, size_t index, uint8_t *name, size_t name_length);
 MfErr mf_data(const uint8_t *fork, size_t fork_length, size_t index, uint8_t *data, size_t data_length);
 
+/* All resources at once, in one reading. mf_sizes says how many rows there are, and how many bytes all names and all data have; mf_rows
+ * gives the rows, as mf_row shows them, the bytes of all names, one after the other, and those of all data: just so many of each, or it
+ * is paramErr. So the data of a resource begin where the lengths of those before it end. mf_write takes the same three. */
+typedef struct MfSizes {
+    size_t rows;
+    size_t names;
+    size_t data;
+} MfSizes;
+MfErr mf_sizes(const uint8_t *fork, size_t fork_length, MfSizes *sizes);
+MfErr mf_rows(const uint8_t *fork, size_t fork_length, MfRow *rows, size_t count, uint8_t *names, size_t names_length, uint8_t *data,
+              size_t data_length);
+
 /* What a fork has beside its resources: 112 bytes for the system and 128 for the application, and the attributes of its map. */
 typedef struct MfExtra {
     uint8_t bytes[240];

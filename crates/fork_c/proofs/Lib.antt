@@ -1,2 +1,3 @@
 mod Grouped
 mod Parts
+mod Whole

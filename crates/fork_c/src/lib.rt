@@ -2,6 +2,7 @@
 //! resources that C gives.
 #![tactic(auto)]
 
+mod all;
 mod given;
 mod read;
 mod rows;

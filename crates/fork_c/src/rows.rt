@@ -43,7 +43,7 @@ pub(crate) fn shown_at(rows: &[Row], index: usize) -> Result<MfRow, OsErr>
 }
 
 /// A resource as C is shown it.
-fn shown_row(row: &Row) -> MfRow
+pub(crate) fn shown_row(row: &Row) -> MfRow
     ensures { result ≡ shown_row row.now }
 {
     MfRow {
@@ -92,7 +92,7 @@ pub(crate) fn data_at(rows: &[Row], index: usize, bytes: &mut [u8]) -> i16
 }
 
 /// The bytes of a resource's name: none where it has no name.
-fn name_of(row: &Row) -> &[u8]
+pub(crate) fn name_of(row: &Row) -> &[u8]
     ensures { result.now ≡ name_of row.now }
 {
     match &row.name {

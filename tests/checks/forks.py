@@ -1,0 +1,325 @@
+"""Checks forklist and macheap programs against a small model of resource forks, on random forks.
+
+The forks are such as the Resource Manager and other tools write: with the data or the map first, with data and names that are shared, with gaps, with
+reserved fields of any value; many of them are then cut or damaged. Of each fork the list is compared, and a few extracted
+resources, with their exit statuses and with what is told of a fork that is none; and macheap opens it, and tells of each resource its
+type, id, name, attributes and bytes. By default it tries 200 forks. Each is made from its number, so a difference can be made
+again. Before them come command lines, and forks at the limits. Numbers: how many forks, and the number of the first.
+"""
+import os
+import random
+import struct
+import subprocess
+import tempfile
+
+from checks.fork_questions import Difference, expect, opening_is_refused, questions
+from model.fork import MOST_BYTES, NoFork, Row, TOLD, listing, open_code, quoted, read_fork
+
+# the forks
+
+
+class Choices:
+    """Makes a fork from a number."""
+
+    def __init__(self, number):
+        self.random = random.Random(number)
+
+    def odds(self, share):
+        return self.random.random() < share
+
+    def some_bytes(self, most):
+        return self.random.randbytes(self.random.randrange(most + 1))
+
+    def kind(self):
+        if self.odds(0.8):
+            return self.random.choice([b"TEXT", b"STR ", b"CODE", b"ICN#", b"snd ", b"PAT#", b"vers", b"it's", b"a\\b\"", b"    "])
+        return self.random.randbytes(4)
+
+    def name(self):
+        if self.odds(0.5):
+            return None
+        if self.odds(0.7):
+            return self.random.choice([b"", b"Main", b"a b", b'say "hi"', b"c:\\d", b"Bob's", b"\xa9 1989", b"caf\x8e"])
+        return self.some_bytes(255 if self.odds(0.1) else 20)
+
+    def ident(self):
+        return self.random.choice([0, 1, 2, 128, 129, 130, -1, 32767, -32768, self.random.randrange(-32768, 32768)])
+
+    def attributes(self):
+        return self.random.choice([0, 0, 32, 64, 16, 8, 4, 2, self.random.randrange(256)])
+
+    def rows(self):
+        """Rows by type: types in order, each with its rows, which may be none."""
+        types = {}
+        for _ in range(self.random.choice([0, 1, 1, 2, 3, 5])):
+            rows = types.setdefault(self.kind(), [])
+            for _ in range(self.random.choice([0, 1, 1, 2, 4])):
+                rows.append(Row(None, self.ident(), self.name(), self.attributes(), self.some_bytes(self.random.choice([0, 2, 8, 60]))))
+        return types
+
+    def fork(self):
+        """A fork, and whether it was damaged."""
+        types = self.rows()
+        data, data_places = self.pool([row.data for rows in types.values() for row in rows], lambda it: struct.pack(">I", len(it)) + it)
+        names, name_places = self.pool([row.name for rows in types.values() for row in rows if row.name is not None], lambda it: bytes([len(it)]) + it)
+        the_map = self.map_of(types, data_places, name_places, names)
+        return self.joined(data, the_map)
+
+    def pool(self, items, text):
+        """The texts of these, in a row or with gaps, in this order or another, where equal ones may be shared; and their places."""
+        order = list(range(len(items)))
+        if self.odds(0.3):
+            self.random.shuffle(order)
+        gaps, shares = self.odds(0.2), self.odds(0.3)
+        pool, places, known = b"", [None] * len(items), {}
+        for index in order:
+            item = items[index]
+            if shares and item in known:
+                places[index] = known[item]
+                continue
+            if gaps:
+                pool += self.some_bytes(9)
+            places[index] = known[item] = len(pool)
+            pool += text(item)
+        return pool + (self.some_bytes(9) if gaps else b""), places
+
+    def map_of(self, types, data_places, name_places, names):
+        """The map, whose lists stand in some order; without the copy of the header."""
+        odd = self.odds(0.3)
+        entries, lists, data_places, name_places = b"", b"", iter(data_places), iter(name_places)
+        front = self.some_bytes(8) if odd else b""
+        between = self.some_bytes(8) if odd else b""
+        first = 2 + 8 * len(types) + len(between)
+        for kind, rows in types.items():
+            start = self.random.randrange(65536) if odd and not rows else first + len(lists)
+            entries += struct.pack(">4s2H", kind, (len(rows) - 1) % 65536, start)
+            for row in rows:
+                name_at = 0xFFFF if row.name is None else next(name_places)
+                reserved = self.random.randrange(2**32) if odd else 0
+                lists += struct.pack(">hHB", row.ident, name_at, row.attributes) + next(data_places).to_bytes(3, "big") + struct.pack(">I", reserved)
+        body = struct.pack(">H", (len(types) - 1) % 65536) + entries + between + lists
+        behind = self.some_bytes(8) if odd else b""
+        types_at = 28 + len(front)
+        names_at = types_at + len(body) + len(behind)
+        if odd and self.odds(0.3):  # the names stand before the types
+            names_at, types_at = 28 + len(front), 28 + len(front) + len(names)
+            parts = front + names + body + behind
+        else:
+            parts = front + body + behind + names
+        fields = struct.pack(">IHH", *(self.random.randrange(2**it) for it in (32, 16, 16))) if odd else bytes(8)
+        return fields + struct.pack(">2H", types_at, names_at) + parts
+
+    def joined(self, data, the_map):
+        """The fork of these parts, in some order and with some bytes between them; it may be damaged."""
+        odd = self.odds(0.3)
+        front = self.some_bytes(20) if odd else self.random.randbytes(240)
+        between = self.some_bytes(20) if odd else b""
+        behind = self.some_bytes(20) if odd else b""
+        map_length = 16 + len(the_map)
+        if self.odds(0.4):  # the map stands first
+            map_at = 16 + len(front)
+            data_at = map_at + map_length + len(between)
+        else:
+            data_at = 16 + len(front)
+            map_at = data_at + len(data) + len(between)
+        header = struct.pack(">4I", data_at, map_at, len(data), map_length)
+        copy = self.random.choice([header, bytes(16), self.random.randbytes(16)]) if odd else header
+        parts = [(data_at, data), (map_at, copy + the_map)]
+        fork = header + front
+        for at, part in sorted(parts):
+            fork = fork.ljust(at, b"\x55") + part
+        return self.damaged(bytearray(fork + behind), map_at)
+
+    def damaged(self, fork, map_at):
+        dice = self.random.random()
+        if dice < 0.5:
+            return bytes(fork)
+        if dice < 0.6:  # cut
+            return bytes(fork[: self.random.randrange(len(fork) + 1)])
+        for _ in range(self.random.choice([1, 1, 1, 2, 5])):
+            dice = self.random.random()
+            if dice < 0.3:  # a field of the header
+                at = self.random.randrange(16)
+            elif dice < 0.9 and map_at + 22 < len(fork):  # the map
+                at = self.random.randrange(map_at + 22, len(fork))
+            else:
+                at = self.random.randrange(len(fork))
+            fork[at] = self.random.choice([0, 1, 0xFF, (fork[at] + 1) % 256, (fork[at] - 1) % 256, self.random.randrange(256)])
+        return bytes(fork)
+
+
+def one_map(kinds, references, names=b""):
+    """A fork without extra bytes whose map stands first, of one empty datum: types with these counts, and their references as they stand."""
+    first, entries = 2 + 8 * len(kinds), b""
+    for kind, count in kinds:
+        entries += struct.pack(">4s2H", kind, (count - 1) % 65536, first)
+        first += 12 * count
+    the_map = bytes(24) + struct.pack(">3H", 28, min(28 + first, 65535), len(kinds) - 1) + entries + references + names
+    return struct.pack(">4I", 16 + len(the_map), 16, 4, len(the_map)) + the_map + bytes(4)
+
+
+def limits():
+    """Forks at the limits, each with a word for it."""
+    reference = struct.pack(">hHBBHI", 5, 0xFFFF, 0, 0, 0, 0)
+    yield "empty file", b""
+    yield "15 bytes", bytes(15)
+    yield "16 bytes", bytes(16)
+    yield "one row", one_map([(b"TEXT", 1)], reference)
+    yield "4,096 rows", one_map([(b"TEXT", 4096)], reference * 4096)
+    for count in (5458, 5459):
+        yield f"{count} rows", one_map([(b"TEXT", count)], reference * count)
+    # 8,192 references, and one more: two bytes say how many there are, and none says where they end
+    for count in (8192, 8193):
+        yield f"{count} rows", one_map([(b"TEXT", count)], reference * count)
+    long = struct.pack(">4I", 256, 256 + 1048576, 1048576, 90)
+    entries = struct.pack(">HHH4s2H", 28, 88, 0, b"DATA", 3, 10) + b"".join(
+        struct.pack(">hHBBHI", it, 0xFFFF, 0, 0, 0, 0) for it in range(4)
+    )
+    whole = long + bytes(240) + struct.pack(">I", 1048572) + bytes(1048572) + bytes(24) + entries
+    yield "four rows of 1 MB that are one", whole.ljust(256 + 1048576 + 90, b"\0")
+    # one byte of length more than the limit allows
+    more = bytearray(struct.pack(">4I", 256, 256 + 1048577, 1048577, 90) + bytes(240) + struct.pack(">I", 1048573) + bytes(1048573) + bytes(24) + entries)
+    yield "four rows of 1 MB and a byte", bytes(more.ljust(256 + 1048577 + 90, b"\0"))
+    small = one_map([(b"TEXT", 1)], reference)
+    yield "4,194,304 bytes", small.ljust(MOST_BYTES, b"\0")
+    yield "4,194,305 bytes", small.ljust(MOST_BYTES + 1, b"\0")
+    yield "9,000,000 bytes", small.ljust(9000000, b"\0")
+
+
+# command lines, with their status, and words of what is told on standard error
+LINES = [
+    (["--help"], 0, ""),
+    ([], 2, "Usage"),
+    (["FILE", "more"], 2, "Usage"),
+    (["--what", "FILE"], 2, "--what"),
+    (["FILE", "--extract"], 2, "--extract"),
+    (["FILE", "--extract", "TEXT"], 2, "--extract"),
+    (["FILE", "--extract", "TEXT", "5", "6"], 2, "Usage"),
+    (["FILE", "--extract", "TEXT", "5x"], 2, "id"),
+    (["FILE", "--extract", "TEXT", ""], 2, "id"),
+    (["FILE", "--extract", "TEXT", "32768"], 2, "id"),
+    (["FILE", "--extract", "TEXT", "-32769"], 2, "id"),
+    (["FILE", "--extract", "", "5"], 2, "type"),
+    (["FILE", "--extract", "''", "5"], 2, "type"),
+    (["FILE", "--extract", "TEXTS", "5"], 2, "type"),
+    (["FILE", "--extract", "'TEXT", "5"], 2, "type"),
+    (["FILE", "--extract", "TEXT'", "5"], 2, "type"),
+    (["FILE", "--extract", "'", "5"], 2, "type"),
+    (["FILE", "--extract", "\\x4", "5"], 2, "type"),
+    (["FILE", "--extract", "\\x4g45", "5"], 2, "type"),
+    (["FILE", "--extract", "\\q", "5"], 2, "type"),
+    (["FILE", "--extract", "caf\u00e9", "5"], 2, "type"),
+    (["FILE", "--extract", "TEXT", "5"], 0, ""),
+    (["--extract", "TEXT", "5", "FILE"], 0, ""),
+    (["FILE", "--extract", "'TEXT'", "005"], 0, ""),
+    (["FILE", "--extract", "\\x54E\\x58T", "5"], 0, ""),
+    (["FILE", "--extract", "'\\x54\\x45\\x58\\x54'", "5"], 0, ""),
+    (["FILE", "--extract", "TEXT", "-5"], 1, "no resource"),
+    (["FILE", "--extract", "'-abc'", "5"], 1, "no resource"),
+    (["FILE", "--extract", "-abc", "5"], 2, "Usage"),
+    (["FILE", "--extract", "-123", "5"], 1, "no resource"),
+    (["FILE", "--extract", "TEX", "5"], 1, "no resource"),
+    (["FILE", "--extract", "TEX ", "5"], 1, "no resource"),
+    (["NO_SUCH_FILE"], 1, "NO_SUCH_FILE"),
+]
+
+
+def run(program, words):
+    done = subprocess.run([program, *words], stdin=subprocess.DEVNULL, stdout=subprocess.PIPE, stderr=subprocess.PIPE)
+    return done.returncode, done.stdout, done.stderr.decode(errors="replace")
+
+
+def compare(what, got, status, output, told):
+    """Compares what a program did with what it should: status, output, and words of what it tells."""
+    if got[0] != status:
+        raise Difference(f"{what}: status {got[0]} and not {status}; it told {got[2]!r}")
+    if output is not None and got[1] != output:
+        raise Difference(f"{what}: it wrote {got[1][:300]!r} and not {output[:300]!r}")
+    if told not in got[2] or bool(told) != bool(got[2]):
+        raise Difference(f"{what}: it told {got[2]!r} and not {told!r}")
+
+
+def operand(kind, choice):
+    """A type as a word of the command line: as the list shows it, or without its quotes or last blanks where it can. One that begins with a hyphen keeps its quotes."""
+    shown = quoted("'", kind)
+    if kind.startswith(b"-"):
+        return shown
+    if choice == 1:
+        return shown[1:-1]
+    if choice == 2 and kind.rstrip(b" "):
+        return quoted("'", kind.rstrip(b" "))[1:-1]
+    return shown
+
+
+def try_open(program, path, fork):
+    """Compares what macheap tells of a fork. A file without bytes is a new one, which isn't refused."""
+    try:
+        rows = read_fork(fork) if fork else []
+    except NoFork as fault:
+        opening_is_refused(program, path, fork, open_code(fault.args[0]))
+        return
+    expect(program, path, fork, *questions(rows), fork)
+
+
+def try_fork(program, path, fork, choices):
+    """Compares the list of a fork and a few extracted resources."""
+    with open(path, "wb") as file:
+        file.write(fork)
+    try:
+        rows = read_fork(fork)
+    except NoFork as fault:
+        told = TOLD[fault.args[0]]
+        compare("the list", run(program, [path]), 1, b"", told)
+        compare("--extract", run(program, [path, "--extract", "TEXT", "128"]), 1, b"", told)
+        return fault.args[0]
+    compare("the list", run(program, [path]), 0, listing(rows).encode(), "")
+    wanted = [(row.kind, row.ident) for row in choices.sample(rows, min(2, len(rows)))] + [(b"none", 7)][: choices.randrange(2)]
+    for kind, ident in wanted:
+        found = next((row.data for row in rows if (row.kind, row.ident) == (kind, ident)), None)
+        word = operand(kind, choices.randrange(3))
+        got = run(program, [path, "--extract", word, str(ident)])
+        if found is None:
+            compare(f"--extract {word} {ident}", got, 1, b"", "no resource")
+        else:
+            compare(f"--extract {word} {ident}", got, 0, found, "")
+    return "fork"
+
+
+def try_lines(program, path):
+    """Compares the command lines, on a fork of one row, 'TEXT' 5, without bytes."""
+    with open(path, "wb") as file:
+        file.write(one_map([(b"TEXT", 1)], struct.pack(">hHBBHI", 5, 0xFFFF, 0, 0, 0, 0)))
+    for words, status, told in LINES:
+        words = [path if it == "FILE" else it for it in words]
+        compare(" ".join(words), run(program, words), status, None, told)
+
+
+def forks(first, count):
+    """The forks at the limits and random ones, each with a word for it and choices."""
+    for what, fork in limits():
+        yield what, fork, random.Random(0)
+    for number in range(first, first + count):
+        yield f"fork {number}", Choices(number).fork(), random.Random(number)
+
+
+def main(forklist, macheap, count=200, first=1):
+    """Tries the command lines, the forks at the limits, and so many random forks from this number on."""
+    seen = {}
+    with tempfile.TemporaryDirectory() as folder:
+        path = os.path.join(folder, "fork")
+        what = "the command lines"
+        try:
+            try_lines(forklist, path)
+            for what, fork, choices in forks(first, count):
+                result = try_fork(forklist, path, fork, choices)
+                try_open(macheap, path, fork)
+                seen[result] = seen.get(result, 0) + 1
+        except Difference as difference:
+            print(f"{what}: {difference}")
+            return 1
+    print(f"{len(LINES)} command lines, {sum(seen.values())} forks: " + ", ".join(f"{it} {seen[it]}" for it in sorted(seen)))
+    missing = set(TOLD) - set(seen)
+    if count >= 1000 and missing:
+        print(f"no fork was refused for {', '.join(sorted(missing))}: the check is too weak")
+        return 1
+    return 0

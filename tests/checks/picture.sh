@@ -1,0 +1,79 @@
+#!/usr/bin/env bash
+# Checks that tools/zone_picture.py reads what the program prints: that it draws each block of each example's output once,
+# refuses what it can't read, and that docs/zone.svg is the picture of examples/kinds.output. (That the outputs of the
+# examples are what the program prints is checked by tests/checks/examples.sh.) With --write it writes docs/zone.svg.
+#
+#     tests/checks/picture.sh [--write]
+#
+# shellcheck disable=SC2016 # addresses begin with a $
+set -uo pipefail
+cd "$(dirname "$0")/../.." || exit 2
+
+folder=$(mktemp -d) || exit 2
+trap 'rm -rf "$folder"' EXIT
+failed=0
+
+fail() {
+    echo "tests/checks/picture.sh: $1"
+    failed=1
+}
+
+draw() {
+    tools/zone_picture.py --script examples/kinds.script examples/kinds.output
+}
+
+# refuses NAME TEXT: the tool must draw nothing of this text
+refuses() {
+    printf '%b' "$2" >"$folder/output"
+    if tools/zone_picture.py "$folder/output" >"$folder/picture" 2>"$folder/messages"; then
+        fail "the tool draws $1"
+    elif [ -s "$folder/picture" ] || [ ! -s "$folder/messages" ]; then
+        fail "the tool does not say why it refuses $1, or has drawn something"
+    fi
+}
+
+if [ "${1-}" = --write ]; then
+    draw >"$folder/picture" && cp "$folder/picture" docs/zone.svg
+    exit
+fi
+
+maps=0
+for output in examples/*.output; do
+    printed=$(grep -c '^  \$' "$output")
+    if [ "$printed" -eq 0 ]; then
+        continue
+    fi
+    maps=$((maps + 1))
+    if ! tools/zone_picture.py "$output" >"$folder/picture"; then
+        fail "$output is not drawn"
+        continue
+    fi
+    drawn=$(grep -c 'class="block"' "$folder/picture")
+    if [ "$drawn" -ne "$printed" ]; then
+        fail "$output has $printed lines of blocks, and $drawn blocks are drawn"
+    fi
+    if ! tools/zone_picture.py --script "${output%.output}.script" "$output" >"$folder/picture"; then
+        fail "$output is not drawn with its script"
+    fi
+done
+if [ "$maps" -eq 0 ]; then
+    fail 'no example prints a map'
+fi
+
+master='  $00100034 264 master\n'
+refuses 'an output without a map' '1 NewHandle $0010003C 0\n'
+refuses 'a block of no map' "$master"
+refuses 'a map that lacks a block' "1 ZoneMap 2 0\\n$master"
+refuses 'a map with a block too many' "1 ZoneMap 1 0\\n$master$master"
+refuses 'a block of another kind' "1 ZoneMap 2 0\\n$master"'  $0010013C 3780 lost\n'
+refuses 'a block with another flag' "1 ZoneMap 2 0\\n$master"'  $0010013C 3780 rel $0010003C 3772 X--\n'
+refuses 'a block behind a gap' "1 ZoneMap 2 0\\n$master"'  $00100140 3776 free\n'
+refuses 'a line that is none' "1 ZoneMap 1 0\\n${master}hello\\n"
+
+if ! draw >"$folder/picture" || ! cmp -s "$folder/picture" docs/zone.svg; then
+    fail 'docs/zone.svg is not the picture of examples/kinds.output: write it anew by tests/checks/picture.sh --write'
+fi
+if [ "$failed" -eq 0 ]; then
+    echo "picture: $maps outputs drawn"
+fi
+exit "$failed"

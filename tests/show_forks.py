@@ -1,0 +1,45 @@
+#!/usr/bin/env python3
+"""Shows files that hold resource forks: how many bytes each has, its list of resources as forklist prints it, and all bytes.
+
+    tests/show_forks.py FILE..
+
+The list is that of the small model in tests/model/fork.py. In the bytes a `*` stands for lines that are the same as the one before it.
+"""
+import sys
+
+from model.fork import TOLD, NoFork, listing, read_fork
+
+
+def resources(fork):
+    """The list of a fork's resources, or why there is none."""
+    if not fork:
+        return ""
+    try:
+        return listing(read_fork(fork))
+    except NoFork as fault:
+        return f"no fork: {TOLD[fault.args[0]]}\n"
+
+
+def dump(fork):
+    """The bytes in lines of 16: where they stand, their digits, and those that are printable."""
+    before, is_told, text = None, False, ""
+    for at in range(0, len(fork), 16):
+        line = fork[at : at + 16]
+        if line != before:
+            printable = "".join(chr(it) if 0x20 <= it <= 0x7E else "." for it in line)
+            text += f"{at:06X}  {line.hex(' ').upper():47}  {printable}\n"
+        elif not is_told:
+            text += "*\n"
+        before, is_told = line, line == before
+    return text
+
+
+def main(paths):
+    for path in paths:
+        with open(path, "rb") as file:
+            fork = file.read()
+        print(f"{path}: {len(fork)} bytes\n{resources(fork)}{dump(fork)}", end="")
+
+
+if __name__ == "__main__":
+    main(sys.argv[1:])
