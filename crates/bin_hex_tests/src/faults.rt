@@ -43,7 +43,7 @@ fn short_texts(rt: HostRuntime) {
     }
 }
 
-/// A text that is cut at any place after its colon has no closing colon there. A colon at that place closes a section too early.
+/// A text that is cut after its colon has no closing colon there. A colon there closes a section too early.
 #[test]
 fn cut(rt: HostRuntime) -> Result<(), Fail> {
     for at in COLON + 1..=CLOSING {

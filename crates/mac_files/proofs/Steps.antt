@@ -1,7 +1,6 @@
 -- One step of a loop, and what is left.
 use Rattle.std.proofs.Common.{◌≡◌, ℕ, suc, ◌+◌, ◌-◌, ◌*◌, ◌<◌, List, ◌∷◌, refl, arith}
 use Rattle.std.specs.Fn.{iterate}
-use Rattle.mac_files.specs.declared.fault.Entry.{Entry}
 use Rattle.mac_files.specs.Apple.{entry_at, entries_from}
 
 -- the next of n times

@@ -1,5 +1,5 @@
 -- AppleSingle and AppleDouble: a header of 26 bytes, a list of entries of 12 bytes each, and the bytes of the entries.
-use Rattle.std.specs.Prelude.{ℕ, zero, suc, ◌+◌, ◌*◌, ◌==◌, nat_le, ◌||◌, if◌then◌else◌, not, Bool, List, [], ◌∷◌, length, take, drop, find, Option, None, Some, option_map, option_and_then}
+use Rattle.std.specs.Prelude.{ℕ, zero, suc, ◌+◌, ◌*◌, ◌==◌, nat_le, ◌||◌, if◌then◌else◌, not, Bool, List, [], ◌∷◌, length, take, drop, find, Option, None, Some, option_and_then}
 use Rattle.byteorder.specs.Endian.{big_from}
 use Rattle.mac_files.specs.declared.part.Part.{Part}
 use Rattle.mac_files.specs.declared.fault.Entry.{Entry}

@@ -19,7 +19,7 @@ use Rattle.mac_files.specs.declared.bin_hex.fault.BinHexFault.TheVariants.{NoTex
 abbrev pub is_line_end : ℕ → Bool
 is_line_end c = (c == 13) || (c == 10)
 
--- the first place at which a line begins with a mark; the flag says whether the characters begin a line, and they stand at an offset
+-- the first place at which a line begins with a mark, in characters from an offset on; the flag says whether a line begins there
 unfoldable pub line_from : List ℕ → Bool → ℕ → List ℕ → Option ℕ
 line_from mark begins at [] = None
 line_from mark begins at (c ∷ cs) =
@@ -109,7 +109,7 @@ abbrev pub without_count : Placed → Result ℕ BinHexFault → Reading
 without_count b (Ok at) = ends (Err (NoCount b.at))
 without_count b (Err fault) = ends (Err fault)
 
--- what bytes stand for, after the byte before them: $90 and 0 stand for a byte $90, $90 and n for n - 1 more of the byte before
+-- what bytes stand for, by the byte before them: $90 and 0 stand for a byte $90, $90 and n for n - 1 more of the byte before
 unfoldable pub expanded : Option ℕ → List Placed → Result ℕ BinHexFault → Reading
 expanded last [] ending = ends ending
 expanded last (b ∷ []) ending =
@@ -122,7 +122,8 @@ expanded last (b ∷ n ∷ bytes) ending =
 
 -- what a text stands for, from an offset on
 abbrev pub decoded_from : ℕ → List ℕ → Reading
-decoded_from from text = let digits = digits_from from (drop from text) in expanded None (packed digits.values) digits.ending
+decoded_from from text =
+    let digits = digits_from from (drop from text) in expanded None (packed digits.values) digits.ending
 
 -- The CRC.
 
@@ -188,7 +189,8 @@ section_fault section start end reading =
     let stored = big_from end 2 bytes in
     let computed = bin_hex_crc (slice_range bytes start end) in
     if nat_lt (length bytes) (end + 2) then Some (cut_by section reading.ending)
-    else (if stored == computed then None else Some (WrongCrc section (slice_index (places_of reading) (end + 1)) stored computed))
+    else if stored == computed then None
+    else Some (WrongCrc section (slice_index (places_of reading) (end + 1)) stored computed)
 
 -- the first fault of what was read, in the order of the text
 abbrev pub first_fault : Reading → Option BinHexFault
@@ -205,7 +207,8 @@ file_unless (Some fault) bytes = Err fault
 
 abbrev pub file_from : Option ℕ → List ℕ → Result File BinHexFault
 file_from None text = Err NoText
-file_from (Some colon) text = let reading = decoded_from (colon + 1) text in file_unless (first_fault reading) (values_of reading)
+file_from (Some colon) text =
+    let reading = decoded_from (colon + 1) text in file_unless (first_fault reading) (values_of reading)
 
 -- the file that a text stands for, or its first fault
 abbrev pub bin_hex_of : List ℕ → Result File BinHexFault

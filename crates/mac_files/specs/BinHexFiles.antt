@@ -8,14 +8,17 @@ use Rattle.mac_files.specs.BinHex.{File, Reading, decoded_from, file_unless, fir
 
 -- the file that is kept in one block of memory
 abbrev pub view : BinHexFile → File
-view file = record {
-  name = slice_range file.bytes.items 1 (1 + file.name_length);
-  kind = file.kind;
-  creator = file.creator;
-  flags = file.flags;
-  data_fork = slice_range file.bytes.items (file.name_length + 20 + 2) (file.name_length + 20 + 2 + file.data_length);
-  resource_fork = slice_range file.bytes.items (file.name_length + 20 + 2 + file.data_length + 2) (file.name_length + 20 + 2 + file.data_length + 2 + file.resource_length);
-}
+view file =
+    let start = file.name_length + 20 + 2 in
+    let next = start + file.data_length + 2 in
+    record {
+      name = slice_range file.bytes.items 1 (1 + file.name_length);
+      kind = file.kind;
+      creator = file.creator;
+      flags = file.flags;
+      data_fork = slice_range file.bytes.items start (start + file.data_length);
+      resource_fork = slice_range file.bytes.items next (next + file.resource_length);
+    }
 
 -- what its text stands for, from its offset on
 abbrev pub reading_of : Decoded → Reading

@@ -17,7 +17,8 @@ digits_left reader = digits_from reader.at (drop reader.at reader.text.now)
 unfoldable pub packed_after : Held → List Placed → List Placed
 packed_after Nothing digits = packed digits
 packed_after held [] = []
-packed_after (Second b) (c ∷ digits) = second_byte (record { value = b; at = 0 }) c ∷ packed_after (Third c.value) digits
+packed_after (Second b) (c ∷ digits) =
+    second_byte (record { value = b; at = 0 }) c ∷ packed_after (Third c.value) digits
 packed_after (Third c) (d ∷ digits) = third_byte (record { value = c; at = 0 }) d ∷ packed digits
 
 abbrev pub bytes_of : Held → Reading → Reading

@@ -12,7 +12,7 @@ use Rattle.mac_files.specs.MacBinary.{version_of, mac_binary_contents}
 use Rattle.mac_files.specs.Faults.{apple_fault, mac_binary_fault}
 
 -- the file begins with the header of a resource fork: two offsets and two lengths, all below 2^24, and the map has its 28 bytes
-abbrev pub is_fork_header : List ℕ → Bool
+unfoldable pub is_fork_header : List ℕ → Bool
 is_fork_header file = nat_le 16 (length file) && (slice_index file 0 == 0) && (slice_index file 4 == 0) && (slice_index file 8 == 0)
     && (slice_index file 12 == 0) && nat_le 28 (big_from 12 4 file)
 

@@ -1,5 +1,5 @@
 -- Why a container isn't read: each fault with its condition, and their order.
-use Rattle.std.specs.Prelude.{ℕ, ◌+◌, ◌==◌, nat_lt, if◌then◌else◌, List, length, take, Option, None, Some, option_map}
+use Rattle.std.specs.Prelude.{ℕ, ◌==◌, nat_lt, if◌then◌else◌, List, length, take, Option, None, Some, option_map}
 use Rattle.std.specs.Option.{option_or}
 use Rattle.byteorder.specs.Endian.{big_from}
 use Rattle.mac_files.specs.declared.part.Part.{Part}

@@ -8,3 +8,4 @@ pub mod Archives
 pub mod BinHex
 pub mod BinHexLeft
 pub mod BinHexFiles
+pub mod Laws

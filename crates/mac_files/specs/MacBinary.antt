@@ -1,5 +1,5 @@
 -- MacBinary: a header of 128 bytes, a second header, the data fork and the resource fork.
-use Rattle.std.specs.Prelude.{ℕ, ◌+◌, ◌*◌, ◌/◌, ◌==◌, nat_le, ◌&&◌, if◌then◌else◌, Bool, List, [], ◌∷◌, take, drop, length, slice_index, slice_range, codes, nat_eq, Option, None, Some}
+use Rattle.std.specs.Prelude.{ℕ, ◌+◌, ◌*◌, ◌/◌, ◌==◌, nat_le, ◌&&◌, if◌then◌else◌, Bool, List, take, drop, length, slice_index, slice_range, codes, nat_eq, Option, None, Some}
 use Rattle.std.specs.List.{list_all, starts_with}
 use Rattle.byteorder.specs.Endian.{big_from}
 use Rattle.mac_files.specs.declared.part.Part.{Part}

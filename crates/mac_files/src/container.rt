@@ -36,6 +36,7 @@ const APPLE_SINGLE: &[u8; 4] = b"\x00\x05\x16\x00";
 const APPLE_DOUBLE: &[u8; 4] = b"\x00\x05\x16\x07";
 
 /// Whether the file begins with the header of a resource fork: no offset and no length reaches 2^24, and the map has its 28 bytes.
+#[tactic(auto, unfolding(crate::specs::Containers::is_fork_header))]
 fn is_fork_header(file: &[u8]) -> bool
     ensures { result ≡ is_fork_header file.now }
 {

@@ -11,6 +11,16 @@ pub enum Fork {
     Resource,
 }
 
+impl Fork {
+    /// Where in MacBinary's header the length of the fork is.
+    fn length_place(self) -> usize {
+        match self {
+            Fork::Data => 83,
+            Fork::Resource => 87,
+        }
+    }
+}
+
 impl fmt::Display for Fork {
     fn fmt<W: fmt::Write>(&self, f: &mut fmt::Formatter<W>) -> fmt::Result {
         f.write_str(match self {
@@ -59,7 +69,7 @@ pub enum ContainerFault {
         computed: u16,
     },
     /// A fork in MacBinary has bytes outside the file. The data fork comes first.
-    #[error("the {fork} has {count} bytes from offset {offset} on, and the file has {length}", count = part.length, offset = part.offset)]
+    #[error("the {fork}, whose length is at offset {at}, has {count} bytes from offset {offset} on, and the file has {length}", at = fork.length_place(), count = part.length, offset = part.offset)]
     ForkOutside {
         fork: Fork,
         part: Part,

@@ -10,6 +10,7 @@ pub mod container;
 pub mod contents;
 mod crc;
 pub mod fault;
+mod laws;
 mod mac_binary;
 mod number;
 pub mod part;
@@ -17,4 +18,5 @@ mod read;
 
 pub use archive::archive_of;
 pub use container::container_of;
-pub use read::{fork_in, read_contents};
+pub use laws::container_laws;
+pub use read::{data_in, fork_in, read_contents};

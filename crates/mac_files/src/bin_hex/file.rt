@@ -2,7 +2,7 @@
 
 ghost use Rattle.std.specs.Prelude.{◌≡◌, ◌≤◌, ◌+◌, take, drop, vec_len};
 
-/// A file with both its forks. One block of memory has its name and its forks, and no more than the bytes that the text stands for.
+/// A file with both its forks. Its name and its forks are in one block of memory, that of the decoded bytes.
 #[derive(Debug, Drop)]
 pub struct BinHexFile {
     /// The bytes that the text stands for.

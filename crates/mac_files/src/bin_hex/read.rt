@@ -1,6 +1,7 @@
 //! A BinHex text is read.
 
-ghost use Rattle.std.specs.Prelude.{◌≡◌, ◌<◌, ◌≤◌, ◌+◌, ◌^◌, length, vec_len, vec_capacity, IfOk, OnOk, MatchResult, None, Some};
+ghost use Rattle.std.specs.Prelude.{◌≡◌, ◌<◌, ◌≤◌, ◌+◌, ◌^◌, length, vec_len, vec_capacity, IfOk, OnOk};
+ghost use Rattle.std.specs.Result.{result_err};
 ghost use Rattle.mac_files.specs.BinHex.{bin_hex_of, data_length, name_length, resource_length, section_fault, values_of};
 ghost use Rattle.mac_files.specs.BinHexFiles.{Gives, GivesFrom, IsDecoded, reading_of};
 
@@ -12,7 +13,7 @@ use crate::bin_hex::find::find_colon;
 use crate::number::{four_bytes, read_four, read_two};
 use std::alloc::Global;
 
-/// Checks that a section is whole, which goes from a place of the bytes to its CRC at another, and that the CRC is right.
+/// Checks that a section, which goes from a place of the bytes to its CRC at another, is whole, and that the CRC is right.
 fn check_section(
     decoded: &Decoded,
     section: Section,
@@ -23,7 +24,7 @@ fn check_section(
     requires order { start ≤ end }
     requires small { end + 2 < 2 ^ 64 }
     ensures whole { OnOk result (end + 2 ≤ vec_len decoded.now.bytes) }
-    ensures fault { MatchResult result (λ _. section_fault section start end (reading_of decoded.now) ≡ None) (λ fault. section_fault section start end (reading_of decoded.now) ≡ Some fault) }
+    ensures fault { section_fault section start end (reading_of decoded.now) ≡ result_err result }
 {
     if decoded.bytes.len() < end + 2 {
         return Err(match decoded.ending {
@@ -104,8 +105,8 @@ fn file_in(decoded: Decoded) -> Result<BinHexFile, BinHexFault>
     })
 }
 
-/// The file that a text stands for, in one block of memory that has just the bytes that the text stands for. Each fault is the first
-/// in the order of the text. HostFull comes only where the host has no memory for that block.
+/// The file that a text stands for, in one block of memory that has just the decoded bytes. A fault is the first in the order of
+/// the text; HostFull comes only where the host has no memory for that block.
 pub fn read_bin_hex(alloc: Global, text: &[u8]) -> Result<BinHexFile, BinHexFault>
     ensures file { Gives result (bin_hex_of text.now) }
     ensures memory { IfOk result (λ file. vec_capacity file.bytes ≡ vec_len file.bytes) }

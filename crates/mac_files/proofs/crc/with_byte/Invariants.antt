@@ -1,6 +1,5 @@
-use Rattle.std.proofs.Common.{◌≡◌, ◌-◌, ◌*◌}
+use Rattle.std.proofs.Common.{◌≡◌, ◌-◌}
 use Rattle.std.specs.Fn.{iterate}
-use Rattle.std.specs.Prelude.{bit_xor}
 use Rattle.mac_files.specs.Crc.{with_bit}
 use Rattle.mac_files.proofs.crc.with_byte.Given as goal
 

@@ -1,0 +1,86 @@
+//! What a file is known as.
+
+use mac_files::archive::Archive;
+use mac_files::container::Container;
+use mac_files::{archive_of, container_of};
+use std::alloc::{AllocError, Global};
+
+/// The beginning of a file: these bytes at a place, and zeros.
+fn beginning(alloc: Global, bytes: &[u8], at: usize) -> Result<Vec<u8>, AllocError> {
+    let mut file = vec![in alloc; 0; at]?;
+    file.extend_from_slice(bytes)?;
+    file.resize(2048, 0)?;
+    Ok(file)
+}
+
+#[test]
+fn knows_a_fork_by_its_header(rt: HostRuntime) -> Result<(), AllocError> {
+    let cases: [(&[u8], Option<Container>); 6] = [
+        // as the Resource Manager writes it
+        (
+            b"\x00\x00\x01\x00\x00\x00\x01\x10\x00\x00\x00\x10\x00\x00\x00\x1C",
+            Some(Container::Raw),
+        ),
+        // with its data after its map, at an offset that is the magic of AppleSingle
+        (
+            b"\x00\x05\x16\x00\x00\x02\x00\x00\x00\x00\x00\x10\x00\x00\x00\x1C",
+            Some(Container::Raw),
+        ),
+        // with its data at an offset with which MacBinary may begin
+        (
+            b"\x00\x01\x00\x00\x00\x00\x01\x00\x00\x00\x00\x10\x00\x00\x00\x1C",
+            Some(Container::Raw),
+        ),
+        // a map too short
+        (
+            b"\x00\x00\x01\x00\x00\x00\x01\x10\x00\x00\x00\x10\x00\x00\x00\x1B",
+            None,
+        ),
+        // an offset too far away
+        (
+            b"\x00\x00\x01\x00\x01\x00\x01\x10\x00\x00\x00\x10\x00\x00\x00\x1C",
+            None,
+        ),
+        (b"(This file must be converted with BinHex 4.0)\r\r:", None),
+    ];
+    for (bytes, wanted) in cases {
+        assert_eq!(rt; container_of(&beginning(rt.alloc(), bytes, 0)?), wanted);
+    }
+    Ok(())
+}
+
+#[test]
+fn knows_archives(rt: HostRuntime) -> Result<(), AllocError> {
+    let cases: [(&[u8], usize, Option<Archive>); 10] = [
+        (
+            b"SIT!\x00\x01\x00\x00\x0C\xE5rLau",
+            0,
+            Some(Archive::StuffIt),
+        ),
+        (b"StuffIt (c)1997-", 0, Some(Archive::StuffIt)),
+        (
+            b"\x01\x01\x00\x00\x00\x00\x00\x08",
+            0,
+            Some(Archive::CompactPro),
+        ),
+        (
+            b"\x04Disk\x00\x00\x00\x00\x00\x00\x00\x00\x00\x00\x00\x00\x00\x00\x00\
+                \x00\x00\x00\x00\x00\x00\x00\x00\x00\x00\x00\x00\x00\x00\x00\x00\x00\x00\x00\x00\x00\x00\x00\x00\x00\x00\x00\x00\x00\x00\x00\x00\
+                \x00\x00\x00\x00\x00\x00\x00\x00\x00\x00\x00\x00\x00\x00\x00\x00\x00\x00\x00\x00\x00\x00\x00\x00\x00\x00\x00\x00\x00\x00\x01\x00",
+            0,
+            Some(Archive::DiskCopy),
+        ),
+        (b"PK\x03\x04", 0, Some(Archive::Zip)),
+        (b"\x1F\x8B\x08", 0, Some(Archive::Gzip)),
+        (b"BD", 1024, Some(Archive::Hfs)),
+        (b"H+", 1024, Some(Archive::HfsPlus)),
+        (b"HX", 1024, Some(Archive::HfsPlus)),
+        (b"ABC", 0, None),
+    ];
+    for (bytes, at, wanted) in cases {
+        let file = beginning(rt.alloc(), bytes, at)?;
+        assert_eq!(rt; container_of(&file), None);
+        assert_eq!(rt; archive_of(&file), wanted);
+    }
+    Ok(())
+}

@@ -1,0 +1,10 @@
+//! What a file that is written as its format says is known as.
+
+ghost use Rattle.mac_files.specs.Laws.{DoubleIsKnown, MacBinaryIsKnown, SingleIsKnown};
+
+/// AppleSingle, AppleDouble and MacBinary are known as what they are: none is taken for a resource fork or for another.
+pub fn container_laws()
+    ensures single { SingleIsKnown }
+    ensures double { DoubleIsKnown }
+    ensures mac_binary { MacBinaryIsKnown }
+{}
