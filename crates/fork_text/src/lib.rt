@@ -10,3 +10,4 @@ mod quoted;
 pub use find::find_row;
 pub use kind::kind_of;
 pub use list::listing;
+pub use quoted::Quoted;

@@ -47,7 +47,7 @@ impl fmt::Display for Escaped {
 
 /// Bytes between quotes, each escaped where it has to be: different bytes give different texts, which are of ASCII.
 #[derive(Clone, Copy)]
-pub(crate) struct Quoted<'a> {
+pub struct Quoted<'a> {
     quote: u8,
     bytes: &'a [u8],
     ghost ascii: { quote < 128 },
@@ -55,7 +55,7 @@ pub(crate) struct Quoted<'a> {
 
 impl<'a> Quoted<'a> {
     /// The bytes of a type, in single quotes.
-    pub(crate) fn single(bytes: &'a [u8]) -> Quoted<'a>
+    pub fn single(bytes: &'a [u8]) -> Quoted<'a>
         ensures quote { result.quote ≡ 39 }
         ensures bytes { result.bytes ≡ bytes.entry }
     {
@@ -66,7 +66,7 @@ impl<'a> Quoted<'a> {
     }
 
     /// The bytes of a name, in double quotes.
-    pub(crate) fn double(bytes: &'a [u8]) -> Quoted<'a>
+    pub fn double(bytes: &'a [u8]) -> Quoted<'a>
         ensures quote { result.quote ≡ 34 }
         ensures bytes { result.bytes ≡ bytes.entry }
     {

@@ -1,0 +1,129 @@
+-- The first fault of a fork, with its place.
+use Rattle.std.specs.Prelude.{◌≡◌, ◌≢◌, ℕ, ◌+◌, ◌-◌, ◌*◌, ◌<◌, ◌≤◌, List, [], ◌∷◌, ◌++◌, length, slice_index, sum_by}
+use Rattle.std.specs.List.{AllByRecursion}
+use Rattle.std.specs.Int.{w16, cast_signed}
+use Rattle.fork_bytes.specs.declared.fault.Condition.TheVariants as of
+use Rattle.fork_bytes.specs.declared.fault.ForkFault.{ForkFault}
+use Rattle.fork_bytes.specs.declared.fault.ForkFault.TheVariants.{EndOfFile, BadMap}
+use Rattle.fork_bytes.specs.Fork.{number_at, bytes_at, header_of, map_of, data_of, type_list, name_list, type_count, TypeEntry, Reference, entries_of, references_of, map_row, datum_length, max_fork, max_rows}
+use Rattle.fork_reader.specs.Reading.{HasName, HasDatum}
+use Rattle.fork_salvage.specs.declared.place.Gap.{Gap}
+use Rattle.fork_salvage.specs.declared.fault.BadRow.{BadRow}
+use Rattle.fork_salvage.specs.declared.fault.Fault.{Fault}
+use Rattle.fork_salvage.specs.declared.fault.Fault.TheVariants as fault
+
+-- what the reader says of a fault
+abbrev pub refusal_of : Fault → ForkFault
+refusal_of (fault.Header gap) = EndOfFile
+refusal_of (fault.TooLong count) = BadMap of.Parts
+refusal_of (fault.Data gap) = BadMap of.Parts
+refusal_of (fault.Map gap) = BadMap of.Parts
+refusal_of (fault.MapHeader gap) = BadMap of.Parts
+refusal_of (fault.TypeCount gap) = BadMap of.Types
+refusal_of (fault.TypeList gap) = BadMap of.Types
+refusal_of (fault.SameType same) = BadMap of.Types
+refusal_of (fault.References list) = BadMap of.References
+refusal_of (fault.RowCount count) = BadMap of.RowCount
+refusal_of (fault.Name row) = BadMap of.Names
+refusal_of (fault.Length row) = BadMap of.Places
+refusal_of (fault.Bytes row) = BadMap of.Places
+refusal_of (fault.ByteCount row) = BadMap of.ByteCount
+
+-- x is the first of the elements of which this doesn't hold
+pub record IsFirst {X : Type 0} (P : X → Type 0) (xs : List X) (x : X) : Type 0 where
+  pub before : List X
+  pub after : List X
+  pub split : xs ≡ before ++ x ∷ after
+  pub hold : AllByRecursion P before
+  pub fails : P x → ⊥
+
+-- so many bytes are wanted at a place of a part, which begins at an offset of the fork and ends before they do
+abbrev pub IsGap : ℕ → ℕ → ℕ → ℕ → Gap → Type 0
+IsGap start size at wanted gap = (size < at + wanted) × (gap ≡ record { place = start + at; wanted = wanted; left = size - at })
+
+-- a row of a reference, with what is missing
+abbrev pub bad_row : List ℕ → Reference → Gap → BadRow
+bad_row fork reference gap = record {
+  kind = reference.kind;
+  id = cast_signed w16 (number_at 2 reference.place (map_of fork));
+  reference = (header_of fork).map_offset + reference.place;
+  gap = gap;
+}
+
+-- where the datum of a reference stands in the data, and its name in the map
+abbrev pub datum_place : List ℕ → Reference → ℕ
+datum_place fork reference = number_at 3 (reference.place + 5) (map_of fork)
+
+abbrev pub name_start : List ℕ → Reference → ℕ
+name_start fork reference = name_list (map_of fork) + number_at 2 (reference.place + 2) (map_of fork)
+
+-- the references of an entry end within the map, if there are some
+abbrev pub EndsWithin : List ℕ → TypeEntry → Type 0
+EndsWithin resource_map entry = 0 < entry.count → entry.start + 12 * entry.count ≤ length resource_map
+
+-- where in the map an entry of the type list stands
+abbrev pub entry_place : List ℕ → ℕ → ℕ
+entry_place resource_map i = type_list resource_map + 2 + 8 * i
+
+-- the entry has the type of an earlier one, and of the entries before it no two have one type
+pub record IsSecond (resource_map : List ℕ) (first second : ℕ) : Type 0 where
+  pub order : first < second
+  pub inside : second < type_count resource_map
+  pub same : bytes_at 4 (entry_place resource_map first) resource_map ≡ bytes_at 4 (entry_place resource_map second) resource_map
+  pub before : (i j : ℕ) → i < j → j < second → bytes_at 4 (entry_place resource_map i) resource_map ≢ bytes_at 4 (entry_place resource_map j) resource_map
+
+-- the datum's length, and its bytes, lie within the data
+abbrev pub datum_gap : List ℕ → Reference → ℕ → Gap → Type 0
+datum_gap fork reference wanted gap = IsGap (header_of fork).data_offset (length (data_of fork)) (datum_place fork reference) wanted gap
+
+abbrev pub bytes_gap : List ℕ → Reference → Gap → Type 0
+bytes_gap fork reference gap =
+    let size = length (data_of fork) in let datum = datum_place fork reference in let count = datum_length (data_of fork) datum in
+    (size < datum + 4 + count) × (gap ≡ record { place = (header_of fork).data_offset + datum; wanted = count; left = size - (datum + 4) })
+
+-- a reference has its bytes
+abbrev pub HasBytes : List ℕ → Reference → Type 0
+HasBytes fork reference = HasDatum (data_of fork) (map_row (map_of fork) reference)
+
+-- the bytes of the resources of some references, each with its four bytes of length
+abbrev pub bytes_up_to : List ℕ → List Reference → ℕ
+bytes_up_to fork references = sum_by (λ (r : Reference). 4 + datum_length (data_of fork) (datum_place fork r)) references
+
+-- what a fault says of the fork: something ends outside, and nothing that is looked at before it does
+abbrev pub IsFault : List ℕ → Fault → Type 0
+IsFault fork (fault.Header gap) = IsGap 0 (length fork) 0 16 gap
+IsFault fork (fault.TooLong count) = (max_fork < count) × (count ≡ length fork)
+IsFault fork (fault.Data gap) = IsGap 0 (length fork) (header_of fork).data_offset (header_of fork).data_length gap
+IsFault fork (fault.Map gap) = IsGap 0 (length fork) (header_of fork).map_offset (header_of fork).map_length gap
+IsFault fork (fault.MapHeader gap) = IsGap (header_of fork).map_offset (header_of fork).map_length 0 28 gap
+IsFault fork (fault.TypeCount gap) = IsGap (header_of fork).map_offset (length (map_of fork)) (type_list (map_of fork)) 2 gap
+IsFault fork (fault.TypeList gap) =
+    IsGap (header_of fork).map_offset (length (map_of fork)) (type_list (map_of fork) + 2) (8 * type_count (map_of fork)) gap
+IsFault fork (fault.SameType same) = let start = (header_of fork).map_offset in
+    (i : ℕ) × (j : ℕ) × (IsSecond (map_of fork) i j) × (same ≡ record {
+      kind = bytes_at 4 (entry_place (map_of fork) j) (map_of fork);
+      first = start + entry_place (map_of fork) i;
+      second = start + entry_place (map_of fork) j;
+    })
+IsFault fork (fault.References list) =
+    (entry : TypeEntry) × (IsFirst (EndsWithin (map_of fork)) (entries_of (map_of fork)) entry) × (list.kind ≡ entry.kind)
+    × IsGap (header_of fork).map_offset (length (map_of fork)) entry.start (12 * entry.count) list.gap
+IsFault fork (fault.RowCount count) = (max_rows < count) × (count ≡ length (references_of (map_of fork)))
+IsFault fork (fault.Name row) =
+    (reference : Reference) × (IsFirst (HasName (map_of fork)) (references_of (map_of fork)) reference) × (row ≡ bad_row fork reference row.gap)
+    × IsGap (header_of fork).map_offset (length (map_of fork)) (name_start fork reference) (1 + slice_index (map_of fork) (name_start fork reference)) row.gap
+IsFault fork (fault.Length row) =
+    (reference : Reference) × (IsFirst (HasBytes fork) (references_of (map_of fork)) reference) × (row ≡ bad_row fork reference row.gap)
+    × datum_gap fork reference 4 row.gap
+IsFault fork (fault.Bytes row) =
+    (reference : Reference) × (IsFirst (HasBytes fork) (references_of (map_of fork)) reference) × (row ≡ bad_row fork reference row.gap)
+    × bytes_gap fork reference row.gap
+IsFault fork (fault.ByteCount row) =
+    (before : List Reference) × (reference : Reference) × (after : List Reference)
+    × (references_of (map_of fork) ≡ before ++ reference ∷ after) × (bytes_up_to fork before ≤ max_fork)
+    × (max_fork < bytes_up_to fork (before ++ reference ∷ []))
+    × (row ≡ bad_row fork reference (record {
+      place = (header_of fork).data_offset + datum_place fork reference;
+      wanted = bytes_up_to fork (before ++ reference ∷ []);
+      left = max_fork;
+    }))

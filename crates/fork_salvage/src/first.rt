@@ -1,0 +1,217 @@
+//! The search for the first fault.
+
+ghost use Rattle.std.specs.Prelude.{◌≡◌, ◌<◌, ◌≤◌, ◌+◌, ◌^◌, length, IfSome, IfNone, IfOk, IfErr};
+ghost use Rattle.fork_bytes.specs.Fork.{IsFork, Refuses};
+ghost use Rattle.fork_salvage.specs.Plans.{IsPlan, IsWithin};
+ghost use Rattle.fork_salvage.specs.Salvage.{told_plan, parts_at, map_in};
+ghost use Rattle.fork_salvage.specs.Fault.{IsFault, refusal_of};
+
+use crate::cursor::Cursor;
+use crate::entry::{ENTRY_LENGTH, Types, told_list};
+use crate::fault::{BadList, BadRow, Fault, SameType};
+use crate::number::{read_count, read_four, read_signed, read_three, read_two};
+use crate::place::{Gap, Parts, Span};
+use crate::plan::{HEADER_LENGTH, MAP_HEADER_LENGTH, Plan, parts_at};
+use crate::reference::{FoundName, Loss, MapReference, REFERENCE_LENGTH, find_bytes, find_name};
+use fork_bytes::layout::{MAX_FORK, MAX_ROWS};
+
+/// The parts of a fork, or the first fault of its header.
+fn check_parts(fork: &[u8]) -> Result<Parts, Fault> {
+    let whole = Span {
+        start: 0,
+        length: fork.len(),
+    };
+    if let Some(gap) = Gap::of(whole, 0, HEADER_LENGTH) {
+        return Err(Fault::Header(gap));
+    }
+    if fork.len() > MAX_FORK {
+        return Err(Fault::TooLong(fork.len()));
+    }
+    let parts = parts_at(fork, 0);
+    if let Some(gap) = Gap::of(whole, parts.data.start, parts.data.length) {
+        return Err(Fault::Data(gap));
+    }
+    if let Some(gap) = Gap::of(whole, parts.map.start, parts.map.length) {
+        return Err(Fault::Map(gap));
+    }
+    if let Some(gap) = Gap::of(parts.map, 0, MAP_HEADER_LENGTH) {
+        return Err(Fault::MapHeader(gap));
+    }
+    Ok(parts)
+}
+
+/// The plan of a fork with these parts as it tells it, or the fault of a type list that ends outside of the map.
+fn check_types(fork: &[u8], parts: Parts) -> Result<Plan, Fault> {
+    let Parts { map, data } = parts;
+    let bytes = map.of(fork);
+    let place = read_two(bytes, 24);
+    if let Some(gap) = Gap::of(map, place, 2) {
+        return Err(Fault::TypeCount(gap));
+    }
+    let count = read_count(bytes, place);
+    if let Some(gap) = Gap::of(map, place + 2, ENTRY_LENGTH * count) {
+        return Err(Fault::TypeList(gap));
+    }
+    Ok(Plan {
+        map,
+        data,
+        types: Types { place, count },
+        mended: false,
+    })
+}
+
+/// The index of an earlier entry with the type of this one.
+fn earlier_type(map: &[u8], types: Types, index: usize) -> Option<usize> {
+    let kind = told_list(map, types, index).kind;
+    for i in 0..index {
+        if told_list(map, types, i).kind == kind {
+            return Some(i);
+        }
+    }
+    None
+}
+
+/// The first entry of the type list that has the type of an earlier one.
+fn find_same_type(fork: &[u8], plan: &Plan) -> Option<Fault> {
+    let map = plan.map.of(fork);
+    let start = plan.map.start + plan.types.place + 2;
+    for i in 0..plan.types.count {
+        if let Some(first) = earlier_type(map, plan.types, i) {
+            return Some(Fault::SameType(SameType {
+                kind: told_list(map, plan.types, i).kind,
+                first: start + ENTRY_LENGTH * first,
+                second: start + ENTRY_LENGTH * i,
+            }));
+        }
+    }
+    None
+}
+
+/// The first list of references that ends outside of the map.
+fn find_list(fork: &[u8], plan: &Plan) -> Option<Fault> {
+    let map = plan.map.of(fork);
+    for i in 0..plan.types.count {
+        let list = told_list(map, plan.types, i);
+        if list.count > 0 {
+            if let Some(gap) = Gap::of(plan.map, list.start, REFERENCE_LENGTH * list.count) {
+                let kind = list.kind;
+                return Some(Fault::References(BadList { kind, gap }));
+            }
+        }
+    }
+    None
+}
+
+/// How many references there are, if they are too many.
+fn find_count(fork: &[u8], plan: &Plan) -> Option<Fault> {
+    let map = plan.map.of(fork);
+    let mut total = 0;
+    for i in 0..plan.types.count {
+        total += told_list(map, plan.types, i).count;
+    }
+    if total > MAX_ROWS {
+        Some(Fault::RowCount(total))
+    } else {
+        None
+    }
+}
+
+/// A resource of which something is missing.
+fn bad_row(fork: &[u8], plan: &Plan, reference: MapReference, gap: Gap) -> BadRow {
+    BadRow {
+        kind: reference.kind,
+        id: read_signed(plan.map.of(fork), reference.place),
+        reference: plan.map.start + reference.place,
+        gap,
+    }
+}
+
+/// The first name that ends outside of the map.
+fn find_bad_name(fork: &[u8], plan: &Plan) -> Option<Fault> {
+    let mut cursor = Cursor::new();
+    while let Some(reference) = cursor.next(fork, plan) {
+        if let Some(gap) = name_gap(fork, plan, reference.place) {
+            return Some(Fault::Name(bad_row(fork, plan, reference, gap)));
+        }
+    }
+    None
+}
+
+/// What is missing of the name of the reference at a place of the map.
+fn name_gap(fork: &[u8], plan: &Plan, at: usize) -> Option<Gap> {
+    let FoundName::Outside(place) = find_name(fork, plan, at) else {
+        return None;
+    };
+    let start = place - plan.map.start;
+    let count = plan.map.of(fork).get(start).copied().unwrap_or(0);
+    Gap::of(plan.map, start, 1 + count as usize)
+}
+
+/// The first resource whose length or bytes end outside of the data.
+fn find_bad_bytes(fork: &[u8], plan: &Plan) -> Option<Fault> {
+    let mut cursor = Cursor::new();
+    while let Some(reference) = cursor.next(fork, plan) {
+        match find_bytes(fork, plan, reference.place) {
+            Err(Loss::Length(gap)) => {
+                return Some(Fault::Length(bad_row(fork, plan, reference, gap)));
+            }
+            Err(Loss::Bytes(gap)) => {
+                return Some(Fault::Bytes(bad_row(fork, plan, reference, gap)));
+            }
+            _ => {}
+        }
+    }
+    None
+}
+
+/// The resource at which the bytes of all so far are too many.
+fn find_sum(fork: &[u8], plan: &Plan) -> Option<Fault> {
+    let mut total = 0;
+    let mut cursor = Cursor::new();
+    while let Some(reference) = cursor.next(fork, plan) {
+        if let Ok(bytes) = find_bytes(fork, plan, reference.place) {
+            total += 4 + bytes.length;
+            if total > MAX_FORK {
+                let gap = Gap {
+                    place: bytes.start - 4,
+                    wanted: total,
+                    left: MAX_FORK,
+                };
+                return Some(Fault::ByteCount(bad_row(fork, plan, reference, gap)));
+            }
+        }
+    }
+    None
+}
+
+/// The first fault of the map and the data of a fork whose type list lies within the map.
+fn find_fault(fork: &[u8], plan: &Plan) -> Option<Fault> {
+    if let Some(fault) = find_same_type(fork, plan) {
+        return Some(fault);
+    }
+    if let Some(fault) = find_list(fork, plan) {
+        return Some(fault);
+    }
+    if let Some(fault) = find_count(fork, plan) {
+        return Some(fault);
+    }
+    if let Some(fault) = find_bad_name(fork, plan) {
+        return Some(fault);
+    }
+    if let Some(fault) = find_bad_bytes(fork, plan) {
+        return Some(fault);
+    }
+    find_sum(fork, plan)
+}
+
+/// The first fault of a fork, at the least place: None exactly where `fork_reader::read_fork` reads it, if the host has memory.
+pub fn first_fault(fork: &[u8]) -> Option<Fault> {
+    let parts = match check_parts(fork) {
+        Ok(parts) => parts,
+        Err(fault) => return Some(fault),
+    };
+    match check_types(fork, parts) {
+        Ok(plan) => find_fault(fork, &plan),
+        Err(fault) => Some(fault),
+    }
+}
