@@ -145,7 +145,7 @@ told_plan fork = let parts = parts_at 0 fork in record {
 -- so it may be read: its parts and its type list lie within it
 abbrev pub may_be_told : List ℕ → Bool
 may_be_told fork = let plan = told_plan fork in
-    nat_le 16 (length fork) && lies_within (length fork) (parts_at 0 fork) && nat_le (plan.types.place + 2 + 8 * plan.types.count) plan.map.length
+    nat_le 16 (length fork) && lies_within (length fork) (parts_at 0 fork) && nat_le (plan.types.place + 2 + 8 * plan.types.count) (length (map_in fork plan))
 
 -- a header stands where it says itself that the map is: this is the map's copy of it
 abbrev pub is_copy : List ℕ → ℕ → Bool

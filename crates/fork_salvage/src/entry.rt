@@ -92,10 +92,10 @@ pub(crate) fn next_start(map: &[u8], types: Types, index: usize) -> usize
 }
 
 /// Whether all references of a list have their bytes.
-fn is_whole(fork: &[u8], plan: &Plan, list: ReferenceList) -> bool
+fn is_whole(fork: &[u8], plan: &Plan, list: &ReferenceList) -> bool
     requires plan { IsPlan fork.now plan.now }
-    requires small { (list.count < 65536) × (list.start < 131072) }
-    ensures { result ≡ is_whole fork.now plan.now list }
+    requires small { (list.now.count < 65536) × (list.now.start < 131072) }
+    ensures { result ≡ is_whole fork.now plan.now list.now }
 {
     for i in 0..list.count {
         if !has_bytes(fork, plan, list.start + REFERENCE_LENGTH * i) {
@@ -137,14 +137,15 @@ pub(crate) fn list_of(fork: &[u8], plan: &Plan, index: usize) -> ReferenceList
     ensures list { result ≡ list_of fork.now plan.now index }
     ensures small { (result.count < 65536) × (result.start < 1000000) }
 {
+    let types = plan.types;
     let map = plan.map.of(fork);
-    let told = told_list(map, plan.types, index);
+    let told = told_list(map, types, index);
     if !plan.mended {
         return told;
     }
-    if is_whole(fork, plan, told) {
+    if is_whole(fork, plan, &told) {
         return told;
     }
-    let room = end_before(map, plan.types, index);
-    list_in_room(told, room, next_start(map, plan.types, index))
+    let room = end_before(map, types, index);
+    list_in_room(told, room, next_start(map, types, index))
 }
