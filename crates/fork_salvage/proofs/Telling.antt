@@ -25,7 +25,7 @@ pub told_fails : (fork : List ℕ) (parts : Parts) → parts ≡ parts_at 0 fork
     length (part fork parts.map) < (told_types (part fork parts.map)).place + 2 + 8 * (told_types (part fork parts.map)).count → may_be_told fork ≡ false
 told_fails fork parts is long within outside =
     let P : Parts → Type 0 = λ p. (lies_within (length fork) p ≡ true)
-        × (length (part fork p.map) < (told_types (part fork p.map)).place + 2 + 8 * (told_types (part fork p.map)).count) in
+    × (length (part fork p.map) < (told_types (part fork p.map)).place + 2 + 8 * (told_types (part fork p.map)).count) in
     let told = subst P is (within, outside) in
     last_fails _ _ _ (le-leb _ _ long) told.0 (lt-leb _ _ told.1)
 

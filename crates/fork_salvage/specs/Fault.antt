@@ -5,10 +5,12 @@ use Rattle.std.specs.Int.{w16, cast_signed}
 use Rattle.fork_bytes.specs.declared.fault.Condition.TheVariants as of
 use Rattle.fork_bytes.specs.declared.fault.ForkFault.{ForkFault}
 use Rattle.fork_bytes.specs.declared.fault.ForkFault.TheVariants.{EndOfFile, BadMap}
-use Rattle.fork_bytes.specs.Fork.{number_at, bytes_at, header_of, map_of, data_of, type_list, name_list, type_count, TypeEntry, Reference, entries_of, references_of, map_row, datum_length, max_fork, max_rows}
+use Rattle.fork_bytes.specs.Fork.{number_at, bytes_at, header_of, map_of, data_of, type_list, name_list, type_count, Reference, entry_at, references_of, map_row, datum_length, max_fork, max_rows}
 use Rattle.fork_reader.specs.Reading.{HasName, HasDatum}
 use Rattle.fork_salvage.specs.declared.place.Gap.{Gap}
 use Rattle.fork_salvage.specs.declared.fault.BadRow.{BadRow}
+use Rattle.fork_salvage.specs.declared.fault.BadList.{BadList}
+use Rattle.fork_salvage.specs.declared.fault.SameType.{SameType}
 use Rattle.fork_salvage.specs.declared.fault.Fault.{Fault}
 use Rattle.fork_salvage.specs.declared.fault.Fault.TheVariants as fault
 
@@ -57,13 +59,20 @@ datum_place fork reference = number_at 3 (reference.place + 5) (map_of fork)
 abbrev pub name_start : List ℕ → Reference → ℕ
 name_start fork reference = name_list (map_of fork) + number_at 2 (reference.place + 2) (map_of fork)
 
--- the references of an entry end within the map, if there are some
-abbrev pub EndsWithin : List ℕ → TypeEntry → Type 0
-EndsWithin resource_map entry = 0 < entry.count → entry.start + 12 * entry.count ≤ length resource_map
-
 -- where in the map an entry of the type list stands
 abbrev pub entry_place : List ℕ → ℕ → ℕ
 entry_place resource_map i = type_list resource_map + 2 + 8 * i
+
+-- the references of an entry end within the map, if there are some
+abbrev pub EndsWithin : List ℕ → ℕ → Type 0
+EndsWithin resource_map i = let entry = entry_at resource_map (entry_place resource_map i) in
+    0 < entry.count → entry.start + 12 * entry.count ≤ length resource_map
+
+-- the entry is the first of which they don't
+pub record IsFirstOutside (resource_map : List ℕ) (i : ℕ) : Type 0 where
+  pub inside : i < type_count resource_map
+  pub some : 0 < (entry_at resource_map (entry_place resource_map i)).count
+  pub before : (k : ℕ) → k < i → EndsWithin resource_map k
 
 -- the entry has the type of an earlier one, and of the entries before it no two have one type
 pub record IsSecond (resource_map : List ℕ) (first second : ℕ) : Type 0 where
@@ -89,6 +98,46 @@ HasBytes fork reference = HasDatum (data_of fork) (map_row (map_of fork) referen
 abbrev pub bytes_up_to : List ℕ → List Reference → ℕ
 bytes_up_to fork references = sum_by (λ (r : Reference). 4 + datum_length (data_of fork) (datum_place fork r)) references
 
+-- a type that stands twice, where it first does
+pub record IsSameType (fork : List ℕ) (same : SameType) : Type 0 where
+  pub first : ℕ
+  pub second : ℕ
+  pub is : IsSecond (map_of fork) first second
+  pub kind : same.kind ≡ bytes_at 4 (entry_place (map_of fork) second) (map_of fork)
+  pub first_place : same.first ≡ (header_of fork).map_offset + entry_place (map_of fork) first
+  pub second_place : same.second ≡ (header_of fork).map_offset + entry_place (map_of fork) second
+
+-- a list of references that ends outside of the map, the first one
+pub record IsBadList (fork : List ℕ) (list : BadList) : Type 0 where
+  pub index : ℕ
+  pub first : IsFirstOutside (map_of fork) index
+  pub kind : list.kind ≡ (entry_at (map_of fork) (entry_place (map_of fork) index)).kind
+  pub gap : let entry = entry_at (map_of fork) (entry_place (map_of fork) index) in
+      IsGap (header_of fork).map_offset (length (map_of fork)) entry.start (12 * entry.count) list.gap
+
+-- a resource of the first reference of which this doesn't hold, and that is what is missing of it
+pub record IsBadRow (fork : List ℕ) (P : Reference → Type 0) (Missing : Reference → Gap → Type 0) (row : BadRow) : Type 0 where
+  pub reference : Reference
+  pub first : IsFirst P (references_of (map_of fork)) reference
+  pub told : row ≡ bad_row fork reference row.gap
+  pub missing : Missing reference row.gap
+
+-- what is missing of a name, with its byte of length
+abbrev pub name_gap : List ℕ → Reference → Gap → Type 0
+name_gap fork reference gap = let start = name_start fork reference in
+    IsGap (header_of fork).map_offset (length (map_of fork)) start (1 + slice_index (map_of fork) start) gap
+
+-- the bytes of the references before this one are few enough, and with its own they aren't
+pub record IsBadSum (fork : List ℕ) (row : BadRow) : Type 0 where
+  pub before : List Reference
+  pub reference : Reference
+  pub after : List Reference
+  pub split : references_of (map_of fork) ≡ before ++ reference ∷ after
+  pub few : bytes_up_to fork before ≤ max_fork
+  pub many : max_fork < bytes_up_to fork (before ++ reference ∷ [])
+  pub told : row ≡ bad_row fork reference row.gap
+  pub wanted : row.gap.wanted ≡ bytes_up_to fork (before ++ reference ∷ [])
+
 -- what a fault says of the fork: something ends outside, and nothing that is looked at before it does
 abbrev pub IsFault : List ℕ → Fault → Type 0
 IsFault fork (fault.Header gap) = IsGap 0 (length fork) 0 16 gap
@@ -99,31 +148,10 @@ IsFault fork (fault.MapHeader gap) = IsGap (header_of fork).map_offset (header_o
 IsFault fork (fault.TypeCount gap) = IsGap (header_of fork).map_offset (length (map_of fork)) (type_list (map_of fork)) 2 gap
 IsFault fork (fault.TypeList gap) =
     IsGap (header_of fork).map_offset (length (map_of fork)) (type_list (map_of fork) + 2) (8 * type_count (map_of fork)) gap
-IsFault fork (fault.SameType same) = let start = (header_of fork).map_offset in
-    (i : ℕ) × (j : ℕ) × (IsSecond (map_of fork) i j) × (same ≡ record {
-      kind = bytes_at 4 (entry_place (map_of fork) j) (map_of fork);
-      first = start + entry_place (map_of fork) i;
-      second = start + entry_place (map_of fork) j;
-    })
-IsFault fork (fault.References list) =
-    (entry : TypeEntry) × (IsFirst (EndsWithin (map_of fork)) (entries_of (map_of fork)) entry) × (list.kind ≡ entry.kind)
-    × IsGap (header_of fork).map_offset (length (map_of fork)) entry.start (12 * entry.count) list.gap
+IsFault fork (fault.SameType same) = IsSameType fork same
+IsFault fork (fault.References list) = IsBadList fork list
 IsFault fork (fault.RowCount count) = (max_rows < count) × (count ≡ length (references_of (map_of fork)))
-IsFault fork (fault.Name row) =
-    (reference : Reference) × (IsFirst (HasName (map_of fork)) (references_of (map_of fork)) reference) × (row ≡ bad_row fork reference row.gap)
-    × IsGap (header_of fork).map_offset (length (map_of fork)) (name_start fork reference) (1 + slice_index (map_of fork) (name_start fork reference)) row.gap
-IsFault fork (fault.Length row) =
-    (reference : Reference) × (IsFirst (HasBytes fork) (references_of (map_of fork)) reference) × (row ≡ bad_row fork reference row.gap)
-    × datum_gap fork reference 4 row.gap
-IsFault fork (fault.Bytes row) =
-    (reference : Reference) × (IsFirst (HasBytes fork) (references_of (map_of fork)) reference) × (row ≡ bad_row fork reference row.gap)
-    × bytes_gap fork reference row.gap
-IsFault fork (fault.ByteCount row) =
-    (before : List Reference) × (reference : Reference) × (after : List Reference)
-    × (references_of (map_of fork) ≡ before ++ reference ∷ after) × (bytes_up_to fork before ≤ max_fork)
-    × (max_fork < bytes_up_to fork (before ++ reference ∷ []))
-    × (row ≡ bad_row fork reference (record {
-      place = (header_of fork).data_offset + datum_place fork reference;
-      wanted = bytes_up_to fork (before ++ reference ∷ []);
-      left = max_fork;
-    }))
+IsFault fork (fault.Name row) = IsBadRow fork (HasName (map_of fork)) (name_gap fork) row
+IsFault fork (fault.Length row) = IsBadRow fork (HasBytes fork) (λ reference gap. datum_gap fork reference 4 gap) row
+IsFault fork (fault.Bytes row) = IsBadRow fork (HasBytes fork) (bytes_gap fork) row
+IsFault fork (fault.ByteCount row) = IsBadSum fork row

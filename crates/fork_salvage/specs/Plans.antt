@@ -1,5 +1,5 @@
 -- What each plan to read a fork is, and what a cursor has left of it.
-use Rattle.std.specs.Prelude.{ℕ, ◌+◌, ◌*◌, ◌^◌, ◌<◌, ◌≤◌, ◌++◌, List, length, map}
+use Rattle.std.specs.Prelude.{◌≡◌, ℕ, ◌+◌, ◌*◌, ◌^◌, ◌<◌, ◌≤◌, ◌++◌, List, length, map}
 use Rattle.fork_bytes.specs.Fork.{Reference}
 use Rattle.fork_salvage.specs.declared.place.Span.{Span}
 use Rattle.fork_salvage.specs.declared.entry.Types.{Types}
@@ -8,7 +8,7 @@ use Rattle.fork_salvage.specs.declared.cursor.Cursor.{Cursor}
 use Rattle.fork_salvage.specs.declared.salvage.Chain.{Chain}
 use Rattle.fork_salvage.specs.declared.salvage.Item.{Item}
 use Rattle.fork_salvage.specs.declared.reference.MapReference.{MapReference}
-use Rattle.fork_salvage.specs.Salvage.{map_in, references_at, references_from, item_of, runs}
+use Rattle.fork_salvage.specs.Salvage.{map_in, references_at, references_from, item_of, runs, told_plan}
 
 -- a part lies within the fork
 abbrev pub IsWithin : List ℕ → Span → Type 0
@@ -26,6 +26,12 @@ pub record IsPlan (fork : List ℕ) (plan : Plan) : Type 0 where
   pub map : IsWithin fork plan.map
   pub bytes : IsWithin fork plan.«data»
   pub types : IsTypes (map_in fork plan) plan.types
+
+-- a plan as the fork tells it, of which the map has a header
+pub record IsTold (fork : List ℕ) (plan : Plan) : Type 0 where
+  pub told : plan ≡ told_plan fork
+  pub within : IsPlan fork plan
+  pub header : 28 ≤ length (map_in fork plan)
 
 -- what a cursor has left: the rest of a list, and the lists of the entries from one on
 abbrev pub left_of : List ℕ → Plan → Cursor → List Reference

@@ -1,22 +1,27 @@
 //! The search for the first fault.
 
-ghost use Rattle.std.specs.Prelude.{◌≡◌, ◌<◌, ◌≤◌, ◌+◌, ◌^◌, length, IfSome, IfNone, IfOk, IfErr};
-ghost use Rattle.fork_bytes.specs.Fork.{IsFork, Refuses};
-ghost use Rattle.fork_salvage.specs.Plans.{IsPlan, IsWithin};
-ghost use Rattle.fork_salvage.specs.Salvage.{told_plan, parts_at, map_in};
-ghost use Rattle.fork_salvage.specs.Fault.{IsFault, refusal_of};
+ghost use Rattle.std.specs.Prelude.{◌≡◌, ◌≢◌, ℕ, ◌<◌, ◌≤◌, ◌+◌, ◌^◌, [], length, slice_index, IfSome, IfNone, IfOk, IfErr};
+ghost use Rattle.fork_bytes.specs.Fork.{number_at, header_of, map_of, name_list, HasParts, HasReferences};
+ghost use Rattle.fork_reader.specs.Reading.{HasName};
+ghost use Rattle.fork_salvage.specs.Plans.{IsTold, IsTypes, reference_of};
+ghost use Rattle.fork_salvage.specs.Salvage.{parts_at, map_in, told_list};
+ghost use Rattle.fork_salvage.specs.Fault.{IsFault, IsGap, bad_row};
 
 use crate::cursor::Cursor;
 use crate::entry::{ENTRY_LENGTH, Types, told_list};
 use crate::fault::{BadList, BadRow, Fault, SameType};
-use crate::number::{read_count, read_four, read_signed, read_three, read_two};
+use crate::number::{read_count, read_signed, read_two};
 use crate::place::{Gap, Parts, Span};
 use crate::plan::{HEADER_LENGTH, MAP_HEADER_LENGTH, Plan, parts_at};
-use crate::reference::{FoundName, Loss, MapReference, REFERENCE_LENGTH, find_bytes, find_name};
+use crate::reference::{Loss, MapReference, NO_NAME, REFERENCE_LENGTH, find_bytes};
 use fork_bytes::layout::{MAX_FORK, MAX_ROWS};
 
 /// The parts of a fork, or the first fault of its header.
-fn check_parts(fork: &[u8]) -> Result<Parts, Fault> {
+fn check_parts(fork: &[u8]) -> Result<Parts, Fault>
+    ensures parts { IfOk result (λ parts. parts ≡ parts_at 0 fork.now) }
+    ensures holds { IfOk result (λ _. HasParts (length fork.now) (header_of fork.now)) }
+    ensures fault { IfErr result (IsFault fork.now) }
+{
     let whole = Span {
         start: 0,
         length: fork.len(),
@@ -41,7 +46,12 @@ fn check_parts(fork: &[u8]) -> Result<Parts, Fault> {
 }
 
 /// The plan of a fork with these parts as it tells it, or the fault of a type list that ends outside of the map.
-fn check_types(fork: &[u8], parts: Parts) -> Result<Plan, Fault> {
+fn check_types(fork: &[u8], parts: Parts) -> Result<Plan, Fault>
+    requires parts { parts ≡ parts_at 0 fork.now }
+    requires holds { HasParts (length fork.now) (header_of fork.now) }
+    ensures told { IfOk result (IsTold fork.now) }
+    ensures fault { IfErr result (IsFault fork.now) }
+{
     let Parts { map, data } = parts;
     let bytes = map.of(fork);
     let place = read_two(bytes, 24);
@@ -61,7 +71,12 @@ fn check_types(fork: &[u8], parts: Parts) -> Result<Plan, Fault> {
 }
 
 /// The index of an earlier entry with the type of this one.
-fn earlier_type(map: &[u8], types: Types, index: usize) -> Option<usize> {
+fn earlier_type(map: &[u8], types: Types, index: usize) -> Option<usize>
+    requires types { IsTypes map.now types }
+    requires within { index < types.count }
+    ensures some { IfSome result (λ i. (i < index) × ((told_list map.now types i).kind ≡ (told_list map.now types index).kind)) }
+    ensures none { IfNone result ((i : ℕ) → i < index → (told_list map.now types i).kind ≢ (told_list map.now types index).kind) }
+{
     let kind = told_list(map, types, index).kind;
     for i in 0..index {
         if told_list(map, types, i).kind == kind {
@@ -72,7 +87,10 @@ fn earlier_type(map: &[u8], types: Types, index: usize) -> Option<usize> {
 }
 
 /// The first entry of the type list that has the type of an earlier one.
-fn find_same_type(fork: &[u8], plan: &Plan) -> Option<Fault> {
+fn find_same_type(fork: &[u8], plan: &Plan) -> Option<Fault>
+    requires { IsTold fork.now plan.now }
+    ensures { IfSome result (IsFault fork.now) }
+{
     let map = plan.map.of(fork);
     let start = plan.map.start + plan.types.place + 2;
     for i in 0..plan.types.count {
@@ -88,7 +106,11 @@ fn find_same_type(fork: &[u8], plan: &Plan) -> Option<Fault> {
 }
 
 /// The first list of references that ends outside of the map.
-fn find_list(fork: &[u8], plan: &Plan) -> Option<Fault> {
+fn find_list(fork: &[u8], plan: &Plan) -> Option<Fault>
+    requires { IsTold fork.now plan.now }
+    ensures some { IfSome result (IsFault fork.now) }
+    ensures none { IfNone result (HasReferences (map_of fork.now)) }
+{
     let map = plan.map.of(fork);
     for i in 0..plan.types.count {
         let list = told_list(map, plan.types, i);
@@ -103,7 +125,10 @@ fn find_list(fork: &[u8], plan: &Plan) -> Option<Fault> {
 }
 
 /// How many references there are, if they are too many.
-fn find_count(fork: &[u8], plan: &Plan) -> Option<Fault> {
+fn find_count(fork: &[u8], plan: &Plan) -> Option<Fault>
+    requires { IsTold fork.now plan.now }
+    ensures { IfSome result (IsFault fork.now) }
+{
     let map = plan.map.of(fork);
     let mut total = 0;
     for i in 0..plan.types.count {
@@ -117,7 +142,11 @@ fn find_count(fork: &[u8], plan: &Plan) -> Option<Fault> {
 }
 
 /// A resource of which something is missing.
-fn bad_row(fork: &[u8], plan: &Plan, reference: MapReference, gap: Gap) -> BadRow {
+fn bad_row(fork: &[u8], plan: &Plan, reference: MapReference, gap: Gap) -> BadRow
+    requires told { IsTold fork.now plan.now }
+    requires within { reference.place + 12 ≤ length (map_in fork.now plan.now) }
+    ensures { result ≡ bad_row fork.now (reference_of reference) gap }
+{
     BadRow {
         kind: reference.kind,
         id: read_signed(plan.map.of(fork), reference.place),
@@ -127,10 +156,14 @@ fn bad_row(fork: &[u8], plan: &Plan, reference: MapReference, gap: Gap) -> BadRo
 }
 
 /// The first name that ends outside of the map.
-fn find_bad_name(fork: &[u8], plan: &Plan) -> Option<Fault> {
+fn find_bad_name(fork: &[u8], plan: &Plan) -> Option<Fault>
+    requires told { IsTold fork.now plan.now }
+    requires references { HasReferences (map_of fork.now) }
+    ensures { IfSome result (IsFault fork.now) }
+{
     let mut cursor = Cursor::new();
     while let Some(reference) = cursor.next(fork, plan) {
-        if let Some(gap) = name_gap(fork, plan, reference.place) {
+        if let Some(gap) = name_gap(plan.map.of(fork), plan.map, reference.place) {
             return Some(Fault::Name(bad_row(fork, plan, reference, gap)));
         }
     }
@@ -138,17 +171,34 @@ fn find_bad_name(fork: &[u8], plan: &Plan) -> Option<Fault> {
 }
 
 /// What is missing of the name of the reference at a place of the map.
-fn name_gap(fork: &[u8], plan: &Plan, at: usize) -> Option<Gap> {
-    let FoundName::Outside(place) = find_name(fork, plan, at) else {
+fn name_gap(map: &[u8], part: Span, at: usize) -> Option<Gap>
+    requires header { 28 ≤ length map.now }
+    requires within { at + 12 ≤ length map.now }
+    requires part { part.length ≡ length map.now }
+    requires place { part.start < 2 ^ 63 }
+    ensures some { IfSome result (λ gap. let start = name_list map.now + number_at 2 (at + 2) map.now in
+        IsGap part.start (length map.now) start (1 + slice_index map.now start) gap) }
+    ensures fails { IfSome result (λ _. ¬ HasName map.now (record { kind = []; place = at })) }
+    ensures none { IfNone result (HasName map.now (record { kind = []; place = at })) }
+{
+    let offset = read_two(map, at + 2);
+    if offset == NO_NAME {
         return None;
+    }
+    let start = read_two(map, 26) + offset;
+    let count = match map.get(start) {
+        Some(count) => *count as usize,
+        None => 0,
     };
-    let start = place - plan.map.start;
-    let count = plan.map.of(fork).get(start).copied().unwrap_or(0);
-    Gap::of(plan.map, start, 1 + count as usize)
+    Gap::of(part, start, 1 + count)
 }
 
 /// The first resource whose length or bytes end outside of the data.
-fn find_bad_bytes(fork: &[u8], plan: &Plan) -> Option<Fault> {
+fn find_bad_bytes(fork: &[u8], plan: &Plan) -> Option<Fault>
+    requires told { IsTold fork.now plan.now }
+    requires references { HasReferences (map_of fork.now) }
+    ensures { IfSome result (IsFault fork.now) }
+{
     let mut cursor = Cursor::new();
     while let Some(reference) = cursor.next(fork, plan) {
         match find_bytes(fork, plan, reference.place) {
@@ -165,7 +215,11 @@ fn find_bad_bytes(fork: &[u8], plan: &Plan) -> Option<Fault> {
 }
 
 /// The resource at which the bytes of all so far are too many.
-fn find_sum(fork: &[u8], plan: &Plan) -> Option<Fault> {
+fn find_sum(fork: &[u8], plan: &Plan) -> Option<Fault>
+    requires told { IsTold fork.now plan.now }
+    requires references { HasReferences (map_of fork.now) }
+    ensures { IfSome result (IsFault fork.now) }
+{
     let mut total = 0;
     let mut cursor = Cursor::new();
     while let Some(reference) = cursor.next(fork, plan) {
@@ -185,7 +239,10 @@ fn find_sum(fork: &[u8], plan: &Plan) -> Option<Fault> {
 }
 
 /// The first fault of the map and the data of a fork whose type list lies within the map.
-fn find_fault(fork: &[u8], plan: &Plan) -> Option<Fault> {
+fn find_fault(fork: &[u8], plan: &Plan) -> Option<Fault>
+    requires { IsTold fork.now plan.now }
+    ensures { IfSome result (IsFault fork.now) }
+{
     if let Some(fault) = find_same_type(fork, plan) {
         return Some(fault);
     }
@@ -205,7 +262,9 @@ fn find_fault(fork: &[u8], plan: &Plan) -> Option<Fault> {
 }
 
 /// The first fault of a fork, at the least place: None exactly where `fork_reader::read_fork` reads it, if the host has memory.
-pub fn first_fault(fork: &[u8]) -> Option<Fault> {
+pub fn first_fault(fork: &[u8]) -> Option<Fault>
+    ensures { IfSome result (IsFault fork.now) }
+{
     let parts = match check_parts(fork) {
         Ok(parts) => parts,
         Err(fault) => return Some(fault),

@@ -13,7 +13,7 @@ use res_base::resource::ResType;
 pub(crate) const REFERENCE_LENGTH: usize = 12;
 
 /// The offset that says that there is no name.
-const NO_NAME: usize = 0xFFFF;
+pub(crate) const NO_NAME: usize = 0xFFFF;
 
 /// How many bytes the length of a resource has.
 const LENGTH_LENGTH: usize = 4;
@@ -62,6 +62,7 @@ pub(crate) fn find_bytes(fork: &[u8], plan: &Plan, at: usize) -> Result<Span, Lo
     requires small { at < 2 ^ 32 }
     ensures found { result ≡ bytes_found fork.now plan.now at }
     ensures within { IfOk result (λ _. at + 12 ≤ length (map_in fork.now plan.now)) }
+    ensures small { IfOk result (λ bytes. (4 ≤ bytes.start) × (bytes.length < 2 ^ 32)) }
 {
     let map = plan.map.of(fork);
     if map.len() < at + REFERENCE_LENGTH {
@@ -78,7 +79,8 @@ pub(crate) fn find_bytes(fork: &[u8], plan: &Plan, at: usize) -> Result<Span, Lo
 fn find_datum(fork: &[u8], plan: &Plan, datum: usize) -> Result<Span, Loss>
     requires plan { IsPlan fork.now plan.now }
     requires small { datum < 2 ^ 24 }
-    ensures { result ≡ datum_found fork.now plan.now datum }
+    ensures found { result ≡ datum_found fork.now plan.now datum }
+    ensures small { IfOk result (λ bytes. (4 ≤ bytes.start) × (bytes.length < 2 ^ 32)) }
 {
     let data = plan.data.of(fork);
     let place = plan.data.start + datum;
