@@ -4,14 +4,14 @@ use Rattle.std.specs.List.{flat_map, AllByRecursion}
 use Rattle.std.proofs.lemmas.List.{append_assoc, length-append}
 use Rattle.fork_bytes.specs.Fork.{Reference, places, references_in, references_of, entry_at, map_of, type_list, type_count, header_of, HasReferences}
 use Rattle.fork_reader.proofs.Lists as lists
-use Rattle.fork_reader.proofs.Placing.{all_push}
+use Rattle.fork_reader.proofs.Placing.{all_push, length-part}
 use Rattle.fork_salvage.specs.declared.entry.Types.{Types}
 use Rattle.fork_salvage.specs.declared.entry.ReferenceList.{ReferenceList}
 use Rattle.fork_salvage.specs.declared.plan.Plan.{Plan}
 use Rattle.fork_salvage.specs.declared.cursor.Cursor.{Cursor}
-use Rattle.fork_salvage.specs.Salvage.{map_in, told_plan, told_types, told_list, list_of, references_at, references_from, references}
-use Rattle.fork_salvage.specs.Plans.{left_of}
-use Rattle.fork_salvage.specs.Fault.{IsFirst}
+use Rattle.fork_salvage.specs.Salvage.{map_in, told_plan, told_types, told_list, list_end, list_of, references_at, references_from, references}
+use Rattle.fork_salvage.specs.Plans.{left_of, IsTold}
+use Rattle.fork_salvage.specs.Fault.{IsFirst, EndsWithin, entry_place}
 use Rattle.fork_salvage.proofs.Cursors.{from_step, left_at_first}
 
 -- the lists of a map, by their indices and by their places
@@ -80,3 +80,27 @@ pub loop_fails : (P : Reference → Type 0) (m : List ℕ) (left rest : List Ref
     IsFirst P (references_of m) r
 loop_fails P m left rest r told is fails =
     record { before = told.before; after = rest; split = loop_split _ told.before left rest r told.split is; hold = told.hold; fails = fails }
+
+-- a list that ends within the map of such a plan
+pub ends_told : (fork : List ℕ) (plan : Plan) (i : ℕ) (list : ReferenceList) → IsTold fork plan → list ≡ told_list (map_in fork plan) plan.types i →
+    (0 < list.count → list.start + 12 * list.count ≤ plan.map.length) → EndsWithin (map_of fork) i
+ends_told fork plan i list is same ends =
+    let P : ReferenceList → Type 0 = λ l. 0 < l.count → l.start + 12 * l.count ≤ plan.map.length in
+    let long = length-part plan.map.length plan.map.start fork is.within.map in
+    let here = subst P same ends in
+    let Q : ℕ → Type 0 = λ n. 0 < (told_list (map_in fork plan) plan.types i).count → list_end (told_list (map_in fork plan) plan.types i) ≤ n in
+    let R : Plan → Type 0 = λ p. 0 < (told_list (map_in fork p) p.types i).count → list_end (told_list (map_in fork p) p.types i) ≤ length (map_in fork p) in
+    subst R is.told (subst Q (sym long) here)
+
+-- where all lists end within the map, all references do
+lists_end : (m : List ℕ) (n i at : ℕ) → at ≡ entry_place m i → ((k : ℕ) → i ≤ k → k < i + n → EndsWithin m k) →
+    AllByRecursion (lists.Ends (length m)) (flat_map references_in (map (entry_at m) (places n at 8)))
+lists_end m zero i at is told = tt
+lists_end m (suc n) i at is told =
+    let E : ℕ → Type 0 = λ a. 0 < (entry_at m a).count → (entry_at m a).start + 12 * (entry_at m a).count ≤ length m in
+    lists.all_append (lists.Ends (length m)) (references_in (entry_at m at)) _
+    (lists.ends_in_entry (entry_at m at) (length m) (subst E (sym is) (told i (omega arith) (omega arith))))
+    (lists_end m n (i + 1) (at + 8) (omega arith) (λ k low high. told k (omega arith) (omega arith)))
+
+pub references_end : (m : List ℕ) (i : ℕ) → type_count m ≤ i → ((k : ℕ) → k < i → EndsWithin m k) → HasReferences m
+references_end m i past told = lists_end m (type_count m) 0 (type_list m + 2) (omega arith) (λ k low high. told k (omega arith))

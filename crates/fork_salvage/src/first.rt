@@ -1,14 +1,14 @@
 //! The search for the first fault.
 
-ghost use Rattle.std.specs.Prelude.{◌≡◌, ◌≢◌, ℕ, ◌<◌, ◌≤◌, ◌+◌, ◌^◌, [], length, slice_index, IfSome, IfNone, IfOk, IfErr};
+ghost use Rattle.std.specs.Prelude.{◌≡◌, ◌≢◌, ℕ, ◌<◌, ◌≤◌, ◌+◌, ◌*◌, ◌^◌, [], length, slice_index, IfSome, IfNone, IfOk, IfErr};
 ghost use Rattle.fork_bytes.specs.Fork.{number_at, header_of, map_of, name_list, HasParts, HasReferences};
 ghost use Rattle.fork_reader.specs.Reading.{HasName};
 ghost use Rattle.fork_salvage.specs.Plans.{IsTold, IsTypes, reference_of};
 ghost use Rattle.fork_salvage.specs.Salvage.{parts_at, map_in, told_list};
-ghost use Rattle.fork_salvage.specs.Fault.{IsFault, IsGap, bad_row};
+ghost use Rattle.fork_salvage.specs.Fault.{IsFault, IsMapFault, IsGap, bad_row};
 
 use crate::cursor::Cursor;
-use crate::entry::{ENTRY_LENGTH, Types, told_list};
+use crate::entry::{ENTRY_LENGTH, ReferenceList, Types, told_list};
 use crate::fault::{BadList, BadRow, Fault, SameType};
 use crate::number::{read_count, read_signed, read_two};
 use crate::place::{Gap, Parts, Span};
@@ -105,6 +105,19 @@ fn find_same_type(fork: &[u8], plan: &Plan) -> Option<Fault>
     None
 }
 
+/// What is missing of a list of references, if there are some.
+fn list_gap(part: Span, list: &ReferenceList) -> Option<Gap>
+    requires small { (list.now.count < 65536) × (list.now.start < 131072) }
+    requires place { part.start < 2 ^ 63 }
+    ensures some { IfSome result (λ gap. (0 < list.now.count) × IsGap part.start part.length list.now.start (12 * list.now.count) gap) }
+    ensures none { IfNone result (0 < list.now.count → list.now.start + 12 * list.now.count ≤ part.length) }
+{
+    if list.count == 0 {
+        return None;
+    }
+    Gap::of(part, list.start, REFERENCE_LENGTH * list.count)
+}
+
 /// The first list of references that ends outside of the map.
 fn find_list(fork: &[u8], plan: &Plan) -> Option<Fault>
     requires { IsTold fork.now plan.now }
@@ -114,11 +127,9 @@ fn find_list(fork: &[u8], plan: &Plan) -> Option<Fault>
     let map = plan.map.of(fork);
     for i in 0..plan.types.count {
         let list = told_list(map, plan.types, i);
-        if list.count > 0 {
-            if let Some(gap) = Gap::of(plan.map, list.start, REFERENCE_LENGTH * list.count) {
-                let kind = list.kind;
-                return Some(Fault::References(BadList { kind, gap }));
-            }
+        if let Some(gap) = list_gap(plan.map, &list) {
+            let kind = list.kind;
+            return Some(Fault::References(BadList { kind, gap }));
         }
     }
     None
@@ -197,7 +208,7 @@ fn name_gap(map: &[u8], part: Span, at: usize) -> Option<Gap>
 fn find_bad_bytes(fork: &[u8], plan: &Plan) -> Option<Fault>
     requires told { IsTold fork.now plan.now }
     requires references { HasReferences (map_of fork.now) }
-    ensures { IfSome result (IsFault fork.now) }
+    ensures { IfSome result (IsMapFault fork.now) }
 {
     let mut cursor = Cursor::new();
     while let Some(reference) = cursor.next(fork, plan) {
@@ -218,7 +229,7 @@ fn find_bad_bytes(fork: &[u8], plan: &Plan) -> Option<Fault>
 fn find_sum(fork: &[u8], plan: &Plan) -> Option<Fault>
     requires told { IsTold fork.now plan.now }
     requires references { HasReferences (map_of fork.now) }
-    ensures { IfSome result (IsFault fork.now) }
+    ensures { IfSome result (IsMapFault fork.now) }
 {
     let mut total = 0;
     let mut cursor = Cursor::new();
@@ -241,7 +252,7 @@ fn find_sum(fork: &[u8], plan: &Plan) -> Option<Fault>
 /// The first fault of the map and the data of a fork whose type list lies within the map.
 fn find_fault(fork: &[u8], plan: &Plan) -> Option<Fault>
     requires { IsTold fork.now plan.now }
-    ensures { IfSome result (IsFault fork.now) }
+    ensures { IfSome result (IsMapFault fork.now) }
 {
     if let Some(fault) = find_same_type(fork, plan) {
         return Some(fault);
@@ -263,7 +274,7 @@ fn find_fault(fork: &[u8], plan: &Plan) -> Option<Fault>
 
 /// The first fault of a fork, at the least place: None exactly where `fork_reader::read_fork` reads it, if the host has memory.
 pub fn first_fault(fork: &[u8]) -> Option<Fault>
-    ensures { IfSome result (IsFault fork.now) }
+    ensures { IfSome result (IsMapFault fork.now) }
 {
     let parts = match check_parts(fork) {
         Ok(parts) => parts,

@@ -11,9 +11,9 @@ loop-i-init c =
 
 pub loop-i-preserved : goal.loop-i-preserved
 loop-i-preserved c =
-    let told = c.told_list.ensures.list ∙ ap (λ (m : List ℕ). told_list m c.args.plan.now.types c.loop-i.i) c.of-map.ensures in
-    let few = c.told_list.ensures.small.0 in let so_far = c.loop-i.invariant.0 in
-    (omega arith, count_step c.args.fork.now c.args.plan.now c.loop-i.i c.loop-i.total _ c.told_list.result c.requires.told c.loop-i-test.true told c.loop-i.invariant.1)
+    let told = c.told_list-total.ensures.list ∙ ap (λ (m : List ℕ). told_list m c.args.plan.now.types c.loop-i.i) c.of-map.ensures in
+    let few = c.told_list-total.ensures.small.0 in let so_far = c.loop-i.invariant.0 in
+    (omega arith, count_step c.args.fork.now c.args.plan.now c.loop-i.i c.loop-i.total _ c.told_list-total.result c.requires.told c.loop-i-test.true told c.loop-i.invariant.1)
 
 pub returns-then-total-gt-MAX_ROWS : goal.returns-then-total-gt-MAX_ROWS
 returns-then-total-gt-MAX_ROWS c =

@@ -1,8 +1,8 @@
-use Rattle.std.proofs.Common.{◌≡◌, ◌+◌, ◌*◌, ◌<◌, ◌≤◌, ℕ, arith}
+use Rattle.std.proofs.Common.{◌≡◌, ◌+◌, ◌*◌, ◌<◌, ◌≤◌, ℕ, List, [], subst, ◌∙◌, arith}
 use Rattle.fork_bytes.specs.Fork.{map_of}
 use Rattle.fork_reader.specs.Reading.{HasName}
 use Rattle.fork_salvage.specs.Fault.{HasBytes}
-use Rattle.fork_salvage.proofs.Faults.{loop_start}
+use Rattle.fork_salvage.proofs.Faults.{loop_start, loop_step, map_told}
 use Rattle.fork_salvage.proofs.first.find_sum.Goals as goal
 
 pub loop-reference-init : goal.loop-reference-init
@@ -12,3 +12,17 @@ loop-reference-init c =
       loop_start (λ _. Unit {0}) c.args.fork.now c.args.plan.now c.new-cursor.result c.requires.told.told c.requires.references none first,
       omega arith,
     )
+
+pub loop-reference-preserved-else-total-gt-MAX_FORK : goal.loop-reference-preserved-else-total-gt-MAX_FORK
+loop-reference-preserved-else-total-gt-MAX_FORK c = (
+  c.in-Some.ensures.cursor,
+  loop_step (λ _. Unit {0}) (map_of c.args.fork.now) _ _ _ c.loop-reference.invariant.1 c.in-Some.ensures.left tt,
+  c.if-total-gt-MAX_FORK.false,
+)
+
+pub loop-reference-preserved : goal.loop-reference-preserved
+loop-reference-preserved c = (
+  c.in-Some.ensures.cursor,
+  loop_step (λ _. Unit {0}) (map_of c.args.fork.now) _ _ _ c.loop-reference.invariant.1 c.in-Some.ensures.left tt,
+  c.loop-reference.invariant.2,
+)
