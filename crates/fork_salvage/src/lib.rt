@@ -6,6 +6,7 @@ mod cursor;
 mod entry;
 mod fault;
 mod first;
+mod laws;
 mod number;
 mod place;
 mod plan;
@@ -14,6 +15,7 @@ mod salvage;
 
 pub use fault::{BadList, BadRow, Fault, SameType};
 pub use first::first_fault;
+pub use laws::salvage_laws;
 pub use place::{Gap, Span};
 pub use reference::{FoundName, Loss};
 pub use salvage::{FoundRow, Item, LostRow, Salvage};
