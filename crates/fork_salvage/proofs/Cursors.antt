@@ -1,7 +1,7 @@
 -- The references that a cursor has left, one after the other.
-use Rattle.std.proofs.Common.{◌≡◌, ℕ, zero, suc, ◌+◌, ◌-◌, ◌*◌, ◌<◌, ◌≤◌, ◌&&◌, Bool, true, false, List, [], ◌∷◌, ◌++◌, length, map, refl, sym, ap, ◌∙◌, arith}
+use Rattle.std.proofs.Common.{◌≡◌, ℕ, zero, suc, ◌+◌, ◌-◌, ◌<◌, ◌≤◌, ◌&&◌, Bool, true, false, List, [], ◌∷◌, ◌++◌, refl, sym, ap, ◌∙◌, arith}
 use Rattle.std.specs.List.{flat_map, list_all}
-use Rattle.fork_bytes.specs.Fork.{Reference, references_in}
+use Rattle.fork_bytes.specs.Fork.{Reference}
 use Rattle.fork_reader.proofs.Lists as lists
 use Rattle.fork_salvage.specs.declared.entry.ReferenceList.{ReferenceList}
 use Rattle.fork_salvage.specs.declared.plan.Plan.{Plan}

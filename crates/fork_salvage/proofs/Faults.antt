@@ -1,11 +1,10 @@
 -- The references that a fork tells, gone through for the first fault.
-use Rattle.std.proofs.Common.{◌≡◌, ◌≢◌, ℕ, zero, suc, ◌+◌, ◌-◌, ◌*◌, ◌<◌, ◌≤◌, List, [], ◌∷◌, ◌++◌, length, map, subst, refl, sym, ap, ◌∙◌, arith}
+use Rattle.std.proofs.Common.{◌≡◌, ℕ, zero, suc, ◌+◌, ◌-◌, ◌*◌, ◌<◌, ◌≤◌, List, [], ◌∷◌, ◌++◌, length, map, subst, refl, sym, ap, ◌∙◌, arith}
 use Rattle.std.specs.List.{flat_map, AllByRecursion}
 use Rattle.std.proofs.lemmas.List.{append_assoc, length-append}
-use Rattle.fork_bytes.specs.Fork.{Reference, places, references_in, references_of, entry_at, map_of, type_list, type_count, header_of, HasReferences}
+use Rattle.fork_bytes.specs.Fork.{Reference, places, references_in, references_of, entry_at, map_of, type_list, type_count, HasReferences}
 use Rattle.fork_reader.proofs.Lists as lists
 use Rattle.fork_reader.proofs.Placing.{all_push, length-part}
-use Rattle.fork_salvage.specs.declared.entry.Types.{Types}
 use Rattle.fork_salvage.specs.declared.entry.ReferenceList.{ReferenceList}
 use Rattle.fork_salvage.specs.declared.plan.Plan.{Plan}
 use Rattle.fork_salvage.specs.declared.cursor.Cursor.{Cursor}

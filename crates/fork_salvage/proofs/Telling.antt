@@ -1,5 +1,5 @@
 -- Whether a fork may be read as it tells.
-use Rattle.std.proofs.Common.{◌≡◌, ℕ, ◌+◌, ◌*◌, ◌<◌, ◌≤◌, ◌&&◌, nat_le, Bool, true, false, List, length, Option, Some, None, IfNone, subst, sym, ap, ◌∙◌, le-leb, arith}
+use Rattle.std.proofs.Common.{◌≡◌, ℕ, ◌+◌, ◌*◌, ◌<◌, ◌≤◌, ◌&&◌, Bool, true, false, List, length, Option, Some, None, IfNone, subst, ap, ◌∙◌, le-leb}
 use Rattle.std.proofs.lemmas.Bool.{lt-leb}
 use Rattle.fork_salvage.specs.declared.place.Parts.{Parts}
 use Rattle.fork_salvage.specs.declared.entry.Types.{Types}

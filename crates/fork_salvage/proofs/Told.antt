@@ -1,17 +1,17 @@
 -- A fork that is read is told as it stands, and nothing of it is lost.
-use Rattle.std.proofs.Common.{◌≡◌, ℕ, zero, suc, ◌+◌, ◌-◌, ◌*◌, ◌<◌, ◌≤◌, ◌&&◌, ◌==◌, nat_lt, nat_le, if◌then◌else◌, Bool, true, false, Option, None, Some, Ok, is_ok, IfSome, List, [], ◌∷◌, ◌++◌, length, map, slice_index, subst, refl, sym, ap, ◌∙◌, le-leb, le-ltb, arith}
+use Rattle.std.proofs.Common.{◌≡◌, ℕ, ◌+◌, ◌≤◌, ◌&&◌, ◌==◌, nat_lt, nat_le, if◌then◌else◌, Bool, true, false, Option, None, Some, Ok, is_ok, IfSome, List, [], ◌∷◌, ◌++◌, length, map, slice_index, refl, sym, ap, ◌∙◌, le-leb, le-ltb, arith}
 use Rattle.std.specs.List.{AllByRecursion, list_all}
 use Rattle.std.specs.Int.{w16, cast_signed}
 use Rattle.std.proofs.lemmas.List.{append-nil}
 use Rattle.fork_bytes.specs.declared.fault.Condition.TheVariants.{Parts, Types, References, Names, Places}
 use Rattle.fork_bytes.specs.Rows.{Row}
-use Rattle.fork_bytes.specs.Fork.{number_at, bytes_at, header_of, map_of, data_of, map_row, row_with, name_place, name_at, name_list, datum_length, references_of, Reference, table_of, HasParts, IsFork, map_rows}
+use Rattle.fork_bytes.specs.Fork.{number_at, bytes_at, header_of, map_of, data_of, map_row, row_with, name_place, name_at, name_list, datum_length, references_of, Reference, HasParts, IsFork}
 use Rattle.fork_reader.specs.Reading.{HasName, HasDatum}
 use Rattle.fork_reader.proofs.Placing.{bytes_in_part, length-part, length-data}
 use Rattle.fork_salvage.specs.declared.plan.Plan.{Plan}
 use Rattle.fork_salvage.specs.declared.reference.FoundName.{FoundName}
 use Rattle.fork_salvage.specs.declared.reference.FoundName.TheVariants.{Unnamed, Named, Outside}
-use Rattle.fork_salvage.specs.Salvage.{part, told_plan, bytes_found, datum_found, name_found, has_bytes, is_inside, keeps_all, item_with, item_of, references, plan_of, may_be_told, lies_within, parts_at, told_types, runs_of}
+use Rattle.fork_salvage.specs.Salvage.{told_plan, bytes_found, name_found, has_bytes, is_inside, keeps_all, item_with, item_of, references, plan_of, may_be_told, lies_within, parts_at, told_types, runs_of}
 use Rattle.fork_salvage.specs.Laws.{name_shown, row_shown, ShowsTable}
 use Rattle.fork_salvage.proofs.Faults.{told_references}
 use Rattle.fork_salvage.proofs.Telling.{told_holds}
@@ -42,7 +42,7 @@ abbrev name_by : List ℕ → Bool → ℕ → FoundName
 name_by fork none start = let m = map_of fork in
     if none then Unnamed
     else (if nat_le (start + 1 + slice_index m start) (length m)
-      then Named (record { start = (header_of fork).map_offset + start + 1; length = slice_index m start }) else Outside ((header_of fork).map_offset + start))
+    then Named (record { start = (header_of fork).map_offset + start + 1; length = slice_index m start }) else Outside ((header_of fork).map_offset + start))
 
 abbrev IsNamed : List ℕ → Bool → ℕ → Type 0
 IsNamed fork none start = IfSome (if none then None else Some start) (λ at. at + 1 + slice_index (map_of fork) at ≤ length (map_of fork))
@@ -80,15 +80,20 @@ row_same fork parts r is =
     let datum = number_at 3 (r.place + 5) m in let count = datum_length d datum in
     let offset = number_at 2 (r.place + 2) m in
     let row : List ℕ → Option (List ℕ) → Row = λ bytes name. record {
-      kind = r.kind; id = cast_signed w16 (number_at 2 r.place m); name = name; attributes = record { 0 = slice_index m (r.place + 4) }; datum = bytes } in
+      kind = r.kind;
+      id = cast_signed w16 (number_at 2 r.place m);
+      name = name;
+      attributes = record { 0 = slice_index m (r.place + 4) };
+      datum = bytes;
+    } in
     let long = length-data fork parts in
     let last = is.2.1 in
     let at : header.data_offset + datum + 4 ≡ header.data_offset + (datum + 4) = omega arith in
     let bytes : bytes_at count (header.data_offset + datum + 4) fork ≡ bytes_at count (datum + 4) d =
-      ap (λ (k : ℕ). bytes_at count k fork) at ∙ sym (bytes_in_part count header.data_length (datum + 4) header.data_offset fork (omega arith)) in
+    ap (λ (k : ℕ). bytes_at count k fork) at ∙ sym (bytes_in_part count header.data_length (datum + 4) header.data_offset fork (omega arith)) in
     ap (λ (f : _). row_shown fork (item_with fork (told_plan fork) r f)) (found fork r is.0 is.2)
     ∙ ap (λ (name : Option (List ℕ)). Some (row (bytes_at count (header.data_offset + datum + 4) fork) name))
-      (shown_by fork parts (offset == 65535) (name_list m + offset) is.1)
+    (shown_by fork parts (offset == 65535) (name_list m + offset) is.1)
     ∙ ap (λ (b : List ℕ). Some (row b (name_at m (name_place m r.place)))) bytes
 
 -- all of them
@@ -118,7 +123,7 @@ is_told fork is =
     let lies : lies_within (length fork) (parts_at 0 fork) ≡ true = both_three (le-leb _ _ parts.whole_data) (le-leb _ _ parts.whole_map) (le-leb _ _ parts.map_header) in
     let may = told_holds fork (parts_at 0 fork) (told_types (map_of fork)) refl is.header lies refl types.entries in
     let keeps = ap (list_all (λ (r : Reference). has_bytes fork (told_plan fork) r.place && is_inside (name_found fork (told_plan fork) r.place)))
-      (told_references fork (told_plan fork) refl) ∙ all_kept fork _ all in
+    (told_references fork (told_plan fork) refl) ∙ all_kept fork _ all in
     chosen (may_be_told fork && keeps_all fork (told_plan fork)) _ _ (ap (λ (t : Bool). t && keeps_all fork (told_plan fork)) may ∙ keeps)
 
 pub shows_table : ShowsTable

@@ -1,5 +1,5 @@
 -- What each plan to read a fork is, and what a cursor has left of it.
-use Rattle.std.specs.Prelude.{◌≡◌, ℕ, ◌+◌, ◌*◌, ◌^◌, ◌<◌, ◌≤◌, ◌++◌, List, length, map}
+use Rattle.std.specs.Prelude.{◌≡◌, ℕ, ◌+◌, ◌*◌, ◌<◌, ◌≤◌, ◌++◌, List, length, map}
 use Rattle.fork_bytes.specs.Fork.{Reference}
 use Rattle.fork_salvage.specs.declared.place.Span.{Span}
 use Rattle.fork_salvage.specs.declared.entry.Types.{Types}

@@ -1,11 +1,10 @@
 -- What can still be read of a damaged fork.
-use Rattle.std.specs.Prelude.{◌≡◌, ℕ, zero, suc, ◌+◌, ◌-◌, ◌*◌, ◌/◌, ◌<◌, ◌≤◌, ◌==◌, ◌&&◌, not, nat_le, nat_lt, min, max, if◌then◌else◌, Bool, true, false, IsTrue, List, [], ◌∷◌, ◌++◌, length, map, slice_index, Option, None, Some, Result, Ok, Err, is_ok}
+use Rattle.std.specs.Prelude.{ℕ, zero, suc, ◌+◌, ◌-◌, ◌*◌, ◌/◌, ◌==◌, ◌&&◌, not, nat_le, nat_lt, min, max, if◌then◌else◌, Bool, true, false, List, [], ◌∷◌, ◌++◌, length, map, slice_index, None, Some, Result, Ok, Err, is_ok}
 use Rattle.std.specs.List.{flat_map, list_all}
 use Rattle.std.specs.Int.{w16, cast_signed}
 use Rattle.fork_bytes.specs.Fork.{number_at, bytes_at, count_at, places, type_list, name_list, Reference, references_in}
 use Rattle.fork_salvage.specs.declared.place.Span.{Span}
 use Rattle.fork_salvage.specs.declared.place.Parts.{Parts}
-use Rattle.fork_salvage.specs.declared.place.Gap.{Gap}
 use Rattle.fork_salvage.specs.declared.entry.Types.{Types}
 use Rattle.fork_salvage.specs.declared.entry.ReferenceList.{ReferenceList}
 use Rattle.fork_salvage.specs.declared.reference.FoundName.{FoundName}

@@ -1,4 +1,4 @@
-use Rattle.std.proofs.Common.{◌≡◌, ◌+◌, ◌*◌, ◌-◌, ap, sym, ◌∙◌, arith, true, false}
+use Rattle.std.proofs.Common.{◌+◌, ◌*◌, ◌-◌, ap, sym, ◌∙◌, arith}
 use Rattle.std.specs.List.{list_all}
 use Rattle.fork_bytes.specs.Fork.{Reference}
 use Rattle.fork_reader.proofs.Lists.{references_at, reference_start, reference_step, reference_end}

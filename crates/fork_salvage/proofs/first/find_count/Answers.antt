@@ -1,4 +1,4 @@
-use Rattle.std.proofs.Common.{◌≡◌, ◌+◌, ◌*◌, ◌<◌, ◌≤◌, List, ℕ, length, ap, ◌∙◌, arith}
+use Rattle.std.proofs.Common.{List, ℕ, length, ap, ◌∙◌, arith}
 use Rattle.fork_bytes.specs.Fork.{Reference}
 use Rattle.fork_salvage.specs.Salvage.{told_list}
 use Rattle.fork_salvage.proofs.Cursors.{from_end}

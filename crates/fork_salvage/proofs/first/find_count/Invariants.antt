@@ -1,4 +1,4 @@
-use Rattle.std.proofs.Common.{◌≡◌, ℕ, ◌<◌, ◌≤◌, ◌*◌, ◌+◌, ◌-◌, length}
+use Rattle.std.proofs.Common.{◌≡◌, ◌≤◌, ◌*◌, ◌+◌, length}
 use Rattle.fork_bytes.specs.Fork.{map_of, references_of}
 use Rattle.fork_salvage.specs.Salvage.{references_from}
 use Rattle.fork_salvage.proofs.first.find_count.Given as goal

@@ -1,5 +1,5 @@
-use Rattle.std.proofs.Common.{◌≡◌, ℕ, ◌<◌, ◌≤◌, List, ap, ◌∙◌, below_more, arith}
-use Rattle.fork_bytes.specs.Fork.{map_of, type_count}
+use Rattle.std.proofs.Common.{ℕ, List, ap, ◌∙◌, below_more, arith}
+use Rattle.fork_bytes.specs.Fork.{map_of}
 use Rattle.fork_salvage.specs.declared.plan.Plan.{Plan}
 use Rattle.fork_salvage.specs.Salvage.{told_list}
 use Rattle.fork_salvage.proofs.Faults.{ends_told, references_end}

@@ -1,5 +1,4 @@
 use Rattle.std.proofs.Common.{◌≡◌, ℕ, List, ◌+◌, ◌*◌, ◌<◌, ◌≤◌, length, subst, sym, ◌∙◌}
-use Rattle.fork_salvage.specs.declared.entry.Types.{Types}
 use Rattle.fork_salvage.specs.Salvage.{told_types}
 use Rattle.fork_salvage.proofs.Telling.{told_holds, told_fails, none_holds}
 use Rattle.fork_salvage.proofs.plan.told_plan.Goals as goal

@@ -1,4 +1,4 @@
-use Rattle.std.proofs.Common.{◌≡◌, ◌<◌, ◌≤◌, ◌∙◌, arith}
+use Rattle.std.proofs.Common.{◌<◌, ◌∙◌, arith}
 use Rattle.fork_salvage.proofs.Cursors.{left_at_next, left_in_list}
 use Rattle.fork_salvage.proofs.cursor.Cursor.next.Goals as goal
 
