@@ -272,7 +272,8 @@ fn find_fault(fork: &[u8], plan: &Plan) -> Option<Fault>
     find_sum(fork, plan)
 }
 
-/// The first fault of a fork, at the least place: None exactly where `fork_reader::read_fork` reads it, if the host has memory.
+/// The first fault of a fork, in the order of the reader's conditions and at the least place, or None where it has none. What is
+/// told of the header, the map and its lists is proved; what is told of the data is not.
 pub fn first_fault(fork: &[u8]) -> Option<Fault>
     ensures { IfSome result (IsMapFault fork.now) }
 {
