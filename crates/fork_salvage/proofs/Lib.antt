@@ -1,0 +1,4 @@
+pub mod Cursors
+pub mod Telling
+pub mod Faults
+pub mod Told

@@ -1,0 +1,4 @@
+pub mod Salvage
+pub mod Plans
+pub mod Fault
+pub mod Laws

@@ -1,0 +1,52 @@
+-- What each plan to read a fork is, and what a cursor has left of it.
+use Rattle.std.specs.Prelude.{◌≡◌, ℕ, ◌+◌, ◌*◌, ◌<◌, ◌≤◌, ◌++◌, List, length, map}
+use Rattle.fork_bytes.specs.Fork.{Reference}
+use Rattle.fork_salvage.specs.declared.place.Span.{Span}
+use Rattle.fork_salvage.specs.declared.entry.Types.{Types}
+use Rattle.fork_salvage.specs.declared.plan.Plan.{Plan}
+use Rattle.fork_salvage.specs.declared.cursor.Cursor.{Cursor}
+use Rattle.fork_salvage.specs.declared.salvage.Chain.{Chain}
+use Rattle.fork_salvage.specs.declared.salvage.Item.{Item}
+use Rattle.fork_salvage.specs.declared.reference.MapReference.{MapReference}
+use Rattle.fork_salvage.specs.Salvage.{map_in, references_at, references_from, item_of, runs, told_plan}
+
+-- a part lies within the fork
+abbrev pub IsWithin : List ℕ → Span → Type 0
+IsWithin fork span = span.start + span.length ≤ length fork
+
+-- the type list lies within the map, which has a header
+pub record IsTypes (resource_map : List ℕ) (types : Types) : Type 0 where
+  pub place : types.place < 65536
+  pub count : types.count < 65536
+  pub header : 0 < types.count → 28 ≤ length resource_map
+  pub entries : 0 < types.count → types.place + 2 + 8 * types.count ≤ length resource_map
+
+-- the parts of a plan lie within the fork
+pub record IsPlan (fork : List ℕ) (plan : Plan) : Type 0 where
+  pub map : IsWithin fork plan.map
+  pub bytes : IsWithin fork plan.«data»
+  pub types : IsTypes (map_in fork plan) plan.types
+
+-- a plan as the fork tells it, of which the map has a header
+pub record IsTold (fork : List ℕ) (plan : Plan) : Type 0 where
+  pub told : plan ≡ told_plan fork
+  pub within : IsPlan fork plan
+  pub header : 28 ≤ length (map_in fork plan)
+
+-- what a cursor has left: the rest of a list, and the lists of the entries from one on
+abbrev pub left_of : List ℕ → Plan → Cursor → List Reference
+left_of fork plan cursor = references_at cursor.list ++ references_from fork plan cursor.next
+
+-- a reference as the definitions of forks have it
+abbrev pub reference_of : MapReference → Reference
+reference_of reference = record { kind = reference.kind; place = reference.place }
+
+-- a cursor within the type list, and a list of small numbers
+pub record IsCursor (plan : Plan) (cursor : Cursor) : Type 0 where
+  pub next : cursor.next ≤ plan.types.count
+  pub small : cursor.list.start + 12 * cursor.list.count < 2000000
+  pub types : 0 < cursor.list.count → 0 < plan.types.count
+
+-- the items that are left
+abbrev pub items_left : List ℕ → Plan → Cursor → Chain → List Item
+items_left fork plan cursor chain = map (item_of fork plan) (left_of fork plan cursor) ++ runs chain.most chain.at fork

@@ -1,0 +1,288 @@
+//! The search for the first fault.
+
+ghost use Rattle.std.specs.Prelude.{◌≡◌, ◌≢◌, ℕ, ◌<◌, ◌≤◌, ◌+◌, ◌*◌, ◌^◌, [], length, slice_index, IfSome, IfNone, IfOk, IfErr};
+ghost use Rattle.fork_bytes.specs.Fork.{number_at, header_of, map_of, name_list, HasParts, HasReferences};
+ghost use Rattle.fork_reader.specs.Reading.{HasName};
+ghost use Rattle.fork_salvage.specs.Plans.{IsTold, IsTypes, reference_of};
+ghost use Rattle.fork_salvage.specs.Salvage.{parts_at, map_in, told_list};
+ghost use Rattle.fork_salvage.specs.Fault.{IsFault, IsMapFault, IsGap, bad_row};
+
+use crate::cursor::Cursor;
+use crate::entry::{ENTRY_LENGTH, ReferenceList, Types, told_list};
+use crate::fault::{BadList, BadRow, Fault, SameType};
+use crate::number::{read_count, read_signed, read_two};
+use crate::place::{Gap, Parts, Span};
+use crate::plan::{HEADER_LENGTH, MAP_HEADER_LENGTH, Plan, parts_at};
+use crate::reference::{Loss, MapReference, NO_NAME, REFERENCE_LENGTH, find_bytes};
+use fork_bytes::layout::{MAX_FORK, MAX_ROWS};
+
+/// The parts of a fork, or the first fault of its header.
+fn check_parts(fork: &[u8]) -> Result<Parts, Fault>
+    ensures parts { IfOk result (λ parts. parts ≡ parts_at 0 fork.now) }
+    ensures holds { IfOk result (λ _. HasParts (length fork.now) (header_of fork.now)) }
+    ensures fault { IfErr result (IsFault fork.now) }
+{
+    let whole = Span {
+        start: 0,
+        length: fork.len(),
+    };
+    if let Some(gap) = Gap::of(whole, 0, HEADER_LENGTH) {
+        return Err(Fault::Header(gap));
+    }
+    if fork.len() > MAX_FORK {
+        return Err(Fault::TooLong(fork.len()));
+    }
+    let parts = parts_at(fork, 0);
+    if let Some(gap) = Gap::of(whole, parts.data.start, parts.data.length) {
+        return Err(Fault::Data(gap));
+    }
+    if let Some(gap) = Gap::of(whole, parts.map.start, parts.map.length) {
+        return Err(Fault::Map(gap));
+    }
+    if let Some(gap) = Gap::of(parts.map, 0, MAP_HEADER_LENGTH) {
+        return Err(Fault::MapHeader(gap));
+    }
+    Ok(parts)
+}
+
+/// The plan of a fork with these parts as it tells it, or the fault of a type list that ends outside of the map.
+fn check_types(fork: &[u8], parts: Parts) -> Result<Plan, Fault>
+    requires parts { parts ≡ parts_at 0 fork.now }
+    requires holds { HasParts (length fork.now) (header_of fork.now) }
+    ensures told { IfOk result (IsTold fork.now) }
+    ensures fault { IfErr result (IsFault fork.now) }
+{
+    let Parts { map, data } = parts;
+    let bytes = map.of(fork);
+    let place = read_two(bytes, 24);
+    if let Some(gap) = Gap::of(map, place, 2) {
+        return Err(Fault::TypeCount(gap));
+    }
+    let count = read_count(bytes, place);
+    if let Some(gap) = Gap::of(map, place + 2, ENTRY_LENGTH * count) {
+        return Err(Fault::TypeList(gap));
+    }
+    Ok(Plan {
+        map,
+        data,
+        types: Types { place, count },
+        mended: false,
+    })
+}
+
+/// The index of an earlier entry with the type of this one.
+fn earlier_type(map: &[u8], types: Types, index: usize) -> Option<usize>
+    requires types { IsTypes map.now types }
+    requires within { index < types.count }
+    ensures some { IfSome result (λ i. (i < index) × ((told_list map.now types i).kind ≡ (told_list map.now types index).kind)) }
+    ensures none { IfNone result ((i : ℕ) → i < index → (told_list map.now types i).kind ≢ (told_list map.now types index).kind) }
+{
+    let kind = told_list(map, types, index).kind;
+    for i in 0..index {
+        if told_list(map, types, i).kind == kind {
+            return Some(i);
+        }
+    }
+    None
+}
+
+/// The first entry of the type list that has the type of an earlier one.
+fn find_same_type(fork: &[u8], plan: &Plan) -> Option<Fault>
+    requires { IsTold fork.now plan.now }
+    ensures { IfSome result (IsFault fork.now) }
+{
+    let map = plan.map.of(fork);
+    let start = plan.map.start + plan.types.place + 2;
+    for i in 0..plan.types.count {
+        if let Some(first) = earlier_type(map, plan.types, i) {
+            return Some(Fault::SameType(SameType {
+                kind: told_list(map, plan.types, i).kind,
+                first: start + ENTRY_LENGTH * first,
+                second: start + ENTRY_LENGTH * i,
+            }));
+        }
+    }
+    None
+}
+
+/// What is missing of a list of references, if there are some.
+fn list_gap(part: Span, list: &ReferenceList) -> Option<Gap>
+    requires small { (list.now.count < 65536) × (list.now.start < 131072) }
+    requires place { part.start < 2 ^ 63 }
+    ensures some { IfSome result (λ gap. (0 < list.now.count) × IsGap part.start part.length list.now.start (12 * list.now.count) gap) }
+    ensures none { IfNone result (0 < list.now.count → list.now.start + 12 * list.now.count ≤ part.length) }
+{
+    if list.count == 0 {
+        return None;
+    }
+    Gap::of(part, list.start, REFERENCE_LENGTH * list.count)
+}
+
+/// The first list of references that ends outside of the map.
+fn find_list(fork: &[u8], plan: &Plan) -> Option<Fault>
+    requires { IsTold fork.now plan.now }
+    ensures some { IfSome result (IsFault fork.now) }
+    ensures none { IfNone result (HasReferences (map_of fork.now)) }
+{
+    let map = plan.map.of(fork);
+    for i in 0..plan.types.count {
+        let list = told_list(map, plan.types, i);
+        if let Some(gap) = list_gap(plan.map, &list) {
+            let kind = list.kind;
+            return Some(Fault::References(BadList { kind, gap }));
+        }
+    }
+    None
+}
+
+/// How many references there are, if they are too many.
+fn find_count(fork: &[u8], plan: &Plan) -> Option<Fault>
+    requires { IsTold fork.now plan.now }
+    ensures { IfSome result (IsFault fork.now) }
+{
+    let map = plan.map.of(fork);
+    let mut total = 0;
+    for i in 0..plan.types.count {
+        total += told_list(map, plan.types, i).count;
+    }
+    if total > MAX_ROWS {
+        Some(Fault::RowCount(total))
+    } else {
+        None
+    }
+}
+
+/// A resource of which something is missing.
+fn bad_row(fork: &[u8], plan: &Plan, reference: MapReference, gap: Gap) -> BadRow
+    requires told { IsTold fork.now plan.now }
+    requires within { reference.place + 12 ≤ length (map_in fork.now plan.now) }
+    ensures { result ≡ bad_row fork.now (reference_of reference) gap }
+{
+    BadRow {
+        kind: reference.kind,
+        id: read_signed(plan.map.of(fork), reference.place),
+        reference: plan.map.start + reference.place,
+        gap,
+    }
+}
+
+/// The first name that ends outside of the map.
+fn find_bad_name(fork: &[u8], plan: &Plan) -> Option<Fault>
+    requires told { IsTold fork.now plan.now }
+    requires references { HasReferences (map_of fork.now) }
+    ensures { IfSome result (IsFault fork.now) }
+{
+    let mut cursor = Cursor::new();
+    while let Some(reference) = cursor.next(fork, plan) {
+        if let Some(gap) = name_gap(plan.map.of(fork), plan.map, reference.place) {
+            return Some(Fault::Name(bad_row(fork, plan, reference, gap)));
+        }
+    }
+    None
+}
+
+/// What is missing of the name of the reference at a place of the map.
+fn name_gap(map: &[u8], part: Span, at: usize) -> Option<Gap>
+    requires header { 28 ≤ length map.now }
+    requires within { at + 12 ≤ length map.now }
+    requires part { part.length ≡ length map.now }
+    requires place { part.start < 2 ^ 63 }
+    ensures some { IfSome result (λ gap. let start = name_list map.now + number_at 2 (at + 2) map.now in
+        IsGap part.start (length map.now) start (1 + slice_index map.now start) gap) }
+    ensures fails { IfSome result (λ _. ¬ HasName map.now (record { kind = []; place = at })) }
+    ensures none { IfNone result (HasName map.now (record { kind = []; place = at })) }
+{
+    let offset = read_two(map, at + 2);
+    if offset == NO_NAME {
+        return None;
+    }
+    let start = read_two(map, 26) + offset;
+    let count = match map.get(start) {
+        Some(count) => *count as usize,
+        None => 0,
+    };
+    Gap::of(part, start, 1 + count)
+}
+
+/// The first resource whose length or bytes end outside of the data.
+fn find_bad_bytes(fork: &[u8], plan: &Plan) -> Option<Fault>
+    requires told { IsTold fork.now plan.now }
+    requires references { HasReferences (map_of fork.now) }
+    ensures { IfSome result (IsMapFault fork.now) }
+{
+    let mut cursor = Cursor::new();
+    while let Some(reference) = cursor.next(fork, plan) {
+        match find_bytes(fork, plan, reference.place) {
+            Err(Loss::Length(gap)) => {
+                return Some(Fault::Length(bad_row(fork, plan, reference, gap)));
+            }
+            Err(Loss::Bytes(gap)) => {
+                return Some(Fault::Bytes(bad_row(fork, plan, reference, gap)));
+            }
+            _ => {}
+        }
+    }
+    None
+}
+
+/// The resource at which the bytes of all so far are too many.
+fn find_sum(fork: &[u8], plan: &Plan) -> Option<Fault>
+    requires told { IsTold fork.now plan.now }
+    requires references { HasReferences (map_of fork.now) }
+    ensures { IfSome result (IsMapFault fork.now) }
+{
+    let mut total = 0;
+    let mut cursor = Cursor::new();
+    while let Some(reference) = cursor.next(fork, plan) {
+        if let Ok(bytes) = find_bytes(fork, plan, reference.place) {
+            total += 4 + bytes.length;
+            if total > MAX_FORK {
+                let gap = Gap {
+                    place: bytes.start - 4,
+                    wanted: total,
+                    left: MAX_FORK,
+                };
+                return Some(Fault::ByteCount(bad_row(fork, plan, reference, gap)));
+            }
+        }
+    }
+    None
+}
+
+/// The first fault of the map and the data of a fork whose type list lies within the map.
+fn find_fault(fork: &[u8], plan: &Plan) -> Option<Fault>
+    requires { IsTold fork.now plan.now }
+    ensures { IfSome result (IsMapFault fork.now) }
+{
+    if let Some(fault) = find_same_type(fork, plan) {
+        return Some(fault);
+    }
+    if let Some(fault) = find_list(fork, plan) {
+        return Some(fault);
+    }
+    if let Some(fault) = find_count(fork, plan) {
+        return Some(fault);
+    }
+    if let Some(fault) = find_bad_name(fork, plan) {
+        return Some(fault);
+    }
+    if let Some(fault) = find_bad_bytes(fork, plan) {
+        return Some(fault);
+    }
+    find_sum(fork, plan)
+}
+
+/// The first fault of a fork, in the order of the reader's conditions and at the least place, or None where it has none. What is
+/// told of the header, the map and its lists is proved; what is told of the data is not.
+pub fn first_fault(fork: &[u8]) -> Option<Fault>
+    ensures { IfSome result (IsMapFault fork.now) }
+{
+    let parts = match check_parts(fork) {
+        Ok(parts) => parts,
+        Err(fault) => return Some(fault),
+    };
+    match check_types(fork, parts) {
+        Ok(plan) => find_fault(fork, &plan),
+        Err(fault) => Some(fault),
+    }
+}

@@ -1,0 +1,8 @@
+//! What is read of a fork that isn't damaged.
+
+ghost use Rattle.fork_salvage.specs.Laws.{ShowsTable};
+
+/// Of a fork that `fork_reader::read_fork` reads, the items are the rows of its table, each once. It computes nothing.
+pub fn salvage_laws()
+    ensures { ShowsTable }
+{}

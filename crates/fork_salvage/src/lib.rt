@@ -1,0 +1,21 @@
+//! What can still be read of a damaged resource fork, and where its first fault is. Nothing is allocated, and no count of resources or
+//! of bytes is too large.
+#![tactic(auto)]
+
+mod cursor;
+mod entry;
+mod fault;
+mod first;
+mod laws;
+mod number;
+mod place;
+mod plan;
+mod reference;
+mod salvage;
+
+pub use fault::{BadList, BadRow, Fault, SameType};
+pub use first::first_fault;
+pub use laws::salvage_laws;
+pub use place::{Gap, Span};
+pub use reference::{FoundName, Loss};
+pub use salvage::{FoundRow, Item, LostRow, Salvage};

@@ -1,0 +1,205 @@
+//! What can be read of a fork, item by item.
+
+ghost use Rattle.std.specs.Prelude.{◌≡◌, ◌<◌, ◌≤◌, ◌+◌, ◌^◌, [], ◌∷◌, length, MatchOption};
+ghost use Rattle.fork_salvage.specs.Plans.{IsPlan, reference_of};
+ghost use Rattle.fork_salvage.specs.Salvage.{map_in, found_row, lost_row, item_of, items, plan_of, runs, runs_of};
+
+use crate::cursor::{Cursor, keeps_all};
+use crate::number::{read_four, read_signed};
+use crate::place::Span;
+use crate::plan::{HEADER_LENGTH, Plan, mended_plan, told_plan};
+use crate::reference::{FoundName, Loss, MapReference, find_bytes, find_name};
+use bitflags::Flags;
+use res_base::resource::{ResAttrs, ResType};
+use std::marker::Model;
+
+/// Where the data of a fork begins if nothing else is known: after the header and 240 other bytes.
+const USUAL_DATA: usize = 256;
+
+/// A resource that can be read: what its reference says, and where it and the resource's bytes stand in the fork.
+#[derive(Clone, Copy, Debug, PartialEq, Eq)]
+pub struct FoundRow {
+    pub kind: ResType,
+    pub id: i16,
+    pub name: FoundName,
+    pub attributes: ResAttrs,
+    /// Where the reference stands in the fork.
+    pub reference: usize,
+    pub bytes: Span,
+}
+
+/// A resource that can't be read.
+#[derive(Clone, Copy, Debug, PartialEq, Eq)]
+pub struct LostRow {
+    pub kind: ResType,
+    /// The id, if it lies within the map.
+    pub id: Option<i16>,
+    /// Where the reference stands in the fork, or should.
+    pub reference: usize,
+    pub loss: Loss,
+}
+
+/// One thing that is found in a fork, or is missing from it.
+#[derive(Clone, Copy, Debug, PartialEq, Eq)]
+pub enum Item {
+    Row(FoundRow),
+    Lost(LostRow),
+    /// Bytes after their length, as a resource has them, in a fork in which no type is found.
+    Run(Span),
+}
+
+/// Runs of a length and so many bytes: where the next one stands, and how many there are at most.
+#[derive(Clone, Copy)]
+struct Chain {
+    at: usize,
+    most: usize,
+}
+
+/// What is left to be read of a fork. A contract sees the list of items.
+#[derive(Drop)]
+pub struct Salvage<'a> {
+    fork: &'a [u8],
+    plan: Plan,
+    cursor: Cursor,
+    chain: Chain,
+}
+
+impl<'a> Model for Salvage<'a> {
+    ghost use Rattle.std.specs.Prelude.{List};
+    ghost use Rattle.fork_salvage.specs.declared.salvage.Item.{Item};
+    ghost use Rattle.fork_salvage.specs.Plans.{IsPlan, IsCursor, items_left};
+
+    ghost Value = { List Item };
+
+    ghost view = { λ s. items_left s.fork.now s.plan s.cursor s.chain };
+
+    ghost invariant = { λ s. IsPlan s.fork.now s.plan × IsCursor s.plan s.cursor };
+}
+
+impl<'a> Salvage<'a> {
+    /// All that can be read of a fork, and what can't be, in the map's order: an item for each reference. Where no type is found in a
+    /// damaged fork, the runs of its data.
+    pub fn new(fork: &'a [u8]) -> Salvage<'a>
+        ensures { result ≡ items fork.now }
+    {
+        let plan = plan_of(fork);
+        Salvage {
+            fork,
+            plan,
+            cursor: Cursor::new(),
+            chain: chain_of(fork, &plan),
+        }
+    }
+
+    /// The next item, or None after the last.
+    pub fn next(&mut self) -> Option<Item>
+        ensures { MatchOption result ((self.old ≡ []) × (self.new ≡ [])) (λ item. self.old ≡ item ∷ self.new) }
+    {
+        match self.cursor.next(self.fork, &self.plan) {
+            Some(reference) => Some(item_of(self.fork, &self.plan, reference)),
+            None => self.chain.next(self.fork),
+        }
+    }
+}
+
+impl Chain {
+    /// The next run, or None after the last.
+    fn next(&mut self, fork: &[u8]) -> Option<Item>
+        ensures { MatchOption result ((runs self.old.most self.old.at fork.now ≡ []) × (runs self.new.most self.new.at fork.now ≡ []))
+            (λ item. runs self.old.most self.old.at fork.now ≡ item ∷ runs self.new.most self.new.at fork.now) }
+    {
+        if self.most == 0 || fork.len() < self.at || fork.len() - self.at < 4 {
+            return None;
+        }
+        let start = self.at + 4;
+        let length = read_four(fork, self.at);
+        if fork.len() - start < length {
+            return None;
+        }
+        self.at = start + length;
+        self.most -= 1;
+        Some(Item::Run(Span { start, length }))
+    }
+}
+
+/// How a fork is read: as it tells, if nothing is lost by that.
+fn plan_of(fork: &[u8]) -> Plan
+    ensures plan { result ≡ plan_of fork.now }
+    ensures within { IsPlan fork.now result }
+{
+    if let Some(plan) = told_plan(fork)
+        && keeps_all(fork, &plan)
+    {
+        return plan;
+    }
+    mended_plan(fork)
+}
+
+/// The runs that are read of a fork: none where its types are.
+fn chain_of(fork: &[u8], plan: &Plan) -> Chain
+    ensures { runs result.most result.at fork.now ≡ runs_of fork.now plan.now }
+{
+    let start = plan.data.start;
+    let at = if start >= HEADER_LENGTH && start < fork.len() {
+        start
+    } else {
+        USUAL_DATA
+    };
+    let found = !plan.mended || plan.types.count > 0;
+    Chain {
+        at,
+        most: if found { 0 } else { fork.len() },
+    }
+}
+
+/// What is found for a reference.
+fn item_of(fork: &[u8], plan: &Plan, reference: MapReference) -> Item
+    requires plan { IsPlan fork.now plan.now }
+    requires header { 28 ≤ length (map_in fork.now plan.now) }
+    requires small { reference.place < 2 ^ 32 }
+    ensures { result ≡ item_of fork.now plan.now (reference_of reference) }
+{
+    match find_bytes(fork, plan, reference.place) {
+        Ok(bytes) => Item::Row(found_row(fork, plan, reference, bytes)),
+        Err(loss) => Item::Lost(lost_row(fork, plan, reference, loss)),
+    }
+}
+
+/// The row of a reference with the place of its bytes.
+fn found_row(fork: &[u8], plan: &Plan, reference: MapReference, bytes: Span) -> FoundRow
+    requires plan { IsPlan fork.now plan.now }
+    requires header { 28 ≤ length (map_in fork.now plan.now) }
+    requires within { reference.place + 12 ≤ length (map_in fork.now plan.now) }
+    ensures { result ≡ found_row fork.now plan.now (reference_of reference) bytes }
+{
+    let at = reference.place;
+    let map = plan.map.of(fork);
+    FoundRow {
+        kind: reference.kind,
+        id: read_signed(map, at),
+        name: find_name(fork, plan, at),
+        attributes: ResAttrs::from_bits_retain(map[at + 4]),
+        reference: plan.map.start + at,
+        bytes,
+    }
+}
+
+/// What is told of a reference that hasn't its bytes.
+fn lost_row(fork: &[u8], plan: &Plan, reference: MapReference, loss: Loss) -> LostRow
+    requires plan { IsPlan fork.now plan.now }
+    requires small { reference.place < 2 ^ 32 }
+    ensures { result ≡ lost_row fork.now plan.now (reference_of reference) loss }
+{
+    let at = reference.place;
+    let map = plan.map.of(fork);
+    LostRow {
+        kind: reference.kind,
+        id: if at + 2 <= map.len() {
+            Some(read_signed(map, at))
+        } else {
+            None
+        },
+        reference: plan.map.start + at,
+        loss,
+    }
+}
