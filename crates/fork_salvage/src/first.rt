@@ -1,11 +1,12 @@
 //! The search for the first fault.
 
 ghost use Rattle.std.specs.Prelude.{◌≡◌, ◌≢◌, ℕ, ◌<◌, ◌≤◌, ◌+◌, ◌*◌, ◌^◌, [], length, slice_index, IfSome, IfNone, IfOk, IfErr};
-ghost use Rattle.fork_bytes.specs.Fork.{number_at, header_of, map_of, name_list, HasParts, HasReferences};
+ghost use Rattle.std.specs.List.{AllByRecursion};
+ghost use Rattle.fork_bytes.specs.Fork.{number_at, header_of, map_of, name_list, references_of, HasParts, HasReferences};
 ghost use Rattle.fork_reader.specs.Reading.{HasName};
 ghost use Rattle.fork_salvage.specs.Plans.{IsTold, IsTypes, reference_of};
 ghost use Rattle.fork_salvage.specs.Salvage.{parts_at, map_in, told_list};
-ghost use Rattle.fork_salvage.specs.Fault.{IsFault, IsMapFault, IsGap, bad_row};
+ghost use Rattle.fork_salvage.specs.Fault.{IsFault, HasBytes, IsGap, bad_row};
 
 use crate::cursor::Cursor;
 use crate::entry::{ENTRY_LENGTH, ReferenceList, Types, told_list};
@@ -208,7 +209,8 @@ fn name_gap(map: &[u8], part: Span, at: usize) -> Option<Gap>
 fn find_bad_bytes(fork: &[u8], plan: &Plan) -> Option<Fault>
     requires told { IsTold fork.now plan.now }
     requires references { HasReferences (map_of fork.now) }
-    ensures { IfSome result (IsMapFault fork.now) }
+    ensures some { IfSome result (IsFault fork.now) }
+    ensures none { IfNone result (AllByRecursion (HasBytes fork.now) (references_of (map_of fork.now))) }
 {
     let mut cursor = Cursor::new();
     while let Some(reference) = cursor.next(fork, plan) {
@@ -219,7 +221,8 @@ fn find_bad_bytes(fork: &[u8], plan: &Plan) -> Option<Fault>
             Err(Loss::Bytes(gap)) => {
                 return Some(Fault::Bytes(bad_row(fork, plan, reference, gap)));
             }
-            _ => {}
+            Err(Loss::Reference(_)) => {}
+            Ok(_) => {}
         }
     }
     None
@@ -229,7 +232,8 @@ fn find_bad_bytes(fork: &[u8], plan: &Plan) -> Option<Fault>
 fn find_sum(fork: &[u8], plan: &Plan) -> Option<Fault>
     requires told { IsTold fork.now plan.now }
     requires references { HasReferences (map_of fork.now) }
-    ensures { IfSome result (IsMapFault fork.now) }
+    requires bytes { AllByRecursion (HasBytes fork.now) (references_of (map_of fork.now)) }
+    ensures { IfSome result (IsFault fork.now) }
 {
     let mut total = 0;
     let mut cursor = Cursor::new();
@@ -252,7 +256,7 @@ fn find_sum(fork: &[u8], plan: &Plan) -> Option<Fault>
 /// The first fault of the map and the data of a fork whose type list lies within the map.
 fn find_fault(fork: &[u8], plan: &Plan) -> Option<Fault>
     requires { IsTold fork.now plan.now }
-    ensures { IfSome result (IsMapFault fork.now) }
+    ensures { IfSome result (IsFault fork.now) }
 {
     if let Some(fault) = find_same_type(fork, plan) {
         return Some(fault);
@@ -272,10 +276,9 @@ fn find_fault(fork: &[u8], plan: &Plan) -> Option<Fault>
     find_sum(fork, plan)
 }
 
-/// The first fault of a fork, in the order of the reader's conditions and at the least place, or None where it has none. What is
-/// told of the header, the map and its lists is proved; what is told of the data is not.
+/// The first fault of a fork, in the order of the reader's conditions and at the least place, or None where it has none.
 pub fn first_fault(fork: &[u8]) -> Option<Fault>
-    ensures { IfSome result (IsMapFault fork.now) }
+    ensures { IfSome result (IsFault fork.now) }
 {
     let parts = match check_parts(fork) {
         Ok(parts) => parts,
