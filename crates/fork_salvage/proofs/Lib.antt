@@ -3,3 +3,5 @@ pub mod Telling
 pub mod Faults
 pub mod Told
 pub mod DataFaults
+pub mod Conditions
+pub mod Order

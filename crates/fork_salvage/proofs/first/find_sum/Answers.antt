@@ -17,8 +17,8 @@ loop-reference-init c =
       omega arith,
     )
 
-pub returns-then-total-gt-MAX_FORK : goal.returns-then-total-gt-MAX_FORK
-returns-then-total-gt-MAX_FORK c =
+pub returns-then-total-gt-MAX_FORK-clause-some : goal.returns-then-total-gt-MAX_FORK-clause-some
+returns-then-total-gt-MAX_FORK-clause-some c =
     let fork = c.args.fork.now in let r = reference_of c.in-Some.reference in let total = c.loop-reference.total in let bytes = c.in-Ok.bytes in
     let says = found_says fork c.args.plan.now r c.find_bytes.result c.requires.told.told c.find_bytes.ensures.found in
     let is = (subst (Says fork r) c.in-Ok.is says).1 in
