@@ -1,5 +1,5 @@
 -- The first fault of a fork, with its place.
-use Rattle.std.specs.Prelude.{◌≡◌, ◌≢◌, ℕ, ◌+◌, ◌-◌, ◌*◌, ◌<◌, ◌≤◌, List, [], ◌∷◌, ◌++◌, length, slice_index, sum_by, ⊤}
+use Rattle.std.specs.Prelude.{◌≡◌, ◌≢◌, ℕ, ◌+◌, ◌-◌, ◌*◌, ◌<◌, ◌≤◌, List, [], ◌∷◌, ◌++◌, length, slice_index, sum_by}
 use Rattle.std.specs.List.{AllByRecursion}
 use Rattle.std.specs.Int.{w16, cast_signed}
 use Rattle.fork_bytes.specs.declared.fault.Condition.TheVariants as of
@@ -136,7 +136,11 @@ pub record IsBadSum (fork : List ℕ) (row : BadRow) : Type 0 where
   pub few : bytes_up_to fork before ≤ max_fork
   pub many : max_fork < bytes_up_to fork (before ++ reference ∷ [])
   pub told : row ≡ bad_row fork reference row.gap
-  pub wanted : row.gap.wanted ≡ bytes_up_to fork (before ++ reference ∷ [])
+  pub gap : row.gap ≡ record {
+    place = (header_of fork).data_offset + datum_place fork reference;
+    wanted = bytes_up_to fork (before ++ reference ∷ []);
+    left = max_fork;
+  }
 
 -- what a fault says of the fork: something ends outside, and nothing that is looked at before it does
 abbrev pub IsFault : List ℕ → Fault → Type 0
@@ -155,10 +159,3 @@ IsFault fork (fault.Name row) = IsBadRow fork (HasName (map_of fork)) (name_gap 
 IsFault fork (fault.Length row) = IsBadRow fork (HasBytes fork) (λ reference gap. datum_gap fork reference 4 gap) row
 IsFault fork (fault.Bytes row) = IsBadRow fork (HasBytes fork) (bytes_gap fork) row
 IsFault fork (fault.ByteCount row) = IsBadSum fork row
-
--- what is proved of a fault: of those that come before the data's, all
-abbrev pub IsMapFault : List ℕ → Fault → Type 0
-IsMapFault fork (fault.Length row) = ⊤
-IsMapFault fork (fault.Bytes row) = ⊤
-IsMapFault fork (fault.ByteCount row) = ⊤
-IsMapFault fork other = IsFault fork other

@@ -27,11 +27,12 @@ pub record IsPlan (fork : List ℕ) (plan : Plan) : Type 0 where
   pub bytes : IsWithin fork plan.«data»
   pub types : IsTypes (map_in fork plan) plan.types
 
--- a plan as the fork tells it, of which the map has a header
+-- a plan as the fork tells it, of which the map has a header and the type list
 pub record IsTold (fork : List ℕ) (plan : Plan) : Type 0 where
   pub told : plan ≡ told_plan fork
   pub within : IsPlan fork plan
   pub header : 28 ≤ length (map_in fork plan)
+  pub inside : plan.types.place + 2 + 8 * plan.types.count ≤ length (map_in fork plan)
 
 -- what a cursor has left: the rest of a list, and the lists of the entries from one on
 abbrev pub left_of : List ℕ → Plan → Cursor → List Reference

@@ -1,11 +1,14 @@
 //! The search for the first fault.
 
 ghost use Rattle.std.specs.Prelude.{◌≡◌, ◌≢◌, ℕ, ◌<◌, ◌≤◌, ◌+◌, ◌*◌, ◌^◌, [], length, slice_index, IfSome, IfNone, IfOk, IfErr};
-ghost use Rattle.fork_bytes.specs.Fork.{number_at, header_of, map_of, name_list, HasParts, HasReferences};
+ghost use Rattle.std.specs.List.{AllByRecursion};
+ghost use Rattle.fork_bytes.specs.Fork.{number_at, header_of, map_of, name_list, references_of, HasParts, HasReferences, Holds, IsFork, Refuses};
+ghost use Rattle.fork_bytes.specs.declared.fault.Condition.TheVariants as condition;
+ghost use Rattle.fork_bytes.specs.declared.fault.ForkFault.TheVariants.{BadMap};
 ghost use Rattle.fork_reader.specs.Reading.{HasName};
 ghost use Rattle.fork_salvage.specs.Plans.{IsTold, IsTypes, reference_of};
 ghost use Rattle.fork_salvage.specs.Salvage.{parts_at, map_in, told_list};
-ghost use Rattle.fork_salvage.specs.Fault.{IsFault, IsMapFault, IsGap, bad_row};
+ghost use Rattle.fork_salvage.specs.Fault.{IsFault, HasBytes, IsGap, bad_row, refusal_of};
 
 use crate::cursor::Cursor;
 use crate::entry::{ENTRY_LENGTH, ReferenceList, Types, told_list};
@@ -19,8 +22,10 @@ use fork_bytes::layout::{MAX_FORK, MAX_ROWS};
 /// The parts of a fork, or the first fault of its header.
 fn check_parts(fork: &[u8]) -> Result<Parts, Fault>
     ensures parts { IfOk result (λ parts. parts ≡ parts_at 0 fork.now) }
+    ensures header { IfOk result (λ _. 16 ≤ length fork.now) }
     ensures holds { IfOk result (λ _. HasParts (length fork.now) (header_of fork.now)) }
     ensures fault { IfErr result (IsFault fork.now) }
+    ensures refuses { IfErr result (λ fault. Refuses fork.now (refusal_of fault)) }
 {
     let whole = Span {
         start: 0,
@@ -51,6 +56,7 @@ fn check_types(fork: &[u8], parts: Parts) -> Result<Plan, Fault>
     requires holds { HasParts (length fork.now) (header_of fork.now) }
     ensures told { IfOk result (IsTold fork.now) }
     ensures fault { IfErr result (IsFault fork.now) }
+    ensures refusal { IfErr result (λ fault. refusal_of fault ≡ BadMap condition.Types) }
 {
     let Parts { map, data } = parts;
     let bytes = map.of(fork);
@@ -89,7 +95,9 @@ fn earlier_type(map: &[u8], types: Types, index: usize) -> Option<usize>
 /// The first entry of the type list that has the type of an earlier one.
 fn find_same_type(fork: &[u8], plan: &Plan) -> Option<Fault>
     requires { IsTold fork.now plan.now }
-    ensures { IfSome result (IsFault fork.now) }
+    ensures some { IfSome result (IsFault fork.now) }
+    ensures refusal { IfSome result (λ fault. refusal_of fault ≡ BadMap condition.Types) }
+    ensures none { IfNone result (Holds condition.Types fork.now) }
 {
     let map = plan.map.of(fork);
     let start = plan.map.start + plan.types.place + 2;
@@ -122,6 +130,7 @@ fn list_gap(part: Span, list: &ReferenceList) -> Option<Gap>
 fn find_list(fork: &[u8], plan: &Plan) -> Option<Fault>
     requires { IsTold fork.now plan.now }
     ensures some { IfSome result (IsFault fork.now) }
+    ensures refusal { IfSome result (λ fault. refusal_of fault ≡ BadMap condition.References) }
     ensures none { IfNone result (HasReferences (map_of fork.now)) }
 {
     let map = plan.map.of(fork);
@@ -138,7 +147,9 @@ fn find_list(fork: &[u8], plan: &Plan) -> Option<Fault>
 /// How many references there are, if they are too many.
 fn find_count(fork: &[u8], plan: &Plan) -> Option<Fault>
     requires { IsTold fork.now plan.now }
-    ensures { IfSome result (IsFault fork.now) }
+    ensures some { IfSome result (IsFault fork.now) }
+    ensures refusal { IfSome result (λ fault. refusal_of fault ≡ BadMap condition.RowCount) }
+    ensures none { IfNone result (Holds condition.RowCount fork.now) }
 {
     let map = plan.map.of(fork);
     let mut total = 0;
@@ -170,7 +181,9 @@ fn bad_row(fork: &[u8], plan: &Plan, reference: MapReference, gap: Gap) -> BadRo
 fn find_bad_name(fork: &[u8], plan: &Plan) -> Option<Fault>
     requires told { IsTold fork.now plan.now }
     requires references { HasReferences (map_of fork.now) }
-    ensures { IfSome result (IsFault fork.now) }
+    ensures some { IfSome result (IsFault fork.now) }
+    ensures refusal { IfSome result (λ fault. refusal_of fault ≡ BadMap condition.Names) }
+    ensures none { IfNone result (Holds condition.Names fork.now) }
 {
     let mut cursor = Cursor::new();
     while let Some(reference) = cursor.next(fork, plan) {
@@ -208,7 +221,9 @@ fn name_gap(map: &[u8], part: Span, at: usize) -> Option<Gap>
 fn find_bad_bytes(fork: &[u8], plan: &Plan) -> Option<Fault>
     requires told { IsTold fork.now plan.now }
     requires references { HasReferences (map_of fork.now) }
-    ensures { IfSome result (IsMapFault fork.now) }
+    ensures some { IfSome result (IsFault fork.now) }
+    ensures refusal { IfSome result (λ fault. refusal_of fault ≡ BadMap condition.Places) }
+    ensures none { IfNone result (AllByRecursion (HasBytes fork.now) (references_of (map_of fork.now))) }
 {
     let mut cursor = Cursor::new();
     while let Some(reference) = cursor.next(fork, plan) {
@@ -219,7 +234,8 @@ fn find_bad_bytes(fork: &[u8], plan: &Plan) -> Option<Fault>
             Err(Loss::Bytes(gap)) => {
                 return Some(Fault::Bytes(bad_row(fork, plan, reference, gap)));
             }
-            _ => {}
+            Err(Loss::Reference(_)) => {}
+            Ok(_) => {}
         }
     }
     None
@@ -229,7 +245,10 @@ fn find_bad_bytes(fork: &[u8], plan: &Plan) -> Option<Fault>
 fn find_sum(fork: &[u8], plan: &Plan) -> Option<Fault>
     requires told { IsTold fork.now plan.now }
     requires references { HasReferences (map_of fork.now) }
-    ensures { IfSome result (IsMapFault fork.now) }
+    requires bytes { AllByRecursion (HasBytes fork.now) (references_of (map_of fork.now)) }
+    ensures some { IfSome result (IsFault fork.now) }
+    ensures refusal { IfSome result (λ fault. refusal_of fault ≡ BadMap condition.ByteCount) }
+    ensures none { IfNone result (Holds condition.ByteCount fork.now) }
 {
     let mut total = 0;
     let mut cursor = Cursor::new();
@@ -251,8 +270,12 @@ fn find_sum(fork: &[u8], plan: &Plan) -> Option<Fault>
 
 /// The first fault of the map and the data of a fork whose type list lies within the map.
 fn find_fault(fork: &[u8], plan: &Plan) -> Option<Fault>
-    requires { IsTold fork.now plan.now }
-    ensures { IfSome result (IsMapFault fork.now) }
+    requires header { 16 ≤ length fork.now }
+    requires parts { Holds condition.Parts fork.now }
+    requires told { IsTold fork.now plan.now }
+    ensures fault { IfSome result (IsFault fork.now) }
+    ensures refuses { IfSome result (λ fault. Refuses fork.now (refusal_of fault)) }
+    ensures none { IfNone result (IsFork fork.now) }
 {
     if let Some(fault) = find_same_type(fork, plan) {
         return Some(fault);
@@ -272,10 +295,12 @@ fn find_fault(fork: &[u8], plan: &Plan) -> Option<Fault>
     find_sum(fork, plan)
 }
 
-/// The first fault of a fork, in the order of the reader's conditions and at the least place, or None where it has none. What is
-/// told of the header, the map and its lists is proved; what is told of the data is not.
+/// The first fault of a fork, in the order of the reader's conditions and at the least place, or None exactly where the bytes are a
+/// fork. Its condition is the first that doesn't hold, as `fork_reader::read_fork` says it.
 pub fn first_fault(fork: &[u8]) -> Option<Fault>
-    ensures { IfSome result (IsMapFault fork.now) }
+    ensures fault { IfSome result (IsFault fork.now) }
+    ensures refuses { IfSome result (λ fault. Refuses fork.now (refusal_of fault)) }
+    ensures none { IfNone result (IsFork fork.now) }
 {
     let parts = match check_parts(fork) {
         Ok(parts) => parts,

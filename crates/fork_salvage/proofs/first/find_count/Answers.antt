@@ -15,7 +15,12 @@ loop-i-preserved c =
     let few = c.told_list-total.ensures.small.0 in let so_far = c.loop-i.invariant.0 in
     (omega arith, count_step c.args.fork.now c.args.plan.now c.loop-i.i c.loop-i.total _ c.told_list-total.result c.requires.told c.loop-i-test.true told c.loop-i.invariant.1)
 
-pub returns-then-total-gt-MAX_ROWS : goal.returns-then-total-gt-MAX_ROWS
-returns-then-total-gt-MAX_ROWS c =
+pub returns-then-total-gt-MAX_ROWS-clause-some : goal.returns-then-total-gt-MAX_ROWS-clause-some
+returns-then-total-gt-MAX_ROWS-clause-some c =
     let none = ap (λ (xs : List Reference). length xs) (from_end c.args.fork.now c.args.plan.now c.loop-i.i (omega (arith, c.loop-i-test.false))) in
     let all = c.loop-i.invariant.1 in (c.if-total-gt-MAX_ROWS.true, omega arith)
+
+pub returns-else-total-gt-MAX_ROWS-clause-none : goal.returns-else-total-gt-MAX_ROWS-clause-none
+returns-else-total-gt-MAX_ROWS-clause-none c =
+    let none = ap (λ (xs : List Reference). length xs) (from_end c.args.fork.now c.args.plan.now c.loop-i.i (omega (arith, c.loop-i-test.false))) in
+    let all = c.loop-i.invariant.1 in let few = c.if-total-gt-MAX_ROWS.false in omega arith
