@@ -10,7 +10,7 @@ import tempfile
 
 from checks.fork_questions import Difference, expect, opening_is_refused, play, questions
 from checks.forks import compare, run
-from model.fork import TOLD, Row, listing, open_code, quoted
+from model.fork import MESSAGES, Row, listing, open_code, quoted
 from places import CASES
 
 TABLE = os.path.join(CASES, "forks.txt")
@@ -41,7 +41,7 @@ def rows_of(text):
 
 def answer_of(text):
     """The rows that are wanted, or the word for the condition that doesn't hold."""
-    return text if text in TOLD else rows_of(text)
+    return text if text in MESSAGES else rows_of(text)
 
 
 class Case:
@@ -102,7 +102,7 @@ def try_list(program, path, case):
     # a file without bytes has no resources
     answer = case.answer if case.fork else []
     if isinstance(answer, str):
-        compare("ls", run(program, ["ls", path]), 3, b"", TOLD[answer])
+        compare("ls", run(program, ["ls", path]), 3, b"", MESSAGES[answer])
         return
     compare("ls", run(program, ["ls", path]), 0, listing(answer).encode(), "")
     first = {}

@@ -14,7 +14,7 @@ import subprocess
 import tempfile
 
 from checks.fork_questions import Difference, expect, opening_is_refused, questions
-from model.fork import MOST_BYTES, NoFork, Row, TOLD, column, listing, open_code, quoted, read_fork, types
+from model.fork import MESSAGES, MOST_BYTES, NoFork, Row, column, listing, open_code, quoted, read_fork, types
 
 # the forks
 
@@ -243,12 +243,13 @@ def run(program, words):
 
 
 def compare(what, got, status, output, told):
-    """Compares what a program did with what it should: status, output, and words of what it tells."""
+    """Compares what a program did with what it should: status, output, and words of what it tells, or a pattern of them."""
     if got[0] != status:
         raise Difference(f"{what}: status {got[0]} and not {status}; it told {got[2]!r}")
     if output is not None and got[1] != output:
         raise Difference(f"{what}: it wrote {got[1][:300]!r} and not {output[:300]!r}")
-    if told not in got[2] or bool(told) != bool(got[2]):
+    is_told = told.search(got[2]) if isinstance(told, re.Pattern) else told in got[2]
+    if not is_told or bool(told) != bool(got[2]):
         raise Difference(f"{what}: it told {got[2]!r} and not {told!r}")
 
 
@@ -292,7 +293,7 @@ def try_fork(program, path, fork, choices):
     try:
         rows = read_fork(fork) if fork else []
     except NoFork as fault:
-        told = TOLD[fault.args[0]]
+        told = MESSAGES[fault.args[0]]
         compare("ls", run(program, ["ls", path]), 3, b"", told)
         compare("get", run(program, ["get", path, "TEXT", "128"]), 3, b"", told)
         return fault.args[0]
@@ -346,7 +347,7 @@ def main(resfork, macheap, count=200, first=1):
             print(f"{what}: {difference}")
             return 1
     print(f"{len(LINES)} command lines, {sum(seen.values())} forks: " + ", ".join(f"{it} {seen[it]}" for it in sorted(seen)))
-    missing = set(TOLD) - set(seen)
+    missing = set(MESSAGES) - set(seen)
     if count >= 1000 and missing:
         print(f"no fork was refused for {', '.join(sorted(missing))}: the check is too weak")
         return 1

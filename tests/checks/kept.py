@@ -2,7 +2,7 @@
 
 Random forks of tests/checks/forks.py are put in AppleSingle, AppleDouble, MacBinary I, II and III and BinHex, which are made here from
 their published formats. Of each, the list and what `info` tells are compared with the model; then each is cut short, and
-refused. Last come files that hold no fork.
+refused. Before them come files that hold no fork, and a damaged fork in each, of which the message is compared.
 """
 import binascii
 import os
@@ -109,6 +109,26 @@ def try_fork(program, path, fork, rows, choices):
             raise Difference(f"{kept_as} cut short: status {status}, it wrote {output!r} and told {told!r}")
 
 
+# a fork of one resource: the data at $100, whose length is too big by far for the two bytes after it, and the map at $106
+DAMAGED = bytes.fromhex(
+    f"00000100 00000106 00000006 00000032 {bytes(240).hex()} 00FFFFFF 4869"
+    "00000100 00000106 00000006 00000032 00000000 0000 0000 001C 0032 0000 54455854 0000 000A 0080 FFFF 00 000000 00000000"
+)
+FAULT = "'TEXT' 128: its length is 16777215, and 2 bytes are left in the data\n  at $000100, reached from the reference at $00012C\n"
+LEFT = "  0 of 1 resources can be read\n"
+
+
+def try_damaged(program, path):
+    """Compares what is told of a damaged fork, alone and in each of these."""
+    write(path, DAMAGED)
+    for words in (["ls", path], ["get", path, "TEXT", "128"], ["info", path]):
+        compare(f"{words[0]} of a damaged fork", run(program, words), 3, b"", f"{path}: {FAULT}{LEFT}")
+    for keep, kept_as, _ in KEPT:
+        write(path, keep(DAMAGED))
+        told = f"{path}: {FAULT}  (places are those in the resource fork of {kept_as})\n{LEFT}"
+        compare(f"ls of {kept_as} with a damaged fork", run(program, ["ls", path]), 3, b"", told)
+
+
 # files that hold no resource fork, with words of what is told
 NONE = [
     ("a text", b"no fork at all, but a text of more than sixteen bytes", "neither a resource fork"),
@@ -129,6 +149,8 @@ def main(program, count=60):
             for what, text, told in NONE:
                 write(path, text)
                 compare("ls", run(program, ["ls", path]), 3, b"", told)
+            what = "a damaged fork"
+            try_damaged(program, path)
             for number in range(1, 1 + count):
                 fork, what = Choices(number).fork(), f"fork {number}"
                 try:

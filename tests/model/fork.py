@@ -2,13 +2,14 @@
 
 It is written from the rules of docs/FORKS.md alone, and shares nothing with the program.
 """
+import re
 import struct
 
 MOST_BYTES = 4194304
 MOST_ROWS = 8192
 WORDS = [(128, "bit7"), (64, "sysHeap"), (32, "purgeable"), (16, "locked"), (8, "protected"), (4, "preload"), (2, "changed"), (1, "bit0")]
 
-# what is told of a fork that is none: words of the message
+# the conditions in the order in which they are looked at, in words
 TOLD = {
     "end": "ends within its header",
     "parts": "the data or the map lies outside the fork, or the fork is too long",
@@ -19,6 +20,21 @@ TOLD = {
     "places": "the bytes of a resource end outside the data",
     "bytes": "more than 4194304 bytes together",
 }
+
+# what is told of a fork of which a condition doesn't hold
+PART = r"the (?:{}) has \d+ bytes, and \d+ bytes are left in the {}\n  at \$[0-9A-F]{{6,}}"
+ROW = r"'.*' -?\d+: {} \d+, and \d+ bytes are left in the {}\n  at \$[0-9A-F]{{6,}}, reached from the reference at \$[0-9A-F]{{6,}}"
+MESSAGES = {
+    "end": PART.format("header", "fork"),
+    "parts": PART.format("data|map", "fork") + "|" + PART.format("header of the map", "map") + r"|the fork has \d+ bytes, and at most 4194304 are read",
+    "types": PART.format("count of types|type list", "map") + r"|'.*' stands twice in the type list\n  at \$[0-9A-F]{6,}, first at \$[0-9A-F]{6,}",
+    "references": r"'.*': the list of its references has \d+ bytes, and \d+ bytes are left in the map\n  at \$[0-9A-F]{6,}",
+    "rows": r"there are \d+ resources, and at most 8192 are read",
+    "names": ROW.format("its name with its byte of length has", "map"),
+    "places": ROW.format("(?:the bytes of its length are|its length is)", "data"),
+    "bytes": ROW.format("the bytes of the resources up to it are", "4194304 that are read"),
+}
+MESSAGES = {condition: re.compile(told) for condition, told in MESSAGES.items()}
 
 
 class NoFork(Exception):

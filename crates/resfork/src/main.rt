@@ -5,6 +5,7 @@ mod answer;
 mod asked;
 mod attribute;
 mod command;
+mod damage;
 mod find;
 mod info;
 mod input;
@@ -88,12 +89,12 @@ fn show(
     let bytes = read(rt, file).map_err(Problem::Read)?;
     let Some(output) = output else {
         return answer(alloc, request, &bytes, &mut rt.stdout()).map_err(
-            |failure| Problem::of_failure(failure, &bytes),
+            |failure| Problem::of_failure(alloc, failure, &bytes),
         );
     };
     let mut text = Vec::new(alloc);
     answer(alloc, request, &bytes, &mut text).map_err(|failure| Problem::of_failure(
-        failure, &bytes,
+        alloc, failure, &bytes,
     ))?;
     fs::write(rt, output, text.as_slice()).map_err(Problem::Save)
 }
@@ -115,9 +116,10 @@ fn tell_about_all(rt: &HostRuntime, files: &[&str]) -> u8 {
 
 /// Tells about the file of this name.
 fn tell_about(rt: &HostRuntime, file: &str) -> Result<(), Problem> {
+    let alloc = rt.alloc();
     let bytes = read(rt, file).map_err(Problem::Read)?;
-    let text = info_text(rt.alloc(), &bytes).map_err(|failure| Problem::of_failure(
-        failure, &bytes,
+    let text = info_text(alloc, &bytes).map_err(|failure| Problem::of_failure(
+        alloc, failure, &bytes,
     ))?;
     print!(rt; "{text}").map_err(Problem::Print)
 }

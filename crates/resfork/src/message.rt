@@ -2,10 +2,12 @@
 
 use crate::answer::Failure;
 use crate::asked::NotAsked;
+use crate::damage::Damage;
 use crate::source::{NoFork, name_of_container};
 use fork_bytes::fault::ForkFault;
 use mac_files::archive::Archive;
 use mac_files::{archive_of, container_of};
+use std::alloc::Global;
 use std::io;
 use std::io::ErrorKind;
 use thiserror::Error;
@@ -43,9 +45,12 @@ pub enum Problem {
     /// It is an archive or a disk image.
     #[error("{0}")]
     Archive(Archive),
+    /// Its fork is damaged: what is told of that.
+    #[error("{0}")]
+    Damaged(String),
     /// It is nothing that is known.
     #[error("neither a resource fork nor a file that has one in it: {0}")]
-    Unknown(ForkFault),
+    Unknown(String),
     /// The file that was to be written can't be.
     #[error("the file named with -o can't be written: {0}")]
     Save(io::Error),
@@ -59,18 +64,35 @@ pub enum Problem {
 
 impl Problem {
     /// Why what this file holds can't be shown, told by what the file is known as.
-    pub fn of_failure(failure: Failure, file: &[u8]) -> Problem {
-        match (failure, container_of(file)) {
-            (Failure::Fork(fault), None) => match archive_of(file) {
-                Some(archive) => Problem::Archive(archive),
-                None => Problem::Unknown(fault),
-            },
-            (Failure::NoFork(NoFork::HostFull), _) => Problem::Show(Failure::HostFull),
-            (Failure::NoFork(fault), container) => Problem::Container {
-                container: container.map_or("a BinHex file", name_of_container),
+    pub fn of_failure(alloc: Global, failure: Failure, file: &[u8]) -> Problem {
+        match failure {
+            Failure::NoFork(NoFork::HostFull) | Failure::Fork(ForkFault::HostFull) => {
+                Problem::Show(Failure::HostFull)
+            }
+            Failure::NoFork(fault) => Problem::Container {
+                container: container_of(file).map_or("a BinHex file", name_of_container),
                 fault,
             },
-            (failure, _) => Problem::Show(failure),
+            Failure::Fork(fault) => Problem::of_fork(alloc, fault, file),
+            failure => Problem::Show(failure),
+        }
+    }
+
+    /// Why a fork that is refused isn't shown: its first fault, with its place, if this file has a fork at all.
+    fn of_fork(alloc: Global, refusal: ForkFault, file: &[u8]) -> Problem {
+        let Some(damage) = Damage::of_file(alloc, file) else {
+            return Problem::Show(Failure::Fork(refusal));
+        };
+        let Ok(told) = format!(in alloc; "{damage}") else {
+            return Problem::Show(Failure::HostFull);
+        };
+        if damage.is_in_container() || container_of(file).is_some() {
+            return Problem::Damaged(told);
+        }
+        match archive_of(file) {
+            Some(archive) => Problem::Archive(archive),
+            None if damage.is_of_fork() => Problem::Damaged(told),
+            None => Problem::Unknown(told),
         }
     }
 
@@ -83,6 +105,7 @@ impl Problem {
             | Problem::Show(Failure::NoFork(_))
             | Problem::Container { .. }
             | Problem::Archive(_)
+            | Problem::Damaged(_)
             | Problem::Unknown(_) => NO_FORK,
             Problem::Read(_)
             | Problem::Save(_)
