@@ -4,7 +4,7 @@ use Rattle.std.proofs.lemmas.List.{drop_all, drop_more, length-drop}
 use Rattle.std.proofs.lemmas.Bool.Decides.{not_from_Decides}
 use Rattle.std.proofs.lemmas.Slice.Eq.{bytes_eq-Decides}
 use Rattle.fork_bytes.specs.declared.layout.TypeCount.{TypeCount}
-use Rattle.res_base.specs.declared.resource.Resource.{Resource}
+use Rattle.mac_base.specs.declared.resource.Resource.{Resource}
 use Rattle.fork_bytes.proofs.Lengths.{AreFour}
 use Rattle.fork_bytes.specs.Written.{counted_before, types_of}
 

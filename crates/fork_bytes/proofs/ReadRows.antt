@@ -6,7 +6,7 @@ use Rattle.std.proofs.lemmas.Int.{to_z-of_z}
 use Rattle.std.proofs.lemmas.Bool.{ne_eqb}
 use Rattle.std.proofs.lemmas.List.{append_assoc, length-append}
 use Rattle.byteorder.specs.Endian.{big_bytes}
-use Rattle.res_base.specs.declared.resource.ResAttrs.{ResAttrs}
+use Rattle.mac_base.specs.declared.resource.ResAttrs.{ResAttrs}
 use Rattle.fork_bytes.specs.Rows.{Row, MapRow}
 use Rattle.fork_bytes.specs.Fork.{Reference, number_at, bytes_at, name_list, name_place, name_at, map_row, max_fork}
 use Rattle.fork_bytes.specs.Written.{datum, data_text, name_text, names_text, name_offset, reference_text, references_text, NamesFit}

@@ -4,7 +4,7 @@ use Rattle.std.proofs.lemmas.List.{drop_more, drop_all, length-append, append_as
 use Rattle.std.specs.List.{flat_map, AllByRecursion}
 use Rattle.byteorder.specs.Endian.{big_bytes}
 use Rattle.byteorder.specs.Numbers.{length-bytes_high_first}
-use Rattle.res_base.specs.declared.resource.Resource.{Resource}
+use Rattle.mac_base.specs.declared.resource.Resource.{Resource}
 use Rattle.fork_bytes.specs.Rows.{Row}
 use Rattle.fork_bytes.specs.Written.{datum, data_text, name_text, names_text, NamesFit}
 use Rattle.fork_bytes.specs.Sizes.{data_size}

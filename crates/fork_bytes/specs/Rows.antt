@@ -1,6 +1,6 @@
 -- Rows, as a fork has them.
 use Rattle.std.specs.Prelude.{ℕ, List}
-use Rattle.res_base.specs.declared.resource.Resource.{Resource}
+use Rattle.mac_base.specs.declared.resource.Resource.{Resource}
 
 -- a resource with its bytes
 abbrev pub Row : Type 0

@@ -1,6 +1,6 @@
 -- Which rows fit a fork, by how many bytes each has.
 use Rattle.std.specs.Prelude.{ℕ, ◌+◌, ◌≤◌, List, [], ◌∷◌, length}
-use Rattle.res_base.specs.declared.resource.Resource.{Resource}
+use Rattle.mac_base.specs.declared.resource.Resource.{Resource}
 use Rattle.fork_bytes.specs.declared.layout.Header.{Header}
 use Rattle.fork_bytes.specs.Fork.{max_fork, max_rows}
 use Rattle.fork_bytes.specs.Written.{names_offset, names_text, NamesFit}

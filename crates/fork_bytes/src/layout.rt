@@ -1,6 +1,6 @@
 //! The parts of a resource fork.
 
-use res_base::resource::{ResType, Resource};
+use mac_base::resource::{ResType, Resource};
 
 /// The most bytes that a fork has: those of all its parts, and those of all its resources.
 pub const MAX_FORK: usize = 0x40_0000;

@@ -11,7 +11,7 @@ ghost use Rattle.fork_bytes.specs.Sizes.{text_length, data_size, sized_header, F
 use crate::datum::Datum;
 use crate::layout::{Header, MAX_FORK, MAX_ROWS};
 use bitflags::Flags;
-use res_base::resource::Resource;
+use mac_base::resource::Resource;
 
 /// The largest offset that a name has: one more says that there is none.
 const MAX_NAME_OFFSET: usize = 65534;

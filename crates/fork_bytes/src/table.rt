@@ -3,7 +3,7 @@
 ghost use Rattle.std.specs.Prelude.{◌≡◌};
 
 use mac_base::bytes::Bytes;
-use res_base::resource::Resource;
+use mac_base::resource::Resource;
 use std::marker::Model;
 
 /// A resource with its bytes, as they stand in a fork.

@@ -16,8 +16,8 @@ use crate::table::Table;
 use bitflags::Flags;
 use byteorder::{BigEndian, ByteOrder};
 use mac_base::error::HostFull;
-use res_base::name::Name;
-use res_base::resource::{ResType, Resource};
+use mac_base::name::Name;
+use mac_base::resource::{ResType, Resource};
 use std::alloc::Global;
 
 /// Adds a number of two bytes.

@@ -12,8 +12,8 @@ use bitflags::Flags;
 use fork_bytes::table::{Row, Rows, Table};
 use mac_base::bytes::Bytes;
 use mac_base::error::HostFull;
-use res_base::name::{MAX_NAME, Name};
-use res_base::resource::{ResAttrs, ResType, Resource};
+use mac_base::name::{MAX_NAME, Name};
+use mac_base::resource::{ResAttrs, ResType, Resource};
 use std::alloc::Global;
 
 /// What a fork has beside its resources: 112 bytes for the system and 128 for the application, and the attributes of the map.

@@ -7,7 +7,7 @@ use crate::told::copied;
 use bitflags::Flags;
 use fork_bytes::table::Row;
 use mac_base::error::OsErr;
-use res_base::resource::ResType;
+use mac_base::resource::ResType;
 
 /// A resource type: four bytes, in C an array of four.
 #[repr(C)]

@@ -7,7 +7,7 @@ use Rattle.fork_bytes.specs.declared.fault.ForkFault.TheVariants.{EndOfFile, Bad
 use Rattle.fork_bytes.specs.declared.layout.Header.{Header}
 use Rattle.fork_bytes.specs.Rows.{Row, MapRow}
 use Rattle.fork_bytes.specs.Fork.{bytes_at, header_of, data_of, map_of, type_list, type_count, TypeEntry, Reference, name_place, entries_of, references_in, map_row, map_rows, datum_length, max_fork, HasTypes, HasReferences, HasFewRows, HasNames, rank}
-use Rattle.res_base.specs.declared.resource.Resource.{Resource}
+use Rattle.mac_base.specs.declared.resource.Resource.{Resource}
 use Rattle.fork_reader.specs.declared.place.Place.{Place}
 use Rattle.fork_reader.specs.declared.types.TypeList.{TypeList}
 use Rattle.fork_reader.specs.declared.types.TypeEntry as found

@@ -6,7 +6,7 @@ ghost use Rattle.fork_reader.specs.Reading.{placed, AreFewBytes};
 use crate::place::{Place, PlacedRow};
 use fork_bytes::fault::{Condition, ForkFault};
 use fork_bytes::layout::{Header, MAX_FORK, MapRow};
-use res_base::resource::Resource;
+use mac_base::resource::Resource;
 
 /// Where in the fork the four bytes stand that say how many bytes a row has. The fault is BadMap(Places), exactly where they end
 /// outside the data.

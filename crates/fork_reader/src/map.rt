@@ -13,7 +13,7 @@ use crate::types::{REFERENCE_LENGTH, TypeEntry, TypeList, check_references, entr
 use bitflags::Flags;
 use fork_bytes::fault::{Condition, ForkFault};
 use fork_bytes::layout::MapRow;
-use res_base::resource::{ResAttrs, ResType};
+use mac_base::resource::{ResAttrs, ResType};
 use std::alloc::Global;
 use std::sync::ArcSlice;
 

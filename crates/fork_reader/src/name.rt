@@ -7,7 +7,7 @@ ghost use Rattle.fork_reader.specs.Reading.{FaultsAt, names_end};
 
 use crate::number::read_two;
 use fork_bytes::fault::{Condition, ForkFault};
-use res_base::name::Name;
+use mac_base::name::Name;
 use std::alloc::{AllocError, Global};
 use std::sync::ArcSlice;
 

@@ -1,6 +1,6 @@
 //! Where the bytes of a resource stand.
 
-use res_base::resource::Resource;
+use mac_base::resource::Resource;
 
 /// Where in a fork the bytes of a resource stand, and how many there are. Their four bytes of length stand before them.
 #[derive(Clone, Copy, Debug, PartialEq, Eq)]

@@ -16,7 +16,7 @@ use fork_bytes::layout::{Header, MapRow};
 use fork_bytes::table::{Row, Rows, Table};
 use mac_base::bytes::Bytes;
 use mac_base::error::HostFull;
-use res_base::resource::Resource;
+use mac_base::resource::Resource;
 use std::alloc::Global;
 
 /// The row with the place of its bytes.

@@ -11,7 +11,7 @@ use crate::number::read_two;
 use fork_bytes::fault::{Condition, ForkFault};
 use fork_bytes::layout::MAX_ROWS;
 use mac_base::error::HostFull;
-use res_base::resource::ResType;
+use mac_base::resource::ResType;
 use std::alloc::{AllocError, Global};
 use std::collections::BTreeSet;
 

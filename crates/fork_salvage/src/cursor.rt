@@ -7,7 +7,7 @@ ghost use Rattle.fork_salvage.specs.Salvage.{references, keeps_all};
 use crate::entry::{ReferenceList, list_of};
 use crate::plan::Plan;
 use crate::reference::{MapReference, REFERENCE_LENGTH, is_kept};
-use res_base::resource::ResType;
+use mac_base::resource::ResType;
 
 /// Where in the references of a fork one is: what is left of a list, and the index of the entry after that.
 #[derive(Clone, Copy)]

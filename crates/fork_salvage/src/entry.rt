@@ -8,7 +8,7 @@ ghost use Rattle.fork_salvage.specs.Salvage.{told_list, end_before, next_start, 
 use crate::number::{read_count, read_two};
 use crate::plan::Plan;
 use crate::reference::{REFERENCE_LENGTH, has_bytes};
-use res_base::resource::ResType;
+use mac_base::resource::ResType;
 
 /// How many bytes an entry of the type list has.
 pub(crate) const ENTRY_LENGTH: usize = 8;

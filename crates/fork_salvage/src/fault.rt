@@ -6,7 +6,7 @@ ghost use Rattle.fork_salvage.specs.Fault.{refusal_of};
 use crate::place::Gap;
 use fork_bytes::fault::{Condition, ForkFault};
 use fork_text::Quoted;
-use res_base::resource::ResType;
+use mac_base::resource::ResType;
 use std::fmt;
 
 /// A type that stands twice in the type list, and where in the fork its two entries stand.

@@ -7,7 +7,7 @@ ghost use Rattle.fork_salvage.specs.Salvage.{map_in, bytes_found, datum_found, n
 use crate::number::{read_four, read_three, read_two};
 use crate::place::{Gap, Span};
 use crate::plan::Plan;
-use res_base::resource::ResType;
+use mac_base::resource::ResType;
 
 /// How many bytes a reference has.
 pub(crate) const REFERENCE_LENGTH: usize = 12;

@@ -10,7 +10,7 @@ use crate::place::Span;
 use crate::plan::{HEADER_LENGTH, Plan, mended_plan, told_plan};
 use crate::reference::{FoundName, Loss, MapReference, find_bytes, find_name};
 use bitflags::Flags;
-use res_base::resource::{ResAttrs, ResType};
+use mac_base::resource::{ResAttrs, ResType};
 use std::marker::Model;
 
 /// Where the data of a fork begins if nothing else is known: after the header and 240 other bytes.

@@ -4,8 +4,8 @@ use mac_base::block::Block;
 use mac_base::bytes::Bytes;
 use mac_base::error::OsErr;
 use mac_base::handle::{Handle, Ptr};
-use res_base::name::Name;
-use res_base::resource::ResType;
+use mac_base::name::Name;
+use mac_base::resource::ResType;
 use std::marker::Model;
 
 /// The blocks of a zone, lowest first. A contract sees the list.

@@ -2,7 +2,7 @@
 
 use crate::memory_call::Span;
 use mac_base::handle::Handle;
-use res_base::resource::ResType;
+use mac_base::resource::ResType;
 
 /// A call of the Resource Manager with its operands. Ids are as they were given, in range or not. A file goes by its number, and
 /// where it may be left out, the current one is meant then (Inside Macintosh: More Macintosh Toolbox, chapter 1).

@@ -8,7 +8,7 @@ ghost use Rattle.reply_text.specs.Text as texts;
 
 use itoa::{Buffer, Integer};
 use mac_base::error::HostFull;
-use res_base::resource::ResType;
+use mac_base::resource::ResType;
 
 /// Adds a number in decimal, with a minus where it is negative.
 pub(crate) fn push_number<I: Integer>(text: &mut Vec<u8>, number: I) -> Result<(), HostFull>

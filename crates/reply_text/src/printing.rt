@@ -10,7 +10,7 @@ use crate::literal::{push_address, push_bytes, push_number, push_type};
 use mac_base::block::{Block, Flags, Kind};
 use mac_base::error::{HostFull, NO_ERR, OsErr};
 use mac_calls::{Asked, CallName, Reply, ResourceInfo, Results};
-use res_base::name::Name;
+use mac_base::name::Name;
 use std::alloc::Global;
 
 /// The last line of a run for which the host had no memory.

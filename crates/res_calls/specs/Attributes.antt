@@ -1,6 +1,6 @@
 -- The attributes of a resource, as the calls read and set them.
 use Rattle.std.specs.Prelude.{ℕ, ◌==◌, Bool, if◌then◌else◌, bit_and, bit_or}
-use Rattle.res_base.specs.declared.resource.ResAttrs.{ResAttrs}
+use Rattle.mac_base.specs.declared.resource.ResAttrs.{ResAttrs}
 use Rattle.res_table.specs.Attributes.{res_changed, is_marked, unmarked}
 
 -- resProtected: the resource is neither marked as changed nor removed

@@ -3,7 +3,7 @@ use Rattle.std.specs.Prelude.{ℕ, ◌==◌, not, [], ◌∷◌, length, unwrap_
 use Rattle.std.specs.Option.{option_map_or}
 use Rattle.mac_base.specs.HeadKind.{Shape}
 use Rattle.mac_base.specs.Heap.{Heap}
-use Rattle.res_base.specs.declared.resource.ResAttrs.{ResAttrs}
+use Rattle.mac_base.specs.declared.resource.ResAttrs.{ResAttrs}
 use Rattle.res_calls.specs.Attributes.{marked, replaced_attributes}
 use Rattle.res_table.specs.Rows.{is_changed, with_attributes, added, removed_at, ith, count_of_type, unique_id}
 use Rattle.res_table.specs.declared.chain.RowPlace.{RowPlace}

@@ -2,7 +2,7 @@
 use Rattle.std.proofs.Common.{◌≡◌, refl, sym, ap, ◌∙◌, arith, ℕ, zero, suc, ◌+◌, ◌<◌, List, [], ◌∷◌, length, take, get_or, set, slice_get, Bool, true, false, Option, None, Some, find, cond}
 use Rattle.std.specs.Prelude.{if◌then◌else◌}
 use Rattle.std.specs.Option.{option_map, option_map_or, option_and_then}
-use Rattle.res_base.specs.declared.resource.ResAttrs.{ResAttrs}
+use Rattle.mac_base.specs.declared.resource.ResAttrs.{ResAttrs}
 use Rattle.fork_reader.specs.declared.place.Place.{Place}
 use Rattle.res_table.specs.declared.row.Row.{Row}
 use Rattle.res_table.specs.declared.chain.ResourceTable.{ResourceTable}

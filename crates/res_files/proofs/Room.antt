@@ -12,7 +12,7 @@ use Rattle.fork_bytes.specs.Fork.{max_rows}
 use Rattle.fork_bytes.specs.Written.{counted_before, name_text, names_offset}
 use Rattle.fork_bytes.specs.declared.layout.TypeCount.{TypeCount}
 use Rattle.fork_reader.specs.declared.place.Place.{Place}
-use Rattle.res_base.specs.declared.resource.Resource.{Resource}
+use Rattle.mac_base.specs.declared.resource.Resource.{Resource}
 use Rattle.res_table.specs.declared.row.Row.{Row}
 use Rattle.res_table.specs.Rows.{is_of_type, added, name_size, names_size, ith, indexes_from, index_of_ith, count_of_type}
 use Rattle.res_table.specs.Behind.{end_of_type}

@@ -13,8 +13,8 @@ use fork_disk::store::ForkStore;
 use fork_reader::place::Place;
 use mac_base::error::HostFull;
 use mac_base::handle::Handle;
-use res_base::name::Name;
-use res_base::resource::{ResAttrs, ResType, Resource};
+use mac_base::name::Name;
+use mac_base::resource::{ResAttrs, ResType, Resource};
 use res_table::chain::RowPlace;
 use res_table::row::Row;
 

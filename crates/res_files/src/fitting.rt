@@ -5,7 +5,7 @@ ghost use Rattle.std.specs.Option.{option_copied, option_map_or};
 ghost use Rattle.fork_bytes.specs.Fork.{max_rows};
 ghost use Rattle.fork_bytes.specs.Written.{name_text};
 ghost use Rattle.fork_reader.specs.declared.place.Place.{Place};
-ghost use Rattle.res_base.specs.declared.resource.Resource.{Resource};
+ghost use Rattle.mac_base.specs.declared.resource.Resource.{Resource};
 ghost use Rattle.res_table.specs.declared.row.Row.{Row};
 ghost use Rattle.res_table.specs.Behind.{end_of_type};
 ghost use Rattle.res_table.specs.Rows.{added, names_size};
@@ -18,7 +18,7 @@ use crate::files::ResourceFiles;
 use fork_bytes::layout::MAX_ROWS;
 use fork_disk::store::ForkStore;
 use fork_reader::place::Place;
-use res_base::resource::ResType;
+use mac_base::resource::ResType;
 use res_table::row::Row;
 use res_table::rows::Rows;
 

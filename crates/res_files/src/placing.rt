@@ -10,7 +10,7 @@ ghost use Rattle.res_files.specs.Updating.{row_placed, rows_placed};
 
 use bitflags::Flags;
 use fork_reader::place::Place;
-use res_base::resource::ResAttrs;
+use mac_base::resource::ResAttrs;
 use res_table::chain::{Chain, RowPlace};
 use res_table::row::Row;
 use res_update::selection::Selection;

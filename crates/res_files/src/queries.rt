@@ -17,7 +17,7 @@ use crate::handles::{has_row_among, next_handle};
 use fork_disk::store::ForkStore;
 use fork_reader::place::Place;
 use mac_base::handle::Handle;
-use res_base::resource::ResType;
+use mac_base::resource::ResType;
 use res_table::chain::RowPlace;
 use res_table::row::Row;
 

@@ -21,7 +21,7 @@ use Rattle.mac_calls.specs.Released.{disposed_in, disposed_of}
 use Rattle.mac_calls.specs.Tests.{unless_passed}
 use Rattle.fork_bytes.specs.Fork.{StandsFor}
 use Rattle.fork_bytes.specs.Written.{written}
-use Rattle.res_base.specs.declared.resource.ResAttrs.{ResAttrs}
+use Rattle.mac_base.specs.declared.resource.ResAttrs.{ResAttrs}
 use Rattle.res_table.specs.Attributes.{is_marked, unmarked}
 use Rattle.res_table.specs.Behind.{end_of_type}
 use Rattle.res_table.specs.OpenFiles.{changed_file, file_closed, file_forgotten, handle_forgotten, is_current, is_numbered, is_open, last_number, no_files, place_of_handle, row_at, rows_changed, table_in, with_rows, without}

@@ -1,7 +1,7 @@
 -- What the rows of open files have of their resource forks.
 use Rattle.std.specs.Prelude.{◌≡◌, ◌⊎◌, ℕ, true, List, [], Some}
 use Rattle.std.specs.List.{Any}
-use Rattle.res_base.specs.declared.resource.Resource.{Resource}
+use Rattle.mac_base.specs.declared.resource.Resource.{Resource}
 use Rattle.fork_bytes.specs.declared.table.Table.{Table}
 use Rattle.fork_bytes.specs.Fork.{StandsFor}
 use Rattle.res_table.specs.OpenFiles.{row_at}

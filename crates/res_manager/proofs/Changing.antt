@@ -1,7 +1,7 @@
 -- Rows that are changed in one way or another, where it makes no difference.
 use Rattle.std.proofs.Common.{◌≡◌, ℕ, Bool, true, false, cond, List, [], ◌∷◌, Option, Some, set, slice_get, find, option_map, option_and_then, refl, sym, ap, subst, ◌∙◌}
 use Rattle.std.specs.Option.{option_map_or}
-use Rattle.res_base.specs.declared.resource.ResAttrs.{ResAttrs}
+use Rattle.mac_base.specs.declared.resource.ResAttrs.{ResAttrs}
 use Rattle.res_calls.specs.Changes.{Files, FileRow, FileTable, row_changed}
 use Rattle.res_calls.specs.Quiet.{attributes_changed}
 use Rattle.res_files.specs.FilesOn.{FilesOn}

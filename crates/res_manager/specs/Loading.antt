@@ -15,7 +15,7 @@ use Rattle.mac_calls.specs.Outcomes.{Outcome}
 use Rattle.res_table.specs.declared.chain.RowPlace.{RowPlace}
 use Rattle.res_table.specs.OpenFiles.{row_at}
 use Rattle.mac_base.specs.declared.block.Flags.{Flags}
-use Rattle.res_base.specs.declared.resource.ResAttrs.{ResAttrs}
+use Rattle.mac_base.specs.declared.resource.ResAttrs.{ResAttrs}
 use Rattle.res_calls.specs.Attributes.{has_bit, res_locked, res_purgeable}
 use Rattle.res_calls.specs.Changes.{FileRow}
 use Rattle.res_calls.specs.Device.{Device, DiskRelations, device_works}

@@ -25,7 +25,7 @@ use mac_base::error::OsErr;
 use mac_base::handle::Handle;
 use mac_calls::GrowZone;
 use mem_calls::MemoryManager;
-use res_base::resource::ResAttrs;
+use mac_base::resource::ResAttrs;
 use res_files::ResourceFiles;
 use res_table::chain::RowPlace;
 

@@ -20,8 +20,8 @@ use mac_base::error::HostFull;
 use mac_base::handle::Handle;
 use mac_calls::{ResourceCall, ResourceInfo, Results};
 use mem_calls::MemoryManager;
-use res_base::name::Name;
-use res_base::resource::{ResAttrs, ResType};
+use mac_base::name::Name;
+use mac_base::resource::{ResAttrs, ResType};
 use res_files::ResourceFiles;
 use std::alloc::Global;
 

@@ -7,7 +7,7 @@ use Rattle.res_table.specs.declared.row.Row.{Row}
 use Rattle.row_index.specs.declared.keyed.Pair.{Pair}
 use Rattle.std.specs.Option.{option_map_or}
 use Rattle.std.proofs.lemmas.List.{length-set}
-use Rattle.res_base.specs.declared.resource.Resource.{Resource}
+use Rattle.mac_base.specs.declared.resource.Resource.{Resource}
 use Rattle.res_table.specs.Rows.{has_handle, changed_at, opened_row}
 use Rattle.row_index.specs.Keyed.{key_of_handle, key_of_resource, with_pair, with_key, without_key, pushed_back, pulled_up, first_place, AreInOrder, in_order}
 use Rattle.res_table.specs.Indexed.{handle_key, resource_key, pairs_from, pairs_of}

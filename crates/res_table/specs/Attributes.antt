@@ -1,6 +1,6 @@
 -- The attributes of a resource: a set of bits.
 use Rattle.std.specs.Prelude.{ℕ, ◌==◌, Bool, bit_and}
-use Rattle.res_base.specs.declared.resource.ResAttrs.{ResAttrs}
+use Rattle.mac_base.specs.declared.resource.ResAttrs.{ResAttrs}
 
 -- resChanged: the resource is to be written
 abbrev pub res_changed : ℕ

@@ -5,8 +5,8 @@ use Rattle.std.specs.Option.{option_map_or}
 use Rattle.std.specs.Ordering.{int_eq}
 use Rattle.fork_bytes.specs.Written.{name_text}
 use Rattle.mac_base.specs.HandleTable.{HandleTable, bytes_of}
-use Rattle.res_base.specs.declared.resource.ResAttrs.{ResAttrs}
-use Rattle.res_base.specs.declared.resource.Resource.{Resource}
+use Rattle.mac_base.specs.declared.resource.ResAttrs.{ResAttrs}
+use Rattle.mac_base.specs.declared.resource.Resource.{Resource}
 use Rattle.res_table.specs.declared.row.Row.{Row}
 use Rattle.res_table.specs.Attributes.{is_marked, unmarked}
 pub use Rattle.row_index.specs.Kinds.{ith}

@@ -1,6 +1,6 @@
 -- What is saved of rows: the table of a fork.
 use Rattle.std.specs.Prelude.{ℕ, List, [], map}
-use Rattle.res_base.specs.declared.resource.Resource.{Resource}
+use Rattle.mac_base.specs.declared.resource.Resource.{Resource}
 use Rattle.fork_bytes.specs.declared.table.Table.{Table}
 use Rattle.fork_bytes.specs.declared.layout.TypeCount.{TypeCount}
 use Rattle.fork_bytes.specs.Written.{types_of, Fits}

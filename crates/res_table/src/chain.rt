@@ -4,7 +4,7 @@ use crate::row::Row;
 use crate::rows::Rows;
 use mac_base::error::HostFull;
 use mac_base::handle::Handle;
-use res_base::resource::{ResAttrs, ResType};
+use mac_base::resource::{ResAttrs, ResType};
 use std::alloc::Global;
 use std::marker::Model;
 

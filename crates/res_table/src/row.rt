@@ -3,7 +3,7 @@
 use bitflags::Flags;
 use mac_base::error::HostFull;
 use mac_base::handle::Handle;
-use res_base::resource::{ResAttrs, ResType, Resource};
+use mac_base::resource::{ResAttrs, ResType, Resource};
 use row_index::keys::{key_of_handle, key_of_resource};
 
 /// A resource of an open file, and its handle, if it has one (Inside Macintosh: More Macintosh Toolbox, chapter 1).

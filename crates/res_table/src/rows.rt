@@ -5,7 +5,7 @@ use crate::runs::{MAX_NAME_OFFSET, MAX_OFFSET, names_fit, run_end};
 use fork_bytes::layout::MAX_ROWS;
 use mac_base::error::HostFull;
 use mac_base::handle::Handle;
-use res_base::resource::{ResAttrs, ResType, Resource};
+use mac_base::resource::{ResAttrs, ResType, Resource};
 use row_index::keyed::{Keyed, Pair};
 use row_index::keys::{key_of_handle, key_of_resource};
 use row_index::kinds::{Kinds, ith_type};

@@ -5,7 +5,7 @@ ghost use Rattle.fork_bytes.specs.Written.{types_of, NamesFit};
 ghost use Rattle.res_table.specs.Saved.{bare};
 
 use crate::row::Row;
-use res_base::name::Name;
+use mac_base::name::Name;
 
 /// The largest offset of a name: one more says that there is none.
 pub(crate) const MAX_NAME_OFFSET: usize = 65534;

@@ -9,7 +9,7 @@ use Rattle.mac_base.specs.HandleTable.{HandleTable}
 use Rattle.fork_bytes.specs.Rows as forks
 use Rattle.fork_bytes.specs.declared.table.Table.{Table}
 use Rattle.fork_reader.specs.declared.place.Place.{Place}
-use Rattle.res_base.specs.declared.resource.ResAttrs.{ResAttrs}
+use Rattle.mac_base.specs.declared.resource.ResAttrs.{ResAttrs}
 use Rattle.res_table.specs.declared.row.Row.{Row}
 use Rattle.res_table.specs.declared.chain.ResourceTable.{ResourceTable}
 use Rattle.res_table.specs.Rows.{is_changed, contents, changed_at}

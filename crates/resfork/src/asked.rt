@@ -8,7 +8,7 @@ use crate::request::{Choice, Key, Request, Wanted};
 use clap::ArgMatches;
 use clap::error::ErrorKind;
 use mac_text::bytes_of;
-use res_base::resource::ResType;
+use mac_base::resource::ResType;
 use std::alloc::{AllocError, Global};
 use std::convert::AsStr;
 use thiserror::Error;

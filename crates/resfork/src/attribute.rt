@@ -4,7 +4,7 @@ ghost use Rattle.std.specs.Prelude.{◌≡◌, Some};
 ghost use Rattle.resfork.specs.Attributes.{bit_of, word_of, attributes_text};
 
 use bitflags::Flags;
-use res_base::resource::ResAttrs;
+use mac_base::resource::ResAttrs;
 use std::fmt;
 
 /// A bit of the attributes. The first and the last have no name of their own.

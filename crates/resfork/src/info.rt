@@ -13,7 +13,7 @@ use mac_files::bin_hex::{is_bin_hex, read_bin_hex};
 use mac_files::container::Container;
 use mac_files::contents::Contents;
 use mac_files::{container_of, read_contents};
-use res_base::resource::ResType;
+use mac_base::resource::ResType;
 use std::alloc::{AllocError, Global};
 
 /// Adds the lines of a name, and of a type and a creator.

@@ -5,7 +5,7 @@ ghost use Rattle.std.specs.Option.{SomeIff};
 ghost use Rattle.std.specs.Char.{digit_value};
 ghost use Rattle.resfork.specs.Kind.{ShowsFirst, ShowsBare, Quotes, ShowsKind, in_quotes};
 
-use res_base::resource::ResType;
+use mac_base::resource::ResType;
 
 /// How many bytes a type has.
 const KIND_LENGTH: usize = 4;

@@ -8,7 +8,7 @@ use crate::attribute::Attributes;
 use crate::letters::Letters;
 use crate::shown::{KindText, NamePart};
 use fork_bytes::table::Row;
-use res_base::resource::ResType;
+use mac_base::resource::ResType;
 use std::alloc::{AllocError, Global};
 use std::fmt;
 

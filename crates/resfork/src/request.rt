@@ -1,7 +1,7 @@
 //! What is asked about a resource fork.
 
 use crate::letters::Letters;
-use res_base::resource::ResType;
+use mac_base::resource::ResType;
 
 /// What to show of a fork.
 #[derive(Drop)]

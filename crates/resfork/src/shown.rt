@@ -6,7 +6,7 @@ ghost use Rattle.std.specs.List.{list_all};
 ghost use Rattle.resfork.specs.Listing.{cell_text, kind_text, name_text, quoted, shown};
 
 use crate::letters::Letters;
-use res_base::resource::ResType;
+use mac_base::resource::ResType;
 use std::fmt;
 
 /// The quote that stands around types where they have one.

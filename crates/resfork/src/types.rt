@@ -7,7 +7,7 @@ use crate::letters::Letters;
 use crate::list::is_chosen;
 use crate::shown::KindText;
 use fork_bytes::table::Row;
-use res_base::resource::ResType;
+use mac_base::resource::ResType;
 use std::alloc::{AllocError, Global};
 use std::fmt;
 

@@ -5,7 +5,7 @@ ghost use Rattle.std.specs.Int.{w16, w32, cast_signed, from_be_bytes, to_be_byte
 ghost use Rattle.row_index.specs.Keyed.{key_of_handle, key_of_resource};
 
 use mac_base::handle::Handle;
-use res_base::resource::ResType;
+use mac_base::resource::ResType;
 
 /// What handles are multiplied by: those of one zone, which stand close, are then spread evenly.
 const SPREAD: u32 = 2_654_435_761;

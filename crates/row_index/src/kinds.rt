@@ -6,7 +6,7 @@ ghost use Rattle.row_index.specs.Kinds.{are_types, is_run_of, is_other, expanded
 use crate::keys::is_same_kind;
 use fork_bytes::layout::TypeCount;
 use mac_base::error::HostFull;
-use res_base::resource::ResType;
+use mac_base::resource::ResType;
 use std::alloc::Global;
 use std::marker::Model;
 

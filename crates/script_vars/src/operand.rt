@@ -6,7 +6,7 @@ ghost use Rattle.script_vars.specs.Variables.{number_in, number_at, bytes_at, id
 
 use crate::vars::Vars;
 use mac_calls::Span;
-use res_base::resource::ResType;
+use mac_base::resource::ResType;
 use script_lines::{NumberOperand, Operand, Operands};
 
 /// The number of an operand. Bytes, an id, a type and an operand that is missing count as 0.

@@ -1,6 +1,6 @@
 use Rattle.std.proofs.Common.{length, drop, ◌+◌, ℕ, List, sym, ap, subst, arith}
 use Rattle.std.proofs.lemmas.List.{drop_all}
-use Rattle.res_base.specs.declared.resource.Resource.{Resource}
+use Rattle.mac_base.specs.declared.resource.Resource.{Resource}
 use Rattle.std.specs.List.{AllByRecursion}
 use Rattle.fork_bytes.specs.Laws.{IsRow}
 use Rattle.fork_bytes.specs.Written.{names_text, NamesFit}

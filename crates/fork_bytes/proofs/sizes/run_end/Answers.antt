@@ -1,5 +1,5 @@
 use Rattle.std.proofs.Common.{◌≡◌, ◌∷◌, drop, ◌+◌, ◌-◌, sym, ap, ◌∙◌, arith}
-use Rattle.res_base.specs.declared.resource.Resource.{Resource}
+use Rattle.mac_base.specs.declared.resource.Resource.{Resource}
 use Rattle.fork_bytes.specs.Written.{types_of}
 use Rattle.std.proofs.lemmas.List.{drop_more}
 use Rattle.fork_bytes.proofs.Counted.{run_more, run_apart, run_last, said_of_found}

@@ -1,6 +1,6 @@
 use Rattle.std.proofs.Common.{length, List, ℕ, ap, sym, subst, ◌∙◌, arith}
 use Rattle.std.proofs.lemmas.List.{drop_all}
-use Rattle.res_base.specs.declared.resource.Resource.{Resource}
+use Rattle.mac_base.specs.declared.resource.Resource.{Resource}
 use Rattle.fork_bytes.specs.Written.{types_of}
 use Rattle.fork_bytes.proofs.Counted.{types_at_run, four_at_run}
 use Rattle.fork_bytes.proofs.Lengths.{AreFour}

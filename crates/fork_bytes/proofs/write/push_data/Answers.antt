@@ -1,7 +1,7 @@
 use Rattle.std.proofs.Common.{◌≡◌, ◌++◌, drop, ℕ, ◌+◌, List, refl, sym, ap, ◌∙◌, arith}
 use Rattle.std.proofs.lemmas.List.{drop_all, append_assoc}
 use Rattle.byteorder.specs.Endian.{big_bytes}
-use Rattle.res_base.specs.declared.resource.Resource.{Resource}
+use Rattle.mac_base.specs.declared.resource.Resource.{Resource}
 use Rattle.fork_bytes.specs.Written.{datum, data_text, plain_row, plain_rows}
 use Rattle.fork_bytes.proofs.Steps.{appended, all_added}
 use Rattle.fork_bytes.proofs.Plain.{plain_step, plain_long}

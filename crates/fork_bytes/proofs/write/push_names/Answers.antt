@@ -1,6 +1,6 @@
 use Rattle.std.proofs.Common.{◌++◌, drop, ℕ, ◌+◌, List, sym, ap, ◌∙◌, arith}
 use Rattle.std.proofs.lemmas.List.{drop_all}
-use Rattle.res_base.specs.declared.resource.Resource.{Resource}
+use Rattle.mac_base.specs.declared.resource.Resource.{Resource}
 use Rattle.fork_bytes.specs.Written.{name_text, names_text}
 use Rattle.fork_bytes.proofs.Steps.{flat_step, appended, all_added}
 use Rattle.fork_bytes.proofs.write.push_names.Goals as goal

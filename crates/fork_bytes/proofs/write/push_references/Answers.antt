@@ -2,7 +2,7 @@ use Rattle.std.proofs.Common.{◌++◌, ◌∷◌, drop, ℕ, ◌+◌, List, sub
 use Rattle.std.proofs.lemmas.List.{drop_all}
 use Rattle.std.specs.Int.{w16, cast_unsigned}
 use Rattle.byteorder.specs.Endian.{big_bytes}
-use Rattle.res_base.specs.declared.resource.Resource.{Resource}
+use Rattle.mac_base.specs.declared.resource.Resource.{Resource}
 use Rattle.fork_bytes.specs.Written.{reference_text, references_text, plain_row, plain_rows, NamesFit}
 use Rattle.fork_bytes.proofs.Steps.{appended, all_added}
 use Rattle.fork_bytes.proofs.Entries.{names_from}

@@ -1,5 +1,5 @@
 use Rattle.std.proofs.Common.{◌≡◌, ℕ, ◌≤◌, ◌-◌, ◌++◌, List, take, drop}
-use Rattle.res_base.specs.declared.resource.Resource.{Resource}
+use Rattle.mac_base.specs.declared.resource.Resource.{Resource}
 use Rattle.res_table.specs.Saved.{bare}
 use Rattle.res_calls.specs.Fitting.{names_fit}
 use Rattle.res_files.proofs.fitting.names_end.Given as goal

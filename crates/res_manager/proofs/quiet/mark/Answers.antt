@@ -1,5 +1,5 @@
 use Rattle.std.proofs.Common.{sym, ap, ◌∙◌}
-use Rattle.res_base.specs.declared.resource.ResAttrs.{ResAttrs}
+use Rattle.mac_base.specs.declared.resource.ResAttrs.{ResAttrs}
 use Rattle.res_calls.specs.Attributes.{marked}
 use Rattle.res_manager.proofs.Changing.{attributes_set}
 use Rattle.res_manager.proofs.quiet.mark.Goals as goal

@@ -1,5 +1,5 @@
 use Rattle.std.proofs.Common.{sym, ap, ◌∙◌}
-use Rattle.res_base.specs.declared.resource.ResAttrs.{ResAttrs}
+use Rattle.mac_base.specs.declared.resource.ResAttrs.{ResAttrs}
 use Rattle.res_calls.specs.Attributes.{replaced_attributes}
 use Rattle.res_manager.proofs.Changing.{attributes_set}
 use Rattle.res_manager.proofs.quiet.set_attributes.Goals as goal
