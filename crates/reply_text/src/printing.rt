@@ -9,8 +9,8 @@ ghost use Rattle.reply_text.specs.Text as texts;
 use crate::literal::{push_address, push_bytes, push_number, push_type};
 use mac_base::block::{Block, Flags, Kind};
 use mac_base::error::{HostFull, NO_ERR, OsErr};
-use mac_calls::{Asked, CallName, Reply, ResourceInfo, Results};
 use mac_base::name::Name;
+use mac_calls::{Asked, CallName, Reply, ResourceInfo, Results};
 use std::alloc::Global;
 
 /// The last line of a run for which the host had no memory.

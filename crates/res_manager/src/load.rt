@@ -23,9 +23,9 @@ use bitflags::Flags;
 use fork_disk::store::ForkStore;
 use mac_base::error::OsErr;
 use mac_base::handle::Handle;
+use mac_base::resource::ResAttrs;
 use mac_calls::GrowZone;
 use mem_calls::MemoryManager;
-use mac_base::resource::ResAttrs;
 use res_files::ResourceFiles;
 use res_table::chain::RowPlace;
 

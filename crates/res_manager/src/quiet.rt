@@ -18,10 +18,10 @@ use bitflags::Flags;
 use fork_disk::store::ForkStore;
 use mac_base::error::HostFull;
 use mac_base::handle::Handle;
-use mac_calls::{ResourceCall, ResourceInfo, Results};
-use mem_calls::MemoryManager;
 use mac_base::name::Name;
 use mac_base::resource::{ResAttrs, ResType};
+use mac_calls::{ResourceCall, ResourceInfo, Results};
+use mem_calls::MemoryManager;
 use res_files::ResourceFiles;
 use std::alloc::Global;
 

@@ -23,10 +23,10 @@ use fork_disk::store::ForkStore;
 use mac_base::block::Status;
 use mac_base::error::OsErr;
 use mac_base::handle::{Handle, Ptr};
-use mac_calls::ResourceCall;
-use mem_calls::MemoryManager;
 use mac_base::name::MAX_NAME;
 use mac_base::resource::{ResAttrs, ResType};
+use mac_calls::ResourceCall;
+use mem_calls::MemoryManager;
 use res_files::ResourceFiles;
 
 /// The most blocks that may be lent at a time.

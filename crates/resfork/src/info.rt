@@ -8,12 +8,12 @@ use crate::letters::Letters;
 use crate::shown::{KindText, NameText};
 use crate::source::{NoFork, name_of_container};
 use crate::types::types_listing;
+use mac_base::resource::ResType;
 use mac_files::bin_hex::file::BinHexFile;
 use mac_files::bin_hex::{is_bin_hex, read_bin_hex};
 use mac_files::container::Container;
 use mac_files::contents::Contents;
 use mac_files::{container_of, read_contents};
-use mac_base::resource::ResType;
 use std::alloc::{AllocError, Global};
 
 /// Adds the lines of a name, and of a type and a creator.

@@ -5,8 +5,8 @@ ghost use Rattle.script_lines.specs.Numbers.{as_operand};
 ghost use Rattle.script_vars.specs.Variables.{number_in, number_at, bytes_at, id_at, type_at, given_bytes_at, given_number_at};
 
 use crate::vars::Vars;
-use mac_calls::Span;
 use mac_base::resource::ResType;
+use mac_calls::Span;
 use script_lines::{NumberOperand, Operand, Operands};
 
 /// The number of an operand. Bytes, an id, a type and an operand that is missing count as 0.
