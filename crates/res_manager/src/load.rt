@@ -1,6 +1,6 @@
 //! Loads of resources: a row's bytes come into a block of the zone.
 
-ghost use Rattle.std.specs.Prelude.{◌≡◌, [], Some, true, false, not, ◌||◌, length, All, IsTrue, IsFalse, IsSome, IfOk, IfSome, OnOk, OnErr, IfErr, MatchResult, ◌≤◌, ◌<◌, ℕ, List, if◌then◌else◌};
+ghost use Rattle.std.specs.Prelude.{◌≡◌, [], Some, true, false, not, ◌||◌, length, IsTrue, IsFalse, IsSome, IfOk, IfSome, OnOk, OnErr, IfErr, MatchResult, ◌≤◌, ◌<◌, ℕ, List, if◌then◌else◌};
 ghost use Rattle.linked_zone.specs.Loans.{KeepsLoans};
 ghost use Rattle.mac_base.specs.declared.releasing.ReleasingCall.TheVariants.{DisposesHandle};
 ghost use Rattle.mac_base.specs.HandleTable.{is_full, with_flags};
@@ -10,7 +10,7 @@ ghost use Rattle.mac_base.specs.Releasing.{heap_released};
 ghost use Rattle.mac_calls.specs.Outcomes.{Outcome};
 ghost use Rattle.res_calls.specs.Changes.{handles_forgotten, row_changed};
 ghost use Rattle.mac_calls.specs.Released.{disposed_in};
-ghost use Rattle.res_files.specs.FilesOn.{FailedAt, NoneFailed};
+ghost use Rattle.res_files.specs.FilesOn.{FailedAt, HonestAt, NoneFailed};
 ghost use Rattle.res_files.specs.Stores.{KeepsStores};
 ghost use Rattle.res_calls.specs.Answered.{AnswersFor};
 ghost use Rattle.res_table.specs.OpenFiles.{row_at};
@@ -42,7 +42,7 @@ pub(crate) fn get_row<S: ForkStore, G: GrowZone>(
     requires unasked { G.asks procedure.old ≡ [] }
     requires there { IsSome (row_at place files.old.files) }
     ensures step { LoadSteps S.ForkStore memory.old files.old place loads (G.asks procedure.new) result memory.new files.new }
-    ensures keeps { All S.is_honest files.new.stores → KeepsStores S.ForkStore files.old.stores files.new.stores }
+    ensures keeps { KeepsStores S.ForkStore files.old.stores files.new.stores }
     ensures source { G.source procedure.new ≡ G.source procedure.old }
     ensures loans { KeepsLoans memory.old memory.new }
     ensures lent { memory.new.heap.table.lent ≡ memory.old.heap.table.lent }
@@ -176,7 +176,7 @@ fn load_bytes<S: ForkStore>(
 ) -> Result<(), OsErr>
     requires placed { IsPlaced memory.old.heap handle size }
     requires long { HasBytes size (row_at place files.old.files) }
-    ensures loaded { OnOk result ((bytes : List ℕ) × AreAnswered (All S.is_honest files.new.stores) size (row_at place files.old.files) bytes
+    ensures loaded { OnOk result ((bytes : List ℕ) × AreAnswered (HonestAt S.is_honest files.new.stores place.file) size (row_at place files.old.files) bytes
         × (memory.new.heap ≡ loaded_with handle (flags_for attributes) bytes memory.old.heap)) }
     ensures undone { OnErr result (memory.new.heap ≡ (if is_own then with_emptied memory.old.heap handle else heap_released (DisposesHandle handle) memory.old.heap)) }
     ensures code { IfErr result (λ code. code ≡ OsErr.IoErr) }
@@ -184,8 +184,8 @@ fn load_bytes<S: ForkStore>(
     ensures loans { KeepsLoans memory.old memory.new }
     ensures lent { memory.new.heap.table.lent ≡ memory.old.heap.table.lent }
     ensures shape { memory.new.shape ≡ memory.old.shape }
-    ensures files { AnswersFor (All S.is_honest files.new.stores) files.old.files files.new.files }
-    ensures keeps { All S.is_honest files.new.stores → KeepsStores S.ForkStore files.old.stores files.new.stores }
+    ensures files { AnswersFor (HonestAt S.is_honest files.new.stores) files.old.files files.new.files }
+    ensures keeps { KeepsStores S.ForkStore files.old.stores files.new.stores }
     ensures loads { files.new.loads ≡ files.old.loads }
     ensures count { length files.new.stores ≡ length files.old.stores }
     ensures cause { MatchResult result (λ _. NoneFailed S.failures files.old.stores files.new.stores) (λ _. FailedAt S.failures place.file files.old.stores files.new.stores) }
@@ -209,13 +209,13 @@ fn read_bytes<S: ForkStore>(
     requires placed { IsPlaced memory.old.heap handle size }
     requires long { HasBytes size (row_at place files.old.files) }
     ensures filled { (bytes : List ℕ) × IsFilled handle bytes memory.old.heap memory.new.heap
-        × OnOk result (AreAnswered (All S.is_honest files.new.stores) size (row_at place files.old.files) bytes) }
+        × OnOk result (AreAnswered (HonestAt S.is_honest files.new.stores place.file) size (row_at place files.old.files) bytes) }
     ensures code { IfErr result (λ code. code ≡ OsErr.IoErr) }
     ensures some { OnErr result (0 < size) }
     ensures loans { KeepsLoans memory.old memory.new }
     ensures shape { memory.new.shape ≡ memory.old.shape }
-    ensures files { AnswersFor (All S.is_honest files.new.stores) files.old.files files.new.files }
-    ensures keeps { All S.is_honest files.new.stores → KeepsStores S.ForkStore files.old.stores files.new.stores }
+    ensures files { AnswersFor (HonestAt S.is_honest files.new.stores) files.old.files files.new.files }
+    ensures keeps { KeepsStores S.ForkStore files.old.stores files.new.stores }
     ensures loads { files.new.loads ≡ files.old.loads }
     ensures count { length files.new.stores ≡ length files.old.stores }
     ensures cause { MatchResult result (λ _. NoneFailed S.failures files.old.stores files.new.stores) (λ _. FailedAt S.failures place.file files.old.stores files.new.stores) }
