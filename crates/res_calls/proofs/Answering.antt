@@ -28,7 +28,7 @@ abbrev all : ℕ → Bool
 all k = true
 
 -- where all bytes are known, the state is
-all_rows : (rows : List FileRow) → map (known_row true) rows ≡ rows
+pub all_rows : (rows : List FileRow) → map (known_row true) rows ≡ rows
 all_rows [] = refl
 all_rows (r ∷ rows) = ap (λ (others : List FileRow). r ∷ others) (all_rows rows)
 
