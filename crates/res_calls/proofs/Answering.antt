@@ -1,9 +1,10 @@
 -- What is known of a state as the devices answered, and of a step by it.
-use Rattle.std.proofs.Common.{◌≡◌, refl, sym, ap, ◌∙◌, ℕ, zero, suc, ◌-◌, ◌≤◌, Bool, true, false, eqb, Option, Some, None, Result, List, [], ◌∷◌, map, slice_get, unwrap_or, IsTrue, subst, arith}
+use Rattle.std.proofs.Common.{◌≡◌, refl, sym, ap, ◌∙◌, ℕ, zero, suc, ◌-◌, ◌≤◌, Bool, true, false, eqb, Option, Some, None, Result, Ok, Err, List, [], ◌∷◌, map, slice_get, unwrap_or, IsTrue, subst, arith}
 use Rattle.std.proofs.lemmas.Bool.{eq-eqb, eqb-true}
 use Rattle.mac_base.specs.declared.error.OsErr.{OsErr}
 use Rattle.mac_calls.specs.declared.memory_call.MemoryCall.{MemoryCall}
 use Rattle.mac_calls.specs.declared.resource_call.ResourceCall.{ResourceCall}
+use Rattle.mac_calls.specs.declared.resource_call.ResourceCall.TheVariants as calls
 use Rattle.mac_calls.specs.GrowZone.{Ask}
 use Rattle.mac_calls.specs.Outcomes.{Outcome}
 use Rattle.res_table.specs.declared.chain.RowPlace.{RowPlace}
@@ -13,11 +14,11 @@ use Rattle.res_calls.specs.Changes.{FileRow, FileTable, Files, saved_table}
 use Rattle.res_table.specs.declared.chain.OpenFile.{OpenFile}
 use Rattle.fork_bytes.specs.Written.{written}
 use Rattle.std.specs.Prelude.{MatchBool, ⊤}
-use Rattle.std.specs.Option.{IsSomeAnd}
+use Rattle.std.specs.Option.{IsSomeAnd, option_map_or}
 use Rattle.res_calls.specs.Device.{Device, Works as Working, FailsBefore, FailsWriting, Anything, Disk, DiskRelations, LeaveRelation, ReadsBy, device_works, read_truly}
 use Rattle.res_calls.specs.Files.{ResState, ResourceEnd, disk_of}
-use Rattle.res_calls.specs.Loads.{gets, loads_bytes, placing}
-use Rattle.res_calls.specs.Steps.{GetsPlace, GetsRow, LeavesDisk, MemoryRelation, ResourceStepBy, StepsUnless, Work, Gets, Updates, Opens, Quiet, Works, work_of}
+use Rattle.res_calls.specs.Loads.{gets, loads_bytes, placing, row_wanted}
+use Rattle.res_calls.specs.Steps.{GetsPlace, GetsRow, IsSaved, LeavesDisk, MemoryRelation, ReadsBack, ResourceStepBy, StepsUnless, Work, Gets, Updates, Opens, Quiet, Works, update_in, work_of}
 use Rattle.res_calls.specs.Tests.{resource_refusal}
 use Rattle.res_calls.specs.Updates.{Update}
 
@@ -175,3 +176,24 @@ fewer_honest honest fewer worked Failed Memory may_leave old call asks outcome n
     by Working file cause = tt
     by FailsBefore file cause = any_file file cause
     by (FailsWriting left) file cause = any_file file cause
+
+-- and what reads back where more are, reads back
+pub reads_fewer : (honest fewer : ℕ → Type 0) → ((k : ℕ) → fewer k → honest k) → (old : ResState) (call : ResourceCall) (outcome : Outcome) (new : ResState) → ReadsBack honest old call outcome new → ReadsBack fewer old call outcome new
+reads_fewer honest fewer these old call (Err code) new reads = tt
+reads_fewer honest fewer these old call (Ok results) new reads = by (update_in (work_of old call)) reads
+  where
+    by : (update : Option Update) → IsSaved honest update new → IsSaved fewer update new
+    by None saved = tt
+    by (Some u) saved = λ h. saved (these u.file h)
+
+-- a call that gets or loads a resource makes no update
+idle : (o : Option RowPlace) → update_in (option_map_or Gets o Quiet) ≡ None
+idle None = refl
+idle (Some p) = refl
+
+pub gets_none : (state : ResState) (call : ResourceCall) → gets call ≡ true → update_in (work_of state call) ≡ None
+gets_none state (calls.GetResource kind id) is = idle (row_wanted state (calls.GetResource kind id))
+gets_none state (calls.Get1Resource kind id) is = idle (row_wanted state (calls.Get1Resource kind id))
+gets_none state (calls.GetIndResource kind i) is = idle (row_wanted state (calls.GetIndResource kind i))
+gets_none state (calls.LoadResource h) is = idle (row_wanted state (calls.LoadResource h))
+gets_none state _ is = absurd (cc is)

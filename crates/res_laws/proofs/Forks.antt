@@ -40,7 +40,7 @@ use Rattle.res_calls.specs.Steps.{Gets, GetsPlace, GetsRow, IsSaved, Memory, Ope
 use Rattle.res_calls.specs.Tests.{resource_refusal}
 use Rattle.res_calls.specs.Updates.{Update, disposed, new_row, row_passes, update_end, update_of, updated_at, updated_table}
 use Rattle.res_calls.specs.Answered.{AreHonest, IsAnswered, answered_disks, known_file, known_row}
-use Rattle.res_calls.proofs.Answering.{all_rows, answered_back, answered_before, disk_answered, none, none_honest, only, only_honest, only_is}
+use Rattle.res_calls.proofs.Answering.{all_rows, answered_back, answered_before, disk_answered, gets_none, none, none_honest, only, only_honest, only_is}
 use Rattle.res_laws.specs.Forks.{HasBytes, ReadOffForks}
 use Rattle.res_laws.specs.Tools.{Called, IsToolRun, ToolDoes, Tools, tools_after}
 
@@ -83,21 +83,6 @@ read-bytes : (disk : Disk) (table : FileTable) → Reads disk (Ok table) → Hav
 read-bytes disk table (empty none) = All-nil (HasBytes disk)
 read-bytes disk table (fork read stands) = All-map (HasBytes disk) opened_row read.rows (λ i d within.
     let q = get_or read.rows i d in inr (read, stands, (i, q, within, get_or_default read.rows i q d within, (refl, refl, refl, refl))))
-
--- a call that gets or loads a resource makes no update
-gets-none : (state : ResState) (c : ResourceCall) → gets c ≡ true → update_in (work_of state c) ≡ None
-gets-none state c is = by c is
-  where
-    idle : (o : Option RowPlace) → update_in (option_map_or Gets o Quiet) ≡ None
-    idle None = refl
-    idle (Some p) = refl
-
-    by : (c : ResourceCall) → gets c ≡ true → update_in (work_of state c) ≡ None
-    by (call.GetResource kind id) is = idle (row_wanted state (call.GetResource kind id))
-    by (call.Get1Resource kind id) is = idle (row_wanted state (call.Get1Resource kind id))
-    by (call.GetIndResource kind i) is = idle (row_wanted state (call.GetIndResource kind i))
-    by (call.LoadResource h) is = idle (row_wanted state (call.LoadResource h))
-    by _ is = absurd (cc is)
 
 -- ---- the open files, of which this says whose devices are honest
 
@@ -478,7 +463,7 @@ module _ (honest : ℕ → Type 0) where
       nothing (Err code) = tt
 
       by : (b : Bool) → gets rc ≡ b → MatchBool b (IsAnswered honest old before) (before ≡ old) → ReadsBack honest before rc outcome last
-      by true is was = subst (λ o. OnOk outcome (IsSaved honest o last)) (sym (gets-none before rc is)) (nothing outcome)
+      by true is was = subst (λ o. OnOk outcome (IsSaved honest o last)) (sym (gets_none before rc is)) (nothing outcome)
       by false is same = subst (λ s. ReadsBack honest s rc outcome last) (sym same) reads
 
   -- ---- runs

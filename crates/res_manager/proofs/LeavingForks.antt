@@ -26,13 +26,13 @@ use Rattle.res_manager.proofs.ReadingBack.{made_reads}
 use Rattle.res_manager.proofs.Stepping.{if_ok}
 use Rattle.res_manager.proofs.UpdatingCalls.{Makes, on_err}
 
-module _ {S E : Type 0} (store : Ghosts S) (k : ℕ) (old new : List S) (others : OthersStay k old new) where
+module _ {S : Type 0} (store : Ghosts S) (k : ℕ) (old new : List S) (others : OthersStay k old new) where
   -- a device that is honest was so, where that of the one file was
   were_honest : (HonestAt store.is_honest new k → HonestAt store.is_honest old k) → WereHonest store.is_honest old new
   were_honest here = one_kept k old new others (λ was now. IfSome now store.is_honest → IfSome was store.is_honest) (λ o honest. honest) here
 
   -- a file is opened, or isn't
-  pub opens_fork : (opening : Result (Result ⊤ OsErr) HostFull) (result : Result Outcome E) → (HonestAt store.is_honest new k → OpensStore store k old new opening)
+  pub opens_fork : {E : Type 0} (opening : Result (Result ⊤ OsErr) HostFull) (result : Result Outcome E) → (HonestAt store.is_honest new k → OpensStore store k old new opening)
       → IfOk result (λ outcome. OnOk outcome (IsSettled store (Some k) new)) → OpensFork store k old new result
   opens_fork opening result opens settled = record {
     works = record { honest = were_honest (λ honest. (opens honest).honest); any_moment = open_leaves store old new k others (λ honest. (opens honest).any_moment); settled = settled };
