@@ -9,8 +9,8 @@ use Rattle.mac_calls.specs.GrowZone.{Ask}
 use Rattle.mac_calls.specs.Outcomes.{Outcome}
 use Rattle.res_table.specs.declared.chain.RowPlace.{RowPlace}
 use Rattle.res_table.specs.OpenFiles.{row_at}
-use Rattle.res_calls.specs.Answered.{AnswersStep, AreHonest, IsAnswered, answered_disks, file_of_work, known_disks, known_file, known_files, known_row, known_state}
-use Rattle.res_calls.specs.Changes.{FileRow, FileTable, Files, saved_table}
+use Rattle.res_calls.specs.Answered.{AnswersStep, AreHonest, IsAnswered, answered_disks, file_of_work, known_disks, known_file, known_row, known_state}
+use Rattle.res_calls.specs.Changes.{FileRow, FileTable, saved_table}
 use Rattle.res_table.specs.declared.chain.OpenFile.{OpenFile}
 use Rattle.fork_bytes.specs.Written.{written}
 use Rattle.std.specs.Prelude.{MatchBool, ⊤}

@@ -1,5 +1,7 @@
 -- One of the stores is another: what stays the same of all.
-use Rattle.std.proofs.Common.{◌≡◌, refl, sym, ap, subst, arith, ℕ, zero, suc, ◌-◌, ◌<◌, ◌≤◌, List, [], ◌∷◌, length, set, get_or, slice_get, Option, Some, IfSome}
+use Rattle.std.proofs.Common.{◌≡◌, refl, sym, ap, ◌∙◌, subst, arith, ℕ, zero, suc, ◌-◌, ◌<◌, ◌≤◌, List, [], ◌∷◌, length, map, set, get_or, slice_get, unwrap_or, Option, None, Some, option_map, IfSome}
+use Rattle.std.specs.Option.{option_map_or}
+use Rattle.std.proofs.lemmas.Option.{slice_get-map}
 use Rattle.std.specs.List.{AllByRecursion}
 use Rattle.std.proofs.lemmas.List.{length-set}
 use Rattle.fork_disk.specs.Disk.{Rose}
@@ -9,6 +11,14 @@ use Rattle.res_table.specs.OpenFiles.{OpenFiles}
 use Rattle.res_update.specs.Placed.{AreInside, Holds}
 use Rattle.res_files.specs.FilesOn.{failures_at}
 use Rattle.res_files.specs.Standing.{StandsOn, StandOn}
+
+-- the fork of a store, by the forks of all
+pub fork_or : {S : Type 0} (fork : S → List ℕ) (stores : List S) (at : ℕ) → unwrap_or (slice_get (map fork stores) at) [] ≡ option_map_or fork (slice_get stores at) []
+fork_or {S} fork stores at = ap (λ (o : Option (List ℕ)). unwrap_or o []) (slice_get-map fork stores at) ∙ by (slice_get stores at)
+  where
+    by : (o : Option S) → unwrap_or (option_map fork o) [] ≡ option_map_or fork o []
+    by None = refl
+    by (Some s) = refl
 
 -- what was set is there
 pub get_set : {X : Type 0} (xs : List X) (i : ℕ) (y : X) → i < length xs → slice_get (set xs i y) i ≡ Some y

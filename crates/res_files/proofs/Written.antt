@@ -1,5 +1,5 @@
 -- One fork is written anew: the other files stay as they are, and stand as they stood.
-use Rattle.std.proofs.Common.{◌≡◌, refl, sym, ap, ◌∙◌, subst, arith, ℕ, zero, suc, ◌-◌, ◌≤◌, List, [], ◌∷◌, map, set, slice_get, unwrap_or, Bool, true, false, cond, Option, Some, IfSome, find}
+use Rattle.std.proofs.Common.{◌≡◌, refl, sym, ap, ◌∙◌, subst, arith, ℕ, ◌-◌, ◌≤◌, List, [], ◌∷◌, map, set, slice_get, unwrap_or, Bool, true, false, cond, Option, Some, IfSome, find}
 use Rattle.std.specs.Prelude.{◌||◌, if◌then◌else◌}
 use Rattle.std.specs.List.{list_any, AllByRecursion}
 use Rattle.std.specs.Option.{option_map}

@@ -1,9 +1,8 @@
 -- How opening a file ends.
 use Rattle.std.proofs.Common.{◌≡◌, ℕ, ◌-◌, List, [], length, map, slice_get, Option, Some, None, Result, Ok, Err, unwrap_or, option_map, refl, sym, ap, subst, ◌∙◌, ◌⊎◌, inl, inr}
 use Rattle.std.specs.Prelude.{OnErr}
-use Rattle.std.specs.Option.{option_map_or}
 use Rattle.std.proofs.lemmas.List.{length-map}
-use Rattle.std.proofs.lemmas.Option.{slice_get-map}
+use Rattle.res_files.proofs.Stores.{fork_or}
 use Rattle.mac_base.specs.declared.error.OsErr.{OsErr}
 use Rattle.mac_base.specs.declared.error.OsErr.TheVariants.{IoErr}
 use Rattle.mac_base.specs.ZoneState.{ZoneState}
@@ -21,13 +20,9 @@ use Rattle.res_manager.specs.Ends.{OpensFile}
 use Rattle.res_manager.specs.Steps.{state_of}
 use Rattle.res_manager.proofs.Known.{answered-parts}
 
-default_of : {S : Type 0} (fork : S → List ℕ) (o : Option S) → unwrap_or (option_map fork o) [] ≡ option_map_or fork o []
-default_of fork None = refl
-default_of fork (Some s) = refl
-
 -- the disk of a file is the fork of its store
 pub disk-fork : {S : Type 0} (fork : S → List ℕ) (zone : ZoneState) (on : FilesOn S) (k : ℕ) → disk_of k (state_of fork zone on) ≡ fork_of fork k on.stores
-disk-fork fork zone on k = ap (λ (o : Option (List ℕ)). unwrap_or o []) (slice_get-map fork on.stores (k - 1)) ∙ default_of fork (slice_get on.stores (k - 1))
+disk-fork fork zone on k = fork_or fork on.stores (k - 1)
 
 module _ {S : Type 0} (store : Ghosts S) (zone : ZoneState) (on after : FilesOn S) (k : ℕ) (forks : (n : ℕ) → HonestAt store.is_honest after.stores n → fork_of store.fork n after.stores ≡ fork_of store.fork n on.stores)
     (loads : after.loads ≡ on.loads) (count : length after.stores ≡ length on.stores) where

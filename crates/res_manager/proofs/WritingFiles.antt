@@ -2,7 +2,7 @@
 use Rattle.std.proofs.Common.{◌≡◌, ℕ, zero, suc, ◌-◌, ◌≤◌, Bool, true, false, List, [], ◌∷◌, length, map, set, slice_get, unwrap_or, IfSome, Option, Some, None, Ok, Err, option_map, refl, ap, sym, subst, ◌∙◌, arith}
 use Rattle.std.specs.Option.{option_map_or}
 use Rattle.std.proofs.lemmas.List.{length-map, length-set}
-use Rattle.std.proofs.lemmas.Option.{slice_get-map}
+use Rattle.res_files.proofs.Stores.{fork_or}
 use Rattle.std.specs.Prelude.{IsFalse, MatchBool}
 use Rattle.fork_bytes.specs.Written.{written}
 use Rattle.mac_base.specs.ZoneState.{ZoneState}
@@ -54,13 +54,6 @@ fits A B false is h = absurd (cc is)
 unfit : (A B : Type 0) (b : Bool) → b ≡ false → B → MatchBool b A B
 unfit A B false is h = h
 unfit A B true is h = absurd (cc is)
-
-fork_or : {S : Type 0} (fork : S → List ℕ) (stores : List S) (at : ℕ) → unwrap_or (slice_get (map fork stores) at) [] ≡ option_map_or fork (slice_get stores at) []
-fork_or {S} fork stores at = ap (λ (o : Option Disk). unwrap_or o []) (slice_get-map fork stores at) ∙ by (slice_get stores at)
-  where
-    by : (o : Option S) → unwrap_or (option_map fork o) [] ≡ option_map_or fork o []
-    by None = refl
-    by (Some s) = refl
 
 -- where one of the forks is another, and the other stores are the same
 one_set : {S : Type 0} (fork : S → List ℕ) (on after : List S) (i at : ℕ) (disk : Disk) → length after ≡ length on → (at ≡ i → option_map_or fork (slice_get after at) [] ≡ disk)

@@ -3,7 +3,7 @@
 ghost use Rattle.std.specs.Prelude.{◌≡◌, ◌≢◌, ◌≤◌, ◌⊎◌, ◌↔◌, ℕ, List, length, unwrap_or};
 ghost use Rattle.script_text.specs.Script.{IsScript};
 ghost use Rattle.reply_text.specs.Text.{fault_text, no_memory_text};
-ghost use Rattle.script_run.specs.Counting.{Gave, Rose, Took};
+ghost use Rattle.script_run.specs.Counting.{Gave, RoseByOne, Took};
 ghost use Rattle.script_run.specs.Exact.{RunsAgree};
 ghost use Rattle.script_run.specs.Headline.{RunShows};
 ghost use Rattle.script_run.specs.Line.{start_of};
@@ -53,9 +53,9 @@ pub fn run<S: ForkStore, R: Read, W: Write>(
     ensures exact { RunsAgree S.ForkStore }
 
     // A read that failed ends the run with ReadFault, which comes of nothing else; and so with a write.
-    ensures read_fault { result.0 ≡ RunEnd.ReadFault → Rose reader.old.failures reader.new.failures }
+    ensures read_fault { result.0 ≡ RunEnd.ReadFault → RoseByOne reader.old.failures reader.new.failures }
     ensures no_read_failed { result.0 ≢ RunEnd.ReadFault → reader.new.failures ≡ reader.old.failures }
-    ensures write_fault { result.0 ≡ RunEnd.WriteFault → Rose writer.old.failures writer.new.failures }
+    ensures write_fault { result.0 ≡ RunEnd.WriteFault → RoseByOne writer.old.failures writer.new.failures }
     ensures no_write_failed { result.0 ≢ RunEnd.WriteFault → writer.new.failures ≡ writer.old.failures }
 {
     let ready = match make_ready(alloc, reader) {
@@ -85,7 +85,7 @@ fn run_lines<S: ForkStore, W: Write>(
     ensures ends { (written : List ℕ) × Took W.contents writer.old written writer.new
         × ((input : List ℕ) → IsScript input script.now → Ends S.ForkStore machine.old input result written (stores_of machine.new)) }
     ensures no_read_fault { result ≢ RunEnd.ReadFault }
-    ensures write_fault { result ≡ RunEnd.WriteFault → Rose writer.old.failures writer.new.failures }
+    ensures write_fault { result ≡ RunEnd.WriteFault → RoseByOne writer.old.failures writer.new.failures }
     ensures no_write_failed { result ≢ RunEnd.WriteFault → writer.new.failures ≡ writer.old.failures }
 {
     let Ok(()) = machine.open_first(reply) else {
@@ -110,7 +110,7 @@ fn run_lines<S: ForkStore, W: Write>(
 fn tell_no_script<W: Write>(alloc: Global, writer: &mut Counted<W>, why: NoScript) -> RunEnd
     ensures ends { (written : List ℕ) × Took W.contents writer.old written writer.new × TellsNoScript why result written }
     ensures read_fault { (result ≡ RunEnd.ReadFault) ↔ (why ≡ NoScript.ReadFault) }
-    ensures write_fault { result ≡ RunEnd.WriteFault → Rose writer.old.failures writer.new.failures }
+    ensures write_fault { result ≡ RunEnd.WriteFault → RoseByOne writer.old.failures writer.new.failures }
     ensures no_write_failed { result ≢ RunEnd.WriteFault → writer.new.failures ≡ writer.old.failures }
 {
     match why {
@@ -125,7 +125,7 @@ fn tell_fault<W: Write>(alloc: Global, writer: &mut Counted<W>, line: u32) -> Ru
     ensures ends { (written : List ℕ) × Took W.contents writer.old written writer.new
         × (Tells (RunEnd.ScriptFault line) (fault_text line) result written ⊎ Tells RunEnd.NoMemory no_memory_text result written) }
     ensures no_read_fault { result ≢ RunEnd.ReadFault }
-    ensures write_fault { result ≡ RunEnd.WriteFault → Rose writer.old.failures writer.new.failures }
+    ensures write_fault { result ≡ RunEnd.WriteFault → RoseByOne writer.old.failures writer.new.failures }
     ensures no_write_failed { result ≢ RunEnd.WriteFault → writer.new.failures ≡ writer.old.failures }
 {
     let Ok(text) = fault_line(alloc, line) else {
@@ -143,7 +143,7 @@ pub fn tell_no_memory<W: Write>(writer: &mut Counted<W>) -> RunEnd
     ensures ends { (written : List ℕ) × Took W.contents writer.old written writer.new
         × Tells RunEnd.NoMemory no_memory_text result written }
     ensures no_read_fault { result ≢ RunEnd.ReadFault }
-    ensures write_fault { result ≡ RunEnd.WriteFault → Rose writer.old.failures writer.new.failures }
+    ensures write_fault { result ≡ RunEnd.WriteFault → RoseByOne writer.old.failures writer.new.failures }
     ensures no_write_failed { result ≢ RunEnd.WriteFault → writer.new.failures ≡ writer.old.failures }
 {
     if write_whole(writer, NO_MEMORY) {

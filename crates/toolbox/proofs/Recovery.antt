@@ -2,7 +2,7 @@
 use Rattle.std.proofs.Common.{◌≡◌, ℕ, zero, suc, ◌-◌, ◌≤◌, List, [], ◌∷◌, ◌++◌, set, slice_get, Option, Some, None, Ok, Err, option_map, unwrap_or, refl, ap, subst, sym, ◌∙◌, inl, inr, ◌⊎◌, ⊎_elim, arith}
 use Rattle.std.specs.Option.{IsSomeAnd, option_map_or}
 use Rattle.std.proofs.lemmas.Bool.{false≢true}
-use Rattle.std.proofs.lemmas.Option.{slice_get-map}
+use Rattle.res_files.proofs.Stores.{fork_or}
 use Rattle.std.specs.Prelude.{Bool, true, false, IfSome, IsOk, MatchBool}
 use Rattle.mac_base.specs.declared.error.OsErr.{OsErr}
 use Rattle.mac_calls.specs.declared.call.Call.{Call}
@@ -145,14 +145,8 @@ module _ {S : Type 0} (store : Ghosts S) (number : ℕ) (low : 1 ≤ number) whe
   call-finds old ResError asks outcome new g honest = same-finds (Saves store old ResError number) old new (ap stores-of g.4)
 
   -- the disk of a file is the fork of its store
-  fork-or-none : (o : Option S) → unwrap_or (option_map store.fork o) [] ≡ option_map_or store.fork o []
-  fork-or-none None = refl
-  fork-or-none (Some s) = refl
-
   disk-fork : (t : ToolState S) (k : ℕ) → disk_of k (resource_state store t) ≡ fork_of store.fork k t.resources.stores
-  disk-fork t k =
-      let stores = t.resources.stores in
-      ap (λ (o : Option Disk). unwrap_or o []) (slice_get-map store.fork stores (k - 1)) ∙ fork-or-none (slice_get stores (k - 1))
+  disk-fork t k = fork_or store.fork t.resources.stores (k - 1)
 
   -- files by number, whose devices are honest
   abbrev Real : ToolState S → ℕ → Type 0
