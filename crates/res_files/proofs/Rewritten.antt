@@ -374,8 +374,13 @@ module _ {S : Type 0} (store : Ghosts S) (chain : OpenFiles Place) (loads : Bool
         honest = was_honest (λ h. (known h).replaces.honest) honest;
         replaced = tt;
         stands = tt;
-        before = λ told. same_values store.fork store.is_honest chain loads stores now view_is (k - 1) within old new value store.fork []
-            (λ h. ((known h).replaces.before (fault_as fault (Device BeforeFirstWrite) told)).same) k honest;
+        before = λ told. record {
+          honest = was_honest (λ h. (known h).replaces.honest) honest;
+          fork = same_values store.fork store.is_honest chain loads stores now view_is (k - 1) within old new value store.fork []
+              (λ h. ((known h).replaces.before (fault_as fault (Device BeforeFirstWrite) told)).same) k honest;
+          calm = same_values store.fork store.is_honest chain loads stores now view_is (k - 1) within old new value store.history []
+              (λ h. ((known h).replaces.before (fault_as fault (Device BeforeFirstWrite) told)).calm) k honest;
+        };
         later = λ told. left_seen store.may_leave t selection (λ h. (known h).replaces.left (fault_as fault (Device Later) told)) honest;
         any_moment = moments t selection (λ h. (known h).replaces.any_moment) honest;
         settled = tt;

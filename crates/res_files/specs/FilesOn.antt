@@ -1,5 +1,5 @@
 -- The open files with the bytes of their rows, and the stores of all files.
-use Rattle.std.specs.Prelude.{◌≡◌, ℕ, ◌-◌, ◌<◌, Bool, List, [], length, map, set, slice_get, IfSome}
+use Rattle.std.specs.Prelude.{◌≡◌, ℕ, ◌-◌, ◌<◌, Bool, List, [], length, map, slice_get, IfSome}
 use Rattle.std.specs.Option.{option_map_or}
 use Rattle.fork_disk.specs.Disk.{Rose}
 use Rattle.fork_reader.specs.declared.place.Place.{Place}
@@ -15,10 +15,6 @@ pub record FilesOn (S : Type 0) : Type 0 where
 -- the fork of the file of a number, where this gives that of a store
 abbrev pub fork_of : {S : Type 0} → (S → List ℕ) → ℕ → List S → List ℕ
 fork_of fork number stores = option_map_or fork (slice_get stores (number - 1)) []
-
--- the forks of stores, with another one of the file of a number
-abbrev pub forks_with : {S : Type 0} → (S → List ℕ) → ℕ → List ℕ → List S → List (List ℕ)
-forks_with fork number new stores = set (map fork stores) (number - 1) new
 
 -- no store has failed, where this counts a store's failures
 abbrev pub NoneFailed : {S : Type 0} → (S → ℕ) → List S → List S → Type 0

@@ -17,7 +17,7 @@ use Rattle.res_update.specs.declared.fault.UpdateFault.{UpdateFault}
 use Rattle.res_update.specs.declared.fault.UpdateFault.TheVariants.{Device}
 use Rattle.res_update.specs.Placed.{table_on, AreInside}
 use Rattle.res_files.specs.Crash.{history_of}
-use Rattle.res_files.specs.FilesOn.{HonestAt, WereHonest, fork_of}
+use Rattle.res_files.specs.FilesOn.{HonestAt, fork_of}
 use Rattle.res_files.specs.Opening.{RefusesFile}
 
 -- The table of a fork is read once its store was made ready. The fork is the same, and a start finds what it might have found before.
@@ -31,11 +31,15 @@ pub record ReadsTable {S : Type 0} (store : Ghosts S) (old new : S) (result : Re
   pub inside : IfOk result (λ table. AreInside (store.fork old) table.rows)
   pub refuses : IfErr result (RefusesFile (store.fork old))
 
--- The stores are read at most: of each whose device is honest, it was so before, the fork is the same, and nothing happened to the device.
-pub record KeepsStores {S : Type 0} (store : Ghosts S) (old new : List S) : Type 0 where
-  pub honest : WereHonest store.is_honest old new
-  pub forks : (k : ℕ) → HonestAt store.is_honest new k → fork_of store.fork k new ≡ fork_of store.fork k old
-  pub calm : (k : ℕ) → HonestAt store.is_honest new k → history_of store.history k new ≡ history_of store.history k old
+-- The store of the file of a number is read at most: its device was honest, the fork is the same, and nothing happened to the device.
+pub record KeepsStore {S : Type 0} (store : Ghosts S) (number : ℕ) (old new : List S) : Type 0 where
+  pub honest : HonestAt store.is_honest old number
+  pub fork : fork_of store.fork number new ≡ fork_of store.fork number old
+  pub calm : history_of store.history number new ≡ history_of store.history number old
+
+-- so is each store whose device is honest
+abbrev pub KeepsStores : {S : Type 0} → Ghosts S → List S → List S → Type 0
+KeepsStores store old new = (k : ℕ) → HonestAt store.is_honest new k → KeepsStore store k old new
 
 -- where there is a journal, a start finds the file of a number as it is read
 abbrev pub FindsAsRead : {S : Type 0} → Ghosts S → ℕ → List S → Type 0
@@ -55,7 +59,7 @@ pub record UpdatesStore {S T : Type 0} (store : Ghosts S) (number : ℕ) (update
   pub honest : HonestAt store.is_honest old number
   pub replaced : OnOk result (IfSome (table_of number files) (λ table. fork_of store.fork number new ≡ written (saved_table (updated table))))
   pub stands : OnOk result (IfSome (table_of number files) (λ table. StandsFor (fork_of store.fork number new) (saved_table (updated table))))
-  pub before : IsErrOf result (Device BeforeFirstWrite) → fork_of store.fork number new ≡ fork_of store.fork number old
+  pub before : IsErrOf result (Device BeforeFirstWrite) → KeepsStore store number old new
   pub later : IsErrOf result (Device Later) → IfSome (table_of number files) (λ table.
       store.may_leave (written (saved_table (updated table))) (fork_of store.fork number old) (fork_of store.fork number new))
   pub any_moment : IfSome (table_of number files) (λ table. AlwaysFinds store.may_find

@@ -8,18 +8,17 @@ use Rattle.res_files.specs.Stores.{KeepsStores}
 
 module _ {S : Type 0} (store : Ghosts S) where
   pub kept_same : (old new : List S) → new ≡ old → KeepsStores store old new
-  kept_same old new same = record {
-    honest = λ k honest. subst (λ (stores : List S). HonestAt store.is_honest stores k) same honest;
-    forks = λ k honest. ap (fork_of store.fork k) same;
-    calm = λ k honest. ap (history_of store.history k) same;
+  kept_same old new same k honest = record {
+    honest = subst (λ (stores : List S). HonestAt store.is_honest stores k) same honest;
+    fork = ap (fork_of store.fork k) same;
+    calm = ap (history_of store.history k) same;
   }
 
   pub kept_then : (first second third : List S) → KeepsStores store first second → KeepsStores store second third → KeepsStores store first third
-  kept_then first second third one other = record {
-    honest = λ k honest. one.honest k (other.honest k honest);
-    forks = λ k honest. other.forks k honest ∙ one.forks k (other.honest k honest);
-    calm = λ k honest. other.calm k honest ∙ one.calm k (other.honest k honest);
-  }
+  kept_then first second third one other k honest =
+      let later = other k honest in
+      let before = one k later.honest in
+      record { honest = before.honest; fork = later.fork ∙ before.fork; calm = later.calm ∙ before.calm }
 
 -- what holds of a store and itself, and of the store of one file, holds of that of each file
 pub one_kept : {S : Type 0} (number : ℕ) (old new : List S) → OthersStay number old new → (R : Option S → Option S → Type 0) → ((o : Option S) → R o o)

@@ -20,7 +20,7 @@ use Rattle.res_calls.specs.Device.{Device, Disk}
 use Rattle.res_calls.specs.Device as device
 use Rattle.res_calls.specs.Files.{ResState, with_disk, with_files}
 use Rattle.res_calls.specs.Updates.{Update, behind_update, fits_fork, update_end, update_of}
-use Rattle.res_files.specs.FilesOn.{FailedAt, FilesOn, HonestAt, NoneFailed, fork_of, forks_with}
+use Rattle.res_files.specs.FilesOn.{FailedAt, FilesOn, HonestAt, NoneFailed, fork_of}
 use Rattle.res_table.specs.OpenFiles.{file_closed, rows_changed, table_of}
 use Rattle.res_manager.specs.Ends.{IsUnwritten, Writes, WritesFile}
 use Rattle.res_manager.specs.Steps.{state_of}
@@ -54,6 +54,10 @@ fits A B false is h = absurd (cc is)
 unfit : (A B : Type 0) (b : Bool) → b ≡ false → B → MatchBool b A B
 unfit A B false is h = h
 unfit A B true is h = absurd (cc is)
+
+-- the forks of stores, with another one of the file of a number
+abbrev forks_with : {S : Type 0} → (S → List ℕ) → ℕ → List ℕ → List S → List (List ℕ)
+forks_with fork number new stores = set (map fork stores) (number - 1) new
 
 -- where one of the forks is another, and the other stores are the same
 one_set : {S : Type 0} (fork : S → List ℕ) (on after : List S) (i at : ℕ) (disk : Disk) → length after ≡ length on → (at ≡ i → option_map_or fork (slice_get after at) [] ≡ disk)

@@ -57,7 +57,7 @@ returns-in_err-load_bytes-clause-step g c =
     let step = c.make_place.ensures.step in
     let ends = err_from_is_err_and c.from_residual-in_err-load_bytes.result c.from_residual-in_err-load_bytes.ensures.1 in
     let load = c.in_err-load_bytes.ensures in
-    rw (ends.1, ends.2, load.code) (failed_load g.S.ForkStore c.args.memory.now c.args.files.now c.args.place c.args.loads c.match-own.own c.unwrap-row.result.now.resource.datum.length shown.0 got (g.G.GrowZone.asks c.make_place.new.procedure) c.make_place.new.memory c.make_place.new.files c.make_place.ensures.forgotten c.make_place.ensures.shape step.0 step.1 c.in_ok-handle.handle (sym c.in_ok-handle.was ∙ step.2) c.load_bytes.new.memory c.load_bytes.new.files load.shape load.files load.keeps.forks load.loads load.count c.if-loads.true load.some
+    rw (ends.1, ends.2, load.code) (failed_load g.S.ForkStore c.args.memory.now c.args.files.now c.args.place c.args.loads c.match-own.own c.unwrap-row.result.now.resource.datum.length shown.0 got (g.G.GrowZone.asks c.make_place.new.procedure) c.make_place.new.memory c.make_place.new.files c.make_place.ensures.forgotten c.make_place.ensures.shape step.0 step.1 c.in_ok-handle.handle (sym c.in_ok-handle.was ∙ step.2) c.load_bytes.new.memory c.load_bytes.new.files load.shape load.files (λ k h. (load.keeps k h).fork) load.loads load.count c.if-loads.true load.some
     (load.undone ∙ ap (λ b. if b then with_emptied c.make_place.new.memory.heap c.in_ok-handle.handle else heap_released (DisposesHandle c.in_ok-handle.handle) c.make_place.new.memory.heap) c.is_some.ensures) load.cause)
 
 pub returns-in_err-load_bytes-clause-loans : goal.returns-in_err-load_bytes-clause-loans
@@ -81,7 +81,7 @@ returns-clause-step g c =
           w.if-loads.false refl w.files-is c.attach.new.files c.attach.ensures.attached)
       | then-loads+in_ok-load_bytes w ↦
           let load = w.in_ok-load_bytes.ensures in
-          rw w.memory-is (given_load g.S.ForkStore c.args.memory.now c.args.files.now c.args.place c.args.loads c.match-own.own c.unwrap-row.result.now.resource.datum.length shown.0 got (g.G.GrowZone.asks c.make_place.new.procedure) c.make_place.new.memory c.make_place.new.files c.make_place.ensures.forgotten c.make_place.ensures.shape step.0 step.1 c.in_ok-handle.handle (sym c.in_ok-handle.was ∙ step.2) w.load_bytes.new.memory w.load_bytes.new.files load.shape load.files load.keeps.forks load.loads load.count
+          rw w.memory-is (given_load g.S.ForkStore c.args.memory.now c.args.files.now c.args.place c.args.loads c.match-own.own c.unwrap-row.result.now.resource.datum.length shown.0 got (g.G.GrowZone.asks c.make_place.new.procedure) c.make_place.new.memory c.make_place.new.files c.make_place.ensures.forgotten c.make_place.ensures.shape step.0 step.1 c.in_ok-handle.handle (sym c.in_ok-handle.was ∙ step.2) w.load_bytes.new.memory w.load_bytes.new.files load.shape load.files (λ k h. (load.keeps k h).fork) load.loads load.count
           c.unwrap-row.result.now.resource.attributes load.loaded.0 w.if-loads.true row.attributes load.loaded.1 load.loaded.2 load.cause c.attach.new.files
           (subst (λ (f : FilesOn g.row.S.Denot). IsSome (row_at c.args.place f.files) → c.attach.new.files ≡ record f { files = row_changed c.args.place (with_handle (Some c.in_ok-handle.handle)) f.files }) w.files-is c.attach.ensures.attached))
     ]

@@ -42,9 +42,9 @@ returns-in-GetResource-clause-leaves g c =
     let calm = calm_work old c.args.call.now c.requires.calm in
     let kept = c.get.ensures.keeps in
     record {
-      honest = kept.honest;
+      honest = λ k honest. (kept k honest).honest;
       reads_back = calm_reads (HonestAt S.is_honest c.get.new.files.stores) old (state_of S.fork c.get.new.memory c.get.new.files) c.args.call.now calm c.get.result;
-      any_moment = calm_leaves S c.args.files.now.stores c.get.new.files.stores (update_in (work_of old c.args.call.now)) kept.calm;
+      any_moment = calm_leaves S c.args.files.now.stores c.get.new.files.stores (update_in (work_of old c.args.call.now)) (λ k honest. (kept k honest).calm);
       settled = calm_settles S c.get.new.files.stores (work_of old c.args.call.now) calm c.get.result;
       crash_full = tt;
     }
@@ -54,9 +54,10 @@ returns-in_default-clause-leaves g c =
     let S = g.S.ForkStore in
     let old = state_of S.fork c.args.memory.now c.args.files.now in
     let calm = calm_work old c.args.call.now c.requires.calm in
-    let same = (kept_same S c.args.files.now.stores c.make_quiet.new.files.stores c.make_quiet.ensures.stores).calm in
+    let kept = kept_same S c.args.files.now.stores c.make_quiet.new.files.stores c.make_quiet.ensures.stores in
+    let same = λ k honest. (kept k honest).calm in
     record {
-      honest = (kept_same S c.args.files.now.stores c.make_quiet.new.files.stores c.make_quiet.ensures.stores).honest;
+      honest = λ k honest. (kept k honest).honest;
       reads_back = if_any _ c.make_quiet.result (calm_reads (HonestAt S.is_honest c.make_quiet.new.files.stores) old (state_of S.fork c.make_quiet.new.memory c.make_quiet.new.files) c.args.call.now calm);
       any_moment = if_any _ c.make_quiet.result (λ outcome. calm_leaves S c.args.files.now.stores c.make_quiet.new.files.stores (update_in (work_of old c.args.call.now)) same);
       settled = if_any _ c.make_quiet.result (calm_settles S c.make_quiet.new.files.stores (work_of old c.args.call.now) calm);

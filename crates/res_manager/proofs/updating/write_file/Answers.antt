@@ -38,7 +38,7 @@ returns-in-Err-Device-clause-written g c = λ u is.
     let P : Update → Type 0 = λ w. WritesFile g.S.ForkStore c.args.memory.now c.args.files.now (UpdateResFile None) w (Err IoErr) c.args.memory.now c.update.new.self in
     subst P f.is (writes_faulted g.S.ForkStore c.args.memory.now c.args.files.now c.update.new.self v c.update.ensures.loads c.update.ensures.count c.update.ensures.others c.in-Err-Device.field-0-0 (true_unless (fits_fork v.table) (λ h. absurd (cc (big.1 h))))
     (λ is. all.before (ap (λ (f : ReplaceFault). Err (Device f)) is))
-    (λ honest is. (all.updates honest).before (ap (λ (f : ReplaceFault). Err (Device f)) is))
+    (λ honest is. ((all.updates honest).before (ap (λ (f : ReplaceFault). Err (Device f)) is)).fork)
     (λ is. all.closed (ap (λ (f : ReplaceFault). Err (Device f)) is))
     (λ honest is. rw f.there at ((all.updates honest).later (ap (λ (f : ReplaceFault). Err (Device f)) is)))
     (λ is. all.cause (ap (λ (f : ReplaceFault). Err (Device f)) is)) (λ is. all.cause_later (ap (λ (f : ReplaceFault). Err (Device f)) is)))

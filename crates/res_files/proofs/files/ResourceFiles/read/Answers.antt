@@ -70,21 +70,21 @@ returns-clause-reads g c = λ honest.
     (is ∙ ap (λ (n : ℕ). bytes_at n place.offset (S.fork store)) (long_read S.fork S.is_ready S.is_honest c.self.inside.chain c.self.inside.loads c.self.inside.stores.items c.args.self.now c.self.view_is c.self.invariant c.args.place row c.args.buffer.now c.in-Some.ensures.some c.requires.long)))
 
 pub returns-in_default-clause-keeps : goal.returns-in_default-clause-keeps
-returns-in_default-clause-keeps g c = record { honest = λ k h. h; forks = λ k h. refl; calm = λ k h. refl }
+returns-in_default-clause-keeps g c = λ k honest. record { honest = honest; fork = refl; calm = refl }
 
 pub returns-then-bytes-eq0-clause-keeps : goal.returns-then-bytes-eq0-clause-keeps
-returns-then-bytes-eq0-clause-keeps g c = record { honest = λ k h. h; forks = λ k h. refl; calm = λ k h. refl }
+returns-then-bytes-eq0-clause-keeps g c = λ k honest. record { honest = honest; fork = refl; calm = refl }
 
 pub returns-clause-keeps : goal.returns-clause-keeps
-returns-clause-keeps g c =
+returns-clause-keeps g c = λ k honest.
     let S = g.S.ForkStore in
     let stands = row_stands S.fork S.is_ready S.is_honest c.self.inside.stores.items c.args.place c.self.inside.chain c.in-Some.row.now c.self.invariant c.in-Some.ensures.some in
     let within : c.args.place.file - 1 < length c.self.inside.stores.items = omega (arith, stands.0, stands.1) in
     let store = c.index_mut-store.result.now in
     record {
-      honest = same_honest S.fork S.is_honest c.self.inside.chain c.self.inside.loads c.self.inside.stores.items c.args.self.now c.self.view_is (c.args.place.file - 1) within store c.read_at.new.self c.index_mut-store.ensures.value (λ h. (c.read_at.ensures.reads h).keeps.honest);
-      forks = same_values S.fork S.is_honest c.self.inside.chain c.self.inside.loads c.self.inside.stores.items c.args.self.now c.self.view_is (c.args.place.file - 1) within store c.read_at.new.self c.index_mut-store.ensures.value S.fork [] (λ h. (c.read_at.ensures.reads h).keeps.same);
-      calm = same_values S.fork S.is_honest c.self.inside.chain c.self.inside.loads c.self.inside.stores.items c.args.self.now c.self.view_is (c.args.place.file - 1) within store c.read_at.new.self c.index_mut-store.ensures.value S.history [] (λ h. (c.read_at.ensures.reads h).keeps.calm);
+      honest = same_honest S.fork S.is_honest c.self.inside.chain c.self.inside.loads c.self.inside.stores.items c.args.self.now c.self.view_is (c.args.place.file - 1) within store c.read_at.new.self c.index_mut-store.ensures.value (λ h. (c.read_at.ensures.reads h).keeps.honest) k honest;
+      fork = same_values S.fork S.is_honest c.self.inside.chain c.self.inside.loads c.self.inside.stores.items c.args.self.now c.self.view_is (c.args.place.file - 1) within store c.read_at.new.self c.index_mut-store.ensures.value S.fork [] (λ h. (c.read_at.ensures.reads h).keeps.same) k honest;
+      calm = same_values S.fork S.is_honest c.self.inside.chain c.self.inside.loads c.self.inside.stores.items c.args.self.now c.self.view_is (c.args.place.file - 1) within store c.read_at.new.self c.index_mut-store.ensures.value S.history [] (λ h. (c.read_at.ensures.reads h).keeps.calm) k honest;
     }
 
 -- files are as the devices answered where they are the same
