@@ -4,7 +4,7 @@ use Rattle.std.specs.Prelude.{if◌then◌else◌}
 use Rattle.mac_base.specs.Heap.{with_emptied}
 use Rattle.mac_base.specs.Releasing.{heap_released}
 use Rattle.mac_base.specs.declared.releasing.ReleasingCall.TheVariants.{DisposesHandle}
-use Rattle.res_files.specs.FilesOn.{FilesOn}
+use Rattle.res_files.specs.FilesOn.{FilesOn, HonestAt, fork_of}
 use Rattle.res_files.specs.Stores.{KeepsStores}
 use Rattle.res_calls.specs.Answered.{AnswersFor}
 use Rattle.res_calls.specs.Changes.{row_changed}
@@ -76,8 +76,8 @@ returns-clause-step g c =
     let step = c.make_place.ensures.step in
     elim c.if-loads.branch [
       | else-loads w ↦ rw w.memory-is (empty_load g.S.ForkStore c.args.memory.now c.args.files.now c.args.place c.args.loads c.match-own.own c.unwrap-row.result.now.resource.datum.length shown.0 got (g.G.GrowZone.asks c.make_place.new.procedure) c.make_place.new.memory c.make_place.new.files c.make_place.ensures.forgotten c.make_place.ensures.shape step.0 step.1 c.in_ok-handle.handle (sym c.in_ok-handle.was ∙ step.2) c.make_place.new.memory c.if-loads.files refl
-          (subst (λ (f : FilesOn g.row.S.Denot). AnswersFor (All g.S.ForkStore.is_honest c.if-loads.files.stores) c.make_place.new.files.files f.files) (sym w.files-is) (refl, λ all. refl))
-          (λ all. ap (λ (f : FilesOn g.row.S.Denot). map g.S.ForkStore.fork f.stores) w.files-is) (ap (λ (f : FilesOn g.row.S.Denot). f.loads) w.files-is) (ap (λ (f : FilesOn g.row.S.Denot). length f.stores) w.files-is)
+          (subst (λ (f : FilesOn g.row.S.Denot). AnswersFor (HonestAt g.S.ForkStore.is_honest c.if-loads.files.stores) c.make_place.new.files.files f.files) (sym w.files-is) (λ known are. refl))
+          (λ k honest. ap (λ (f : FilesOn g.row.S.Denot). fork_of g.S.ForkStore.fork k f.stores) w.files-is) (ap (λ (f : FilesOn g.row.S.Denot). f.loads) w.files-is) (ap (λ (f : FilesOn g.row.S.Denot). length f.stores) w.files-is)
           w.if-loads.false refl w.files-is c.attach.new.files c.attach.ensures.attached)
       | then-loads+in_ok-load_bytes w ↦
           let load = w.in_ok-load_bytes.ensures in

@@ -55,11 +55,10 @@ returns-in_default-clause-leaves g c =
     let old = state_of S.fork c.args.memory.now c.args.files.now in
     let calm = calm_work old c.args.call.now c.requires.calm in
     let kept = kept_same S c.args.files.now.stores c.make_quiet.new.files.stores c.make_quiet.ensures.stores in
-    let same = λ k honest. (kept k honest).calm in
     record {
       honest = λ k honest. (kept k honest).honest;
       reads_back = if_any _ c.make_quiet.result (calm_reads (HonestAt S.is_honest c.make_quiet.new.files.stores) old (state_of S.fork c.make_quiet.new.memory c.make_quiet.new.files) c.args.call.now calm);
-      any_moment = if_any _ c.make_quiet.result (λ outcome. calm_leaves S c.args.files.now.stores c.make_quiet.new.files.stores (update_in (work_of old c.args.call.now)) same);
+      any_moment = if_any _ c.make_quiet.result (λ outcome. calm_leaves S c.args.files.now.stores c.make_quiet.new.files.stores (update_in (work_of old c.args.call.now)) (λ k honest. (kept k honest).calm));
       settled = if_any _ c.make_quiet.result (calm_settles S c.make_quiet.new.files.stores (work_of old c.args.call.now) calm);
-      crash_full = err_anyhow _ c.make_quiet.result (calm_leaves S c.args.files.now.stores c.make_quiet.new.files.stores None same);
+      crash_full = err_anyhow _ c.make_quiet.result (calm_leaves S c.args.files.now.stores c.make_quiet.new.files.stores None (λ k honest. (kept k honest).calm));
     }
