@@ -1,4 +1,4 @@
-use Rattle.std.proofs.Common.{◌≡◌, ◌∙◌, List, length, sym, refl, ap, subst, map, All, IsSome, Some}
+use Rattle.std.proofs.Common.{◌≡◌, ◌∙◌, List, length, sym, refl, ap, subst, IsSome, Some}
 use Rattle.std.proofs.lemmas.Result.{err_from_is_err_and}
 use Rattle.std.specs.Prelude.{if◌then◌else◌}
 use Rattle.mac_base.specs.Heap.{with_emptied}
