@@ -1,6 +1,6 @@
 -- What a start finds after a crash that comes anywhere in a run of calls.
-use Rattle.std.proofs.Common.{◌≡◌, ℕ, zero, suc, ◌-◌, ◌≤◌, List, [], ◌∷◌, ◌++◌, set, slice_get, Option, Some, None, Ok, Err, option_map, unwrap_or, refl, ap, subst, sym, ◌∙◌, inl, inr, ◌⊎◌, ⊎_elim, arith}
-use Rattle.std.specs.Option.{IsSomeAnd, option_map_or}
+use Rattle.std.proofs.Common.{◌≡◌, ℕ, zero, suc, ◌-◌, ◌≤◌, List, [], ◌∷◌, ◌++◌, set, slice_get, Option, Some, None, Ok, Err, unwrap_or, refl, ap, subst, sym, ◌∙◌, inl, inr, ◌⊎◌, ⊎_elim, arith}
+use Rattle.std.specs.Option.{IsSomeAnd}
 use Rattle.std.proofs.lemmas.Bool.{false≢true}
 use Rattle.res_files.proofs.Stores.{fork_or}
 use Rattle.std.specs.Prelude.{Bool, true, false, IfSome, IsOk, MatchBool}

@@ -1,5 +1,5 @@
 -- Steps of the Resource Manager over those of the Memory Manager.
-use Rattle.std.proofs.Common.{◌≡◌, ℕ, List, [], ◌∷◌, ◌++◌, length, Option, Some, None, Result, Ok, Err, Bool, true, false, refl, sym, ap, subst}
+use Rattle.std.proofs.Common.{◌≡◌, ℕ, List, [], length, Option, Some, None, Result, Ok, Err, Bool, true, false, refl, ap, subst}
 use Rattle.std.specs.Prelude.{IfOk, OnOk, OnErr, if◌then◌else◌}
 use Rattle.mac_base.specs.declared.error.HostFull.{HostFull}
 use Rattle.mac_base.specs.declared.error.OsErr.{OsErr}
