@@ -1,5 +1,6 @@
 //! A row: a resource while its file is open.
 
+use crate::attributes::unmarked;
 use bitflags::Flags;
 use mac_base::error::HostFull;
 use mac_base::handle::Handle;
@@ -30,13 +31,12 @@ impl<D> Row<D> {
             attributes,
             datum,
         } = resource;
-        let attributes = ResAttrs::from_bits_retain(attributes.bits() & 253);
         Row {
             resource: Resource {
                 kind,
                 id,
                 name,
-                attributes,
+                attributes: unmarked(attributes),
                 datum,
             },
             handle: None,
