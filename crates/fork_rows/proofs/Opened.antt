@@ -1,7 +1,6 @@
 -- What the pieces of a fork that were read say of it, and what a fault says.
 use Rattle.std.proofs.Common.{◌≡◌, ℕ, ◌≤◌, List, Ok, Err, length, map, subst, refl, sym, ap, ◌∙◌, arith}
 use Rattle.std.specs.List.{AllByRecursion}
-use Rattle.fork_bytes.specs.declared.fault.Condition.{Condition}
 use Rattle.fork_bytes.specs.declared.fault.Condition.TheVariants.{Parts, Places, ByteCount}
 use Rattle.fork_bytes.specs.declared.fault.ForkFault.TheVariants.{BadMap}
 use Rattle.fork_bytes.specs.declared.layout.Header.{Header}
@@ -10,7 +9,7 @@ use Rattle.fork_bytes.specs.Fork.{bytes_at, header_of, data_of, map_of, map_rows
 use Rattle.fork_disk.specs.declared.store.ForkStore.{Ghosts}
 use Rattle.fork_disk.specs.Stores.{OnlyReads}
 use Rattle.fork_reader.specs.Reading.{PlacedRow, placed_row, placed_rows, row_at, IsMap, IsWithin, FaultsAt, AreFewBytes}
-use Rattle.fork_reader.proofs.Faults.{faults_less, places_refuse, bytes_refuse, is_fork}
+use Rattle.fork_reader.proofs.Faults.{places_refuse, bytes_refuse, is_fork}
 use Rattle.fork_reader.proofs.Placing.{few_from_placed, few_to_placed, rows_are_within}
 use Rattle.fork_reader.proofs.Whole.{parts_of_fork, map_is, stands}
 use Rattle.fork_rows.specs.declared.fault.OpenFault.{OpenFault}
@@ -18,11 +17,6 @@ use Rattle.fork_rows.specs.declared.fault.OpenFault.TheVariants.{Fork, Device}
 use Rattle.fork_rows.specs.declared.table.PlacedTable.{PlacedTable}
 use Rattle.fork_rows.specs.Opening.{Reads, FaultsIn, HasPlaces, OpensAs, RefusesToOpen, filled}
 use Rattle.fork_rows.proofs.Kept.{read_twice}
-
--- what is said of a fault at a condition, where less is said of it
-pub fault_less : (condition : Condition) (P Q : Type 0) → (P → Q) → (fault : OpenFault) → FaultsIn condition P fault → FaultsIn condition Q fault
-fault_less condition P Q less (Fork fault) told = faults_less condition P Q less fault told
-fault_less condition P Q less Device told = tt
 
 -- What was read of a fork: its header, its map, and the rows that this lists. The map's conditions hold.
 pub record Mapped (fork : List ℕ) (header : Header) (m : List ℕ) (rows : List MapRow) : Type 0 where

@@ -1,16 +1,15 @@
 -- A fault is of the reader's first condition that doesn't hold.
-use Rattle.std.proofs.Common.{◌≡◌, ◌≢◌, ℕ, zero, suc, ◌+◌, ◌*◌, ◌<◌, ◌≤◌, ◌⊎◌, inl, inr, List, [], ◌∷◌, ◌++◌, length, map, get_or, AllPairs, subst, refl, sym, ap, ◌∙◌, arith}
+use Rattle.std.proofs.Common.{◌≡◌, ◌≢◌, ℕ, zero, suc, ◌+◌, ◌*◌, ◌<◌, ◌≤◌, ◌⊎◌, inl, inr, List, [], ◌∷◌, length, map, get_or, AllPairs, subst, refl, sym, ap, ◌∙◌, arith}
 use Rattle.std.specs.Prelude.{sum_by, ⊤}
 use Rattle.std.specs.List.{flat_map, AllByRecursion}
 use Rattle.std.proofs.lemmas.Bool.{cases_lt}
-use Rattle.std.proofs.lemmas.List.{append-nil}
 use Rattle.std.proofs.lemmas.List.Sums.{sum_by-append, sum_by-cons, sum_by_push}
 use Rattle.fork_bytes.specs.declared.fault.Condition.{Condition}
 use Rattle.fork_bytes.specs.declared.fault.Condition.TheVariants.{Parts, Types, References, RowCount, Names, Places, ByteCount}
 use Rattle.fork_bytes.specs.declared.fault.ForkFault.{ForkFault}
 use Rattle.fork_bytes.specs.declared.fault.ForkFault.TheVariants.{EndOfFile, BadMap, HostFull}
 use Rattle.fork_bytes.specs.Rows.{MapRow}
-use Rattle.fork_bytes.specs.Fork.{map_of, data_of, map_row, datum_length, places, type_list, type_count, TypeEntry, entry_at, entries_of, Reference, references_in, references_of, max_fork, HasTypes, Holds, IsFork, rank, Refuses}
+use Rattle.fork_bytes.specs.Fork.{map_of, data_of, map_row, datum_length, places, type_list, type_count, TypeEntry, entry_at, entries_of, Reference, references_in, references_of, HasTypes, Holds, IsFork, rank, Refuses}
 use Rattle.fork_reader.specs.Reading.{HasDatum}
 use Rattle.fork_reader.proofs.Lists.{Ends, all_both, last_ends}
 use Rattle.fork_salvage.specs.declared.plan.Plan.{Plan}
@@ -22,7 +21,6 @@ use Rattle.fork_salvage.specs.declared.fault.SameType.{SameType}
 use Rattle.fork_salvage.specs.Salvage.{map_in, told_list}
 use Rattle.fork_salvage.specs.Plans.{IsTold}
 use Rattle.fork_salvage.specs.Fault.{IsFault, IsFirst, IsSameType, IsBadList, IsBadSum, HasBytes, bytes_up_to, datum_place, entry_place, refusal_of}
-use Rattle.fork_salvage.proofs.DataFaults.{IsSum}
 
 -- the conditions of lower ranks hold
 abbrev pub HoldBelow : List ℕ → ℕ → Type 0
@@ -144,12 +142,6 @@ sum_of_rows fork [] = refl
 sum_of_rows fork (r ∷ rs) =
     let f = λ (r : MapRow). 4 + datum_length (data_of fork) r.datum in let g = λ (s : Reference). 4 + datum_length (data_of fork) (datum_place fork s) in
     sum_by-cons f (map_row (map_of fork) r) (map (map_row (map_of fork)) rs) ∙ ap (λ (n : ℕ). g r + n) (sum_of_rows fork rs) ∙ sym (sum_by-cons g r rs)
-
-pub few_hold : (fork : List ℕ) (left : List Reference) (total : ℕ) → IsSum fork left total → left ≡ [] → total ≤ max_fork → Holds ByteCount fork
-few_hold fork left total so_far none few =
-    let all = so_far.split ∙ ap (λ (xs : List Reference). so_far.before ++ xs) none ∙ append-nil so_far.before in
-    let sum = sum_of_rows fork (references_of (map_of fork)) ∙ ap (bytes_up_to fork) all ∙ so_far.sum in
-    let P : ℕ → Type 0 = λ n. n ≤ max_fork in subst P (sym sum) few
 
 many_fail : (fork : List ℕ) (row : BadRow) → IsBadSum fork row → Holds ByteCount fork → ⊥
 many_fail fork row is holds =
