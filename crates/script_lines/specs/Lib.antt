@@ -1,4 +1,5 @@
 pub mod Calls
+pub mod Names
 pub mod Numbers
 pub mod Kept
 pub mod Lines

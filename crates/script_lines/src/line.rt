@@ -1,7 +1,6 @@
 //! What the lines of a script say.
 
 use crate::operands::Operands;
-use mac_base::error::HostFull;
 use mac_calls::CallName;
 use std::marker::Model;
 
@@ -21,17 +20,15 @@ impl Model for Name {
 }
 
 impl Name {
-    ghost use Rattle.std.specs.Prelude.{◌≡◌, ◌≤◌, ◌^◌, IfOk, OnErr};
+    ghost use Rattle.std.specs.Prelude.{◌≡◌, ◌<◌};
+    ghost use Rattle.script_lines.specs.Names.{most_names};
 
-    /// The name at this place. The only error is that no script has so many names.
-    pub fn at(place: usize) -> Result<Name, HostFull>
-        ensures name { IfOk result (λ name. name ≡ place) }
-        ensures beyond { OnErr result (2 ^ 16 ≤ place) }
+    /// The name at this place.
+    pub fn at(place: usize) -> Name
+        requires { place < most_names }
+        ensures { result ≡ place }
     {
-        match u16::try_from(place) {
-            Ok(place) => Ok(Name(place)),
-            Err(_) => Err(HostFull),
-        }
+        Name(place as u16)
     }
 
     /// The place of the name among all names of the script.

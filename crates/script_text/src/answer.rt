@@ -44,20 +44,15 @@ fn name_of_token(token: Token<'_>) -> Option<ReleasingName>
 }
 
 /// The call that two tokens are: a name and an operand.
-fn written_call(
-    name: Token<'_>,
-    operand: Token<'_>,
-    names: &Names<'_>,
-) -> Result<Option<WrittenCall>, HostFull>
-    ensures { IfOk result (λ found.
-        Finds found (IsWrittenCall names.now (view name.entry) (view operand.entry))) }
+fn written_call(name: Token<'_>, operand: Token<'_>, names: &Names<'_>) -> Option<WrittenCall>
+    ensures { Finds result (IsWrittenCall names.now (view name.entry) (view operand.entry)) }
 {
     let Some(call) = name_of_token(name) else {
-        return Ok(None);
+        return None;
     };
-    match number_or_variable(operand, names)? {
-        Some(operand) => Ok(Some(WrittenCall { call, operand })),
-        None => Ok(None),
+    match number_or_variable(operand, names) {
+        Some(operand) => Some(WrittenCall { call, operand }),
+        None => None,
     }
 }
 
@@ -89,7 +84,7 @@ fn read_calls<'a>(
             return Ok(false);
         }
         // The call is taken apart so that its operand's type, of another crate, is named here.
-        let Some(WrittenCall { call, operand }) = written_call(*name, *operand, names)? else {
+        let Some(WrittenCall { call, operand }) = written_call(*name, *operand, names) else {
             return Ok(false);
         };
         calls.push(WrittenCall { call, operand })?;
@@ -141,7 +136,7 @@ pub fn answer_line<'a>(
     let Some((value, calls)) = value_and_calls(line) else {
         return Ok(None);
     };
-    let Some(value) = number_or_variable(value, names)? else {
+    let Some(value) = number_or_variable(value, names) else {
         return Ok(None);
     };
     let Some(calls) = written_calls(arena, calls, names)? else {
