@@ -1,6 +1,7 @@
 //! What the program does with its words, its input and its output.
 
 ghost use Rattle.std.specs.Prelude.{◌≡◌, ◌≢◌, ◌≤◌, ◌++◌, [], ℕ, List, IfOk, length, map};
+ghost use Rattle.res_files.specs.Standing.{most_files};
 ghost use Rattle.script_run.specs.Counting.{Rose, Took};
 ghost use Rattle.macheap.specs.Program.{Answers, Did, HelpEnds, NoStoresEnd, ProgramEnds, Refuses, RunEnds, RunsOn, Tells, Wrote, lacks_memory};
 ghost use Rattle.macheap.specs.Stores.{Opening};
@@ -130,7 +131,7 @@ fn run_on<S: ForkStore + Drop, R: Read, W: Write, M: Write>(
     output: &mut Counted<W>,
     messages: &mut Counted<M>,
 ) -> u8
-    requires { IfOk stores (λ stores. length stores.items ≤ 8) }
+    requires { IfOk stores (λ stores. length stores.items ≤ most_files) }
     ensures ends { Did R.remaining W.contents M.contents input.old input.new output.old output.new messages.old messages.new result (RunsOn S.ForkStore spec stores) }
     ensures no_read_failed { result ≢ 1 → input.new.failures ≡ input.old.failures }
     ensures no_write_failed { result ≢ 1 → output.new.failures ≡ output.old.failures }

@@ -1,9 +1,8 @@
--- Opening a file, and a call that has no host memory, keep every fork.
+-- The opening of a file keeps every fork.
 use Rattle.std.proofs.Common.{◌≡◌, ℕ, List, Option, Some, None, Result, Ok, Err, Bool, true, false, refl, sym, ap, subst, inl}
 use Rattle.std.specs.Prelude.{[], OnOk, OnErr, if◌then◌else◌}
 use Rattle.mac_base.specs.declared.error.OsErr.{OsErr}
-use Rattle.mac_calls.specs.declared.call.Call.{Call}
-use Rattle.mac_calls.specs.declared.call.Call.TheVariants.{Memory, Loan, Resource, MemError, ResError}
+use Rattle.mac_calls.specs.declared.call.Call.TheVariants.{Resource}
 use Rattle.mac_calls.specs.declared.resource_call.ResourceCall.TheVariants as call
 use Rattle.mac_calls.specs.GrowZone.{Ask}
 use Rattle.mac_calls.specs.Outcomes.{Outcome}
@@ -19,7 +18,7 @@ use Rattle.res_calls.specs.Steps.{MemoryRelation, Opens, Quiet, ResourceStepBy, 
 use Rattle.res_calls.specs.Tests.{resource_refusal}
 use Rattle.res_calls.specs.Updates.{Update}
 use Rattle.res_manager.specs.Crash.{CrashLeaves}
-use Rattle.toolbox.specs.Steps.{Gives, Unchanged}
+use Rattle.toolbox.specs.Steps.{Gives}
 use Rattle.toolbox.specs.ToolState.{IsHonest, ToolState, resource_state}
 use Rattle.script_run.specs.declared.machine.Machine.{Machine}
 use Rattle.script_run.specs.Line.{OpensFirst, SameForks, opening_text}
@@ -57,17 +56,6 @@ opening_keeps_forks store old new k asks outcome gives = λ honest. (
 -- stores that weren't touched have the same forks
 pub same_forks : {S : Type 0} (store : Ghosts S) (old left : List S) → left ≡ old → SameForks store old left
 same_forks {S = S} store old left same = subst (λ (l : List S). SameForks store old l) (sym same) (λ honest. (honest, refl, λ number _. at_first (λ found may. inl may)))
-
-untouched : {S : Type 0} (store : Ghosts S) (old new : ToolState S) → new ≡ old → SameForks store old.resources.stores new.resources.stores
-untouched {S = S} store old new same = same_forks store old.resources.stores new.resources.stores (ap (λ (t : ToolState S). t.resources.stores) same)
-
--- a call that has no host memory
-pub unchanged_keeps_forks : {S : Type 0} (store : Ghosts S) (old new : ToolState S) (one : Call) → Unchanged store old one new → SameForks store old.resources.stores new.resources.stores
-unchanged_keeps_forks store old new (Resource made) same = λ honest. (same.2 honest, ap (λ (s : ResState). s.disks) (sym (same.1.1 honest)), same.4 honest)
-unchanged_keeps_forks store old new (Memory made) same = untouched store old new same
-unchanged_keeps_forks store old new (Loan made) same = untouched store old new same
-unchanged_keeps_forks store old new MemError same = untouched store old new same
-unchanged_keeps_forks store old new ResError same = untouched store old new same
 
 -- a machine whose toolbox has opened file 1
 pub machine_opened : {S : Type 0} (store : Ghosts S) (old : Machine S) (new : ToolState S) (outcome : Outcome) (text : List ℕ) → Gives store old.toolbox (Resource (call.OpenResFile 1)) [] outcome new → new.shape ≡ old.toolbox.shape

@@ -3,6 +3,7 @@
 ghost use Rattle.std.specs.Prelude.{◌≡◌, ◌≢◌, ◌≤◌, ◌⊎◌, ◌↔◌, ℕ, List, length, unwrap_or};
 ghost use Rattle.script_text.specs.Script.{IsScript};
 ghost use Rattle.reply_text.specs.Text.{fault_text, no_memory_text};
+ghost use Rattle.res_files.specs.Standing.{most_files};
 ghost use Rattle.script_run.specs.Counting.{Gave, Rose, Took};
 ghost use Rattle.script_run.specs.Exact.{RunsAgree};
 ghost use Rattle.script_run.specs.Headline.{RunShows};
@@ -34,7 +35,7 @@ pub fn run<S: ForkStore, R: Read, W: Write>(
     spec: ZoneSpec,
     stores: Vec<S>,
 ) -> (RunEnd, Vec<S>)
-    requires { length stores.items ≤ 8 }
+    requires { length stores.items ≤ most_files }
     // The input is the bytes that the reader tells; of one that doesn't tell, those that it gave. What was written is what the input's
     // lines print from a new zone on, as far as the run came, and the stores are as they left them.
     ensures ends { (given : List ℕ) × (written : List ℕ) × Gave R.remaining reader.old given reader.new × Took W.contents writer.old written writer.new
