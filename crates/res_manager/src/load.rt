@@ -5,7 +5,6 @@ ghost use Rattle.linked_zone.specs.Loans.{KeepsLoans};
 ghost use Rattle.mac_base.specs.declared.releasing.ReleasingCall.TheVariants.{DisposesHandle};
 ghost use Rattle.mac_base.specs.HandleTable.{is_full, with_flags};
 ghost use Rattle.mac_base.specs.Heap.{with_table, with_emptied};
-ghost use Rattle.mac_base.specs.FlagState.{flags_from};
 ghost use Rattle.mac_base.specs.Releasing.{heap_released};
 ghost use Rattle.mac_calls.specs.Outcomes.{Outcome};
 ghost use Rattle.res_calls.specs.Changes.{handles_forgotten, row_changed};
@@ -21,11 +20,12 @@ ghost use Rattle.res_calls.specs.Steps.{Memory};
 use crate::watch::Watched;
 use bitflags::Flags;
 use fork_disk::store::ForkStore;
+use mac_base::block;
 use mac_base::error::OsErr;
 use mac_base::handle::Handle;
 use mac_base::resource::ResAttrs;
 use mac_calls::GrowZone;
-use mem_calls::MemoryManager;
+use mem_calls::{MemoryManager, state_of};
 use res_files::ResourceFiles;
 use res_table::chain::RowPlace;
 
@@ -251,20 +251,16 @@ fn set_flags(memory: &mut MemoryManager, handle: Handle, attributes: ResAttrs)
     ensures shape { memory.new.shape ≡ memory.old.shape }
 {
     // It isn't refused: the handle has a block that isn't lent.
-    let _ = memory.hset_state(handle, state_for(attributes));
+    let _ = memory.hset_state(handle, state_of(flags_for(attributes)));
 }
 
-/// The state of the handle of a loaded row with these attributes, as HSetState takes it.
-fn state_for(attributes: ResAttrs) -> u32
-    ensures flags { flags_from result ≡ flags_for attributes }
-    ensures possible { result ≤ 255 }
+/// The flags of the handle of a loaded row with these attributes.
+fn flags_for(attributes: ResAttrs) -> block::Flags
+    ensures { result ≡ flags_for attributes }
 {
-    let locked = attributes.contains(ResAttrs::LOCKED);
-    let purgeable = attributes.contains(ResAttrs::PURGEABLE);
-    match (locked, purgeable) {
-        (true, true) => 224,
-        (true, false) => 160,
-        (false, true) => 96,
-        (false, false) => 32,
+    block::Flags {
+        lock: attributes.contains(ResAttrs::LOCKED),
+        purge: attributes.contains(ResAttrs::PURGEABLE),
+        resource: true,
     }
 }

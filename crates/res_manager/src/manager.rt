@@ -19,11 +19,8 @@ use fork_disk::store::ForkStore;
 use mac_base::error::HostFull;
 use mac_calls::{GrowZone, Outcome, ResourceCall, Results};
 use mem_calls::MemoryManager;
-use res_files::ResourceFiles;
+use res_files::{MOST_FILES, ResourceFiles};
 use std::alloc::Global;
-
-/// The most files that a run has.
-const MOST_FILES: usize = 8;
 
 /// Makes a call of the Resource Manager. One that loads a resource makes its place by a call of the Memory Manager, which asks the
 /// grow-zone procedure where it finds no room. The blocks that are lent are told in any order. HostFull comes only where the call isn't refused, from calls that take host memory for
