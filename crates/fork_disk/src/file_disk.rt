@@ -47,22 +47,22 @@ impl<W: World> ForkDisk for FileDisk<W> {
     ghost failures = { λ disk. disk.file.failures };
 
     fn len(&mut self) -> Result<u64, DiskFault> {
-        self.file.len(&mut self.log, 0)
+        self.file.len(&mut self.log)
     }
 
     fn read_at(&mut self, at: u64, buffer: &mut [u8]) -> Result<(), DiskFault> {
-        self.file.read_at(at, buffer, &mut self.log, 0)
+        self.file.read_at(at, buffer, &mut self.log)
     }
 
     fn write_at(&mut self, at: u64, bytes: &[u8]) -> Result<(), DiskFault> {
-        self.file.write_at(at, bytes, &mut self.log, 0)
+        self.file.write_at(at, bytes, &mut self.log)
     }
 
     fn cut(&mut self, len: u64) -> Result<(), DiskFault> {
-        self.file.cut(len, &mut self.log, 0)
+        self.file.cut(len, &mut self.log)
     }
 
     fn sync(&mut self) -> Result<(), DiskFault> {
-        self.file.sync(&mut self.log, 0)
+        self.file.sync(&mut self.log)
     }
 }

@@ -30,6 +30,8 @@ pub struct HostFile {
     pub(crate) failures: Failures,
     /// A sync of `settle` has failed.
     is_spent: bool,
+    /// Which of the files it is that share a record. Only clauses read it.
+    which: u64,
 }
 
 /// Counts a fault of the system.
@@ -47,6 +49,7 @@ impl HostFile {
     pub fn open<R: Files<File = File>, P: AsPath>(files: &R, path: P) -> io::Result<HostFile>
         ensures unfailed { IfOk result (λ file. file.failures ≡ 0) }
         ensures unspent { IfOk result (λ file. file.is_spent ≡ false) }
+        ensures which { IfOk result (λ file. file.which ≡ 0) }
     {
         let file = OpenOptions::new()
             .read(true)
@@ -57,23 +60,32 @@ impl HostFile {
             file,
             failures: Failures::new(),
             is_spent: false,
+            which: 0,
         })
     }
 
+    /// The same file, with a number of its own among those that share a record.
+    pub fn numbered(self, which: u64) -> HostFile
+        ensures { result ≡ record self { which = which } }
+    {
+        HostFile { which, ..self }
+    }
+
     /// How many bytes there are.
-    pub fn len(&mut self, log: &mut FileCalls, which: u64) -> Result<u64, DiskFault>
+    pub fn len(&mut self, log: &mut FileCalls) -> Result<u64, DiskFault>
         ensures cause { Counts self.old.failures self.new.failures result }
         ensures spent { self.new.is_spent ≡ self.old.is_spent }
-        ensures noted { log.new.events ≡ len_event which result ∷ log.old.events }
+        ensures which { self.new.which ≡ self.old.which }
+        ensures noted { log.new.events ≡ len_event self.old.which result ∷ log.old.events }
     {
         match self.file.metadata() {
             Ok(metadata) => {
                 let len = metadata.len();
-                log.note(&[MEASURED, len, 1, which], &[]);
+                log.note(&[MEASURED, len, 1, self.which], &[]);
                 Ok(len)
             }
             Err(_) => {
-                log.note(&[MEASURED, 0, 0, which], &[]);
+                log.note(&[MEASURED, 0, 0, self.which], &[]);
                 Err(self.failures.count())
             }
         }
@@ -85,74 +97,72 @@ impl HostFile {
         at: u64,
         buffer: &mut [u8],
         log: &mut FileCalls,
-        which: u64,
     ) -> Result<(), DiskFault>
         ensures cause { Counts self.old.failures self.new.failures result }
         ensures long { length buffer.new ≡ length buffer.old }
         ensures spent { self.new.is_spent ≡ self.old.is_spent }
-        ensures noted { log.new.events ≡ read_event which at buffer.new result ∷ log.old.events }
+        ensures which { self.new.which ≡ self.old.which }
+        ensures noted { log.new.events ≡ read_event self.old.which at buffer.new result ∷ log.old.events }
     {
         let answer = counted(&mut self.failures, self.file.read_exact_at(buffer, at));
         match answer {
-            Ok(()) => log.note(&[READ, at, 1, which], buffer),
-            Err(_) => log.note(&[READ, at, 0, which], &[]),
+            Ok(()) => log.note(&[READ, at, 1, self.which], buffer),
+            Err(_) => log.note(&[READ, at, 0, self.which], &[]),
         }
         answer
     }
 
     /// Writes over what is there, and past the end.
-    pub fn write_at(
-        &mut self,
-        at: u64,
-        bytes: &[u8],
-        log: &mut FileCalls,
-        which: u64,
-    ) -> Result<(), DiskFault>
+    pub fn write_at(&mut self, at: u64, bytes: &[u8], log: &mut FileCalls) -> Result<(), DiskFault>
         ensures cause { Counts self.old.failures self.new.failures result }
         ensures spent { self.new.is_spent ≡ self.old.is_spent }
-        ensures noted { log.new.events ≡ write_event which at bytes.now result ∷ log.old.events }
+        ensures which { self.new.which ≡ self.old.which }
+        ensures noted { log.new.events ≡ write_event self.old.which at bytes.now result ∷ log.old.events }
     {
         let answer = counted(&mut self.failures, self.file.write_all_at(bytes, at));
-        log.note(&[WRITTEN, at, u64::from(answer.is_ok()), which], bytes);
+        log.note(&[WRITTEN, at, u64::from(answer.is_ok()), self.which], bytes);
         answer
     }
 
     /// Cuts the bytes to a length, or grows them to it.
-    pub fn cut(&mut self, len: u64, log: &mut FileCalls, which: u64) -> Result<(), DiskFault>
+    pub fn cut(&mut self, len: u64, log: &mut FileCalls) -> Result<(), DiskFault>
         ensures cause { Counts self.old.failures self.new.failures result }
         ensures spent { self.new.is_spent ≡ self.old.is_spent }
-        ensures noted { log.new.events ≡ cut_event which len result ∷ log.old.events }
+        ensures which { self.new.which ≡ self.old.which }
+        ensures noted { log.new.events ≡ cut_event self.old.which len result ∷ log.old.events }
     {
         let answer = counted(&mut self.failures, self.file.set_len(len));
-        log.note(&[CUT, len, u64::from(answer.is_ok()), which], &[]);
+        log.note(&[CUT, len, u64::from(answer.is_ok()), self.which], &[]);
         answer
     }
 
     /// Makes what was written stable.
-    pub fn sync(&mut self, log: &mut FileCalls, which: u64) -> Result<(), DiskFault>
+    pub fn sync(&mut self, log: &mut FileCalls) -> Result<(), DiskFault>
         ensures cause { Counts self.old.failures self.new.failures result }
         ensures spent { self.new.is_spent ≡ self.old.is_spent }
-        ensures noted { log.new.events ≡ sync_event which result ∷ log.old.events }
+        ensures which { self.new.which ≡ self.old.which }
+        ensures noted { log.new.events ≡ sync_event self.old.which result ∷ log.old.events }
     {
         let answer = counted(&mut self.failures, self.file.sync_all());
-        log.note(&[SYNCED, 0, u64::from(answer.is_ok()), which], &[]);
+        log.note(&[SYNCED, 0, u64::from(answer.is_ok()), self.which], &[]);
         answer
     }
 
     /// The same, for one who counts on all that was written so far. Where a sync fails, the system may drop what waited for it, and
     /// still answer the next one as done. So after one that failed each fails, and no call of the system is made; it is noted as one
     /// that failed.
-    pub fn settle(&mut self, log: &mut FileCalls, which: u64) -> Result<(), DiskFault>
+    pub fn settle(&mut self, log: &mut FileCalls) -> Result<(), DiskFault>
         ensures cause { Counts self.old.failures self.new.failures result }
         ensures trusted { OnOk result (self.old.is_spent ≡ false) }
         ensures spent { OnErr result (self.new.is_spent ≡ true) }
-        ensures noted { log.new.events ≡ sync_event which result ∷ log.old.events }
+        ensures which { self.new.which ≡ self.old.which }
+        ensures noted { log.new.events ≡ sync_event self.old.which result ∷ log.old.events }
     {
         if self.is_spent {
-            log.note(&[SYNCED, 0, 0, which], &[]);
+            log.note(&[SYNCED, 0, 0, self.which], &[]);
             return Err(self.failures.count());
         }
-        let answer = self.sync(log, which);
+        let answer = self.sync(log);
         self.is_spent = answer.is_err();
         answer
     }

@@ -23,6 +23,7 @@ pub struct FilePair<W: PairWorld> {
     number: u64,
     log: FileCalls,
     world: PhantomData<W>,
+    ghost sides: { (side_at fork.which ≡ Fork) × (side_at journal.which ≡ Journal) },
     ghost fork_trusted: { fork.is_spent ≡ false → has_failed Fork (history_of (W.held number) log.events) ≡ false },
     ghost journal_trusted: { journal.is_spent ≡ false → has_failed Journal (history_of (W.held number) log.events) ≡ false },
 }
@@ -31,28 +32,18 @@ impl<W: PairWorld> FilePair<W> {
     /// The pair of two files, which must not be the same one, and of which nothing was asked so far. No other pair of this world may
     /// have its number.
     pub fn new(fork: HostFile, journal: HostFile, number: u64) -> FilePair<W>
-        ensures fork { result.fork ≡ fork }
-        ensures journal { result.journal ≡ journal }
+        ensures fork { result.fork ≡ record fork { which = 0 } }
+        ensures journal { result.journal ≡ record journal { which = 1 } }
         ensures number { result.number ≡ number }
         ensures start { result.log.events ≡ [] }
     {
         FilePair {
-            fork,
-            journal,
+            fork: fork.numbered(0),
+            journal: journal.numbered(1),
             number,
             log: FileCalls::new(),
             world: PhantomData,
         }
-    }
-}
-
-/// The number of a side, as it is noted.
-fn noted(side: Side) -> u64
-    ensures { side_at result ≡ side }
-{
-    match side {
-        Side::Fork => 0,
-        Side::Journal => 1,
     }
 }
 
@@ -69,36 +60,36 @@ impl<W: PairWorld> PairDisk for FilePair<W> {
 
     fn len(&mut self, side: Side) -> Result<u64, DiskFault> {
         match side {
-            Side::Fork => self.fork.len(&mut self.log, noted(side)),
-            Side::Journal => self.journal.len(&mut self.log, noted(side)),
+            Side::Fork => self.fork.len(&mut self.log),
+            Side::Journal => self.journal.len(&mut self.log),
         }
     }
 
     fn read_at(&mut self, side: Side, at: u64, buffer: &mut [u8]) -> Result<(), DiskFault> {
         match side {
-            Side::Fork => self.fork.read_at(at, buffer, &mut self.log, noted(side)),
-            Side::Journal => self.journal.read_at(at, buffer, &mut self.log, noted(side)),
+            Side::Fork => self.fork.read_at(at, buffer, &mut self.log),
+            Side::Journal => self.journal.read_at(at, buffer, &mut self.log),
         }
     }
 
     fn write_at(&mut self, side: Side, at: u64, bytes: &[u8]) -> Result<(), DiskFault> {
         match side {
-            Side::Fork => self.fork.write_at(at, bytes, &mut self.log, noted(side)),
-            Side::Journal => self.journal.write_at(at, bytes, &mut self.log, noted(side)),
+            Side::Fork => self.fork.write_at(at, bytes, &mut self.log),
+            Side::Journal => self.journal.write_at(at, bytes, &mut self.log),
         }
     }
 
     fn cut(&mut self, side: Side, len: u64) -> Result<(), DiskFault> {
         match side {
-            Side::Fork => self.fork.cut(len, &mut self.log, noted(side)),
-            Side::Journal => self.journal.cut(len, &mut self.log, noted(side)),
+            Side::Fork => self.fork.cut(len, &mut self.log),
+            Side::Journal => self.journal.cut(len, &mut self.log),
         }
     }
 
     fn sync(&mut self, side: Side) -> Result<(), DiskFault> {
         match side {
-            Side::Fork => self.fork.settle(&mut self.log, noted(side)),
-            Side::Journal => self.journal.settle(&mut self.log, noted(side)),
+            Side::Fork => self.fork.settle(&mut self.log),
+            Side::Journal => self.journal.settle(&mut self.log),
         }
     }
 }

@@ -74,8 +74,8 @@ impl<W: World, V: PairWorld> Opens<NewFile, PlainStore<Disk<W>>, Journal<FilePai
 
     ghost plain = { λ number fork store. IsFile number fork store.disk };
 
-    ghost pairs = { λ number fork journal store. (store.pair.fork ≡ fork.file) × (store.pair.journal ≡ journal.file)
-        × (store.pair.number ≡ number) × (store.pair.log.events ≡ []) };
+    ghost pairs = { λ number fork journal store. (store.pair.fork ≡ record fork.file { which = 0 })
+        × (store.pair.journal ≡ record journal.file { which = 1 }) × (store.pair.number ≡ number) × (store.pair.log.events ≡ []) };
 
     fn open(&mut self, path: &str) -> Option<NewFile> {
         let file = match HostFile::open(self.runtime, path) {
