@@ -1,6 +1,6 @@
 //! Texts that are refused, each for its fault.
 
-use crate::texts::{CLOSING, COLON, MACUTILS};
+use crate::bin_hex::texts::{CLOSING, COLON, MACUTILS};
 use mac_files::bin_hex::fault::{BinHexFault, Section};
 use mac_files::bin_hex::read_bin_hex;
 use std::alloc::Global;

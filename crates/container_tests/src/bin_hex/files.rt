@@ -1,6 +1,6 @@
 //! Files that are read.
 
-use crate::texts::{FILLED, HCOPY, MACUTILS, MAIL};
+use crate::bin_hex::texts::{FILLED, HCOPY, MACUTILS, MAIL};
 use mac_files::bin_hex::{is_bin_hex, read_bin_hex};
 use std::process::Abort;
 use std::test::Fail;
