@@ -7,14 +7,14 @@ use Rattle.std.proofs.Math.Bool.{and_comm}
 use Rattle.std.proofs.lemmas.List.{drop_more}
 use Rattle.std.proofs.lemmas.List.Elements.{All-drop}
 use Rattle.res_table.specs.declared.row.Row.{Row}
-use Rattle.row_index.specs.declared.keyed.Pair.{Pair}
+use Rattle.res_table.specs.declared.keyed.Pair.{Pair}
 use Rattle.res_table.specs.Rows.{has_changed, is_changed}
-use Rattle.row_index.specs.Keyed.{key_of_handle, rank, with_key, AreInOrder}
+use Rattle.res_table.specs.Keyed.{key_of_handle, rank, with_key, AreInOrder}
 use Rattle.res_table.specs.Indexed.{handle_key, pairs_from, pairs_of}
-use Rattle.row_index.proofs.HandleKeys.{key_tells}
-use Rattle.row_index.proofs.Pairs.{order_dropped}
+use Rattle.res_table.proofs.HandleKeys.{key_tells}
+use Rattle.res_table.proofs.Pairs.{order_dropped}
 use Rattle.res_table.proofs.RowPairs.{order_kept, places_below, row_is}
-use Rattle.row_index.proofs.AnyPair.{below, above, alike, any_with, any_from, none_behind, least_key}
+use Rattle.res_table.proofs.AnyPair.{below, above, alike, any_with, any_from, none_behind, least_key}
 
 -- whether a pair has the key, and its row is changed
 abbrev pub is_changed_pair : {D : Type 0} → ℕ → List (Row D) → Pair → Bool

@@ -9,7 +9,7 @@ use Rattle.std.proofs.lemmas.List.Elements.{All-head, All-tail}
 use Rattle.res_table.specs.declared.row.Row.{Row}
 use Rattle.res_table.specs.Rows.{changed_handle}
 use Rattle.res_table.specs.Indexed.{IsTold}
-use Rattle.row_index.specs.Keyed.{key_of_resource}
+use Rattle.res_table.specs.Keyed.{key_of_resource}
 
 -- the handles of rows, of which one was changed, put in or taken out
 pub handles_set : {D : Type 0} (i : ℕ) (new now : Row D) (rows : List (Row D)) (handles : List (Option ℕ)) (handle : Option ℕ) → i < length rows → now ≡ get_or (set rows i new) i now

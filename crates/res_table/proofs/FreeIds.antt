@@ -6,12 +6,12 @@ use Rattle.std.specs.List.{list_any}
 use Rattle.std.proofs.lemmas.Int.{ints, to_z-of_z}
 use Rattle.std.proofs.lemmas.List.Elements.{All-head, All-tail}
 use Rattle.res_table.specs.declared.row.Row.{Row}
-use Rattle.row_index.specs.declared.keyed.Pair.{Pair}
-use Rattle.row_index.specs.Keyed.{key_of_resource, has_pair}
+use Rattle.res_table.specs.declared.keyed.Pair.{Pair}
+use Rattle.res_table.specs.Keyed.{key_of_resource, has_pair}
 use Rattle.res_table.specs.Indexed.{resource_key, pairs_from, pairs_of, IsTold}
 use Rattle.res_table.specs.Rows.{is_resource, free_id_from, unique_id}
 use Rattle.res_table.proofs.RowPairs.{has_key, few_pairs}
-use Rattle.row_index.proofs.AnyPair.{any_with}
+use Rattle.res_table.proofs.AnyPair.{any_with}
 use Rattle.res_table.proofs.Resources.{told_by_key}
 
 -- a pair of rows has the key of one of them

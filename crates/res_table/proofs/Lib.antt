@@ -10,3 +10,10 @@ pub mod Resources
 pub mod RowKinds
 pub mod Types
 pub mod TypeRuns
+pub mod Pairs
+pub mod AnyPair
+pub mod Sorting
+pub mod FreeKeys
+pub mod HandleKeys
+pub mod Expanded
+pub mod RunTypes

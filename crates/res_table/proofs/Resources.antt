@@ -11,7 +11,7 @@ use Rattle.std.proofs.lemmas.Iterator.Adapters.{position_from-zero}
 use Rattle.std.proofs.lemmas.Slice.Eq.{bytes_eq-Decides}
 use Rattle.res_table.specs.declared.row.Row.{Row}
 use Rattle.res_table.specs.Rows.{is_resource}
-use Rattle.row_index.specs.Keyed.{key_of_resource, first_place}
+use Rattle.res_table.specs.Keyed.{key_of_resource, first_place}
 use Rattle.res_table.specs.Indexed.{resource_key, pairs_of, IsTold}
 use Rattle.res_table.proofs.RowPairs.{has_key, first_is}
 

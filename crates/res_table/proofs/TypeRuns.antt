@@ -6,9 +6,9 @@ use Rattle.fork_bytes.specs.declared.layout.TypeCount.{TypeCount}
 use Rattle.fork_bytes.specs.Written.{counted_before}
 use Rattle.res_table.specs.declared.row.Row.{Row}
 use Rattle.res_table.specs.Indexed.{kinds_of}
-use Rattle.row_index.specs.Kinds.{expanded, is_other, are_types}
+use Rattle.res_table.specs.Kinds.{expanded, is_other, are_types}
 use Rattle.res_table.specs.Saved.{row_types}
-use Rattle.row_index.proofs.RunTypes.{same_kind}
+use Rattle.res_table.proofs.RunTypes.{same_kind}
 
 -- each run has rows, and of another type than the run before it
 abbrev AreTypes : Option (List ℕ) → List TypeCount → Type 0

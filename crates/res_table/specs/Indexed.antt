@@ -2,8 +2,8 @@
 use Rattle.std.specs.Prelude.{ℕ, ◌+◌, ◌/◌, ◌%◌, List, [], ◌∷◌, Option, Some, option_map, ◌≡◌, map}
 use Rattle.std.specs.Int.{w16, w32, cast_signed, to_be_bytes}
 use Rattle.res_table.specs.declared.row.Row.{Row}
-use Rattle.row_index.specs.declared.keyed.Pair.{Pair}
-use Rattle.row_index.specs.Keyed.{key_of_handle, key_of_resource, with_key}
+use Rattle.res_table.specs.declared.keyed.Pair.{Pair}
+use Rattle.res_table.specs.Keyed.{key_of_handle, key_of_resource, with_key}
 
 -- the key of a row's handle, if it has one
 abbrev pub handle_key : {D : Type 0} → Row D → Option ℕ

@@ -1,10 +1,10 @@
 //! A row: a resource while its file is open.
 
+use crate::keys::{key_of_handle, key_of_resource};
 use bitflags::Flags;
 use mac_base::error::HostFull;
 use mac_base::handle::Handle;
 use mac_base::resource::{ResAttrs, ResType, Resource};
-use row_index::keys::{key_of_handle, key_of_resource};
 
 /// A resource of an open file, and its handle, if it has one (Inside Macintosh: More Macintosh Toolbox, chapter 1).
 #[derive(Drop)]
@@ -15,7 +15,7 @@ pub struct Row<D> {
 
 impl<D> Row<D> {
     ghost use Rattle.std.specs.Prelude.{◌≡◌, ◌==◌, ◌+◌, IfOk};
-    ghost use Rattle.row_index.specs.Keyed.{key_of_resource};
+    ghost use Rattle.res_table.specs.Keyed.{key_of_resource};
     ghost use Rattle.res_table.specs.Indexed.{handle_key, IsTold};
     ghost use Rattle.res_table.specs.Rows.{is_of_type, is_resource, is_changed, changed_handle, name_size, opened_row};
 

@@ -1,14 +1,14 @@
 //! The rows of an open file, in order.
 
+use crate::keyed::{Keyed, Pair};
+use crate::keys::{key_of_handle, key_of_resource};
+use crate::kinds::{Kinds, ith_type};
 use crate::row::Row;
 use crate::runs::{MAX_NAME_OFFSET, MAX_OFFSET, names_fit, run_end};
 use fork_bytes::layout::MAX_ROWS;
 use mac_base::error::HostFull;
 use mac_base::handle::Handle;
 use mac_base::resource::{ResAttrs, ResType, Resource};
-use row_index::keyed::{Keyed, Pair};
-use row_index::keys::{key_of_handle, key_of_resource};
-use row_index::kinds::{Kinds, ith_type};
 use std::alloc::Global;
 use std::marker::Model;
 
@@ -31,7 +31,7 @@ pub struct Rows<D> {
 impl<D> Model for Rows<D> {
     ghost use Rattle.std.specs.Prelude.{◌≡◌, ◌≤◌, List, length, map, All};
     ghost use Rattle.res_table.specs.declared.row.Row.{Row};
-    ghost use Rattle.row_index.specs.Kinds.{expanded};
+    ghost use Rattle.res_table.specs.Kinds.{expanded};
     ghost use Rattle.res_table.specs.Indexed.{pairs_of, handle_key, resource_key, kinds_of, IsTold};
     ghost use Rattle.res_table.specs.Rows.{names_size, changed_handle};
 

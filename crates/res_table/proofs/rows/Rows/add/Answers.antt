@@ -3,16 +3,16 @@ use Rattle.std.specs.Prelude.{insert, vec_len, vec_capacity, is_ok, All}
 use Rattle.std.proofs.lemmas.List.Edits.{length-insert}
 use Rattle.std.proofs.lemmas.List.Sums.{sum_by-insert}
 use Rattle.res_table.specs.declared.row.Row.{Row}
-use Rattle.row_index.specs.declared.keyed.Pair.{Pair}
+use Rattle.res_table.specs.declared.keyed.Pair.{Pair}
 use Rattle.res_table.specs.Indexed.{handle_key, resource_key, pairs_of, IsTold, kinds_of}
-use Rattle.row_index.specs.Keyed.{pushed_back, with_key, AreInOrder}
+use Rattle.res_table.specs.Keyed.{pushed_back, with_key, AreInOrder}
 use Rattle.res_table.proofs.RowPairs.{places_below, order_pushed, pushed_is, few_pairs}
 use Rattle.res_table.proofs.Resources.{told_inserted}
 use Rattle.res_table.specs.Behind.{end_of_type}
 use Rattle.res_table.specs.Rows.{name_size, names_size, changed_handle}
 use Rattle.res_table.proofs.Adding.{insert-at-end, end-within}
 use Rattle.fork_bytes.specs.declared.layout.TypeCount.{TypeCount}
-use Rattle.row_index.specs.Kinds.{expanded, with_kind}
+use Rattle.res_table.specs.Kinds.{expanded, with_kind}
 use Rattle.res_table.proofs.RowKinds.{added_are, as_many}
 use Rattle.res_table.proofs.ChangedHandles.{handles_inserted, as_many_handles}
 use Rattle.res_table.proofs.rows.Rows.add.Goals as goal

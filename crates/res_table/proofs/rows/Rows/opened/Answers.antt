@@ -4,12 +4,12 @@ use Rattle.std.specs.Prelude.{All}
 use Rattle.std.proofs.lemmas.List.Elements.{All-push}
 use Rattle.std.proofs.lemmas.List.Sums.{sum_by_push}
 use Rattle.res_table.specs.declared.row.Row.{Row}
-use Rattle.row_index.specs.declared.keyed.Pair.{Pair}
+use Rattle.res_table.specs.declared.keyed.Pair.{Pair}
 use Rattle.res_table.specs.Rows.{opened_row, name_size, names_size, changed_handle}
 use Rattle.res_table.specs.Indexed.{handle_key, pairs_of, IsTold, kinds_of}
-use Rattle.row_index.specs.Keyed.{key_of_resource, in_order}
+use Rattle.res_table.specs.Keyed.{key_of_resource, in_order}
 use Rattle.fork_bytes.specs.declared.layout.TypeCount.{TypeCount}
-use Rattle.row_index.specs.Kinds.{expanded}
+use Rattle.res_table.specs.Kinds.{expanded}
 use Rattle.res_table.proofs.RowPairs.{opened_pairs, listed, listed_more, listed_are}
 use Rattle.res_table.proofs.RowKinds.{as_many, kinds_more}
 use Rattle.res_table.proofs.rows.Rows.opened.Goals as goal

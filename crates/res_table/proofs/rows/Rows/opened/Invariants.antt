@@ -2,7 +2,7 @@ use Rattle.std.proofs.Common.{◌≡◌, map}
 use Rattle.std.specs.Prelude.{All}
 use Rattle.res_table.specs.Indexed.{IsTold, kinds_of}
 use Rattle.res_table.specs.Rows.{opened_row, names_size, changed_handle}
-use Rattle.row_index.specs.Kinds.{expanded}
+use Rattle.res_table.specs.Kinds.{expanded}
 use Rattle.res_table.proofs.RowPairs.{listed}
 use Rattle.res_table.proofs.rows.Rows.opened.Given as goal
 

@@ -2,7 +2,7 @@ use Rattle.std.proofs.Common.{ℕ, Option, Some, remove, subst, ◌≡◌, ◌+�
 use Rattle.std.specs.Prelude.{All}
 use Rattle.res_table.specs.declared.row.Row.{Row}
 use Rattle.res_table.specs.Indexed.{handle_key, resource_key, pairs_of, IsTold, kinds_of}
-use Rattle.row_index.specs.Keyed.{pulled_up, without_key}
+use Rattle.res_table.specs.Keyed.{pulled_up, without_key}
 use Rattle.res_table.proofs.RowPairs.{order_kept, pairs_removed, row_is}
 use Rattle.res_table.specs.Rows.{name_size, names_size, changed_handle}
 use Rattle.res_table.proofs.RowKinds.{removed_are, as_many}

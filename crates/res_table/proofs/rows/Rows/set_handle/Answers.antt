@@ -1,12 +1,12 @@
 use Rattle.std.proofs.Common.{◌≡◌, ◌<◌, ℕ, Option, List, get_or, set, length, refl, subst, sym, ap, ◌∙◌, arith}
 use Rattle.std.proofs.lemmas.List.{length-set, get_or-set_same}
 use Rattle.res_table.specs.declared.row.Row.{Row}
-use Rattle.row_index.specs.declared.keyed.Pair.{Pair}
+use Rattle.res_table.specs.declared.keyed.Pair.{Pair}
 use Rattle.res_table.specs.Rows.{changed_at, with_handle}
-use Rattle.row_index.specs.Keyed.{AreInOrder, with_key, without_key}
+use Rattle.res_table.specs.Keyed.{AreInOrder, with_key, without_key}
 use Rattle.res_table.specs.Indexed.{handle_key, pairs_of}
 use Rattle.res_table.proofs.RowPairs.{order_kept, replaced_is, replaced_few, resources_kept, changed_is}
-use Rattle.row_index.proofs.Pairs.{order_without}
+use Rattle.res_table.proofs.Pairs.{order_without}
 use Rattle.res_table.proofs.RowKinds.{kinds_kept}
 use Rattle.res_table.proofs.Resources.{told_kept}
 use Rattle.res_table.proofs.Types.{names_kept}
