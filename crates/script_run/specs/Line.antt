@@ -11,7 +11,7 @@ use Rattle.mac_calls.specs.Outcomes.{Outcome}
 use Rattle.fork_disk.specs.declared.store.ForkStore.{Ghosts}
 use Rattle.res_manager.specs.Crash.{CrashLeaves}
 use Rattle.res_table.specs.OpenFiles.{no_files}
-use Rattle.made_calls.specs.Answers.{no_answers}
+use Rattle.held_calls.specs.Answers.{no_answers}
 use Rattle.toolbox.specs.Steps.{Gives, LeavesAnswers, Steps, Unchanged, takes_memory}
 use Rattle.script_lines.specs.declared.line.CallLine.{CallLine}
 use Rattle.script_lines.specs.declared.line.Line.{Line}

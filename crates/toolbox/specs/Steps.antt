@@ -16,7 +16,7 @@ use Rattle.mac_calls.specs.Outcomes.{Outcome}
 use Rattle.mac_calls.specs.Released.{disposed_of}
 use Rattle.mac_calls.specs.Tests.{refusal}
 use Rattle.fork_disk.specs.declared.store.ForkStore.{Ghosts}
-use Rattle.made_calls.specs.Making.{copies}
+use Rattle.held_calls.specs.Making.{copies}
 use Rattle.res_calls.specs.Answered.{AnswersStep, IsAnswered}
 use Rattle.res_calls.specs.Steps.{MemoryRelation, work_of, Memory as MayStep, ReadsBack, update_in}
 use Rattle.res_calls.specs.Tests.{resource_refusal}

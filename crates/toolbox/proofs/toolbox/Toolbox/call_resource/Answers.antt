@@ -1,5 +1,5 @@
-use Rattle.held_loans.specs.Holding.{loans_of}
-use Rattle.held_loans.proofs.Holding.{Holds-kept}
+use Rattle.held_calls.specs.Holding.{loans_of}
+use Rattle.held_calls.proofs.Holding.{Holds-kept}
 use Rattle.toolbox.proofs.Resources.{resource_gives, resource_unchanged}
 use Rattle.toolbox.proofs.toolbox.Toolbox.call_resource.Goals as goal
 
