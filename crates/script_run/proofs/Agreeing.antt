@@ -19,14 +19,14 @@ use Rattle.toolbox.specs.Headline.{tools_of}
 use Rattle.toolbox.specs.Steps.{Gives, LeavesAnswers, ResourceGives, StepsFrom, refused_after, resource_refused_after}
 use Rattle.toolbox.specs.ToolState.{IsHonest, ToolState, resource_state}
 use Rattle.toolbox.proofs.Headline.{tool-does}
-use Rattle.script_lines.specs.declared.line.CallLine.{CallLine}
-use Rattle.script_lines.specs.declared.line.Line.{Line}
-use Rattle.script_lines.specs.declared.line.Statement.{Statement}
-use Rattle.script_lines.specs.declared.line.Statement.TheVariants.{Call as CallStatement, Answer}
+use Rattle.script_lang.specs.declared.line.CallLine.{CallLine}
+use Rattle.script_lang.specs.declared.line.Line.{Line}
+use Rattle.script_lang.specs.declared.line.Statement.{Statement}
+use Rattle.script_lang.specs.declared.line.Statement.TheVariants.{Call as CallStatement, Answer}
 use Rattle.reply_text.specs.Text.{reply_text}
-use Rattle.script_vars.specs.Answers.{answer_with}
-use Rattle.script_vars.specs.Taken.{first_number}
-use Rattle.script_vars.specs.Variables.{Variables, call_of}
+use Rattle.script_lang.specs.Answers.{answer_with}
+use Rattle.script_lang.specs.Taken.{first_number}
+use Rattle.script_lang.specs.Variables.{Variables, call_of}
 use Rattle.script_run.specs.declared.machine.Machine.{Machine}
 use Rattle.script_run.specs.Exact.{DevicesWorked, LinesWorked, RunsAgree}
 use Rattle.script_run.specs.Line.{OpensFirst, StatementDoes, assigned, opening_text, start_of}

@@ -3,10 +3,10 @@ use Rattle.std.proofs.Common.{ℕ, List, [], ◌∷◌, subst}
 use Rattle.fork_disk.specs.declared.store.ForkStore.{Ghosts}
 use Rattle.toolbox.specs.ToolState.{IsHonest}
 use Rattle.toolbox.proofs.Headline.{was-honest}
-use Rattle.script_lines.specs.declared.line.Line.{Line}
-use Rattle.script_lines.specs.declared.line.Statement.{Statement}
-use Rattle.script_lines.specs.declared.line.Statement.TheVariants.{Call, Answer}
-use Rattle.script_vars.specs.Variables.{call_of}
+use Rattle.script_lang.specs.declared.line.Line.{Line}
+use Rattle.script_lang.specs.declared.line.Statement.{Statement}
+use Rattle.script_lang.specs.declared.line.Statement.TheVariants.{Call, Answer}
+use Rattle.script_lang.specs.Variables.{call_of}
 use Rattle.script_run.specs.declared.machine.Machine.{Machine}
 use Rattle.script_run.specs.Line.{StatementDoes}
 use Rattle.script_run.specs.Run.{AreRun}

@@ -9,10 +9,10 @@ use Rattle.toolbox.specs.Headline.{Stepped, calls_of, left_by}
 use Rattle.toolbox.specs.Recovery.{AreGiven}
 use Rattle.toolbox.specs.ToolState.{IsHonest, ToolState}
 use Rattle.toolbox.proofs.Recovery.{toolbox-recovers}
-use Rattle.script_lines.specs.declared.line.Line.{Line}
-use Rattle.script_lines.specs.declared.line.Statement.{Statement}
-use Rattle.script_lines.specs.declared.line.Statement.TheVariants.{Call as CallStatement, Answer}
-use Rattle.script_vars.specs.Variables.{Variables, call_of}
+use Rattle.script_lang.specs.declared.line.Line.{Line}
+use Rattle.script_lang.specs.declared.line.Statement.{Statement}
+use Rattle.script_lang.specs.declared.line.Statement.TheVariants.{Call as CallStatement, Answer}
+use Rattle.script_lang.specs.Variables.{Variables, call_of}
 use Rattle.script_run.specs.declared.machine.Machine.{Machine}
 use Rattle.script_run.specs.Headline.{PrintReplies, PrintsReply}
 use Rattle.script_run.specs.Line.{StatementDoes, start_of}

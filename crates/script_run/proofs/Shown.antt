@@ -7,10 +7,10 @@ use Rattle.fork_disk.specs.declared.store.ForkStore.{Ghosts}
 use Rattle.toolbox.specs.Headline.{tools_of}
 use Rattle.toolbox.specs.ToolState.{IsHonest}
 use Rattle.toolbox.proofs.Headline.{tool-does}
-use Rattle.script_lines.specs.declared.line.Line.{Line}
-use Rattle.script_lines.specs.declared.line.Statement.{Statement}
-use Rattle.script_lines.specs.declared.line.Statement.TheVariants.{Call as CallStatement, Answer}
-use Rattle.script_vars.specs.Variables.{Variables, call_of}
+use Rattle.script_lang.specs.declared.line.Line.{Line}
+use Rattle.script_lang.specs.declared.line.Statement.{Statement}
+use Rattle.script_lang.specs.declared.line.Statement.TheVariants.{Call as CallStatement, Answer}
+use Rattle.script_lang.specs.Variables.{Variables, call_of}
 use Rattle.script_run.specs.declared.machine.Machine.{Machine}
 use Rattle.script_run.specs.Line.{StatementDoes, start_of}
 use Rattle.script_run.specs.Run.{AreRun}

@@ -7,7 +7,7 @@ use Rattle.res_table.specs.OpenFiles.{no_files}
 use Rattle.res_files.specs.FilesOn.{FilesOn}
 use Rattle.held_calls.specs.Answers.{Queue, no_answers}
 use Rattle.toolbox.specs.ToolState.{ToolState}
-use Rattle.script_vars.specs.Variables.{Variables}
+use Rattle.script_lang.specs.Variables.{Variables}
 use Rattle.script_run.specs.declared.machine.Machine.{Machine}
 use Rattle.script_run.specs.Line.{start_of}
 

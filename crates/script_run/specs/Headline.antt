@@ -6,13 +6,13 @@ use Rattle.mac_calls.specs.declared.resource_call.ResourceCall.TheVariants.{Open
 use Rattle.mac_calls.specs.GrowZone.{answered}
 use Rattle.fork_disk.specs.declared.store.ForkStore.{Ghosts}
 use Rattle.toolbox.specs.Headline.{tools_of}
-use Rattle.script_lines.specs.declared.line.Line.{Line}
-use Rattle.script_lines.specs.declared.line.Statement.{Statement}
-use Rattle.script_lines.specs.declared.line.Statement.TheVariants.{Call as CallStatement, Answer}
+use Rattle.script_lang.specs.declared.line.Line.{Line}
+use Rattle.script_lang.specs.declared.line.Statement.{Statement}
+use Rattle.script_lang.specs.declared.line.Statement.TheVariants.{Call as CallStatement, Answer}
 use Rattle.reply_text.specs.Text.{reply_text}
 use Rattle.script_run.specs.declared.machine.Machine.{Machine}
-use Rattle.script_vars.specs.Taken.{first_number}
-use Rattle.script_vars.specs.Variables.{Variables, call_of}
+use Rattle.script_lang.specs.Taken.{first_number}
+use Rattle.script_lang.specs.Variables.{Variables, call_of}
 use Rattle.script_run.specs.Line.{assigned, opening_text, start_of}
 use Rattle.script_run.specs.Run.{IsRun}
 use Rattle.res_laws.specs.Tools.{Called, Headline, IsToolRun}

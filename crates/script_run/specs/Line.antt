@@ -13,15 +13,15 @@ use Rattle.res_manager.specs.Crash.{CrashLeaves}
 use Rattle.res_table.specs.OpenFiles.{no_files}
 use Rattle.held_calls.specs.Answers.{no_answers}
 use Rattle.toolbox.specs.Steps.{Gives, LeavesAnswers, Steps, Unchanged, takes_memory}
-use Rattle.script_lines.specs.declared.line.CallLine.{CallLine}
-use Rattle.script_lines.specs.declared.line.Line.{Line}
-use Rattle.script_lines.specs.declared.line.Statement.{Statement}
-use Rattle.script_lines.specs.declared.line.Statement.TheVariants.{Call, Answer}
-use Rattle.script_lines.specs.declared.line.WrittenAnswer.{WrittenAnswer}
+use Rattle.script_lang.specs.declared.line.CallLine.{CallLine}
+use Rattle.script_lang.specs.declared.line.Line.{Line}
+use Rattle.script_lang.specs.declared.line.Statement.{Statement}
+use Rattle.script_lang.specs.declared.line.Statement.TheVariants.{Call, Answer}
+use Rattle.script_lang.specs.declared.line.WrittenAnswer.{WrittenAnswer}
 use Rattle.reply_text.specs.Text.{reply_room, reply_text}
-use Rattle.script_vars.specs.Answers.{answer_with}
-use Rattle.script_vars.specs.Taken.{first_number}
-use Rattle.script_vars.specs.Variables.{Variables, call_of, with_value}
+use Rattle.script_lang.specs.Answers.{answer_with}
+use Rattle.script_lang.specs.Taken.{first_number}
+use Rattle.script_lang.specs.Variables.{Variables, call_of, with_value}
 use Rattle.script_run.specs.declared.machine.Machine.{Machine}
 
 -- before file 1 is opened: a new zone, these stores, no refusal, no variables, and no answers

@@ -4,7 +4,7 @@ use Rattle.mac_base.specs.ZoneSizes.{ZoneSizes}
 use Rattle.fork_disk.specs.declared.store.ForkStore.{Ghosts}
 use Rattle.toolbox.specs.Headline.{Stepped, calls_of, left_by}
 use Rattle.toolbox.specs.Recovery.{AreGiven, Recovers}
-use Rattle.script_lines.specs.declared.line.Line.{Line}
+use Rattle.script_lang.specs.declared.line.Line.{Line}
 use Rattle.script_run.specs.declared.machine.Machine.{Machine}
 use Rattle.script_run.specs.Headline.{PrintAllReplies}
 use Rattle.script_run.specs.Line.{start_of}

@@ -12,8 +12,7 @@ use mac_calls::{CallName, Outcome, Reply};
 use mem_calls::MemoryManager;
 use reply_text::ReplyText;
 use res_files::ResourceFiles;
-use script_lines::{CallLine, Line, Name, Statement};
-use script_vars::{Vars, answer_of, first_number, resolve};
+use script_lang::{CallLine, Line, Name, Statement, Vars, answer_of, first_number, resolve};
 use std::alloc::Global;
 use toolbox::{AnswerQueue, Toolbox};
 

@@ -7,9 +7,8 @@ ghost use Rattle.script_run.specs.Starting.{IsReady};
 use crate::counted::Counted;
 use crate::reading::{NoScript, read_script};
 use reply_text::ReplyText;
-use script_lines::Script;
+use script_lang::{Script, Vars};
 use script_text::{Fault, parse_script};
-use script_vars::Vars;
 use std::alloc::Global;
 use std::io::Read;
 

@@ -21,7 +21,7 @@ use fork_disk::store::ForkStore;
 use mac_base::zone_spec::ZoneSpec;
 use mem_calls::MemoryManager;
 use reply_text::{NO_MEMORY, ReplyText, fault_line};
-use script_lines::Script;
+use script_lang::Script;
 use std::alloc::Global;
 use std::io::{Read, Write};
 

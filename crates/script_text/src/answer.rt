@@ -2,7 +2,7 @@
 
 ghost use Rattle.std.specs.Prelude.{◌≡◌, ◌≢◌, List, [], ◌∷◌, map, codes, IfOk, IfSome, IfNone, MatchBool};
 ghost use Rattle.script_text.specs.Answers.{IsAnswer, AreCalls, AreFewCalls, IsNamed, IsWrittenCall, MayFollow, releasing_text};
-ghost use Rattle.script_lines.specs.declared.line.WrittenCall.{WrittenCall};
+ghost use Rattle.script_lang.specs.declared.line.WrittenCall.{WrittenCall};
 ghost use Rattle.script_text.specs.Found.{Finds};
 ghost use Rattle.script_text.specs.Front.{view};
 ghost use Rattle.script_text.specs.Tokens as tokens;
@@ -14,9 +14,7 @@ use crate::token::Token;
 use bumpalo::Bump;
 use bumpalo::collections::into_bump_slice;
 use mac_base::error::HostFull;
-use script_lines::{
-    AnswerLine, MAX_CALLS, ReleasingName, WrittenAnswer, WrittenCall, WrittenCalls,
-};
+use script_lang::{AnswerLine, MAX_CALLS, ReleasingName, WrittenAnswer, WrittenCall, WrittenCalls};
 
 /// The call of an answer that has this name.
 fn releasing_name(word: &[u8]) -> Option<ReleasingName>

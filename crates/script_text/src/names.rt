@@ -5,7 +5,7 @@ ghost use Rattle.script_text.specs.Names.{OnePlace, KeepsPlace, TakesPlace};
 use crate::hashing::NameHasher;
 use indexmap::IndexSet;
 use mac_base::error::HostFull;
-use script_lines::Name;
+use script_lang::Name;
 use std::alloc::Global;
 use std::marker::Model;
 

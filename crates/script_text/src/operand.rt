@@ -5,7 +5,7 @@ ghost use Rattle.std.specs.Char.{digit_value};
 ghost use Rattle.std.specs.List.{list_all};
 ghost use Rattle.std.specs.Option.{option_copied};
 ghost use Rattle.mac_calls.specs.declared.table.OperandKind.TheVariants as kind;
-ghost use Rattle.script_lines.specs.Numbers.{as_operand};
+ghost use Rattle.script_lang.specs.Numbers.{as_operand};
 ghost use Rattle.script_text.specs.Found.{Finds};
 ghost use Rattle.script_text.specs.Tokens.{Word, Single, Double, Hexadecimal};
 ghost use Rattle.script_text.specs.Front.{view};
@@ -17,7 +17,7 @@ use bumpalo::Bump;
 use bumpalo::collections::into_bump_slice;
 use mac_base::error::HostFull;
 use mac_calls::OperandKind;
-use script_lines::{Name, NumberOperand, Operand, OperandBytes, Operands, ReadOperands};
+use script_lang::{Name, NumberOperand, Operand, OperandBytes, Operands, ReadOperands};
 
 /// The number of digits in a base, if it has at most 32 bits.
 fn numeral(word: &[u8], base: u32) -> Option<u32>

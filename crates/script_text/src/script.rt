@@ -12,7 +12,7 @@ use crate::token::{Token, read_tokens};
 use bumpalo::{Bump, ResetError};
 use mac_base::error::HostFull;
 use memchr::memchr;
-use script_lines::{Line, Script};
+use script_lang::{Line, Script};
 use std::alloc::{AllocFailed, Global};
 use thiserror::Error;
 

@@ -16,7 +16,7 @@ use crate::token::Token;
 use bumpalo::Bump;
 use mac_base::error::HostFull;
 use mac_calls::CallName;
-use script_lines::{CallLine, Name, Statement};
+use script_lang::{CallLine, Name, Statement};
 
 /// The name that a line assigns, if it begins so, and the tokens behind `name =`.
 fn assigned_name<'a, 'b>(line: &'b [Token<'a>]) -> (Option<&'a [u8]>, &'b [Token<'a>])

@@ -1,4 +1,4 @@
-use Rattle.script_lines.specs.Numbers.{as_operand}
+use Rattle.script_lang.specs.Numbers.{as_operand}
 use Rattle.script_text.proofs.OperandLaws.{no_number}
 use Rattle.script_text.proofs.operand.number_word.Goals as goal
 
