@@ -8,6 +8,7 @@ pub mod Files
 pub mod RowPairs
 pub mod Resources
 pub mod RowKinds
+pub mod KeptRows
 pub mod Types
 pub mod TypeRuns
 pub mod Pairs
