@@ -3,13 +3,13 @@ use Rattle.std.specs.Prelude.{nat_le, nat_lt}
 use Rattle.std.specs.List.{AllByRecursion, IsDistinct, list_any}
 use Rattle.std.specs.Set.{is_member}
 use Rattle.std.proofs.Common.{◌≡◌, ℕ, suc, ◌+◌, ◌<◌, ◌≤◌, ◌&&◌, ◌||◌, ◌==◌, not, Bool, true, false, cond, eqb, List, [], ◌∷◌, ◌++◌, length, Some, None, refl, sym, ap, subst, ◌∙◌, arith, Ok}
-use Rattle.std.proofs.lemmas.Bool.{and_parts}
+use Rattle.std.proofs.lemmas.Bool.{and_parts, or_parts, or_from, le-leb, lt-leb, eqb-true}
 use Rattle.std.proofs.lemmas.Bool.Decides.{nat_tests}
 use Rattle.std.proofs.lemmas.Map.Views.{any-filter_same}
 use Rattle.std.proofs.lemmas.Cmp.{nat_eq_equiv}
 use Rattle.std.proofs.lemmas.Map.Made.{length-le_from_is_member}
-use Rattle.zone_laws.proofs.Tables.{eqb_same, eqb-true-is, eqb_swap}
-use Rattle.call_laws.proofs.Refusals.{first_passed, passed-NotLent}
+use Rattle.zone_laws.proofs.Tables.{eqb_same, eqb_swap}
+use Rattle.call_laws.proofs.Refusals.{first_passed, passed-NotLent, passed as passed_test}
 use Rattle.call_laws.proofs.SoundCalls.{length-written}
 use Rattle.held_calls.proofs.Places.{held_bytes-behind}
 use Rattle.mac_base.specs.declared.error.OsErr.{OsErr}
@@ -29,24 +29,10 @@ use Rattle.held_calls.specs.Holding.{Holds, EachIsLoan, EachOnce, is_held, loans
 use Rattle.held_calls.specs.declared.window.Window.{Window}
 use Rattle.held_calls.specs.declared.loans.Held.{Held}
 
-le_test : (a b : ℕ) → a ≤ b → nat_le a b ≡ true
-le_test a b le = grind (arith, nat_tests)
-
-gt_test : (a b : ℕ) → b < a → nat_le a b ≡ false
-gt_test a b lt = grind (arith, nat_tests)
-
 -- a loan of x among two lists of loans
 pub is_held-append : (x : ℕ) (a b : List Held) → is_held x (a ++ b) ≡ (is_held x a || is_held x b)
 is_held-append x [] b = refl
 is_held-append x (h ∷ hs) b = elim (h.block == x) as (λ v. (v || is_held x (hs ++ b)) ≡ ((v || is_held x hs) || is_held x b)) [ true ↦ refl | false ↦ is_held-append x hs b ]
-
--- neither of two
-neither : (a b : Bool) → (a || b) ≡ false → (a ≡ false) × (b ≡ false)
-neither true b none = absurd (cc none)
-neither false b none = (refl, none)
-
-either_false : (a b : Bool) → a ≡ false → b ≡ false → (a || b) ≡ false
-either_false a b one other = rw one other
 
 -- each loan is still that of its block
 pub EachIsLoan-kept : (old new : ZoneState) (held : List Held) → KeepsLoans old new → EachIsLoan old held → EachIsLoan new held
@@ -69,7 +55,7 @@ EachIsLoan-behind zone (h ∷ hs) b each = EachIsLoan-behind zone hs b each.1
 EachIsLoan-others : (x : ℕ) (old new : ZoneState) (held : List Held) → KeepsOtherLoans x old new → is_held x held ≡ false → EachIsLoan old held → EachIsLoan new held
 EachIsLoan-others x old new [] keeps none each = tt
 EachIsLoan-others x old new (h ∷ hs) keeps none each =
-    let parts = neither (h.block == x) (is_held x hs) none in
+    let parts = or_parts (h.block == x) (is_held x hs) none in
     let other : h.block ≡ x → ⊥ = λ same. let both : true ≡ false = sym (eqb_same x) ∙ ap (λ (y : ℕ). y == x) (sym same) ∙ parts.0 in cc in
     (keeps h.block h.loan other each.0, EachIsLoan-others x old new hs keeps parts.1 each.1)
 
@@ -79,7 +65,7 @@ held_is_lent zone x [] each is = absurd (cc is)
 held_is_lent zone x (h ∷ hs) each is =
     let P : Bool → Type 0 = λ b. (h.block == x) ≡ b → (b || is_held x hs) ≡ true → is_lent zone.heap.table x ≡ true in
     elim (h.block == x) as (λ b. P b) [
-      | true ↦ λ here yes. ap (λ (y : ℕ). is_lent zone.heap.table y) (sym (eqb-true-is h.block x here)) ∙ each.0.lent
+      | true ↦ λ here yes. ap (λ (y : ℕ). is_lent zone.heap.table y) (sym (eqb-true h.block x here)) ∙ each.0.lent
       | false ↦ λ other yes. held_is_lent zone x hs each.1 yes
     ] refl is
 
@@ -87,16 +73,16 @@ held_is_lent zone x (h ∷ hs) each is =
 EachOnce-push : (held : List Held) (h : Held) → is_held h.block held ≡ false → EachOnce held → EachOnce (held ++ h ∷ [])
 EachOnce-push [] h none once = (refl, tt)
 EachOnce-push (g ∷ gs) h none once =
-    let parts = neither (g.block == h.block) (is_held h.block gs) none in
+    let parts = or_parts (g.block == h.block) (is_held h.block gs) none in
     let other : (h.block == g.block) ≡ false = grind (arith, nat_tests) in
-    (is_held-append g.block gs (h ∷ []) ∙ either_false (is_held g.block gs) (is_held g.block (h ∷ [])) once.0 (either_false (h.block == g.block) false other refl), EachOnce-push gs h parts.1 once.1)
+    (is_held-append g.block gs (h ∷ []) ∙ or_from (is_held g.block gs) (is_held g.block (h ∷ [])) once.0 (or_from (h.block == g.block) false other refl), EachOnce-push gs h parts.1 once.1)
 
 EachOnce-without : (before : List Held) (h : Held) (behind : List Held) → EachOnce (before ++ h ∷ behind) → EachOnce (before ++ behind)
 EachOnce-without [] h behind once = once.1
 EachOnce-without (g ∷ gs) h behind once =
-    let parts = neither (is_held g.block gs) (is_held g.block (h ∷ behind)) (sym (is_held-append g.block gs (h ∷ behind)) ∙ once.0) in
-    let rest = neither (h.block == g.block) (is_held g.block behind) parts.1 in
-    (is_held-append g.block gs behind ∙ either_false (is_held g.block gs) (is_held g.block behind) parts.0 rest.1, EachOnce-without gs h behind once.1)
+    let parts = or_parts (is_held g.block gs) (is_held g.block (h ∷ behind)) (sym (is_held-append g.block gs (h ∷ behind)) ∙ once.0) in
+    let rest = or_parts (h.block == g.block) (is_held g.block behind) parts.1 in
+    (is_held-append g.block gs behind ∙ or_from (is_held g.block gs) (is_held g.block behind) parts.0 rest.1, EachOnce-without gs h behind once.1)
 
 EachOnce-behind : (before : List Held) (h : Held) (behind : List Held) → EachOnce (before ++ h ∷ behind) → is_held h.block behind ≡ false
 EachOnce-behind [] h behind once = once.0
@@ -114,7 +100,7 @@ Holds-kept old new held keeps lent holds = record {
 lent_more : (zone : ZoneState) (x y : ℕ) → is_lent (lent_out x zone.heap).table y ≡ (((y == x) || is_lent zone.heap.table y) && list_any (λ z. z == y) (owners zone.heap.map))
 lent_more zone x y =
     let p : ℕ → Bool = λ z. z == x || is_lent zone.heap.table z in
-    any-filter_same (λ z. z == y) p (p y) (λ k same. ap p (eqb-true-is k y same)) (owners zone.heap.map)
+    any-filter_same (λ z. z == y) p (p y) (λ k same. ap p (eqb-true k y same)) (owners zone.heap.map)
 
 -- a block is lent, and its loan is held behind the others
 pub Holds-lent : (old new : ZoneState) (held : List Held) (x : ℕ) (loan : Loan) → new ≡ with_heap (lent_out x old.heap) old → IsLoanOf new x loan → KeepsLoans old new → is_lent old.heap.table x ≡ false → Holds old held
@@ -126,12 +112,12 @@ Holds-lent old new held x loan is here keeps none holds =
     λ y b. elim b as (λ v. is_held y (held ++ h ∷ []) ≡ v → is_lent new.heap.table y ≡ v) [
       | true ↦ λ yes. held_is_lent new y (held ++ h ∷ []) each yes
       | false ↦ λ none.
-          let parts = neither (is_held y held) (is_held y (h ∷ [])) (sym (is_held-append y held (h ∷ [])) ∙ none) in
-          let other = neither (x == y) false parts.1 in
+          let parts = or_parts (is_held y held) (is_held y (h ∷ [])) (sym (is_held-append y held (h ∷ [])) ∙ none) in
+          let other = or_parts (x == y) false parts.1 in
           let apart : (y == x) ≡ false = let facts = other.0 in grind (arith, nat_tests) in
           ap (λ (z : ZoneState). is_lent z.heap.table y) is
           ∙ lent_more old x y
-          ∙ ap (λ b. b && list_any (λ z. z == y) (owners old.heap.map)) (either_false (y == x) (is_lent old.heap.table y) apart (holds.all y ∙ parts.0))
+          ∙ ap (λ b. b && list_any (λ z. z == y) (owners old.heap.map)) (or_from (y == x) (is_lent old.heap.table y) apart (holds.all y ∙ parts.0))
     ]
     in
     record {
@@ -178,7 +164,7 @@ Holds-written zone held x at bytes within holds = record {
 with_held-none : (x : ℕ) (bytes : List ℕ) (held : List Held) → is_held x held ≡ false → with_held x bytes (loans_of held) ≡ loans_of held
 with_held-none x bytes [] none = refl
 with_held-none x bytes (h ∷ hs) none =
-    let parts = neither (h.block == x) (is_held x hs) none in
+    let parts = or_parts (h.block == x) (is_held x hs) none in
     ap (λ b. cond b (x, bytes) (h.block, h.loan.bytes) ∷ with_held x bytes (loans_of hs)) parts.0 ∙ ap (λ (t : Loans). (h.block, h.loan.bytes) ∷ t) (with_held-none x bytes hs parts.1)
 
 -- the loans once bytes are written into one of them
@@ -190,7 +176,7 @@ loans_of-written x at bytes (h ∷ hs) once =
     ≡ cond b (x, written at bytes (cond b h.loan.bytes (held_bytes x (loans_of hs)))) (h.block, h.loan.bytes) ∷ with_held x (written at bytes (cond b h.loan.bytes (held_bytes x (loans_of hs)))) (loans_of hs) in
     elim (h.block == x) as (λ b. P b) [
       | true ↦ λ here.
-          let same : h.block ≡ x = eqb-true-is h.block x here in
+          let same : h.block ≡ x = eqb-true h.block x here in
           ap (λ (y : ℕ). (y, written at bytes h.loan.bytes) ∷ loans_of hs) same
           ∙ ap (λ (t : Loans). (x, written at bytes h.loan.bytes) ∷ t) (sym (with_held-none x (written at bytes h.loan.bytes) hs (ap (λ (y : ℕ). is_held y hs) (sym same) ∙ once.0)))
       | false ↦ λ other. ap (λ (t : Loans). (h.block, h.loan.bytes) ∷ t) (loans_of-written x at bytes hs once.1)
@@ -213,7 +199,7 @@ held_but : (x y : ℕ) (before : List Held) (loan : Loan) (behind : List Held) �
 held_but x y before loan behind one other =
     let P : Bool → Type 0 = λ b. (y == x) ≡ b → (not b && is_held y (before ++ record { block = x; loan = loan } ∷ behind)) ≡ is_held y (before ++ behind) in
     elim (y == x) as (λ b. P b) [
-      | true ↦ λ same. sym (ap (λ (z : ℕ). is_held z (before ++ behind)) (eqb-true-is y x same) ∙ is_held-append x before behind ∙ either_false (is_held x before) (is_held x behind) one other)
+      | true ↦ λ same. sym (ap (λ (z : ℕ). is_held z (before ++ behind)) (eqb-true y x same) ∙ is_held-append x before behind ∙ or_from (is_held x before) (is_held x behind) one other)
       | false ↦ λ differ.
           let apart : (x == y) ≡ false = grind (arith, nat_tests) in
           is_held-append y before (record { block = x; loan = loan } ∷ behind)
@@ -223,7 +209,7 @@ held_but x y before loan behind one other =
 
 -- what is lent once x came back
 lent_less : (zone : ZoneState) (x y : ℕ) (bytes : List ℕ) → is_lent (returned x bytes zone.heap).table y ≡ (not (y == x) && is_lent zone.heap.table y)
-lent_less zone x y bytes = any-filter_same (λ z. z == y) (λ z. not (z == x)) (not (y == x)) (λ k same. ap (λ (z : ℕ). not (z == x)) (eqb-true-is k y same)) zone.heap.table.lent
+lent_less zone x y bytes = any-filter_same (λ z. z == y) (λ z. not (z == x)) (not (y == x)) (λ k same. ap (λ (z : ℕ). not (z == x)) (eqb-true k y same)) zone.heap.table.lent
 
 -- a loan is given back, and the others are held
 pub Holds-returned : (old new : ZoneState) (x : ℕ) (held : List Held) (loan : Loan) (rest : List Held) → TakenOut x held loan rest → new ≡ with_heap (returned x loan.bytes old.heap) old → KeepsOtherLoans x old new → Holds old held → Holds new rest
@@ -248,13 +234,13 @@ Holds-returned old new x held loan rest taken is keeps holds =
 without_none : (x : ℕ) (held : List Held) → is_held x held ≡ false → without_loan x (loans_of held) ≡ loans_of held
 without_none x [] none = refl
 without_none x (h ∷ hs) none =
-    let parts = neither (h.block == x) (is_held x hs) none in
+    let parts = or_parts (h.block == x) (is_held x hs) none in
     ap (λ b. cond (not b) ((h.block, h.loan.bytes) ∷ without_loan x (loans_of hs)) (without_loan x (loans_of hs))) parts.0 ∙ ap (λ (t : Loans). (h.block, h.loan.bytes) ∷ t) (without_none x hs parts.1)
 
 without_taken : (x : ℕ) (before : List Held) (loan : Loan) (behind : List Held) → is_held x before ≡ false → is_held x behind ≡ false → loans_of (before ++ behind) ≡ without_loan x (loans_of (before ++ record { block = x; loan = loan } ∷ behind))
 without_taken x [] loan behind one other = sym (ap (λ b. cond (not b) ((x, loan.bytes) ∷ without_loan x (loans_of behind)) (without_loan x (loans_of behind))) (eqb_same x) ∙ without_none x behind other)
 without_taken x (h ∷ hs) loan behind one other =
-    let parts = neither (h.block == x) (is_held x hs) one in
+    let parts = or_parts (h.block == x) (is_held x hs) one in
     let rest = loans_of (hs ++ record { block = x; loan = loan } ∷ behind) in
     ap (λ (t : Loans). (h.block, h.loan.bytes) ∷ t) (without_taken x hs loan behind parts.1 other)
     ∙ ap (λ b. cond (not b) ((h.block, h.loan.bytes) ∷ without_loan x rest) (without_loan x rest)) (sym parts.0)
@@ -274,7 +260,7 @@ long_held zone x [] each is = absurd (cc is)
 long_held zone x (h ∷ hs) each is =
     let P : Bool → Type 0 = λ b. (h.block == x) ≡ b → (b || is_held x hs) ≡ true → length (cond b h.loan.bytes (held_bytes x (loans_of hs))) ≡ length (bytes_of zone.heap.table x) in
     elim (h.block == x) as (λ b. P b) [
-      | true ↦ λ here yes. each.0.long ∙ ap (λ (y : ℕ). length (bytes_of zone.heap.table y)) (eqb-true-is h.block x here)
+      | true ↦ λ here yes. each.0.long ∙ ap (λ (y : ℕ). length (bytes_of zone.heap.table y)) (eqb-true h.block x here)
       | false ↦ λ other yes. long_held zone x hs each.1 yes
     ] refl is
 
@@ -304,7 +290,7 @@ length-blocks_of (h ∷ hs) = ap suc (length-blocks_of hs)
 
 others_apart : (x : ℕ) (held : List Held) → is_held x held ≡ false → AllByRecursion (λ y. eqb x y ≡ false) (blocks_of held)
 others_apart x [] none = tt
-others_apart x (h ∷ hs) none = let parts = neither (h.block == x) (is_held x hs) none in (eqb_swap x h.block ∙ parts.0, others_apart x hs parts.1)
+others_apart x (h ∷ hs) none = let parts = or_parts (h.block == x) (is_held x hs) none in (eqb_swap x h.block ∙ parts.0, others_apart x hs parts.1)
 
 distinct_blocks : (held : List Held) → EachOnce held → IsDistinct eqb (blocks_of held)
 unfolding IsDistinct
@@ -317,10 +303,6 @@ held_few zone held holds =
     let le : length (blocks_of held) ≤ length zone.heap.table.lent = length-le_from_is_member nat_eq_equiv (blocks_of held) zone.heap.table.lent (distinct_blocks held holds.once) (λ q is. member_lent q zone.heap.table.lent ∙ holds.all q ∙ sym (member_held q held) ∙ is) in
     let same : length (blocks_of held) ≡ length held = length-blocks_of held in
     omega arith
-
-passed_test : (code : OsErr) (b : Bool) → unless_passed code b ≡ None → b ≡ true
-passed_test code true is = refl
-passed_test code false is = absurd (cc is)
 
 -- what is known where Lend isn't refused
 pub record LendsMore (heap : Heap) (x : ℕ) : Type 0 where
@@ -347,14 +329,14 @@ pub reaches_lent : (zone : ZoneState) (held : List Held) (x at n : ℕ) → Hold
     → loan_refusal zone.shape zone.heap (LentPeek x at n) ≡ None
 reaches_lent zone held x at n holds live is within =
     let long = long_held zone x held holds.each is in
-    let test : nat_le (at + n) (length (bytes_of zone.heap.table x)) ≡ true = le_test (at + n) (length (bytes_of zone.heap.table x)) (omega arith) in
+    let test : nat_le (at + n) (length (bytes_of zone.heap.table x)) ≡ true = le-leb (at + n) (length (bytes_of zone.heap.table x)) (omega arith) in
     rw ((first_passed zone.shape zone.heap (IsBlock x) [] live).0, holds.all x, is, test) refl
 
 pub exceeds_lent : (zone : ZoneState) (held : List Held) (x at n : ℕ) → Holds zone held → first_refusal zone.shape zone.heap (IsBlock x ∷ []) ≡ None → is_held x held ≡ true → length (held_bytes x (loans_of held)) < at + n
     → loan_refusal zone.shape zone.heap (LentPeek x at n) ≡ Some ParamErr
 exceeds_lent zone held x at n holds live is beyond =
     let long = long_held zone x held holds.each is in
-    let test : nat_le (at + n) (length (bytes_of zone.heap.table x)) ≡ false = gt_test (at + n) (length (bytes_of zone.heap.table x)) (omega arith) in
+    let test : nat_le (at + n) (length (bytes_of zone.heap.table x)) ≡ false = lt-leb (at + n) (length (bytes_of zone.heap.table x)) (omega arith) in
     rw ((first_passed zone.shape zone.heap (IsBlock x) [] live).0, holds.all x, is, test) refl
 
 -- a LentPoke that isn't refused

@@ -10,6 +10,7 @@ use Rattle.mac_base.specs.BlockStatus.{status_of}
 use Rattle.mac_base.specs.declared.block.Status.TheVariants.{NotLive, Empty, Lent, Full}
 use Rattle.mac_base.specs.HandleTable.{HandleTable, Live, bytes_of, has_block, is_handle, is_lent, is_pointer, live_at, live_bytes, refilled, with_bytes}
 use Rattle.zone_laws.proofs.Tables.{with_live_agrees}
+use Rattle.zone_laws.proofs.Lent.{lent-apart}
 use Rattle.linked_zone.specs.Loans.{KeepsLoans}
 use Rattle.mac_calls.specs.declared.memory_call.MemoryCall.{MemoryCall}
 use Rattle.mac_calls.specs.declared.memory_call.MemoryCall.TheVariants.{Poke, Peek}
@@ -68,14 +69,10 @@ full_not_lent t x = by_case (is_handle t x || is_pointer t x) (has_block t x) (i
     by_case true false lent is = absurd (cc is)
     by_case false block lent is = absurd (cc is)
 
--- a number that is lent is another one than a number that isn't
-apart : (t : HandleTable) (x y : ℕ) → is_lent t x ≡ false → is_lent t y ≡ true → eqb y x ≡ false
-apart t x y none lent = ne_eqb y x (λ same. let both : true ≡ false = sym lent ∙ ap (λ (z : ℕ). is_lent t z) same ∙ none in absurd (cc both))
-
 -- the loans stay where bytes are written into a block that isn't lent
 pub KeepsLoans-written : (zone : ZoneState) (x : ℕ) (bytes : List ℕ) → status_of zone.heap.table x ≡ Full → KeepsLoans zone (with_contents zone x bytes)
 KeepsLoans-written zone x bytes full = λ y loan is.
     let t = zone.heap.table in
-    let other : eqb y x ≡ false = apart t x y (full_not_lent t x full) is.lent in
+    let other : eqb y x ≡ false = lent-apart t x y (full_not_lent t x full) is.lent in
     let same : live_at (with_contents zone x bytes).heap.table y ≡ live_at t y = (with_live_agrees x (refilled (overwritten (bytes_of t x) bytes) (live_at t x)) t).others y other in
     record { lent = is.lent; memory = is.memory; contents = is.contents; long = is.long ∙ ap (λ (o : Option Live). length (live_bytes o)) (sym same) }

@@ -8,6 +8,7 @@ use Rattle.mac_base.specs.declared.releasing.ReleasingCall.{ReleasingCall}
 use Rattle.mac_calls.specs.declared.grow_zone.Asked.{Asked}
 use Rattle.mac_calls.specs.GrowZone.{Answer, Ask, answered, answers_in, may_note, new_ask, noted}
 use Rattle.held_calls.specs.Answers.{taken}
+use Rattle.mem_calls.proofs.Carrying.{may_note-last}
 
 -- the front answer is given
 taken-front : (asks : List Ask) (needed : ℕ) (answer : Answer) (old left : List Answer) → old ≡ answer ∷ left → taken (asks ++ new_ask needed (Some answer) ∷ []) left ≡ taken asks old
@@ -24,12 +25,6 @@ taken-none asks needed left = ap (λ (front : List Answer). front ++ left) (filt
 pub taken-asked : (o : Option Answer) (asks : List Ask) (needed : ℕ) (old left : List Answer) → IfSome o (λ answer. old ≡ answer ∷ left) → IfNone o (old ≡ []) → IfNone o (left ≡ []) → taken (asks ++ new_ask needed o ∷ []) left ≡ taken asks old
 taken-asked (Some answer) asks needed old left front none stays = taken-front asks needed answer old left front
 taken-asked None asks needed old left front none stays = taken-none asks needed left ∙ ap (λ (rest : List Answer). taken asks rest) (stays ∙ sym none)
-
--- a call that may be noted belongs to the last ask
-pub may_note-last : (asks : List Ask) (a : Ask) → may_note (asks ++ a ∷ []) ≡ may_note (a ∷ [])
-may_note-last [] a = refl
-may_note-last (x ∷ []) a = refl
-may_note-last (x ∷ y ∷ asks) a = may_note-last (y ∷ asks) a
 
 -- and is noted there
 pub noted-last : (call : ReleasingCall) (code : Option OsErr) (asks : List Ask) (a : Ask) → noted call code (asks ++ a ∷ []) ≡ asks ++ noted call code (a ∷ [])

@@ -20,7 +20,3 @@ keeps-again s t protected r old mid new before after again trial (answer, behind
 -- the request can be made
 pub can_ask-again : (protected : List ℕ) (r : Request) (old new : ZoneState) → Keeps protected old.heap new.heap → is_protected protected r ≡ true → CanAsk old r → CanAsk new r
 can_ask-again protected r old new keeps among ready = record { size = ready.size; operand = ready-kept protected r old.heap new.heap keeps among ready.operand }
-
--- and has its slot
-pub slot-again : (protected : List ℕ) (r : Request) (old new : Heap) → Keeps protected old new → lacks_slot r old ≡ false → lacks_slot r new ≡ false
-slot-again protected r old new keeps = slot-kept protected r old new keeps

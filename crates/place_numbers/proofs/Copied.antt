@@ -1,8 +1,9 @@
 -- Numbers that are copied piece by piece.
-use Rattle.std.proofs.Common.{◌≡◌, ℕ, List, ◌++◌, sym, ap, ◌∙◌, length-append, ◌+◌, ◌-◌, ◌<◌, ◌≤◌, inl, inr, length, get_or, take, drop, arith, get_or-take, get_or-drop}
+use Rattle.std.proofs.Common.{◌≡◌, ℕ, List, ◌++◌, sym, ◌∙◌, length-append, ◌+◌, ◌-◌, ◌<◌, ◌≤◌, inl, inr, length, get_or, take, drop, arith, get_or-take, get_or-drop}
 use Rattle.std.proofs.lemmas.Bool.{cases_lt}
 use Rattle.std.proofs.lemmas.List.{ext_get_or, get_or_append_left, get_or-append_right, length-take-le, length-drop}
 use Rattle.place_numbers.specs.Shifted.{copied}
+use Rattle.place_numbers.proofs.Moved.{same-place}
 
 -- n numbers of xs from a place on stand in ys from another on, and the others where they stood
 record IsCopied (xs ys : List ℕ) (from to n : ℕ) : Type 0 where
@@ -10,9 +11,6 @@ record IsCopied (xs ys : List ℕ) (from to n : ℕ) : Type 0 where
   below : (j : ℕ) → j < to → get_or ys j 0 ≡ get_or xs j 0
   there : (j : ℕ) → to ≤ j → j < to + n → get_or ys j 0 ≡ get_or xs (from + (j - to)) 0
   behind : (j : ℕ) → to + n ≤ j → get_or ys j 0 ≡ get_or xs j 0
-
-same-place : (xs : List ℕ) (i j : ℕ) → i ≡ j → get_or xs i 0 ≡ get_or xs j 0
-same-place xs i j is = ap (λ (k : ℕ). get_or xs k 0) is
 
 -- so it is in the list with a copy
 is-copied : (xs : List ℕ) (from to n : ℕ) → from + n ≤ length xs → to + n ≤ length xs → IsCopied xs (copied from to n xs) from to n

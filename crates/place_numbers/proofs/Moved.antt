@@ -38,7 +38,7 @@ module _ (ks ls ms ns : List ℕ) (k l m j : ℕ) (k-is : length ks ≡ k) (l-is
   fourth : m ≤ j → get_or (((ks ++ ls) ++ ms) ++ ns) j 0 ≡ get_or ns (j - m) 0
   fourth past = get_or-append_right ((ks ++ ls) ++ ms) ns m j 0 m-is past
 
-same-place : (xs : List ℕ) (i j : ℕ) → i ≡ j → get_or xs i 0 ≡ get_or xs j 0
+pub same-place : (xs : List ℕ) (i j : ℕ) → i ≡ j → get_or xs i 0 ≡ get_or xs j 0
 same-place xs i j is = ap (λ (k : ℕ). get_or xs k 0) is
 
 -- so it is in the shifted lists

@@ -3,6 +3,7 @@ use Rattle.std.proofs.Common.{◌≡◌, refl, sym, ap, ◌∙◌, arith, ℕ, z
 use Rattle.std.specs.Prelude.{nat_lt}
 use Rattle.std.specs.List.{list_any}
 use Rattle.std.proofs.lemmas.Bool.Decides.{nat_tests}
+use Rattle.std.proofs.lemmas.Bool.{ltb-true, ltb-false}
 use Rattle.res_table.specs.declared.keyed.Pair.{Pair}
 use Rattle.res_table.specs.Keyed.{is_before, rank, with_pair, NoneBefore, AreInOrder}
 use Rattle.res_table.proofs.Pairs.{starts, none_at}
@@ -28,20 +29,10 @@ below g k less = grind (arith, nat_tests)
 pub above : (g k : ℕ) → k < g → (g == k) ≡ false
 above g k less = grind (arith, nat_tests)
 
-pub alike : (g k : ℕ) → g ≡ k → (g == k) ≡ true
-alike g k same = grind (arith, nat_tests)
-
--- keys of pairs that stand in order
-smaller : (g h : ℕ) → nat_lt g h ≡ true → g < h
-smaller g h less = grind (arith, nat_tests)
-
-least_first : (g h : ℕ) → nat_lt g h ≡ false → h ≤ g
-least_first g h first = grind (arith, nat_tests)
-
 at_least : (g h a b : ℕ) → (nat_lt g h || (g == h && nat_lt a b)) ≡ false → h ≤ g
 at_least g h a b first = grind (arith, nat_tests)
 
--- where none with a smaller key passes it, those from a key on tell
+-- where none with a ltb-true key passes it, those from a key on tell
 pub any_from : (test : Pair → Bool) (h : ℕ) (ps : List Pair) → ((p : Pair) → p.key < h → test p ≡ false) → list_any test ps ≡ list_any test (drop (rank (record { key = h; place = 0 }) ps) ps)
 any_from test h [] none = refl
 any_from test h (p ∷ ps) none = by (is_before p (record { key = h; place = 0 })) refl (any_from test h ps none)
@@ -50,7 +41,7 @@ any_from test h (p ∷ ps) none = by (is_before p (record { key = h; place = 0 }
     r = rank (record { key = h; place = 0 }) ps
 
     by : (b : Bool) → is_before p (record { key = h; place = 0 }) ≡ b → list_any test ps ≡ list_any test (drop r ps) → (test p || list_any test ps) ≡ list_any test (drop (if b then suc r else 0) (p ∷ ps))
-    by true e deeper = ap (λ (t : Bool). t || list_any test ps) (none p (smaller p.key h (sym (starts p h) ∙ e))) ∙ deeper
+    by true e deeper = ap (λ (t : Bool). t || list_any test ps) (none p (ltb-true p.key h (sym (starts p h) ∙ e))) ∙ deeper
     by false e deeper = refl
 
 -- where none with the key of a pair or a larger one passes it, none behind that pair does
@@ -59,7 +50,7 @@ none_behind test p [] order none = refl
 none_behind test p (q ∷ qs) order none =
     ap (λ (t : Bool). t || list_any test qs) (none q (at_least q.key p.key q.place p.place order.0)) ∙ none_behind test p qs order.1 none
 
--- those from a key on have no smaller key
+-- those from a key on have no ltb-true key
 pub least_key : (h : ℕ) (ps : List Pair) (i : ℕ) (d : Pair) → AreInOrder ps → i < length (drop (rank (record { key = h; place = 0 }) ps) ps) → h ≤ (get_or (drop (rank (record { key = h; place = 0 }) ps) ps) i d).key
 least_key h [] i d order within = absurd (omega arith)
 least_key h (p ∷ ps) i d order within = by (is_before p (record { key = h; place = 0 })) refl within (least_key h ps i d order.1)
@@ -75,4 +66,4 @@ least_key h (p ∷ ps) i d order within = by (is_before p (record { key = h; pla
     by : (b : Bool) → is_before p (record { key = h; place = 0 }) ≡ b → i < length (drop (if b then suc r else 0) (p ∷ ps)) → (i < length (drop r ps) → h ≤ (get_or (drop r ps) i d).key)
         → h ≤ (get_or (drop (if b then suc r else 0) (p ∷ ps)) i d).key
     by true e inside deeper = deeper inside
-    by false e inside deeper = from i (least_first p.key h (sym (starts p h) ∙ e)) inside
+    by false e inside deeper = from i (ltb-false p.key h (sym (starts p h) ∙ e)) inside

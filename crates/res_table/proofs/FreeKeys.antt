@@ -2,10 +2,11 @@
 use Rattle.std.proofs.Common.{◌≡◌, refl, sym, ap, ◌∙◌, subst, arith, ℕ, ◌+◌, ◌-◌, ◌<◌, ◌≤◌, List, length, get_or, take, drop, Bool, true, false, ◌||◌, ◌==◌}
 use Rattle.std.proofs.lemmas.Bool.Decides.{nat_tests}
 use Rattle.std.proofs.lemmas.List.{drop_all, drop_more, length-drop, take_all}
+use Rattle.std.proofs.lemmas.Bool.{eq-eqb}
 use Rattle.res_table.specs.declared.keyed.Pair.{Pair}
 use Rattle.res_table.specs.Keyed.{rank, has_pair, NoneBefore, AreInOrder}
 use Rattle.res_table.proofs.Pairs.{order_dropped}
-use Rattle.res_table.proofs.AnyPair.{below, above, alike, any_from, none_behind}
+use Rattle.res_table.proofs.AnyPair.{below, above, any_from, none_behind}
 
 -- no pair before the first one of a key has it, or a larger one
 behind_rank : (h k : ℕ) (ps : List Pair) → h ≤ k → has_pair k ps ≡ has_pair k (drop (rank (record { key = h; place = 0 }) ps) ps)
@@ -38,7 +39,7 @@ taken_more key free i d ps rest within same before =
     (λ k least less. by k least (k == free) refl less, λ k least. before.1 k (omega arith) ∙ looked_at i k d rest within ∙ ap (λ (t : Bool). t || has_pair k (drop (i + 1) rest)) (below (get_or rest i d).key k (omega arith)))
   where
     here : has_pair free ps ≡ true
-    here = before.1 free (omega arith) ∙ looked_at i free d rest within ∙ ap (λ (t : Bool). t || has_pair free (drop (i + 1) rest)) (alike (get_or rest i d).key free same)
+    here = before.1 free (omega arith) ∙ looked_at i free d rest within ∙ ap (λ (t : Bool). t || has_pair free (drop (i + 1) rest)) (eq-eqb (get_or rest i d).key free same)
 
     last : (k : ℕ) → (k == free) ≡ true → k ≡ free
     last k e = grind (arith, nat_tests)

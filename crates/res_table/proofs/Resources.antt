@@ -9,6 +9,7 @@ use Rattle.std.proofs.lemmas.List.Elements.{All-append, All-cons, All-drop, All-
 use Rattle.std.proofs.lemmas.List.Quantifiers.{position-Some}
 use Rattle.std.proofs.lemmas.Iterator.Adapters.{position_from-zero}
 use Rattle.std.proofs.lemmas.Slice.Eq.{bytes_eq-Decides}
+use Rattle.std.proofs.lemmas.Bool.{and_parts}
 use Rattle.res_table.specs.declared.row.Row.{Row}
 use Rattle.res_table.specs.Rows.{is_resource}
 use Rattle.res_table.specs.Keyed.{key_of_resource, first_place}
@@ -49,13 +50,9 @@ some_where_some p q at (suc i) d (x ∷ xs) only found is within = by (p x) (q x
 same_number : (n : ℕ) → (n == n) ≡ true
 same_number n = grind (arith, nat_tests)
 
-both : (b c : Bool) → (b && c) ≡ true → (b ≡ true) × (c ≡ true)
-both true c is = (refl, is)
-both false c is = absurd (cc is)
-
 with_its_key : {D : Type 0} (kind : List ℕ) (id : ℤ) (r : Row D) → is_resource kind id r ≡ true → has_key resource_key (key_of_resource kind id) r ≡ true
 with_its_key kind id r is =
-    let parts = both (bytes_eq r.resource.kind kind) (int_eq r.resource.id id) is in
+    let parts = and_parts (bytes_eq r.resource.kind kind) (int_eq r.resource.id id) is in
     let kinds : r.resource.kind ≡ kind = (bytes_eq-Decides r.resource.kind kind).0 parts.0 in
     let ids : r.resource.id ≡ id = (Decides-int_eq r.resource.id id).0 parts.1 in
     ap (λ (k : List ℕ). key_of_resource k r.resource.id == key_of_resource kind id) kinds

@@ -1,7 +1,8 @@
 use Rattle.std.proofs.Common.{◌∙◌, ◌++◌, List, ap, sym}
 use Rattle.mac_calls.specs.GrowZone.{Answer, Ask, may_note, noted}
 use Rattle.held_calls.specs.Answers.{Queue, taken}
-use Rattle.held_calls.proofs.Queued.{may_note-last, noted-answers, noted-back}
+use Rattle.held_calls.proofs.Queued.{noted-answers, noted-back}
+use Rattle.mem_calls.proofs.Carrying.{may_note-last}
 use Rattle.held_calls.proofs.answers.AnswerQueueGrowZone.did.Goals as goal
 
 pub note-requires : goal.note-requires
