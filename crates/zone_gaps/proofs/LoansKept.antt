@@ -1,5 +1,5 @@
 -- What is lent keeps its place where a map is rearranged, so its loan can come back.
-use Rattle.std.proofs.Common.{◌≡◌, ℕ, ◌+◌, true, false, cond, List, [], ◌∷◌, ◌++◌, length, refl, ap, sym, ◌∙◌, inl, inr, Option, Some, None}
+use Rattle.std.proofs.Common.{◌≡◌, ℕ, ◌+◌, true, false, cond, [], ◌∷◌, ◌++◌, length, refl, ap, sym, ◌∙◌, inl, inr, Option, Some, None}
 use Rattle.std.specs.Prelude.{◌⊎◌, map, slice_index}
 use Rattle.std.proofs.lemmas.Bool.{or_cases}
 use Rattle.mac_base.specs.declared.block.Kind.{Kind}

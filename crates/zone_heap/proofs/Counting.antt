@@ -1,5 +1,5 @@
 -- Room for a handle's new block, where its old one counts as free.
-use Rattle.std.proofs.Common.{◌≡◌, ℕ, ◌+◌, Bool, true, false, not, cond, List, [], ◌∷◌, length, refl, ap, sym, ◌∙◌, arith, Option, Some, None, MatchOption}
+use Rattle.std.proofs.Common.{◌≡◌, ℕ, ◌+◌, Bool, true, false, not, cond, [], ◌∷◌, refl, ap, sym, ◌∙◌, arith, Option, Some, None, MatchOption}
 use Rattle.std.specs.Prelude.{◌&&◌, ◌||◌, is_some, nat_le}
 use Rattle.std.proofs.Math.Bool.{or-true}
 use Rattle.std.proofs.lemmas.Bool.{or_parts}

@@ -1,15 +1,14 @@
 -- Walks by which the room of gaps is counted.
 use Rattle.std.proofs.Common.{◌≡◌, ℕ, ◌+◌, ◌<◌, ◌≤◌, Bool, true, false, not, cond, eqb, List, [], ◌∷◌, ◌++◌, append-nil, append_assoc, refl, ap, sym, ◌∙◌, arith, subst, inl, inr, Some, None, Option}
 use Rattle.std.specs.Prelude.{◌&&◌, ◌||◌, ◌⊎◌, nat_le}
-use Rattle.std.proofs.lemmas.Bool.{and_parts, not-true, true≢false, lt-leb, eqb-true}
-use Rattle.std.proofs.lemmas.Bool.Decides.{nat_tests}
+use Rattle.std.proofs.lemmas.Bool.{and_parts, not-true, true≢false, eqb-true}
 use Rattle.mac_base.specs.declared.block.Kind.{Kind}
 use Rattle.mac_base.specs.declared.block.Kind.TheVariants.{Free, Master, Ptr, Rel}
 use Rattle.mac_base.specs.Gap.{is_fixed}
 use Rattle.mac_base.specs.HandleTable.{HandleTable, is_locked}
 use Rattle.mac_base.specs.Request.{is_among}
 use Rattle.mac_base.specs.declared.block.Entry.{Entry}
-use Rattle.mac_base.specs.ZoneMap.{ZoneMap, block, is_free, is_named, total_size}
+use Rattle.mac_base.specs.ZoneMap.{ZoneMap, block, is_named, total_size}
 use Rattle.mac_base.specs.ZoneState.{ZoneState}
 use Rattle.fixed_index.specs.Runs.{begins_fixed, ends_fixed, none_fixed}
 use Rattle.fixed_index.proofs.Sizes.{all_parts}

@@ -1,5 +1,5 @@
 -- Blocks are found by their addresses, since each has bytes.
-use Rattle.std.proofs.Common.{◌≡◌, ℕ, ◌+◌, ◌<◌, Bool, true, [], ◌∷◌, ◌++◌, refl, ap, arith, IsTrue}
+use Rattle.std.proofs.Common.{◌≡◌, ℕ, ◌<◌, Bool, true, [], ◌∷◌, ◌++◌, refl, ap, arith, IsTrue}
 use Rattle.std.specs.Prelude.{◌&&◌, ◌==◌, ◌%◌, nat_le, nat_lt}
 use Rattle.std.specs.List.{list_all}
 use Rattle.std.proofs.lemmas.Bool.Decides.{nat_tests}
@@ -8,9 +8,7 @@ use Rattle.mac_base.specs.declared.block.Entry.{Entry}
 use Rattle.mac_base.specs.HeadKind.{Shape, smallest_block}
 use Rattle.mac_base.specs.ZoneMap.{ZoneMap, total_size}
 use Rattle.mac_base.specs.Suits.{is_block_size}
-use Rattle.zone_laws.proofs.Maps.{total_size-append}
 use Rattle.zone_laws.proofs.Taken.{head-below_smallest}
-use Rattle.page_sums.proofs.Sizes.{total_size-push}
 use Rattle.zone_gaps.proofs.Owning.{heads as same_head}
 
 -- whether each block has bytes

@@ -5,8 +5,7 @@ use Rattle.std.proofs.lemmas.List.{length-take}
 use Rattle.mac_base.specs.declared.block.Status.TheVariants.{NotLive, Empty, Lent, Full}
 use Rattle.mac_base.specs.BlockStatus.{status_of}
 use Rattle.mac_base.specs.HandleTable.{HandleTable, has_block, is_handle, is_lent, is_pointer}
-use Rattle.mac_base.specs.ZoneState.{overwritten, written}
-use Rattle.page_sums.proofs.Measured.{length-overwritten}
+use Rattle.mac_base.specs.ZoneState.{written}
 
 -- what is full has a block
 pub full-has_block : (t : HandleTable) (x : ℕ) → status_of t x ≡ Full → has_block t x ≡ true
