@@ -1,16 +1,16 @@
 -- Attempts and trials: an attempt is served just where the request fits, and a trial prepares no more than it needs.
-use Rattle.std.proofs.Common.{◌≡◌, ℕ, ◌<◌, Bool, true, false, cond, not, List, [], ◌∷◌, length, Some, refl, ap, sym, ◌∙◌, arith}
+use Rattle.std.proofs.Common.{◌≡◌, ℕ, ◌<◌, true, false, cond, not, List, [], ◌∷◌, length, Some, ap, sym, ◌∙◌, arith}
 use Rattle.std.specs.Prelude.{is_some}
 use Rattle.std.proofs.lemmas.Bool.{and_parts}
 use Rattle.mac_base.specs.Attempt.{attempted}
 use Rattle.mac_base.specs.HeadKind.{Shape}
-use Rattle.mac_base.specs.ZoneMap.{ZoneMap, released}
+use Rattle.mac_base.specs.ZoneMap.{ZoneMap}
 use Rattle.mac_base.specs.HandleTable.{has_block, is_lent}
 use Rattle.mac_base.specs.Heap.{Heap, front_slot, granted, grown, has_none, with_all_emptied}
 use Rattle.mac_base.specs.Purging.{purged}
 use Rattle.mac_base.specs.declared.request.Request.{Request}
 use Rattle.mac_base.specs.declared.request.Request.TheVariants.{NewBlock, NewEmpty, NewPointer, NewMaster, Reserve, Resize, Replace}
-use Rattle.mac_base.specs.Request.{fits, candidates, purged_until}
+use Rattle.mac_base.specs.Request.{fits, candidates}
 use Rattle.mac_base.specs.Serve.{serve}
 use Rattle.mac_base.specs.Sound.{Sound}
 use Rattle.mac_calls.specs.ExactRequest.{prepared}

@@ -1,4 +1,4 @@
-use Rattle.std.proofs.Common.{refl, ap, sym, ◌∙◌, Ok}
+use Rattle.std.proofs.Common.{refl}
 use Rattle.mac_calls.specs.declared.memory_call.MemoryCall.TheVariants.{MoreMasters}
 use Rattle.mac_base.specs.declared.request.Request.TheVariants.{NewMaster}
 use Rattle.mac_calls.specs.Outcomes.{done_outcome}

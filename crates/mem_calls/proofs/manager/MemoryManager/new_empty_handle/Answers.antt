@@ -1,4 +1,4 @@
-use Rattle.std.proofs.Common.{refl, ap, sym, ◌∙◌, Ok}
+use Rattle.std.proofs.Common.{refl, ap, ◌∙◌}
 use Rattle.mac_calls.specs.declared.memory_call.MemoryCall.TheVariants.{NewEmptyHandle}
 use Rattle.mac_base.specs.declared.request.Request.TheVariants.{NewEmpty}
 use Rattle.mac_calls.specs.Outcomes.{handle_outcome}

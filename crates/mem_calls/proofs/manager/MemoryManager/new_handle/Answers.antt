@@ -1,4 +1,4 @@
-use Rattle.std.proofs.Common.{refl, ap, sym, ◌∙◌, Ok, None}
+use Rattle.std.proofs.Common.{refl, ap, ◌∙◌, None}
 use Rattle.std.specs.Option.{option_or}
 use Rattle.mac_calls.specs.declared.memory_call.MemoryCall.TheVariants.{NewHandle}
 use Rattle.mac_base.specs.declared.request.Request.TheVariants.{NewBlock}

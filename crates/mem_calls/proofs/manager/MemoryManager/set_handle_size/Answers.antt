@@ -1,4 +1,4 @@
-use Rattle.std.proofs.Common.{[], ◌∷◌, refl, ap, sym, ◌∙◌, Ok}
+use Rattle.std.proofs.Common.{[], ◌∷◌, refl}
 use Rattle.mem_calls.proofs.Passing.{passed-set_handle_size, refused-first, refused-later}
 use Rattle.mac_calls.specs.declared.memory_call.MemoryCall.TheVariants.{SetHandleSize}
 use Rattle.mac_base.specs.declared.request.Request.TheVariants.{Resize}
