@@ -5,8 +5,9 @@ ghost use Rattle.fork_salvage.specs.Fault.{refusal_of};
 
 use crate::place::Gap;
 use fork_bytes::fault::{Condition, ForkFault};
-use fork_text::Quoted;
 use mac_base::resource::ResType;
+use mac_text::Quoted;
+use mac_text::letters::Letters;
 use std::fmt;
 
 /// A type that stands twice in the type list, and where in the fork its two entries stand.
@@ -113,7 +114,7 @@ fn write_row<W: fmt::Write>(
     whole: &str,
 ) -> fmt::Result {
     let kind = row.kind.bytes();
-    let kind = Quoted::single(&kind);
+    let kind = Quoted::single(Letters::Raw, &kind);
     let BadRow {
         id,
         reference,
@@ -167,7 +168,7 @@ impl fmt::Display for Fault {
 /// What is said of a type that stands twice.
 fn write_same<W: fmt::Write>(f: &mut fmt::Formatter<W>, same: &SameType) -> fmt::Result {
     let kind = same.kind.bytes();
-    let kind = Quoted::single(&kind);
+    let kind = Quoted::single(Letters::Raw, &kind);
     let SameType { first, second, .. } = *same;
     write!(
         f,
@@ -178,7 +179,7 @@ fn write_same<W: fmt::Write>(f: &mut fmt::Formatter<W>, same: &SameType) -> fmt:
 /// What is said of a list of references.
 fn write_list<W: fmt::Write>(f: &mut fmt::Formatter<W>, list: &BadList) -> fmt::Result {
     let kind = list.kind.bytes();
-    let kind = Quoted::single(&kind);
+    let kind = Quoted::single(Letters::Raw, &kind);
     let Gap {
         place,
         wanted,

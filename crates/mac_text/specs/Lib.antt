@@ -1,1 +1,2 @@
 pub mod Roman
+pub mod Quoted

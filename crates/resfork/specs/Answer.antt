@@ -6,14 +6,14 @@ use Rattle.fork_bytes.specs.declared.fault.ForkFault.{ForkFault}
 use Rattle.fork_bytes.specs.declared.table.Table.{Table}
 use Rattle.fork_bytes.specs.Rows.{Row}
 use Rattle.fork_bytes.specs.Fork.{StandsFor, Refuses}
-use Rattle.resfork.specs.Listing.{listing}
-use Rattle.resfork.specs.Types.{type_lines}
-use Rattle.resfork.specs.Find.{is_wanted}
+use Rattle.fork_list.specs.Listing.{listing}
+use Rattle.fork_list.specs.Types.{type_lines}
+use Rattle.fork_list.specs.Find.{is_wanted}
 use Rattle.resfork.specs.Source.{IsForkIn, IsNoForkIn}
 use Rattle.resfork.specs.declared.source.NoFork.{NoFork}
 use Rattle.resfork.specs.declared.request.Request.{Request}
 use Rattle.resfork.specs.declared.request.Request.TheVariants as request
-use Rattle.resfork.specs.declared.request.Wanted.{Wanted}
+use Rattle.fork_list.specs.declared.find.Wanted.{Wanted}
 use Rattle.resfork.specs.declared.answer.Failure.{Failure}
 use Rattle.resfork.specs.declared.answer.Failure.TheVariants as failure
 

@@ -3,13 +3,12 @@
 ghost use Rattle.std.specs.Prelude.{◌≡◌, IfErr, IfOk};
 ghost use Rattle.resfork.specs.Answer.{Answers, AnswersFork, IsQuiet, IsReadOf, Shows, empty_table};
 
-use crate::find::find_row;
-use crate::list::listing;
-use crate::request::{Choice, Request, Wanted};
+use crate::request::{Choice, Request};
 use crate::source::{NoFork, resource_fork};
-use crate::types::types_listing;
 use fork_bytes::fault::ForkFault;
 use fork_bytes::table::{Rows, Table};
+use fork_list::find::{Wanted, find_row};
+use fork_list::{listing, types_listing};
 use fork_reader::read_fork;
 use std::alloc::{AllocError, Global};
 use std::io;

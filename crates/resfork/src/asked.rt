@@ -1,14 +1,14 @@
 //! The words of the command line.
 
 use crate::command::command;
-use crate::kind::kind_of;
-use crate::letters::Letters;
-use crate::name::name_of;
-use crate::request::{Choice, Key, Request, Wanted};
+use crate::request::{Choice, Request};
 use clap::ArgMatches;
 use clap::error::ErrorKind;
+use fork_list::find::{Key, Wanted};
+use fork_list::{kind_of, name_of};
 use mac_base::resource::ResType;
 use mac_text::bytes_of;
+use mac_text::letters::Letters;
 use std::alloc::{AllocError, Global};
 use std::convert::AsStr;
 use thiserror::Error;

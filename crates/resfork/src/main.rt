@@ -3,21 +3,13 @@
 
 mod answer;
 mod asked;
-mod attribute;
 mod command;
 mod damage;
-mod find;
 mod info;
 mod input;
-mod kind;
-mod letters;
-mod list;
 mod message;
-mod name;
 mod request;
-mod shown;
 mod source;
-mod types;
 
 use answer::answer;
 use asked::{Asked, NotAsked, asked_by};

@@ -1,7 +1,8 @@
 //! What is asked about a resource fork.
 
-use crate::letters::Letters;
+use fork_list::find::Wanted;
 use mac_base::resource::ResType;
+use mac_text::letters::Letters;
 
 /// What to show of a fork.
 #[derive(Drop)]
@@ -21,23 +22,6 @@ pub struct Choice {
     pub letters: Letters,
     /// The types of the resources; none for all types.
     pub kinds: Vec<ResType>,
-}
-
-/// What a resource of a type is called by.
-#[derive(Drop)]
-pub enum Key {
-    /// Its id.
-    Id(i16),
-    /// Its name, in MacRoman.
-    Name(Vec<u8>),
-}
-
-/// A resource of a type with an id or a name: of several such ones this one, where the first is 0.
-#[derive(Drop)]
-pub struct Wanted {
-    pub kind: ResType,
-    pub key: Key,
-    pub nth: usize,
 }
 
 impl Request {
