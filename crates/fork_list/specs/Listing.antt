@@ -1,7 +1,8 @@
 -- Resources as text.
-use Rattle.std.specs.Prelude.{ℕ, ◌^◌, ◌-◌, ◌==◌, ◌&&◌, ◌||◌, Bool, nat_lt, if◌then◌else◌, List, [], ◌∷◌, ◌++◌, length, drop, slice_index, codes, bytes_eq, Option, None, Some}
+use Rattle.std.specs.Prelude.{ℕ, ℤ, ◌^◌, ◌-◌, ◌==◌, ◌&&◌, ◌||◌, Bool, nat_lt, if◌then◌else◌, List, [], ◌∷◌, ◌++◌, length, drop, slice_index, codes, bytes_eq, Option, None, Some}
 use Rattle.std.specs.List.{flat_map, list_all, list_any}
 use Rattle.std.specs.Fmt.{format_spec, styled_decimal, styled_signed_decimal}
+use Rattle.mac_base.specs.declared.resource.ResAttrs.{ResAttrs}
 use Rattle.fork_bytes.specs.Rows.{Row}
 use Rattle.mac_text.specs.declared.letters.Letters.{Letters}
 use Rattle.mac_text.specs.Quoted.{escaped, quoted}
@@ -22,11 +23,15 @@ abbrev pub name_text : Letters → Option (List ℕ) → List ℕ
 name_text letters None = []
 name_text letters (Some name) = 32 ∷ quoted letters 34 name
 
--- a row: its type, its id and how many bytes it has to the right of columns, its attributes, and its name if it has one
+-- a type, an id and a count of bytes to the right of columns, attributes, and a name if there is one
+abbrev pub cells_text : Letters → List ℕ → ℤ → ℕ → ResAttrs → Option (List ℕ) → List ℕ
+cells_text letters kind id count attributes name = kind_text letters kind ++ (32 ∷ (styled_signed_decimal (format_spec 32 3 0 6 (2 ^ 64 - 1)) id
+    ++ (32 ∷ (styled_decimal (format_spec 32 3 0 8 (2 ^ 64 - 1)) count
+    ++ (32 ∷ (attributes_text attributes.0 ++ name_text letters name))))))
+
+-- a row: its type, its id, how many bytes it has, its attributes, and its name
 abbrev pub row_text : Letters → Row → List ℕ
-row_text letters row = kind_text letters row.kind ++ (32 ∷ (styled_signed_decimal (format_spec 32 3 0 6 (2 ^ 64 - 1)) row.id
-    ++ (32 ∷ (styled_decimal (format_spec 32 3 0 8 (2 ^ 64 - 1)) (length row.datum)
-    ++ (32 ∷ (attributes_text row.attributes.0 ++ name_text letters row.name))))))
+row_text letters row = cells_text letters row.kind row.id (length row.datum) row.attributes row.name
 
 -- whether a type is one of these, where none are named for all
 abbrev pub is_chosen : List (List ℕ) → List ℕ → Bool

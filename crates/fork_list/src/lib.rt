@@ -13,7 +13,7 @@ mod types;
 pub use attribute::Attributes;
 pub use find::find_row;
 pub use kind::kind_of;
-pub use list::{is_chosen, listing};
+pub use list::{RowText, is_chosen, listing};
 pub use name::name_of;
 pub use shown::{KindText, NamePart};
 pub use types::types_listing;

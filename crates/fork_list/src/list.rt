@@ -2,12 +2,12 @@
 
 ghost use Rattle.std.specs.Prelude.{◌≡◌, Some, IfOk, option_map, string_bytes, bytes_eq};
 ghost use Rattle.std.specs.List.{list_any};
-ghost use Rattle.fork_list.specs.Listing.{is_chosen, listing, row_line, row_text};
+ghost use Rattle.fork_list.specs.Listing.{cells_text, is_chosen, listing, row_line};
 
 use crate::attribute::Attributes;
 use crate::shown::{KindText, NamePart};
 use fork_bytes::table::Row;
-use mac_base::resource::ResType;
+use mac_base::resource::{ResAttrs, ResType};
 use mac_text::letters::Letters;
 use std::alloc::{AllocError, Global};
 use std::fmt;
@@ -22,24 +22,27 @@ fn name_of(row: &Row) -> Option<&[u8]>
     }
 }
 
-/// A row as a line shows it: its type, its id, how many bytes it has, its attributes, and its name in double quotes if it has
+/// A resource as a line shows it: its type, its id, how many bytes it has, its attributes, and its name in double quotes if it has
 /// one, with a space or more between them.
 #[derive(Clone, Copy)]
-struct RowText<'a> {
-    letters: Letters,
-    row: &'a Row,
+pub struct RowText<'a> {
+    pub letters: Letters,
+    pub kind: ResType,
+    pub id: i16,
+    pub count: usize,
+    pub attributes: ResAttrs,
+    pub name: Option<&'a [u8]>,
 }
 
 impl fmt::Display for RowText<'_> {
-    ghost output = { λ t. Some (row_text t.letters t.row.now) };
+    ghost output = { λ t. Some (cells_text t.letters t.kind t.id t.count t.attributes (option_map (λ name. name.now) t.name)) };
 
     fn fmt<W: fmt::Write>(&self, f: &mut fmt::Formatter<W>) -> fmt::Result {
-        let row = self.row;
-        let kind = KindText::new(self.letters, row.kind);
-        let id = row.id;
-        let count = row.datum.as_slice().len();
-        let attributes = Attributes::new(row.attributes);
-        let name = NamePart::new(self.letters, name_of(row));
+        let kind = KindText::new(self.letters, self.kind);
+        let id = self.id;
+        let count = self.count;
+        let attributes = Attributes::new(self.attributes);
+        let name = NamePart::new(self.letters, self.name);
         write!(f, "{kind} {id:>6} {count:>8} {attributes}{name}")
     }
 }
@@ -73,9 +76,14 @@ impl fmt::Display for RowLine<'_> {
         if !is_chosen(self.kinds, self.row.kind) {
             return Ok(());
         }
+        let row = self.row;
         let text = RowText {
             letters: self.letters,
-            row: self.row,
+            kind: row.kind,
+            id: row.id,
+            count: row.datum.as_slice().len(),
+            attributes: row.attributes,
+            name: name_of(row),
         };
         writeln!(f, "{text}")
     }

@@ -6,6 +6,7 @@ mod cursor;
 mod entry;
 mod fault;
 mod first;
+mod found;
 mod laws;
 mod number;
 mod place;
@@ -15,7 +16,8 @@ mod salvage;
 
 pub use fault::{BadList, BadRow, Fault, SameType};
 pub use first::first_fault;
+pub use found::FoundRow;
 pub use laws::salvage_laws;
-pub use place::{Gap, Span};
+pub use place::{Gap, NameSpan, Span};
 pub use reference::{FoundName, Loss};
-pub use salvage::{FoundRow, Item, LostRow, Salvage};
+pub use salvage::{Item, LostRow, Salvage, find_attributes};

@@ -1,7 +1,7 @@
 //! Places in a fork.
 
-ghost use Rattle.std.specs.Prelude.{◌≡◌, ◌≤◌, ◌<◌, ◌+◌, ◌^◌, IfSome, IfNone};
-ghost use Rattle.fork_salvage.specs.Salvage.{part};
+ghost use Rattle.std.specs.Prelude.{◌≡◌, ◌≤◌, ◌<◌, ◌+◌, ◌^◌, length, IfSome, IfNone};
+ghost use Rattle.fork_salvage.specs.Salvage.{name_part, part};
 ghost use Rattle.fork_salvage.specs.Fault.{IsGap};
 
 /// Bytes of a fork: where they begin, and how many there are.
@@ -19,6 +19,27 @@ impl Span {
         let start = self.start.min(fork.len());
         let count = self.length.min(fork.len() - start);
         &fork[start..start + count]
+    }
+}
+
+/// The bytes of a name: where they begin in a fork, and how many there are.
+#[derive(Clone, Copy, Debug, PartialEq, Eq)]
+pub struct NameSpan {
+    pub start: usize,
+    pub length: u8,
+}
+
+impl NameSpan {
+    /// The bytes themselves, as far as they lie within the fork.
+    pub fn of<'a>(&self, fork: &'a [u8]) -> &'a [u8]
+        ensures bytes { result.now ≡ name_part fork.now self.now }
+        ensures short { length result.now ≤ 255 }
+    {
+        let span = Span {
+            start: self.start,
+            length: self.length as usize,
+        };
+        span.of(fork)
     }
 }
 
