@@ -1,7 +1,6 @@
 -- The table of what can be read of a damaged fork.
-use Rattle.std.specs.Prelude.{◌≡◌, ℕ, ◌+◌, ◌<◌, ◌⊎◌, Bool, true, not, if◌then◌else◌, List, [], ◌∷◌, ◌++◌, length, map, filter, filter_map, flat_map, sum_by, bytes_eq, Option, None, Some}
+use Rattle.std.specs.Prelude.{ℕ, ◌+◌, ◌<◌, ◌⊎◌, if◌then◌else◌, List, [], ◌∷◌, ◌++◌, length, map, filter, filter_map, flat_map, sum_by, bytes_eq, Option, None, Some}
 use Rattle.std.specs.List.{list_any}
-use Rattle.fork_bytes.specs.Rows.{Row}
 use Rattle.fork_bytes.specs.Fork.{extra_of, max_fork, max_rows}
 use Rattle.fork_bytes.specs.declared.table.Table.{Table}
 use Rattle.fork_salvage.specs.declared.found.FoundRow.{FoundRow}
@@ -37,14 +36,22 @@ found_of_type rows kind = filter (λ row. bytes_eq row.kind kind) rows
 abbrev pub found_grouped : List FoundRow → List FoundRow
 found_grouped rows = flat_map (found_of_type rows) (each_once [] (map kind_of rows))
 
--- the table of what can be read
-abbrev pub salvaged_table : List ℕ → Table
-salvaged_table fork = record {
-  rows = map (row_of fork) (found_grouped (readable fork));
+-- the table of these resources of a fork
+abbrev pub table_with : List ℕ → List FoundRow → Table
+table_with fork rows = record {
+  rows = map (row_of fork) (found_grouped rows);
   extra = extra_of fork;
   map_attributes = attributes_found fork;
 }
 
+-- the table of what can be read
+abbrev pub salvaged_table : List ℕ → Table
+salvaged_table fork = table_with fork (readable fork)
+
+-- how many bytes resources have, each with its four bytes of length
+abbrev pub byte_count : List FoundRow → ℕ
+byte_count rows = sum_by (λ (row : FoundRow). 4 + row.bytes.length) rows
+
 -- too much can be read for one fork: too many resources, or too many bytes of them
 abbrev pub IsTooMuch : List ℕ → Type 0
-IsTooMuch fork = (max_rows < length (readable fork)) ⊎ (max_fork < sum_by (λ (row : FoundRow). 4 + row.bytes.length) (readable fork))
+IsTooMuch fork = (max_rows < length (readable fork)) ⊎ (max_fork < byte_count (readable fork))

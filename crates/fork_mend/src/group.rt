@@ -1,8 +1,7 @@
 //! Resources put together by their types.
 
-ghost use Rattle.std.specs.Prelude.{◌≡◌, ◌++◌, IfOk, OnOk};
-ghost use Rattle.std.specs.List.{filter, list_any};
-ghost use Rattle.std.specs.Prelude.{map, bytes_eq};
+ghost use Rattle.std.specs.Prelude.{◌≡◌, ◌++◌, [], map, bytes_eq, IfOk, OnOk};
+ghost use Rattle.std.specs.List.{list_any};
 ghost use Rattle.fork_mend.specs.Salvaged.{each_once, found_of_type, found_grouped, kind_of};
 
 use fork_salvage::FoundRow;

@@ -2,8 +2,6 @@
 #![tactic(auto)]
 
 mod group;
-mod line;
 mod table;
 
-pub use line::salvage_listing;
 pub use table::salvaged_table;
