@@ -2,6 +2,8 @@
 #![tactic(auto)]
 
 mod group;
+mod line;
 mod table;
 
+pub use line::salvage_listing;
 pub use table::salvaged_table;

@@ -8,6 +8,7 @@ ghost use Rattle.fork_bytes.specs.declared.fault.ForkFault.TheVariants.{BadMap};
 ghost use Rattle.fork_reader.specs.Reading.{HasName};
 ghost use Rattle.fork_salvage.specs.Plans.{IsTold, IsTypes, reference_of};
 ghost use Rattle.fork_salvage.specs.Salvage.{parts_at, map_in, told_list};
+ghost use Rattle.fork_salvage.specs.Faults.{count_fault};
 ghost use Rattle.fork_salvage.specs.Fault.{IsFault, HasBytes, IsGap, bad_row, refusal_of};
 
 use crate::cursor::Cursor;
@@ -145,9 +146,10 @@ fn find_list(fork: &[u8], plan: &Plan) -> Option<Fault>
 }
 
 /// How many references there are, if they are too many.
-fn find_count(fork: &[u8], plan: &Plan) -> Option<Fault>
+pub(crate) fn find_count(fork: &[u8], plan: &Plan) -> Option<Fault>
     requires { IsTold fork.now plan.now }
     ensures some { IfSome result (IsFault fork.now) }
+    ensures count { result ≡ count_fault fork.now }
     ensures refusal { IfSome result (λ fault. refusal_of fault ≡ BadMap condition.RowCount) }
     ensures none { IfNone result (Holds condition.RowCount fork.now) }
 {
@@ -164,7 +166,7 @@ fn find_count(fork: &[u8], plan: &Plan) -> Option<Fault>
 }
 
 /// A resource of which something is missing.
-fn bad_row(fork: &[u8], plan: &Plan, reference: MapReference, gap: Gap) -> BadRow
+pub(crate) fn bad_row(fork: &[u8], plan: &Plan, reference: MapReference, gap: Gap) -> BadRow
     requires told { IsTold fork.now plan.now }
     requires within { reference.place + 12 ≤ length (map_in fork.now plan.now) }
     ensures { result ≡ bad_row fork.now (reference_of reference) gap }

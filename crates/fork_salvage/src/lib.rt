@@ -2,6 +2,7 @@
 //! of bytes is too large.
 #![tactic(auto)]
 
+mod check;
 mod cursor;
 mod entry;
 mod fault;
@@ -14,6 +15,7 @@ mod plan;
 mod reference;
 mod salvage;
 
+pub use check::all_faults;
 pub use fault::{BadList, BadRow, Fault, SameType};
 pub use first::first_fault;
 pub use found::FoundRow;

@@ -3,6 +3,7 @@
 ghost use Rattle.std.specs.Prelude.{◌≡◌, ◌≤◌, ◌<◌, ◌+◌, ◌^◌, length, IfSome, IfNone};
 ghost use Rattle.fork_salvage.specs.Salvage.{name_part, part};
 ghost use Rattle.fork_salvage.specs.Fault.{IsGap};
+ghost use Rattle.fork_salvage.specs.Faults.{gap_of};
 
 /// Bytes of a fork: where they begin, and how many there are.
 #[derive(Clone, Copy, Debug, PartialEq, Eq)]
@@ -56,6 +57,7 @@ impl Gap {
     pub(crate) fn of(part: Span, at: usize, wanted: usize) -> Option<Gap>
         requires place { part.start + at < 2 ^ 64 }
         requires end { at + wanted < 2 ^ 64 }
+        ensures gap { result ≡ gap_of part at wanted }
         ensures some { IfSome result (IsGap part.start part.length at wanted) }
         ensures none { IfNone result (at + wanted ≤ part.length) }
     {
