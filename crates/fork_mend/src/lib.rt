@@ -4,6 +4,7 @@
 mod group;
 mod line;
 mod table;
+pub mod warning;
 
 pub use line::salvage_listing;
 pub use table::salvaged_table;

@@ -1,9 +1,10 @@
 //! The words of the command line.
 
 use crate::command::command;
-use crate::request::{Choice, Request};
+use crate::request::{Choice, Form, Request};
 use clap::ArgMatches;
 use clap::error::ErrorKind;
+use fork_json::Bytes;
 use fork_list::find::{Key, Wanted};
 use fork_list::{kind_of, name_of};
 use mac_base::resource::ResType;
@@ -22,8 +23,22 @@ pub enum Asked<'a> {
         files: Vec<&'a str>,
         output: Option<&'a str>,
     },
+    /// To list each of these files as JSON.
+    ListJson {
+        kinds: Vec<ResType>,
+        bytes: Bytes,
+        files: Vec<&'a str>,
+    },
     /// To tell about each of these files.
-    Info(Vec<&'a str>),
+    Info { files: Vec<&'a str>, form: Form },
+    /// To tell all faults of each of these files.
+    Check { files: Vec<&'a str>, form: Form },
+    /// To list what can be read of a damaged file, or to write it to a file of this name.
+    Salvage {
+        file: &'a str,
+        letters: Letters,
+        output: Option<&'a str>,
+    },
     /// To write this text: the help, or the version.
     Tell(clap::Error),
 }
@@ -43,6 +58,12 @@ pub enum NotAsked {
     /// A resource is named by nothing that may be an id or a name.
     #[error("error: a resource is named by its id, from -32768 to 32767, or by its name, as resfork ls shows it, with \\xHH for a byte that isn't a letter\n")]
     NoKey,
+    /// What `--data` has is no form of bytes, or the list isn't of JSON.
+    #[error("error: --data takes base64, and goes with --json\n")]
+    NoData,
+    /// A list of types has no form in JSON.
+    #[error("error: --types doesn't go with --json\n")]
+    NoTypesJson,
     /// What `--nth` has is no count from 1 on.
     #[error("error: --nth takes a count from 1 on\n")]
     NoCount,
@@ -69,8 +90,38 @@ pub fn asked_by<'a, S: AsStr>(alloc: Global, words: &'a [S]) -> Result<Asked<'a>
     match name {
         "ls" => asked_to_list(alloc, matches),
         "get" => asked_to_get(alloc, matches),
-        "info" => Ok(Asked::Info(files_named(alloc, matches)?)),
+        "info" => Ok(Asked::Info {
+            files: files_named(alloc, matches)?,
+            form: form_of(matches),
+        }),
+        "check" => Ok(Asked::Check {
+            files: files_named(alloc, matches)?,
+            form: form_of(matches),
+        }),
+        "salvage" => Ok(Asked::Salvage {
+            file: matches.get_str("file").unwrap_or(""),
+            letters: letters_of(matches),
+            output: matches.get_str("output"),
+        }),
         _ => Err(NotAsked::NoCommand),
+    }
+}
+
+/// The form in which something is told.
+fn form_of(matches: &ArgMatches<'_>) -> Form {
+    if matches.get_flag("json") {
+        Form::Json
+    } else {
+        Form::Text
+    }
+}
+
+/// How letters that aren't ASCII are shown.
+fn letters_of(matches: &ArgMatches<'_>) -> Letters {
+    if matches.get_flag("raw") {
+        Letters::Raw
+    } else {
+        Letters::Roman
     }
 }
 
@@ -87,11 +138,22 @@ fn asked_to_list<'a>(alloc: Global, matches: &ArgMatches<'a>) -> Result<Asked<'a
         let kind = kind_named(alloc, word)?;
         kinds.push(kind).map_err(AllocError::from)?;
     }
-    let letters = if matches.get_flag("raw") {
-        Letters::Raw
-    } else {
-        Letters::Roman
+    let bytes = match (matches.get_str("data"), form_of(matches)) {
+        (None, _) => Bytes::Hidden,
+        (Some("base64"), Form::Json) => Bytes::Base64,
+        _ => return Err(NotAsked::NoData),
     };
+    if let Form::Json = form_of(matches) {
+        if matches.get_flag("types") {
+            return Err(NotAsked::NoTypesJson);
+        }
+        return Ok(Asked::ListJson {
+            kinds,
+            bytes,
+            files,
+        });
+    }
+    let letters = letters_of(matches);
     let choice = Choice { letters, kinds };
     let request = if matches.get_flag("types") {
         Request::Types(choice)

@@ -17,6 +17,8 @@ Examples:
   resfork get Game.rsrc TEXT 128       the bytes of a resource, by its id
   resfork get Game.rsrc TEXT 'Read me' -o readme.txt
   resfork info Game.bin                what a file is
+  resfork check Game.rsrc              whether a fork is damaged, and where
+  resfork salvage bad.rsrc -o OUT      all resources that can be read of a damaged fork
 
 Exit status:
   0  done
@@ -56,18 +58,35 @@ fn types<'a>(alloc: Global) -> Arg<'a> {
         )
 }
 
+/// How letters are shown.
+fn raw<'a>(alloc: Global) -> Arg<'a> {
+    Arg::new(alloc, "raw")
+        .long("raw")
+        .action(ArgAction::SetTrue)
+        .help(
+            "Shows letters that aren't ASCII as \\xHH, and not as the characters that they are in MacRoman",
+        )
+}
+
+/// Whether a line of JSON is written for each file.
+fn json<'a>(alloc: Global) -> Arg<'a> {
+    Arg::new(alloc, "json")
+        .long("json")
+        .action(ArgAction::SetTrue)
+        .help("One line of JSON for each file")
+}
+
 /// `ls`.
 fn list<'a>(alloc: Global) -> Result<Command<'a>, AllocError> {
     let only_types = Arg::new(alloc, "types")
         .long("types")
         .action(ArgAction::SetTrue)
         .help("Lists types: a line for each, with how many resources it has");
-    let raw = Arg::new(alloc, "raw")
-        .long("raw")
-        .action(ArgAction::SetTrue)
-        .help(
-            "Shows letters that aren't ASCII as \\xHH, and not as the characters that they are in MacRoman",
-        );
+    let data = Arg::new(alloc, "data")
+        .long("data")
+        .value_name("FORM")
+        .action(ArgAction::Set)
+        .help("With --json: the bytes of each resource too, as base64");
     Command::new(alloc, "ls")
         .about("Lists resources")
         .long_about(
@@ -75,7 +94,9 @@ fn list<'a>(alloc: Global) -> Result<Command<'a>, AllocError> {
         )
         .arg(types(alloc))?
         .arg(only_types)?
-        .arg(raw)?
+        .arg(raw(alloc))?
+        .arg(json(alloc))?
+        .arg(data)?
         .arg(files(alloc))
 }
 
@@ -86,7 +107,40 @@ fn info<'a>(alloc: Global) -> Result<Command<'a>, AllocError> {
         .long_about(
             "Tells what a file is: its container, its type and creator, how many bytes its forks have, and how many resources of each type there are",
         )
+        .arg(json(alloc))?
         .arg(files(alloc))
+}
+
+/// `check`.
+fn check<'a>(alloc: Global) -> Result<Command<'a>, AllocError> {
+    Command::new(alloc, "check")
+        .about("Tells all faults of a fork")
+        .long_about(
+            "Tells all faults of a fork, each with its place, and what is odd about it though it can be read: data that overlap, and bytes that no resource has",
+        )
+        .arg(json(alloc))?
+        .arg(files(alloc))
+}
+
+/// `salvage`.
+fn salvage<'a>(alloc: Global) -> Result<Command<'a>, AllocError> {
+    let list = Arg::new(alloc, "list")
+        .long("list")
+        .action(ArgAction::SetTrue)
+        .conflicts_with("output")?
+        .help("Lists what can be read, and why the rest can't be; so it does without -o");
+    let output = Arg::new(alloc, "output")
+        .short('o')
+        .long("output")
+        .value_name("OUT")
+        .action(ArgAction::Set)
+        .help("The file that a fork with all resources that can be read is written to");
+    Command::new(alloc, "salvage")
+        .about("Shows what can still be read of a damaged fork")
+        .arg(list)?
+        .arg(raw(alloc))?
+        .arg(output)?
+        .arg(file(alloc))
 }
 
 /// `get`.
@@ -133,5 +187,7 @@ pub fn command<'a>(alloc: Global) -> Result<Command<'a>, AllocError> {
         .arg_required_else_help(true)
         .subcommand(list(alloc)?)?
         .subcommand(get(alloc)?)?
-        .subcommand(info(alloc)?)
+        .subcommand(info(alloc)?)?
+        .subcommand(check(alloc)?)?
+        .subcommand(salvage(alloc)?)
 }

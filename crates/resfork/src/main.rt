@@ -7,19 +7,24 @@ mod command;
 mod damage;
 mod info;
 mod input;
+mod json;
 mod message;
 mod request;
+mod salvage;
 mod source;
+mod tell;
 
 use answer::answer;
 use asked::{Asked, NotAsked, asked_by};
-use info::info_text;
+use damage::Tally;
 use input::read_all;
-use message::{BAD_WORDS, CANT_GO_ON, DONE, Problem, tell_bad_words, tell_problem};
-use request::Request;
-use std::io::{ErrorKind, IsTerminal};
+use mac_text::letters::Letters;
+use message::{BAD_WORDS, CANT_GO_ON, DONE, NO_FORK, Problem, tell_bad_words, tell_problem};
+use request::{Form, Request};
+use std::io::{ErrorKind, IsTerminal, Write};
 use std::process::ExitCode;
 use std::{env, fs, io};
+use tell::Told;
 
 /// The word for the standard input, in place of a file's name.
 const INPUT: &str = "-";
@@ -46,7 +51,36 @@ fn run(rt: &HostRuntime) -> u8 {
                 output,
             },
         ) => show_all(rt, &request, files.as_slice(), output),
-        Ok(Asked::Info(files)) => tell_about_all(rt, files.as_slice()),
+        Ok(Asked::Info { files, form }) => {
+            tell_all(rt, form, files.as_slice(), |name, bytes| tell::info(
+                alloc, form, name, bytes,
+            ))
+        }
+        Ok(Asked::Check { files, form }) => {
+            tell_all(rt, form, files.as_slice(), |name, bytes| tell::check(
+                alloc, form, name, bytes,
+            ))
+        }
+        Ok(
+            Asked::ListJson {
+                kinds,
+                bytes: shown,
+                files,
+            },
+        ) => tell_all(rt, Form::Json, files.as_slice(), |name, bytes| tell::list_json(
+            alloc,
+            name,
+            kinds.as_slice(),
+            shown,
+            bytes,
+        )),
+        Ok(
+            Asked::Salvage {
+                file,
+                letters,
+                output,
+            },
+        ) => finish(rt, file, salvage(rt, file, letters, output)),
         Ok(Asked::Tell(text)) => tell(rt, &text),
         Err(error) => tell_bad_words(rt, &error),
     }
@@ -91,29 +125,91 @@ fn show(
     fs::write(rt, output, text.as_slice()).map_err(Problem::Save)
 }
 
-/// Tells about each of these files, and why of some nothing is told. The result is the highest status of them.
-fn tell_about_all(rt: &HostRuntime, files: &[&str]) -> u8 {
+/// Tells something about each of these files, and why of some nothing is told. The result is the highest status of them.
+fn tell_all<F: Fn(&str, &[u8]) -> Result<Told, Problem>>(
+    rt: &HostRuntime,
+    form: Form,
+    files: &[&str],
+    tell: F,
+) -> u8
+    requires { F.IsAlwaysCallable tell }
+{
     let mut status = DONE;
     for file in files {
-        if files.len() > 1 && println!(rt; "{file}:").is_err() {
+        if let Form::Text = form
+            && files.len() > 1
+            && println!(rt; "{file}:").is_err()
+        {
             return CANT_GO_ON;
         }
-        if let Err(problem) = tell_about(rt, file) {
-            tell_problem(rt, file, &problem);
-            status = status.max(problem.status());
-        }
+        let told = match read(rt, file) {
+            Ok(bytes) => tell(file, &bytes),
+            Err(error) => Err(Problem::Read(error)),
+        };
+        status = status.max(finish(rt, file, print_told(rt, form, file, told)));
     }
     status
 }
 
-/// Tells about the file of this name.
-fn tell_about(rt: &HostRuntime, file: &str) -> Result<(), Problem> {
+/// Writes what is told of a file. The result is its status, or why nothing is told.
+fn print_told(
+    rt: &HostRuntime,
+    form: Form,
+    file: &str,
+    told: Result<Told, Problem>,
+) -> Result<u8, Problem> {
+    match told {
+        Ok(Told { text, is_damaged }) => {
+            write_text(rt, &text)?;
+            Ok(if is_damaged { NO_FORK } else { DONE })
+        }
+        Err(problem) => {
+            if let Form::Json = form
+                && let Ok(line) = tell::refused(rt.alloc(), file, &problem)
+            {
+                write_text(rt, &line)?;
+            }
+            Err(problem)
+        }
+    }
+}
+
+/// Writes a text in one piece.
+fn write_text(rt: &HostRuntime, text: &String) -> Result<(), Problem> {
+    rt.stdout().write_all(text.as_bytes()).map_err(Problem::Print)
+}
+
+/// The status of what was done with a file. A problem is told.
+fn finish(rt: &HostRuntime, file: &str, done: Result<u8, Problem>) -> u8 {
+    match done {
+        Ok(status) => status,
+        Err(problem) => {
+            tell_problem(rt, file, &problem);
+            problem.status()
+        }
+    }
+}
+
+/// Lists what can be read of the file of this name, or writes it to a file.
+fn salvage(
+    rt: &HostRuntime,
+    file: &str,
+    letters: Letters,
+    output: Option<&str>,
+) -> Result<u8, Problem> {
     let alloc = rt.alloc();
     let bytes = read(rt, file).map_err(Problem::Read)?;
-    let text = info_text(alloc, &bytes).map_err(|failure| Problem::of_failure(
-        alloc, failure, &bytes,
-    ))?;
-    print!(rt; "{text}").map_err(Problem::Print)
+    let Some(output) = output else {
+        let text = tell::salvage_list(alloc, letters, &bytes)?;
+        write_text(rt, &text)?;
+        return Ok(DONE);
+    };
+    let (fork, tally) = tell::salvage(alloc, &bytes)?;
+    fs::write(rt, output, fork.as_slice()).map_err(Problem::Save)?;
+    if let Some(Tally { readable, found }) = tally {
+        let _ = eprintln!(rt; "{file}: {readable} of {found} resources can be read, and are written to {output}");
+    }
+    Ok(DONE)
 }
 
 /// The bytes of the file of this name, or of the standard input.
@@ -137,6 +233,8 @@ fn tell_no_words(rt: &HostRuntime, error: &io::Error) -> u8 {
     if error.kind() == ErrorKind::OutOfMemory {
         return tell_bad_words(rt, &NotAsked::HostFull);
     }
-    let _ = rt.eprintln("error: a word of the command line is no UTF-8 text");
+    let _ = rt.eprintln(
+        "error: a word of the command line is no UTF-8 text; of a file with such a name: resfork ls - < FILE",
+    );
     BAD_WORDS
 }

@@ -46,8 +46,14 @@ pub enum Problem {
     #[error("{0}")]
     Archive(Archive),
     /// Its fork is damaged: what is told of that.
-    #[error("{0}")]
-    Damaged(String),
+    #[error("{told}")]
+    Damaged { told: String, is_readable: bool },
+    /// Nothing can be read of its fork.
+    #[error("no resource can be read")]
+    Nothing,
+    /// Too much can be read for one fork.
+    #[error("more can be read than one fork holds, 8192 resources and 4194304 bytes with its map: nothing is written; resfork salvage --list shows what there is")]
+    TooMuch,
     /// It is nothing that is known.
     #[error("neither a resource fork nor a file that has one in it: {0}")]
     Unknown(String),
@@ -87,12 +93,20 @@ impl Problem {
             return Problem::Show(Failure::HostFull);
         };
         if damage.is_in_container() || container_of(file).is_some() {
-            return Problem::Damaged(told);
+            return Problem::damaged(told, damage);
         }
         match archive_of(file) {
             Some(archive) => Problem::Archive(archive),
-            None if damage.is_of_fork() => Problem::Damaged(told),
+            None if damage.is_of_fork() => Problem::damaged(told, damage),
             None => Problem::Unknown(told),
+        }
+    }
+
+    /// That a fork is damaged.
+    fn damaged(told: String, damage: Damage) -> Problem {
+        Problem::Damaged {
+            told,
+            is_readable: damage.is_readable(),
         }
     }
 
@@ -105,7 +119,9 @@ impl Problem {
             | Problem::Show(Failure::NoFork(_))
             | Problem::Container { .. }
             | Problem::Archive(_)
-            | Problem::Damaged(_)
+            | Problem::Damaged { .. }
+            | Problem::Nothing
+            | Problem::TooMuch
             | Problem::Unknown(_) => NO_FORK,
             Problem::Read(_)
             | Problem::Save(_)
@@ -133,6 +149,10 @@ pub fn tell_problem(rt: &HostRuntime, file: &str, problem: &Problem) {
     }
     let _ = match problem {
         Problem::Archive(archive) => tell_archive(rt, file, *archive),
+        Problem::Damaged {
+            told,
+            is_readable: true,
+        } => eprintln!(rt; "{file}: {told}: resfork salvage {file} -o OUT"),
         problem => eprintln!(rt; "{file}: {problem}"),
     };
 }

@@ -15,6 +15,15 @@ pub enum Request {
     Get(Wanted),
 }
 
+/// In which form something is told.
+#[derive(Clone, Copy)]
+pub enum Form {
+    /// Lines for people.
+    Text,
+    /// One line of JSON for each file.
+    Json,
+}
+
 /// Which types a list has, and how it shows them.
 #[derive(Drop)]
 pub struct Choice {

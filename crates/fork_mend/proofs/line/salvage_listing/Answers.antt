@@ -1,5 +1,4 @@
-use Rattle.std.proofs.Common.{List, ℕ, suc, ◌≡◌, ◌-◌, ◌++◌, ◌+◌, subst, sym, arith}
-use Rattle.std.specs.Prelude.{string_bytes}
+use Rattle.std.proofs.Common.{suc, ◌≡◌, ◌-◌, ◌+◌, arith}
 use Rattle.fork_mend.specs.Lines.{item_line}
 use Rattle.fork_mend.proofs.Lining.{lines_step, lines_none, lines_end}
 use Rattle.fork_mend.proofs.line.salvage_listing.Goals as goal
