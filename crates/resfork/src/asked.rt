@@ -1,7 +1,7 @@
 //! The words of the command line.
 
 use crate::command::command;
-use crate::request::{Choice, Form, Request};
+use crate::request::{Choice, Form, Report, Request};
 use clap::ArgMatches;
 use clap::error::ErrorKind;
 use fork_json::Bytes;
@@ -23,16 +23,11 @@ pub enum Asked<'a> {
         files: Vec<&'a str>,
         output: Option<&'a str>,
     },
-    /// To list each of these files as JSON.
-    ListJson {
-        kinds: Vec<ResType>,
-        bytes: Bytes,
+    /// To report on each of these files.
+    Report {
+        report: Report,
         files: Vec<&'a str>,
     },
-    /// To tell about each of these files.
-    Info { files: Vec<&'a str>, form: Form },
-    /// To tell all faults of each of these files.
-    Check { files: Vec<&'a str>, form: Form },
     /// To list what can be read of a damaged file, or to write it to a file of this name.
     Salvage {
         file: &'a str,
@@ -90,13 +85,13 @@ pub fn asked_by<'a, S: AsStr>(alloc: Global, words: &'a [S]) -> Result<Asked<'a>
     match name {
         "ls" => asked_to_list(alloc, matches),
         "get" => asked_to_get(alloc, matches),
-        "info" => Ok(Asked::Info {
+        "info" => Ok(Asked::Report {
+            report: Report::Info(form_of(matches)),
             files: files_named(alloc, matches)?,
-            form: form_of(matches),
         }),
-        "check" => Ok(Asked::Check {
+        "check" => Ok(Asked::Report {
+            report: Report::Check(form_of(matches)),
             files: files_named(alloc, matches)?,
-            form: form_of(matches),
         }),
         "salvage" => Ok(Asked::Salvage {
             file: matches.get_str("file").unwrap_or(""),
@@ -138,7 +133,7 @@ fn asked_to_list<'a>(alloc: Global, matches: &ArgMatches<'a>) -> Result<Asked<'a
         let kind = kind_named(alloc, word)?;
         kinds.push(kind).map_err(AllocError::from)?;
     }
-    let bytes = match (matches.get_str("data"), form_of(matches)) {
+    let shown = match (matches.get_str("data"), form_of(matches)) {
         (None, _) => Bytes::Hidden,
         (Some("base64"), Form::Json) => Bytes::Base64,
         _ => return Err(NotAsked::NoData),
@@ -147,9 +142,8 @@ fn asked_to_list<'a>(alloc: Global, matches: &ArgMatches<'a>) -> Result<Asked<'a
         if matches.get_flag("types") {
             return Err(NotAsked::NoTypesJson);
         }
-        return Ok(Asked::ListJson {
-            kinds,
-            bytes,
+        return Ok(Asked::Report {
+            report: Report::List { kinds, shown },
             files,
         });
     }

@@ -9,7 +9,6 @@ use fork_salvage::Fault;
 use mac_base::resource::ResType;
 use mac_files::bin_hex::{is_bin_hex, read_bin_hex};
 use mac_files::container::Container;
-use mac_files::contents::FinderInfo;
 use mac_files::{container_of, read_contents};
 use serde_json::{Map, Value, put};
 use std::alloc::{AllocError, Global};
@@ -127,12 +126,12 @@ fn put_finder(
     alloc: Global,
     members: &mut Members,
     name: &[u8],
-    kind: &[u8],
-    creator: &[u8],
+    kind: [u8; 4],
+    creator: [u8; 4],
 ) -> Result<(), AllocError> {
     put(members, alloc, "name", roman_value(alloc, name)?)?;
-    put(members, alloc, "type", roman_value(alloc, kind)?)?;
-    put(members, alloc, "creator", roman_value(alloc, creator)?)
+    put(members, alloc, "type", roman_value(alloc, &kind)?)?;
+    put(members, alloc, "creator", roman_value(alloc, &creator)?)
 }
 
 /// Adds how many bytes a fork has, its attributes, and how many resources.
@@ -140,7 +139,12 @@ fn put_fork(alloc: Global, members: &mut Members, fork: &[u8]) -> Result<(), Fai
     let table = read_table(alloc, fork).map_err(Failure::Fork)?;
     let rows = table.rows.as_slice();
     put(members, alloc, "resourceFork", Value::from(fork.len()))?;
-    put(members, alloc, "mapAttributes", Value::from(table.map_attributes))?;
+    put(
+        members,
+        alloc,
+        "mapAttributes",
+        Value::from(table.map_attributes),
+    )?;
     put(members, alloc, "resources", Value::from(rows.len()))?;
     Ok(())
 }
@@ -156,12 +160,12 @@ fn put_contents(
         Ok(contents) => contents,
         Err(fault) => return Err(Failure::NoFork(NoFork::Container(fault))),
     };
-    if let Some(FinderInfo { kind, creator, .. }) = contents.finder {
+    if let Some(finder) = contents.finder {
         let name = match contents.name {
             Some(part) => part.bytes(bytes),
             None => &[],
         };
-        put_finder(alloc, members, name, &kind, &creator)?;
+        put_finder(alloc, members, name, finder.kind, finder.creator)?;
     }
     let data = contents.data_fork.map_or(0, |part| part.length);
     put(members, alloc, "dataFork", Value::from(data))?;
@@ -179,9 +183,16 @@ pub fn info_line(alloc: Global, file: &str, bytes: &[u8]) -> Result<String, Fail
     if let Some(container) = container_of(bytes) {
         put_contents(alloc, &mut members, container, bytes)?;
     } else if is_bin_hex(bytes) {
-        let read = read_bin_hex(alloc, bytes).map_err(|fault| Failure::NoFork(NoFork::Text(fault)))?;
-        put_finder(alloc, &mut members, read.name(), &read.kind, &read.creator)?;
-        put(&mut members, alloc, "dataFork", Value::from(read.data_fork().len()))?;
+        let read = read_bin_hex(alloc, bytes).map_err(|fault| Failure::NoFork(NoFork::Text(
+            fault,
+        )))?;
+        put_finder(alloc, &mut members, read.name(), read.kind, read.creator)?;
+        put(
+            &mut members,
+            alloc,
+            "dataFork",
+            Value::from(read.data_fork().len()),
+        )?;
         put_fork(alloc, &mut members, read.resource_fork())?;
     } else {
         put_fork(alloc, &mut members, bytes)?;

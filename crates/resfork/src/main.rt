@@ -8,11 +8,11 @@ mod damage;
 mod info;
 mod input;
 mod json;
+mod mend;
 mod message;
+mod report;
 mod request;
-mod salvage;
 mod source;
-mod tell;
 
 use answer::answer;
 use asked::{Asked, NotAsked, asked_by};
@@ -20,11 +20,11 @@ use damage::Tally;
 use input::read_all;
 use mac_text::letters::Letters;
 use message::{BAD_WORDS, CANT_GO_ON, DONE, NO_FORK, Problem, tell_bad_words, tell_problem};
-use request::{Form, Request};
+use report::Told;
+use request::{Form, Report, Request};
 use std::io::{ErrorKind, IsTerminal, Write};
 use std::process::ExitCode;
 use std::{env, fs, io};
-use tell::Told;
 
 /// The word for the standard input, in place of a file's name.
 const INPUT: &str = "-";
@@ -51,36 +51,14 @@ fn run(rt: &HostRuntime) -> u8 {
                 output,
             },
         ) => show_all(rt, &request, files.as_slice(), output),
-        Ok(Asked::Info { files, form }) => {
-            tell_all(rt, form, files.as_slice(), |name, bytes| tell::info(
-                alloc, form, name, bytes,
-            ))
-        }
-        Ok(Asked::Check { files, form }) => {
-            tell_all(rt, form, files.as_slice(), |name, bytes| tell::check(
-                alloc, form, name, bytes,
-            ))
-        }
-        Ok(
-            Asked::ListJson {
-                kinds,
-                bytes: shown,
-                files,
-            },
-        ) => tell_all(rt, Form::Json, files.as_slice(), |name, bytes| tell::list_json(
-            alloc,
-            name,
-            kinds.as_slice(),
-            shown,
-            bytes,
-        )),
+        Ok(Asked::Report { report, files }) => report_all(rt, &report, files.as_slice()),
         Ok(
             Asked::Salvage {
                 file,
                 letters,
                 output,
             },
-        ) => finish(rt, file, salvage(rt, file, letters, output)),
+        ) => finish(rt, file, salvage_file(rt, file, letters, output)),
         Ok(Asked::Tell(text)) => tell(rt, &text),
         Err(error) => tell_bad_words(rt, &error),
     }
@@ -125,15 +103,9 @@ fn show(
     fs::write(rt, output, text.as_slice()).map_err(Problem::Save)
 }
 
-/// Tells something about each of these files, and why of some nothing is told. The result is the highest status of them.
-fn tell_all<F: Fn(&str, &[u8]) -> Result<Told, Problem>>(
-    rt: &HostRuntime,
-    form: Form,
-    files: &[&str],
-    tell: F,
-) -> u8
-    requires { F.IsAlwaysCallable tell }
-{
+/// Reports on each of these files, and tells why of some nothing is told. The result is the highest status of them.
+fn report_all(rt: &HostRuntime, report: &Report, files: &[&str]) -> u8 {
+    let form = report.form();
     let mut status = DONE;
     for file in files {
         if let Form::Text = form
@@ -142,13 +114,16 @@ fn tell_all<F: Fn(&str, &[u8]) -> Result<Told, Problem>>(
         {
             return CANT_GO_ON;
         }
-        let told = match read(rt, file) {
-            Ok(bytes) => tell(file, &bytes),
-            Err(error) => Err(Problem::Read(error)),
-        };
+        let told = report_file(rt, report, file);
         status = status.max(finish(rt, file, print_told(rt, form, file, told)));
     }
     status
+}
+
+/// What is told of the file of this name.
+fn report_file(rt: &HostRuntime, report: &Report, file: &str) -> Result<Told, Problem> {
+    let bytes = read(rt, file).map_err(Problem::Read)?;
+    report::report_on(rt.alloc(), report, file, &bytes)
 }
 
 /// Writes what is told of a file. The result is its status, or why nothing is told.
@@ -165,7 +140,7 @@ fn print_told(
         }
         Err(problem) => {
             if let Form::Json = form
-                && let Ok(line) = tell::refused(rt.alloc(), file, &problem)
+                && let Ok(line) = report::refused(rt.alloc(), file, &problem)
             {
                 write_text(rt, &line)?;
             }
@@ -176,7 +151,9 @@ fn print_told(
 
 /// Writes a text in one piece.
 fn write_text(rt: &HostRuntime, text: &String) -> Result<(), Problem> {
-    rt.stdout().write_all(text.as_bytes()).map_err(Problem::Print)
+    rt.stdout()
+        .write_all(text.as_bytes())
+        .map_err(Problem::Print)
 }
 
 /// The status of what was done with a file. A problem is told.
@@ -191,7 +168,7 @@ fn finish(rt: &HostRuntime, file: &str, done: Result<u8, Problem>) -> u8 {
 }
 
 /// Lists what can be read of the file of this name, or writes it to a file.
-fn salvage(
+fn salvage_file(
     rt: &HostRuntime,
     file: &str,
     letters: Letters,
@@ -200,14 +177,16 @@ fn salvage(
     let alloc = rt.alloc();
     let bytes = read(rt, file).map_err(Problem::Read)?;
     let Some(output) = output else {
-        let text = tell::salvage_list(alloc, letters, &bytes)?;
+        let text = report::salvage_list(alloc, letters, &bytes)?;
         write_text(rt, &text)?;
         return Ok(DONE);
     };
-    let (fork, tally) = tell::salvage(alloc, &bytes)?;
+    let (fork, tally) = report::salvage(alloc, &bytes)?;
     fs::write(rt, output, fork.as_slice()).map_err(Problem::Save)?;
     if let Some(Tally { readable, found }) = tally {
-        let _ = eprintln!(rt; "{file}: {readable} of {found} resources can be read, and are written to {output}");
+        let _ = eprintln!(rt;
+            "{file}: {readable} of {found} resources can be read, and are written to {output}"
+        );
     }
     Ok(DONE)
 }

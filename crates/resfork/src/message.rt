@@ -47,7 +47,10 @@ pub enum Problem {
     Archive(Archive),
     /// Its fork is damaged: what is told of that.
     #[error("{told}")]
-    Damaged { told: String, is_readable: bool },
+    Damaged {
+        told: String,
+        is_readable: bool,
+    },
     /// Nothing can be read of its fork.
     #[error("no resource can be read")]
     Nothing,

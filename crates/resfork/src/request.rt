@@ -1,5 +1,6 @@
 //! What is asked about a resource fork.
 
+use fork_json::Bytes;
 use fork_list::find::Wanted;
 use mac_base::resource::ResType;
 use mac_text::letters::Letters;
@@ -22,6 +23,27 @@ pub enum Form {
     Text,
     /// One line of JSON for each file.
     Json,
+}
+
+/// What is told about files.
+#[derive(Drop)]
+pub enum Report {
+    /// What each is.
+    Info(Form),
+    /// All faults of its fork.
+    Check(Form),
+    /// A list of its resources as JSON, those of these types, or all where none are named.
+    List { kinds: Vec<ResType>, shown: Bytes },
+}
+
+impl Report {
+    /// The form in which it is told.
+    pub fn form(&self) -> Form {
+        match self {
+            Report::Info(form) | Report::Check(form) => *form,
+            Report::List { .. } => Form::Json,
+        }
+    }
 }
 
 /// Which types a list has, and how it shows them.

@@ -4,9 +4,9 @@ use crate::answer::Failure;
 use crate::damage::{Damage, MOST_FOUND, Tally, tally_of};
 use crate::info::info_text;
 use crate::json::{check_line, info_line, list_line, refused_line};
+use crate::mend::mended_fork;
 use crate::message::Problem;
-use crate::request::Form;
-use crate::salvage::mended_fork;
+use crate::request::{Form, Report};
 use crate::source::{Found, resource_fork};
 use fork_bytes::fault::WriteFault;
 use fork_json::Bytes;
@@ -34,8 +34,22 @@ impl Told {
     }
 }
 
+/// What is told of a file.
+pub fn report_on(
+    alloc: Global,
+    report: &Report,
+    name: &str,
+    bytes: &[u8],
+) -> Result<Told, Problem> {
+    match report {
+        Report::Info(form) => info(alloc, *form, name, bytes),
+        Report::Check(form) => check(alloc, *form, name, bytes),
+        Report::List { kinds, shown } => list_json(alloc, name, kinds.as_slice(), *shown, bytes),
+    }
+}
+
 /// The list of a file's resources as JSON.
-pub fn list_json(
+fn list_json(
     alloc: Global,
     name: &str,
     kinds: &[ResType],
@@ -49,7 +63,7 @@ pub fn list_json(
 }
 
 /// What a file is.
-pub fn info(alloc: Global, form: Form, name: &str, bytes: &[u8]) -> Result<Told, Problem> {
+fn info(alloc: Global, form: Form, name: &str, bytes: &[u8]) -> Result<Told, Problem> {
     let text = match form {
         Form::Text => info_text(alloc, bytes),
         Form::Json => info_line(alloc, name, bytes),
@@ -62,13 +76,15 @@ pub fn info(alloc: Global, form: Form, name: &str, bytes: &[u8]) -> Result<Told,
 
 /// The fork in a file, or why there is none.
 fn fork_in<'a>(alloc: Global, bytes: &'a [u8]) -> Result<Found<'a>, Problem> {
-    resource_fork(alloc, bytes).map_err(
-        |fault| Problem::of_failure(alloc, Failure::NoFork(fault), bytes),
-    )
+    resource_fork(alloc, bytes).map_err(|fault| Problem::of_failure(
+        alloc,
+        Failure::NoFork(fault),
+        bytes,
+    ))
 }
 
 /// All faults of a file's fork, and what is odd about it.
-pub fn check(alloc: Global, form: Form, name: &str, bytes: &[u8]) -> Result<Told, Problem> {
+fn check(alloc: Global, form: Form, name: &str, bytes: &[u8]) -> Result<Told, Problem> {
     let found = fork_in(alloc, bytes)?;
     let fork = found.fork();
     check_fork(alloc, form, name, bytes, fork).map_err(|_| Problem::Show(Failure::HostFull))
