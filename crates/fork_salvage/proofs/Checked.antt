@@ -5,13 +5,13 @@ use Rattle.std.specs.Prelude.{option_to_list}
 use Rattle.std.specs.List.{flat_map}
 use Rattle.std.proofs.lemmas.Bool.{cond-true, cond-false}
 use Rattle.std.proofs.lemmas.List.{append-nil}
-use Rattle.fork_bytes.specs.Fork.{places, Reference}
+use Rattle.fork_bytes.specs.Fork.{places, Reference, format_limits}
 use Rattle.fork_reader.proofs.Lists as lists
 use Rattle.fork_salvage.specs.declared.entry.Types.{Types}
 use Rattle.fork_salvage.specs.declared.place.Span.{Span}
 use Rattle.fork_salvage.specs.declared.fault.Fault.{Fault}
 use Rattle.fork_salvage.specs.Salvage.{told_list, told_plan, may_be_told}
-use Rattle.fork_bytes.specs.Fork.{IsFork, Refuses}
+use Rattle.fork_bytes.specs.Fork.{IsForkWithin, RefusesWithin, format_limits}
 use Rattle.fork_bytes.specs.declared.fault.Condition.TheVariants as condition
 use Rattle.fork_salvage.specs.declared.fault.Fault.TheVariants as fault
 use Rattle.fork_salvage.specs.declared.plan.Plan.{Plan}
@@ -71,7 +71,7 @@ pub not_below : (a b : ℕ) → a ≤ b → nat_lt b a ≡ false
 not_below a b low = grind (arith, nat_tests)
 
 -- a fork is not refused
-pub not_refused : (fork : List ℕ) (f : Fault) → Refuses fork (refusal_of f) → IsFork fork → ⊥
+pub not_refused : (fork : List ℕ) (f : Fault) → RefusesWithin format_limits fork (refusal_of f) → IsForkWithin format_limits fork → ⊥
 not_refused fork (fault.Header gap) refused is = let long = is.header in omega arith
 not_refused fork (fault.TooLong count) refused is = refused.1.fails (is.holds condition.Parts)
 not_refused fork (fault.Data gap) refused is = refused.1.fails (is.holds condition.Parts)

@@ -1,7 +1,7 @@
 -- All faults of a fork, each with its place.
 use Rattle.std.specs.Prelude.{ℕ, ◌+◌, ◌-◌, ◌*◌, ◌==◌, ◌&&◌, nat_le, nat_lt, if◌then◌else◌, List, [], ◌∷◌, ◌++◌, length, option_map, option_to_list, Option, None, Some, Result, Ok, Err, bytes_eq, slice_index, take}
 use Rattle.std.specs.List.{flat_map, find}
-use Rattle.fork_bytes.specs.Fork.{max_fork, max_rows, map_of, references_of, name_list, number_at, places, type_list, type_count, Reference}
+use Rattle.fork_bytes.specs.Fork.{map_of, references_of, name_list, number_at, places, type_list, type_count, Reference, format_limits}
 use Rattle.fork_salvage.specs.declared.place.Gap.{Gap}
 use Rattle.fork_salvage.specs.declared.place.Span.{Span}
 use Rattle.fork_salvage.specs.declared.fault.Fault.{Fault}
@@ -27,7 +27,7 @@ abbrev pub header_fault : List ℕ → Option Fault
 header_fault fork = option_map fault.Header (gap_of (whole fork) 0 16)
 
 abbrev pub too_long : List ℕ → Option Fault
-too_long fork = if nat_lt max_fork (length fork) then Some (fault.TooLong (length fork)) else None
+too_long fork = if nat_lt format_limits.fork (length fork) then Some (fault.TooLong (length fork)) else None
 
 abbrev pub data_fault : List ℕ → Option Fault
 data_fault fork = let bytes = (parts_at 0 fork).«data» in option_map fault.Data (gap_of (whole fork) bytes.start bytes.length)
@@ -98,12 +98,12 @@ rows_faults fork plan most = flat_map (row_faults fork plan) (take most (referen
 
 -- there are too many references
 abbrev pub count_fault : List ℕ → Option Fault
-count_fault fork = let count = length (references_of (map_of fork)) in if nat_lt max_rows count then Some (fault.RowCount count) else None
+count_fault fork = let count = length (references_of (map_of fork)) in if nat_lt format_limits.rows count then Some (fault.RowCount count) else None
 
--- the faults of the lists of a map that lies within the fork, as its type list does: at most 8,192 references are looked at
+-- the faults of the lists of a map that lies within the fork, as its type list does: at most 4,194,304 references are looked at
 abbrev pub lists_faults : List ℕ → Plan → List Fault
 lists_faults fork plan =
-    entries_faults plan.map (map_in fork plan) plan.types 0 ++ option_to_list (count_fault fork) ++ rows_faults fork plan max_rows
+    entries_faults plan.map (map_in fork plan) plan.types 0 ++ option_to_list (count_fault fork) ++ rows_faults fork plan format_limits.rows
 
 -- the fault of a type list, if the map lies within the fork and has a header
 abbrev pub map_faults : List ℕ → List Fault

@@ -1,7 +1,7 @@
 //! All faults of the header, the map and the type list of a fork.
 
 ghost use Rattle.std.specs.Prelude.{◌≡◌, ◌<◌, ◌≤◌, ◌+◌, ◌*◌, ◌++◌, ◌^◌, length, OnOk, IfOk, option_to_list, option_map, find, bytes_eq, ◌⊎◌, []};
-ghost use Rattle.fork_bytes.specs.Fork.{places, IsFork, Refuses};
+ghost use Rattle.fork_bytes.specs.Fork.{places, IsForkWithin, RefusesWithin, format_limits};
 ghost use Rattle.fork_salvage.specs.Plans.{IsPlan, IsTypes, IsTold, reference_of};
 ghost use Rattle.fork_salvage.specs.Salvage.{bytes_found, map_in, parts_at, told_list};
 ghost use Rattle.fork_salvage.specs.Faults.{header_fault, too_long, data_fault, map_fault, map_header_fault, parts_faults, earlier_type, same_type, list_fault, entry_faults, entries_faults, types_fault, name_fault, bytes_fault, row_faults, rows_faults, lists_faults, map_faults, found_faults, faults_with};
@@ -11,12 +11,11 @@ ghost use Rattle.fork_salvage.specs.declared.fault.Fault.{Fault};
 use crate::cursor::Cursor;
 use crate::entry::{ENTRY_LENGTH, ReferenceList, Types, told_list};
 use crate::fault::{BadList, Fault, SameType};
-use crate::first::{bad_row, find_count, first_fault};
+use crate::first::{MAX_FORK, MAX_ROWS, bad_row, find_count, first_fault};
 use crate::number::{read_count, read_two};
 use crate::place::{Gap, Parts, Span};
 use crate::plan::{HEADER_LENGTH, MAP_HEADER_LENGTH, Plan, parts_at, told_plan};
 use crate::reference::{Loss, MapReference, NO_NAME, REFERENCE_LENGTH, find_bytes};
-use fork_bytes::layout::{MAX_FORK, MAX_ROWS};
 use std::alloc::{AllocError, Global};
 
 /// Adds a fault, if there is one.
@@ -302,11 +301,11 @@ fn push_found(faults: &mut Vec<Fault>, fork: &[u8]) -> Result<(), AllocError>
 
 /// All faults of a fork, each with its place, in the order of what they are of: the header, the parts, the type list, each entry of it
 /// and each reference. There is none exactly of a fork that is read. Of what stands behind a part that ends outside of the fork
-/// nothing is looked at, and of the references the first 8,192. The only error is that the host has no memory.
+/// nothing is looked at, and of the references the first 4,194,304. The only error is that the host has no memory.
 pub fn all_faults(alloc: Global, fork: &[u8]) -> Result<Vec<Fault>, AllocError>
-    ensures none { IfOk result (λ faults. IsFork fork.now → faults.items ≡ []) }
-    ensures fork { IfOk result (λ faults. faults.items ≡ [] → IsFork fork.now) }
-    ensures all { IfOk result (λ faults. (faults.items ≡ []) ⊎ ((first : Fault) × IsFault fork.now first × Refuses fork.now (refusal_of first)
+    ensures none { IfOk result (λ faults. IsForkWithin format_limits fork.now → faults.items ≡ []) }
+    ensures fork { IfOk result (λ faults. faults.items ≡ [] → IsForkWithin format_limits fork.now) }
+    ensures all { IfOk result (λ faults. (faults.items ≡ []) ⊎ ((first : Fault) × IsFault fork.now first × RefusesWithin format_limits fork.now (refusal_of first)
         × (faults.items ≡ faults_with first (found_faults fork.now)))) }
 {
     let mut faults = Vec::new(alloc);

@@ -20,8 +20,10 @@ use crate::plan::{HEADER_LENGTH, MAP_HEADER_LENGTH, Plan, parts_at};
 use crate::reference::{Loss, MapReference, NO_NAME, REFERENCE_LENGTH, find_bytes};
 use fork_bytes::layout::Limits;
 
-/// The most resources of a fork, and the most bytes of all of them with their lengths.
-const MAX_ROWS: usize = Limits::FORMAT.rows as usize;
+/// The most bytes of a fork, the most resources, and the most bytes of all of these with their lengths.
+pub(crate) const MAX_FORK: usize = Limits::FORMAT.fork as usize;
+
+pub(crate) const MAX_ROWS: usize = Limits::FORMAT.rows as usize;
 
 const MAX_BYTES: usize = Limits::FORMAT.bytes as usize;
 
@@ -40,7 +42,7 @@ fn check_parts(fork: &[u8]) -> Result<Parts, Fault>
     if let Some(gap) = Gap::of(whole, 0, HEADER_LENGTH) {
         return Err(Fault::Header(gap));
     }
-    if fork.len() > Limits::FORMAT.fork as usize {
+    if fork.len() > MAX_FORK {
         return Err(Fault::TooLong(fork.len()));
     }
     let parts = parts_at(fork, 0);
