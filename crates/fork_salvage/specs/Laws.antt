@@ -1,7 +1,7 @@
 -- What is read of a fork that isn't damaged.
 use Rattle.std.specs.Prelude.{◌≡◌, ℕ, List, map, Option, None, Some}
 use Rattle.fork_bytes.specs.Rows.{Row}
-use Rattle.fork_bytes.specs.Fork.{IsFork, table_of}
+use Rattle.fork_bytes.specs.Fork.{IsForkWithin, table_of, format_limits}
 use Rattle.fork_salvage.specs.declared.reference.FoundName.{FoundName}
 use Rattle.fork_salvage.specs.declared.reference.FoundName.TheVariants.{Unnamed, Named, Outside}
 use Rattle.fork_salvage.specs.declared.found.FoundRow.{FoundRow}
@@ -33,4 +33,4 @@ row_shown fork (item.Run span) = None
 
 -- of a fork that is read, the items are the rows of its table, each once
 abbrev pub ShowsTable : Type 0
-ShowsTable = (fork : List ℕ) → IsFork fork → map (row_shown fork) (items fork) ≡ map Some (table_of fork).rows
+ShowsTable = (fork : List ℕ) → IsForkWithin format_limits fork → map (row_shown fork) (items fork) ≡ map Some (table_of fork).rows
