@@ -11,7 +11,7 @@ use mac_base::error::{NO_ERR, OsErr};
 use std::alloc::Global;
 
 /// The table that bytes stand for, or the code that C is told.
-pub(crate) fn read(alloc: Global, fork: &[u8]) -> Result<Table, i16>
+pub(crate) fn read<'a>(alloc: Global, fork: &'a [u8]) -> Result<Table<'a>, i16>
     ensures table { IfOk result (λ table. StandsFor fork.now table) }
     ensures refused { IfErr result (λ code. IsRefused fork.now code) }
 {

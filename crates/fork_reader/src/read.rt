@@ -14,8 +14,7 @@ use crate::number::read_four;
 use crate::place::PlacedRow;
 use fork_bytes::fault::{Condition, ForkFault};
 use fork_bytes::layout::{Header, Limits, MapRow};
-use fork_bytes::table::{Row, Rows, Table};
-use mac_base::bytes::Bytes;
+use fork_bytes::table::{Contents, Row, Rows, Table};
 use mac_base::error::HostFull;
 use mac_base::resource::Resource;
 use std::alloc::Global;
@@ -56,9 +55,9 @@ fn find_rows(
 }
 
 /// The row with its bytes.
-fn copy_row(alloc: Global, fork: &[u8], row: PlacedRow) -> Result<Row, HostFull>
+fn row_at<'a>(fork: &'a [u8], row: PlacedRow) -> Row<'a>
     requires { IsWithin fork.now row }
-    ensures { IfOk result (λ copied. copied ≡ row_at fork.now row) }
+    ensures { result ≡ row_at fork.now row }
 {
     let Resource {
         kind,
@@ -68,27 +67,29 @@ fn copy_row(alloc: Global, fork: &[u8], row: PlacedRow) -> Result<Row, HostFull>
         datum,
     } = row;
     let start = datum.offset as usize;
-    let mut bytes = Vec::new(alloc);
-    bytes.extend_from_slice(&fork[start..start + datum.length as usize])?;
-    Ok(Resource {
+    Resource {
         kind,
         id,
         name,
         attributes,
-        datum: Bytes::new(bytes),
-    })
+        datum: Contents::new(&fork[start..start + datum.length as usize]),
+    }
 }
 
 /// The rows with their bytes.
-fn copy_rows(alloc: Global, fork: &[u8], rows: Vec<PlacedRow>) -> Result<Vec<Row>, HostFull>
+fn rows_at<'a>(
+    alloc: Global,
+    fork: &'a [u8],
+    rows: Vec<PlacedRow>,
+) -> Result<Vec<Row<'a>>, HostFull>
     requires { AllByRecursion (IsWithin fork.now) rows.items }
-    ensures { IfOk result (λ copied. copied.items ≡ map (row_at fork.now) rows.items) }
+    ensures { IfOk result (λ found. found.items ≡ map (row_at fork.now) rows.items) }
 {
-    let mut copied = Vec::new(alloc);
+    let mut found = Vec::new(alloc);
     for row in rows {
-        copied.push(copy_row(alloc, fork, row)?)?;
+        found.push(row_at(fork, row))?;
     }
-    Ok(copied)
+    Ok(found)
 }
 
 /// The rows of a fork with the places of their bytes.
@@ -121,18 +122,18 @@ fn map_bytes(fork: &[u8], header: Header) -> &[u8]
 }
 
 /// The table of a fork with these rows, which is a fork within some limits.
-fn copy_table(
+fn table_of<'a>(
     alloc: Global,
-    fork: &[u8],
+    fork: &'a [u8],
     header: Header,
     rows: Vec<PlacedRow>,
-) -> Result<Table, HostFull>
+) -> Result<Table<'a>, HostFull>
     requires header { header ≡ header_of fork.now }
     requires fork { (limits : Limits) × IsForkWithin limits fork.now }
     requires rows { rows.items ≡ placed_rows fork.now }
     ensures { IfOk result (λ table. table ≡ table_of fork.now) }
 {
-    let rows = copy_rows(alloc, fork, rows)?;
+    let rows = rows_at(alloc, fork, rows)?;
     Ok(Table {
         rows: Rows::new(rows),
         extra: extra_bytes(&fork[HEADER_LENGTH..]),
@@ -140,9 +141,14 @@ fn copy_table(
     })
 }
 
-/// The table that the bytes of a fork stand for, within these limits. The fault is EndOfFile exactly where there are fewer than 16
+/// The table that the bytes of a fork stand for, within these limits. Its rows have their bytes where they stand in the fork, and no
+/// copies of them. The fault is EndOfFile exactly where there are fewer than 16
 /// bytes, and else BadMap of the first condition that doesn't hold, or HostFull.
-pub fn read_fork_within(alloc: Global, fork: &[u8], limits: Limits) -> Result<Table, ForkFault>
+pub fn read_fork_within<'a>(
+    alloc: Global,
+    fork: &'a [u8],
+    limits: Limits,
+) -> Result<Table<'a>, ForkFault>
     ensures table { IfOk result (λ table. StandsForWithin limits fork.now table) }
     ensures end { IsErrOf result ForkFault.EndOfFile ↔ (length fork.now < 16) }
     ensures refuses { IfErr result (RefusesWithin limits fork.now) }
@@ -150,7 +156,7 @@ pub fn read_fork_within(alloc: Global, fork: &[u8], limits: Limits) -> Result<Ta
     let header = read_header(fork)?;
     check_parts(header, fork.len(), limits)?;
     let rows = placed_rows(alloc, fork, header, limits)?;
-    match copy_table(alloc, fork, header, rows) {
+    match table_of(alloc, fork, header, rows) {
         Ok(table) => Ok(table),
         Err(HostFull) => Err(ForkFault::HostFull),
     }
@@ -158,7 +164,7 @@ pub fn read_fork_within(alloc: Global, fork: &[u8], limits: Limits) -> Result<Ta
 
 /// The table that the bytes of a fork stand for, within macheap's limits. The fault is EndOfFile exactly where there are fewer than
 /// 16 bytes, and else BadMap of the first condition that doesn't hold, or HostFull.
-pub fn read_fork(alloc: Global, fork: &[u8]) -> Result<Table, ForkFault>
+pub fn read_fork<'a>(alloc: Global, fork: &'a [u8]) -> Result<Table<'a>, ForkFault>
     ensures table { IfOk result (λ table. StandsFor fork.now table) }
     ensures end { IsErrOf result ForkFault.EndOfFile ↔ (length fork.now < 16) }
     ensures refuses { IfErr result (Refuses fork.now) }

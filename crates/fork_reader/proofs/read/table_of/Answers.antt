@@ -7,10 +7,10 @@ use Rattle.fork_bytes.specs.Fork.{map_of, map_rows, attributes_of, HasPartsWithi
 use Rattle.fork_reader.specs.Reading.{PlacedRow, row_at, IsWithin}
 use Rattle.fork_reader.proofs.Placing.{rows_are_within}
 use Rattle.fork_reader.proofs.Whole.{stands, map_is, map_is_long}
-use Rattle.fork_reader.proofs.read.copy_table.Goals as goal
+use Rattle.fork_reader.proofs.read.table_of.Goals as goal
 
-pub copy_rows-requires : goal.copy_rows-requires
-copy_rows-requires c =
+pub rows_at-requires : goal.rows_at-requires
+rows_at-requires c =
     let fork = c.args.fork.now in let holds = c.requires.fork.1.holds in
     let P : List PlacedRow → Type 0 = AllByRecursion (IsWithin fork) in
     subst P (sym c.requires.rows) (rows_are_within fork (holds Parts).whole_data (map_rows (map_of fork)) (holds Places))
