@@ -92,7 +92,7 @@ pub(crate) fn data_at(rows: &[Row], index: usize, bytes: &mut [u8]) -> i16
 }
 
 /// The bytes of a resource's name: none where it has no name.
-pub(crate) fn name_of(row: &Row) -> &[u8]
+pub(crate) fn name_of<'r>(row: &'r Row) -> &'r [u8]
     ensures { result.now ≡ name_of row.now }
 {
     match &row.name {

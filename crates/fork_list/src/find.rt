@@ -43,7 +43,7 @@ fn is_wanted(wanted: &Wanted, row: &Row) -> bool
 }
 
 /// The row that is wanted: the n-th of those with its type, and its id or its name.
-pub fn find_row<'a>(rows: &'a [Row], wanted: &Wanted) -> Option<&'a Row>
+pub fn find_row<'r, 'a>(rows: &'r [Row<'a>], wanted: &Wanted) -> Option<&'r Row<'a>>
     ensures { option_copied result ≡ slice_get (filter (is_wanted wanted.now) rows.now) wanted.now.nth }
 {
     rows.iter()

@@ -13,7 +13,7 @@ use std::alloc::{AllocError, Global};
 use std::fmt;
 
 /// The bytes of a row's name, if it has one.
-fn name_of(row: &Row) -> Option<&[u8]>
+fn name_of<'r>(row: &'r Row) -> Option<&'r [u8]>
     ensures { option_map (λ name. name.now) result ≡ row.now.name }
 {
     match &row.name {
@@ -66,7 +66,7 @@ pub fn is_chosen(kinds: &[ResType], kind: ResType) -> bool
 struct RowLine<'a> {
     letters: Letters,
     kinds: &'a [ResType],
-    row: &'a Row,
+    row: &'a Row<'a>,
 }
 
 impl fmt::Display for RowLine<'_> {
@@ -94,7 +94,7 @@ impl fmt::Display for RowLine<'_> {
 struct Lines<'a> {
     letters: Letters,
     kinds: &'a [ResType],
-    rows: &'a [Row],
+    rows: &'a [Row<'a>],
 }
 
 impl fmt::Display for Lines<'_> {

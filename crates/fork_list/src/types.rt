@@ -33,7 +33,7 @@ fn begins_type(before: Option<ResType>, kind: ResType) -> bool
 struct TypeLine<'a> {
     letters: Letters,
     kinds: &'a [ResType],
-    rows: &'a [Row],
+    rows: &'a [Row<'a>],
     before: Option<ResType>,
     kind: ResType,
 }
@@ -56,7 +56,7 @@ impl fmt::Display for TypeLine<'_> {
 struct TypeLines<'a> {
     letters: Letters,
     kinds: &'a [ResType],
-    rows: &'a [Row],
+    rows: &'a [Row<'a>],
 }
 
 impl fmt::Display for TypeLines<'_> {
