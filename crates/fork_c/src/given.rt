@@ -79,11 +79,13 @@ fn rows_given<'a>(
         names_left = other_names;
         data_left = other_data;
     }
-    if names_left.is_empty() && data_left.is_empty() {
-        Ok(Some(Rows::new(given)))
-    } else {
-        Ok(None)
+    if !names_left.is_empty() {
+        return Ok(None);
     }
+    if !data_left.is_empty() {
+        return Ok(None);
+    }
+    Ok(Some(Rows::new(given)))
 }
 
 /// Whether the bytes of a row's name and of its data begin these. A name has 255 bytes at most, and none where the row has no name.
