@@ -44,7 +44,7 @@ def fork_of(count, size, kinds, named):
 
 
 # how many resources, bytes of each, types, and whether they have names
-FORKS = [(10, 500, 2, True), (1282, 560, 12, True), (5000, 100, 20, False), (5458, 3000, 1, False), (40, 400000, 4, True)]
+FORKS = [(10, 500, 2, True), (1282, 560, 12, True), (5000, 100, 20, False), (5458, 3000, 1, False), (40, 380000, 4, True)]
 
 
 def run(words):
