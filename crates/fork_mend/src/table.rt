@@ -9,10 +9,9 @@ ghost use Rattle.fork_mend.specs.Salvaged.{byte_count, readable, salvaged_table,
 use crate::group::grouped;
 use fork_bytes::fault::WriteFault;
 use fork_bytes::layout::{MAX_FORK, MAX_ROWS};
-use fork_bytes::table::{Row, Rows, Table};
+use fork_bytes::table::{Contents, Row, Rows, Table};
 use fork_reader::{HEADER_LENGTH, extra_bytes};
 use fork_salvage::{FoundName, FoundRow, Item, Salvage, find_attributes};
-use mac_base::bytes::Bytes;
 use mac_base::error::HostFull;
 use mac_base::name::Name;
 use mac_base::resource::Resource;
@@ -64,30 +63,29 @@ fn copy_name(alloc: Global, fork: &[u8], name: FoundName) -> Result<Option<Name>
     Ok(Name::new(alloc, bytes)?)
 }
 
-/// A copy of a resource.
-fn copy_row(alloc: Global, fork: &[u8], row: &FoundRow) -> Result<Row, HostFull>
-    ensures { IfOk result (λ copy. copy ≡ row_of fork.now row.now) }
+/// A resource, with its bytes where they stand in the fork.
+fn row_of<'a>(alloc: Global, fork: &'a [u8], row: &FoundRow) -> Result<Row<'a>, HostFull>
+    ensures { IfOk result (λ found. found ≡ row_of fork.now row.now) }
 {
     let name = copy_name(alloc, fork, row.name)?;
-    let bytes = Vec::from_slice(alloc, row.bytes.of(fork))?;
     Ok(Resource {
         kind: row.kind,
         id: row.id,
         name,
         attributes: row.attributes,
-        datum: Bytes::new(bytes),
+        datum: Contents::new(row.bytes.of(fork)),
     })
 }
 
-/// Copies of resources.
-fn copy_rows(alloc: Global, fork: &[u8], rows: &[FoundRow]) -> Result<Vec<Row>, HostFull>
-    ensures { IfOk result (λ copies. copies.items ≡ map (row_of fork.now) rows.now) }
+/// Resources, with their bytes where they stand in the fork.
+fn rows_of<'a>(alloc: Global, fork: &'a [u8], rows: &[FoundRow]) -> Result<Vec<Row<'a>>, HostFull>
+    ensures { IfOk result (λ found. found.items ≡ map (row_of fork.now) rows.now) }
 {
-    let mut copies = Vec::new(alloc);
+    let mut found = Vec::new(alloc);
     for row in rows {
-        copies.push(copy_row(alloc, fork, row)?)?;
+        found.push(row_of(alloc, fork, row)?)?;
     }
-    Ok(copies)
+    Ok(found)
 }
 
 /// The extra bytes of a fork; those that are missing are zero.
@@ -101,12 +99,12 @@ fn extra_of(fork: &[u8]) -> [u8; 240]
 }
 
 /// The table of resources of a fork.
-fn table_of(alloc: Global, fork: &[u8], rows: &[FoundRow]) -> Result<Table, HostFull>
+fn table_of<'a>(alloc: Global, fork: &'a [u8], rows: &[FoundRow]) -> Result<Table<'a>, HostFull>
     ensures { IfOk result (λ table. table ≡ table_with fork.now rows.now) }
 {
     let rows = grouped(alloc, rows)?;
     Ok(Table {
-        rows: Rows::new(copy_rows(alloc, fork, rows.as_slice())?),
+        rows: Rows::new(rows_of(alloc, fork, rows.as_slice())?),
         extra: extra_of(fork),
         map_attributes: find_attributes(fork),
     })
@@ -115,7 +113,7 @@ fn table_of(alloc: Global, fork: &[u8], rows: &[FoundRow]) -> Result<Table, Host
 /// The table of all resources that can be read of a fork: those of each type together, in the order of the first of each, and within
 /// a type in their own order. The extra bytes and the map's attributes are as they can be read, and else zero. The fault is TooBig
 /// where more than 8,192 resources can be read, or they have more than 4,194,304 bytes.
-pub fn salvaged_table(alloc: Global, fork: &[u8]) -> Result<Table, WriteFault>
+pub fn salvaged_table<'a>(alloc: Global, fork: &'a [u8]) -> Result<Table<'a>, WriteFault>
     ensures table { IfOk result (λ table. table ≡ salvaged_table fork.now) }
     ensures grouped { IfOk result (λ table. IsGrouped table.rows) }
     ensures too_big { IfErr result (λ fault. fault ≡ WriteFault.TooBig → IsTooMuch fork.now) }

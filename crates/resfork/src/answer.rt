@@ -6,10 +6,10 @@ ghost use Rattle.resfork.specs.Answer.{Answers, AnswersFork, IsQuiet, IsReadOf, 
 use crate::request::{Choice, Request};
 use crate::source::{NoFork, resource_fork};
 use fork_bytes::fault::ForkFault;
+use fork_bytes::layout::Limits;
 use fork_bytes::table::{Rows, Table};
 use fork_list::find::{Wanted, find_row};
 use fork_list::{listing, types_listing};
-use fork_bytes::layout::Limits;
 use fork_reader::read_fork_within;
 use std::alloc::{AllocError, Global};
 use std::io;

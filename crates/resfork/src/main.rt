@@ -119,9 +119,12 @@ fn tell_about(rt: &HostRuntime, file: &str) -> Result<(), Problem> {
 /// The bytes of the file of this name, or of the standard input.
 fn read(rt: &HostRuntime, file: &str) -> io::Result<Vec<u8>> {
     if file == INPUT {
-        return read_all(rt.alloc(), rt.stdin());
+        return read_all(rt.alloc(), rt.stdin(), 0);
     }
-    read_all(rt.alloc(), fs::open(rt, file)?)
+    let file = fs::open(rt, file)?;
+    // a byte more, for the read that finds the end
+    let expected = (file.metadata()?.len() as usize).saturating_add(1);
+    read_all(rt.alloc(), file, expected)
 }
 
 /// Writes the help or the version. The result is the exit status.
