@@ -48,16 +48,19 @@ FORKS = [(10, 500, 2, True), (1282, 560, 12, True), (5000, 100, 20, False), (545
 
 
 def run(words):
-    """The output of a run, its seconds, and the most kilobytes of memory that it had."""
+    """The output of a run, and its seconds."""
     start = time.perf_counter()
-    process = subprocess.Popen(words, stdout=subprocess.PIPE)
-    output = process.stdout.read()
-    _, status, used = os.wait4(process.pid, 0)
+    done = subprocess.run(words, stdout=subprocess.PIPE)
     seconds = time.perf_counter() - start
-    process.returncode = os.waitstatus_to_exitcode(status)
-    if process.returncode:
-        sys.exit(f"{' '.join(words)}: status {process.returncode}")
-    return output, seconds, used.ru_maxrss
+    if done.returncode:
+        sys.exit(f"{' '.join(words)}: status {done.returncode}")
+    return done.stdout, seconds
+
+
+def memory(helper, words):
+    """The most bytes of memory that a run had."""
+    done = subprocess.run([helper, *words], stdout=subprocess.DEVNULL, stderr=subprocess.PIPE)
+    return 1024 * int(done.stderr.split()[-1])
 
 
 def main():
@@ -67,26 +70,26 @@ def main():
     words.add_argument("--limit", type=float)
     asked = words.parse_args()
     with tempfile.TemporaryDirectory() as folder:
-        plain, path, empty = f"{folder}/ls", f"{folder}/fork", f"{folder}/empty"
-        subprocess.run(["cc", "-O2", "-o", plain, f"{TOP}/bench/ls.c"], check=True)
+        plain, helper, path, empty = (f"{folder}/{it}" for it in ("ls", "most_memory", "fork", "empty"))
+        for name in ("ls", "most_memory"):
+            subprocess.run(["cc", "-O2", "-o", f"{folder}/{name}", f"{TOP}/bench/{name}.c"], check=True)
         open(empty, "wb").close()
-        bare = min(run([asked.resfork, "ls", empty])[2] for _ in range(5))
-        print(f"resfork with an empty file: {bare} KB of memory")
+        bare = memory(helper, [asked.resfork, "ls", empty])
+        print(f"resfork with an empty file: {bare // 1024} KB of memory")
         print("resources      bytes   resfork ms   C ms   ratio   memory above that, as a multiple of the file")
         for count, size, kinds, named in FORKS:
             with open(path, "wb") as file:
                 fork = fork_of(count, size, kinds, named)
                 file.write(fork)
-            ours, theirs, most = [], [], 0
+            ours, theirs = [], []
             for _ in range(asked.runs):
-                shown, seconds, memory = run([asked.resfork, "ls", path])
-                listed, other, _ = run([plain, path])
+                shown, seconds = run([asked.resfork, "ls", path])
+                listed, other = run([plain, path])
                 ours.append(seconds), theirs.append(other)
-                most = max(most, memory)
                 if shown != listed:
                     sys.exit(f"{count} resources: the lists differ")
             ratio = min(ours) / min(theirs)
-            multiple = (most - bare) * 1024 / len(fork)
+            multiple = (memory(helper, [asked.resfork, "ls", path]) - bare) / len(fork)
             print(f"{count:9} {len(fork):10} {min(ours) * 1e3:12.2f} {min(theirs) * 1e3:6.2f} {ratio:7.2f}   {multiple:.2f}")
             if asked.limit and count == 1282 and ratio > asked.limit:
                 sys.exit(f"1,282 resources take {ratio:.2f} times as long, and more than {asked.limit}")

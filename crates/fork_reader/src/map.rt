@@ -66,8 +66,13 @@ fn push_rows(
     Ok(())
 }
 
-/// The rows of all types. The fault is BadMap(Names) where a name ends outside the map.
-fn read_rows(alloc: Global, map: &[u8], list: TypeList) -> Result<Vec<MapRow>, ForkFault>
+/// The rows of all types; there is room for so many at first. The fault is BadMap(Names) where a name ends outside the map.
+fn read_rows(
+    alloc: Global,
+    map: &[u8],
+    list: TypeList,
+    count: usize,
+) -> Result<Vec<MapRow>, ForkFault>
     requires list { IsTypeList map.now list }
     requires small { list.offset < 65536 }
     requires references { HasReferences map.now }
@@ -78,7 +83,9 @@ fn read_rows(alloc: Global, map: &[u8], list: TypeList) -> Result<Vec<MapRow>, F
     let Ok(names) = share_names(alloc, map) else {
         return Err(ForkFault::HostFull);
     };
-    let mut rows = Vec::new(alloc);
+    let Ok(mut rows) = Vec::with_capacity(alloc, count) else {
+        return Err(ForkFault::HostFull);
+    };
     for i in 0..list.count {
         push_rows(map, &names, entry(map, list, i), &mut rows)?;
     }
@@ -94,6 +101,6 @@ pub fn read_map(alloc: Global, map: &[u8], limits: Limits) -> Result<Vec<MapRow>
     ensures refuses { IfErr result (RefusesMapWithin limits map.now) }
 {
     let list = read_types(alloc, map)?;
-    check_references(map, list, limits)?;
-    read_rows(alloc, map, list)
+    let count = check_references(map, list, limits)?;
+    read_rows(alloc, map, list, count)
 }

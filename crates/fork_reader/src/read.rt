@@ -47,7 +47,9 @@ fn find_rows(
     ensures has { IfOk result (λ _. HasData (data_of fork.now) rows.items) }
     ensures refuses { IfErr result (FaultsAt Condition.Places (¬ HasData (data_of fork.now) rows.items)) }
 {
-    let mut placed = Vec::new(alloc);
+    let Ok(mut placed) = Vec::with_capacity(alloc, rows.len()) else {
+        return Err(ForkFault::HostFull);
+    };
     for row in rows {
         push(&mut placed, find_row(fork, header, row)?)?;
     }
@@ -85,7 +87,7 @@ fn rows_at<'a>(
     requires { AllByRecursion (IsWithin fork.now) rows.items }
     ensures { IfOk result (λ found. found.items ≡ map (row_at fork.now) rows.items) }
 {
-    let mut found = Vec::new(alloc);
+    let mut found = Vec::with_capacity(alloc, rows.len())?;
     for row in rows {
         found.push(row_at(fork, row))?;
     }

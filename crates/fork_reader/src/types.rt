@@ -174,12 +174,17 @@ fn count_references(map: &[u8], list: TypeList) -> Option<usize>
     Some(total)
 }
 
-/// Checks that the references lie within the map, and that they are not too many.
-pub(crate) fn check_references(map: &[u8], list: TypeList, limits: Limits) -> Result<(), ForkFault>
+/// How many references there are, where they lie within the map and are not too many.
+pub(crate) fn check_references(
+    map: &[u8],
+    list: TypeList,
+    limits: Limits,
+) -> Result<usize, ForkFault>
     requires list { IsTypeList map.now list }
     requires small { list.offset < 65536 }
     requires few { list.count < 65536 }
     requires types { HasTypes map.now }
+    ensures count { IfOk result (λ n. n ≡ length (references_of map.now)) }
     ensures references { IfOk result (λ _. HasReferences map.now) }
     ensures rows { IfOk result (λ _. HasFewRowsWithin limits map.now) }
     ensures refuses { IfErr result (RefusesMapWithin limits map.now) }
@@ -187,6 +192,6 @@ pub(crate) fn check_references(map: &[u8], list: TypeList, limits: Limits) -> Re
     match count_references(map, list) {
         None => Err(ForkFault::BadMap(Condition::References)),
         Some(count) if count > limits.rows as usize => Err(ForkFault::BadMap(Condition::RowCount)),
-        Some(_) => Ok(()),
+        Some(count) => Ok(count),
     }
 }

@@ -13,10 +13,10 @@ returns-in_err-list-clause-refuses c =
 
 pub returns-clause-holds : goal.returns-clause-holds
 returns-clause-holds c =
-    let m = c.args.map.now in let types = c.in_ok-list.ensures.types in let checked = c.in_ok-check_references.ensures in
+    let m = c.args.map.now in let types = c.in_ok-list.ensures.types in let checked = c.in_ok-count.ensures in
     IfOk-weaker c.read_rows.result (λ _. HasNames m) _ (λ _ names. is_map c.args.limits m types checked.references checked.rows names) c.read_rows.ensures.names
 
 pub returns-clause-refuses : goal.returns-clause-refuses
 returns-clause-refuses c =
-    let m = c.args.map.now in let types = c.in_ok-list.ensures.types in let checked = c.in_ok-check_references.ensures in
+    let m = c.args.map.now in let types = c.in_ok-list.ensures.types in let checked = c.in_ok-count.ensures in
     IfErr-weaker c.read_rows.result (FaultsAt Names (HasNames m → ⊥)) _ (λ fault at. refuses_at c.args.limits m Names _ (names_fail c.args.limits m types checked.references checked.rows) fault at) c.read_rows.ensures.refuses
