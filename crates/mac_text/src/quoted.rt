@@ -34,7 +34,7 @@ impl Escaped {
 }
 
 /// A digit below 16, in upper case.
-fn hexadecimal_digit(digit: u8) -> char
+pub fn hexadecimal_digit(digit: u8) -> char
     requires { digit < 16 }
     ensures { result ≡ digit_glyph true digit }
 {
