@@ -1,0 +1,4 @@
+pub mod Steps
+pub mod Symbols
+pub mod Numbers
+pub mod Apart

@@ -1,0 +1,6 @@
+use Rattle.std.proofs.Common.{[], arith}
+use Rattle.fork_folder.proofs.Apart.{own_paths}
+use Rattle.fork_folder.proofs.laws.folder_laws.Goals as goal
+
+pub returns : goal.returns
+returns c kinds rows named few = own_paths kinds [] rows named (omega arith)
