@@ -14,7 +14,7 @@ pub record Unpacked : Type 0 where
 
 -- the same, of what code has
 abbrev pub unpacked_file : File → Unpacked
-unpacked_file file = record { folder = string_bytes file.folder; name = string_bytes file.name; bytes = file.bytes.now }
+unpacked_file file = record { folder = string_bytes file.folder; name = string_bytes file.name; bytes = file.row.now.datum }
 
 -- whether two resources have one type and one id
 abbrev pub is_same : Row → Row → Bool

@@ -17,8 +17,8 @@ pub struct File<'a> {
     /// The folder that it is in.
     pub folder: String,
     pub name: String,
-    /// The bytes of the resource.
-    pub bytes: &'a [u8],
+    /// The resource, whose bytes are those of the file.
+    pub row: &'a Row,
 }
 
 /// Whether two resources have one type and one id.
@@ -55,7 +55,7 @@ fn file_of<'a>(alloc: Global, before: &[Row], row: &'a Row) -> Result<File<'a>, 
     Ok(File {
         folder: format!(in alloc; "{folder}")?,
         name: format!(in alloc; "{name}")?,
-        bytes: row.datum.as_slice(),
+        row,
     })
 }
 

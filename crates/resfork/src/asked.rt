@@ -2,6 +2,8 @@
 
 use crate::command::command;
 use crate::request::{Choice, Request};
+use crate::unpack::Unpacking;
+use crate::view::{Chosen, Form, View};
 use clap::ArgMatches;
 use clap::error::ErrorKind;
 use fork_list::find::{Key, Wanted};
@@ -24,6 +26,17 @@ pub enum Asked<'a> {
     },
     /// To tell about each of these files.
     Info(Vec<&'a str>),
+    /// To show resources of a file to people, on the standard output or in a file of this name.
+    View {
+        view: View,
+        file: &'a str,
+        output: Option<&'a str>,
+    },
+    /// To write the resources of a file to a folder.
+    Unpack {
+        unpacking: Unpacking<'a>,
+        file: &'a str,
+    },
     /// To write this text: the help, or the version.
     Tell(clap::Error),
 }
@@ -46,6 +59,9 @@ pub enum NotAsked {
     /// What `--nth` has is no count from 1 on.
     #[error("error: --nth takes a count from 1 on\n")]
     NoCount,
+    /// What `--as` has is no form.
+    #[error("error: --as takes text, hex or png\n")]
+    NoForm,
     /// The host has no memory for the words.
     #[error("error: the host has no memory\n")]
     HostFull,
@@ -70,6 +86,8 @@ pub fn asked_by<'a, S: AsStr>(alloc: Global, words: &'a [S]) -> Result<Asked<'a>
         "ls" => asked_to_list(alloc, matches),
         "get" => asked_to_get(alloc, matches),
         "info" => Ok(Asked::Info(files_named(alloc, matches)?)),
+        "show" => asked_to_view(alloc, matches),
+        "unpack" => asked_to_unpack(alloc, matches),
         _ => Err(NotAsked::NoCommand),
     }
 }
@@ -82,11 +100,7 @@ fn files_named<'a>(alloc: Global, matches: &ArgMatches<'a>) -> Result<Vec<&'a st
 /// What `ls` asks for.
 fn asked_to_list<'a>(alloc: Global, matches: &ArgMatches<'a>) -> Result<Asked<'a>, NotAsked> {
     let files = files_named(alloc, matches)?;
-    let mut kinds = Vec::new(alloc);
-    for word in matches.get_strs("type").unwrap_or(&[]) {
-        let kind = kind_named(alloc, word)?;
-        kinds.push(kind).map_err(AllocError::from)?;
-    }
+    let kinds = kinds_named(alloc, matches)?;
     let letters = if matches.get_flag("raw") {
         Letters::Raw
     } else {
@@ -117,6 +131,65 @@ fn asked_to_get<'a>(alloc: Global, matches: &ArgMatches<'a>) -> Result<Asked<'a>
         files,
         output: matches.get_str("output"),
     })
+}
+
+/// The form that `--as` names.
+fn form_named(word: &str) -> Result<Form, NotAsked> {
+    match word {
+        "text" => Ok(Form::Text),
+        "hex" => Ok(Form::Hex),
+        "png" => Ok(Form::Png),
+        _ => Err(NotAsked::NoForm),
+    }
+}
+
+/// Which resources a type and an id or a name ask for, where they are given.
+fn chosen_by(alloc: Global, matches: &ArgMatches<'_>) -> Result<Chosen, NotAsked> {
+    let Some(word) = matches.get_str("type") else {
+        return Ok(Chosen::All);
+    };
+    let kind = kind_named(alloc, word)?;
+    let Some(word) = matches.get_str("key") else {
+        return Ok(Chosen::Kind(kind));
+    };
+    let key = key_named(alloc, word)?;
+    Ok(Chosen::One(Wanted { kind, key, nth: 0 }))
+}
+
+/// What `show` asks for.
+fn asked_to_view<'a>(alloc: Global, matches: &ArgMatches<'a>) -> Result<Asked<'a>, NotAsked> {
+    let form = match matches.get_str("as") {
+        Some(word) => Some(form_named(word)?),
+        None => None,
+    };
+    let chosen = chosen_by(alloc, matches)?;
+    Ok(Asked::View {
+        view: View { chosen, form },
+        file: matches.get_str("file").unwrap_or(""),
+        output: matches.get_str("output"),
+    })
+}
+
+/// What `unpack` asks for.
+fn asked_to_unpack<'a>(alloc: Global, matches: &ArgMatches<'a>) -> Result<Asked<'a>, NotAsked> {
+    let kinds = kinds_named(alloc, matches)?;
+    Ok(Asked::Unpack {
+        unpacking: Unpacking {
+            kinds,
+            folder: matches.get_str("folder").unwrap_or(""),
+        },
+        file: matches.get_str("file").unwrap_or(""),
+    })
+}
+
+/// The types that `-t` names.
+fn kinds_named(alloc: Global, matches: &ArgMatches<'_>) -> Result<Vec<ResType>, NotAsked> {
+    let mut kinds = Vec::new(alloc);
+    for word in matches.get_strs("type").unwrap_or(&[]) {
+        let kind = kind_named(alloc, word)?;
+        kinds.push(kind).map_err(AllocError::from)?;
+    }
+    Ok(kinds)
 }
 
 /// The type that a word names.

@@ -17,6 +17,9 @@ Examples:
   resfork get Game.rsrc TEXT 128       the bytes of a resource, by its id
   resfork get Game.rsrc TEXT 'Read me' -o readme.txt
   resfork info Game.bin                what a file is
+  resfork show Game.rsrc 'STR#' 128    the texts of a resource
+  resfork show Game.rsrc ICN# 128 -o icon.png
+  resfork unpack Game.rsrc game        each resource as a file in the folder game
 
 Exit status:
   0  done
@@ -122,6 +125,61 @@ fn get<'a>(alloc: Global) -> Result<Command<'a>, AllocError> {
         .arg(output)
 }
 
+/// The file that something is written to.
+fn output<'a>(alloc: Global) -> Arg<'a> {
+    Arg::new(alloc, "output")
+        .short('o')
+        .long("output")
+        .value_name("OUT")
+        .action(ArgAction::Set)
+        .help("The file that is written, in place of the standard output")
+}
+
+/// `show`.
+fn show<'a>(alloc: Global) -> Result<Command<'a>, AllocError> {
+    let kind = Arg::new(alloc, "type")
+        .value_name("TYPE")
+        .action(ArgAction::Set)
+        .help("Only resources of this type, as ls shows it (STR is 'STR ')");
+    let key = Arg::new(alloc, "key")
+        .value_name("ID|NAME")
+        .allow_negative_numbers(true)
+        .action(ArgAction::Set)
+        .help("Only the one with this id, or this name");
+    let form = Arg::new(alloc, "as")
+        .long("as")
+        .value_name("FORM")
+        .action(ArgAction::Set)
+        .help("text, hex or png, in place of what suits the type");
+    Command::new(alloc, "show")
+        .about("Shows what is in resources")
+        .long_about(
+            "Shows what is in resources: 'STR ', 'STR#', 'TEXT' and 'vers' as text, and others in hexadecimal digits; one 'ICON', 'ICN#', 'ics#', 'CURS' or 'SICN' as a PNG file",
+        )
+        .arg(form)?
+        .arg(output(alloc))?
+        .arg(file(alloc))?
+        .arg(kind)?
+        .arg(key)
+}
+
+/// `unpack`.
+fn unpack<'a>(alloc: Global) -> Result<Command<'a>, AllocError> {
+    let folder = Arg::new(alloc, "folder")
+        .value_name("DIR")
+        .required(true)
+        .action(ArgAction::Set)
+        .help("The folder: a new one, or an empty one");
+    Command::new(alloc, "unpack")
+        .about("Writes each resource to a file of its own")
+        .long_about(
+            "Writes each resource to a file DIR/TYPE/ID NAME.bin, and all else of the fork to DIR/resources.json. Nothing is overwritten",
+        )
+        .arg(types(alloc))?
+        .arg(file(alloc))?
+        .arg(folder)
+}
+
 /// The program, with its commands.
 pub fn command<'a>(alloc: Global) -> Result<Command<'a>, AllocError> {
     Command::new(alloc, "resfork")
@@ -133,5 +191,7 @@ pub fn command<'a>(alloc: Global) -> Result<Command<'a>, AllocError> {
         .arg_required_else_help(true)
         .subcommand(list(alloc)?)?
         .subcommand(get(alloc)?)?
-        .subcommand(info(alloc)?)
+        .subcommand(info(alloc)?)?
+        .subcommand(show(alloc)?)?
+        .subcommand(unpack(alloc)?)
 }

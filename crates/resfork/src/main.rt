@@ -5,21 +5,29 @@ mod answer;
 mod asked;
 mod command;
 mod damage;
+mod form;
 mod info;
 mod input;
+mod manifest;
 mod message;
 mod request;
 mod source;
+mod unpack;
+mod view;
 
-use answer::answer;
+use answer::{Failure, answer, read_table};
 use asked::{Asked, NotAsked, asked_by};
 use info::info_text;
 use input::read_all;
 use message::{BAD_WORDS, CANT_GO_ON, DONE, Problem, tell_bad_words, tell_problem};
+use fork_bytes::table::Table;
 use request::Request;
-use std::io::{ErrorKind, IsTerminal};
+use source::resource_fork;
+use std::io::{ErrorKind, IsTerminal, Write};
 use std::process::ExitCode;
 use std::{env, fs, io};
+use unpack::{Unpacking, unpack};
+use view::{View, sight_of};
 
 /// The word for the standard input, in place of a file's name.
 const INPUT: &str = "-";
@@ -47,6 +55,8 @@ fn run(rt: &HostRuntime) -> u8 {
             },
         ) => show_all(rt, &request, files.as_slice(), output),
         Ok(Asked::Info(files)) => tell_about_all(rt, files.as_slice()),
+        Ok(Asked::View { view, file, output }) => end(rt, file, view_file(rt, &view, file, output)),
+        Ok(Asked::Unpack { unpacking, file }) => end(rt, file, unpack_file(rt, &unpacking, file)),
         Ok(Asked::Tell(text)) => tell(rt, &text),
         Err(error) => tell_bad_words(rt, &error),
     }
@@ -114,6 +124,51 @@ fn tell_about(rt: &HostRuntime, file: &str) -> Result<(), Problem> {
         alloc, failure, &bytes,
     ))?;
     print!(rt; "{text}").map_err(Problem::Print)
+}
+
+/// Tells why something isn't done with the file of this name, if so. The result is the exit status.
+fn end(rt: &HostRuntime, file: &str, outcome: Result<(), Problem>) -> u8 {
+    match outcome {
+        Ok(()) => DONE,
+        Err(problem) => {
+            tell_problem(rt, file, &problem);
+            problem.status()
+        }
+    }
+}
+
+/// The table of the resource fork in a file.
+fn table_in(rt: &HostRuntime, bytes: &[u8]) -> Result<Table, Problem> {
+    let alloc = rt.alloc();
+    let table = match resource_fork(alloc, bytes) {
+        Ok(found) => read_table(alloc, found.fork()).map_err(Failure::Fork),
+        Err(fault) => Err(Failure::NoFork(fault)),
+    };
+    table.map_err(|failure| Problem::of_failure(alloc, failure, bytes))
+}
+
+/// Shows resources of the file of this name to people. A picture isn't written to a terminal.
+fn view_file(
+    rt: &HostRuntime,
+    view: &View,
+    file: &str,
+    output: Option<&str>,
+) -> Result<(), Problem> {
+    let bytes = read(rt, file).map_err(Problem::Read)?;
+    let table = table_in(rt, &bytes)?;
+    let sight = sight_of(rt.alloc(), view, table.rows.as_slice()).map_err(Problem::View)?;
+    match output {
+        Some(output) => fs::write(rt, output, sight.bytes.as_slice()).map_err(Problem::Save),
+        None if sight.is_picture && rt.stdout().is_terminal() => Err(Problem::Terminal),
+        None => rt.stdout().write_all(&sight.bytes).map_err(Problem::Print),
+    }
+}
+
+/// Writes the resources of the file of this name to a folder.
+fn unpack_file(rt: &HostRuntime, unpacking: &Unpacking<'_>, file: &str) -> Result<(), Problem> {
+    let bytes = read(rt, file).map_err(Problem::Read)?;
+    let table = table_in(rt, &bytes)?;
+    unpack(rt, unpacking, &bytes, &table).map_err(Problem::Unpack)
 }
 
 /// The bytes of the file of this name, or of the standard input.

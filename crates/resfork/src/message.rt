@@ -4,6 +4,8 @@ use crate::answer::Failure;
 use crate::asked::NotAsked;
 use crate::damage::Damage;
 use crate::source::{NoFork, name_of_container};
+use crate::unpack::NotUnpacked;
+use crate::view::NotShown;
 use fork_bytes::fault::ForkFault;
 use mac_files::archive::Archive;
 use mac_files::{archive_of, container_of};
@@ -57,6 +59,12 @@ pub enum Problem {
     /// The standard output takes no more.
     #[error("the output can't be written: {0}")]
     Print(io::Error),
+    /// Its resources can't be shown so.
+    #[error("{0}")]
+    View(NotShown),
+    /// Not all of its resources are written to a folder.
+    #[error("{0}")]
+    Unpack(NotUnpacked),
     /// The standard output is a terminal.
     #[error("the bytes of a resource aren't for a terminal: name a file with -o OUT, or pipe them on")]
     Terminal,
@@ -99,8 +107,11 @@ impl Problem {
     /// The exit status that says so.
     pub fn status(&self) -> u8 {
         match self {
-            Problem::Show(Failure::NotFound) => NOT_FOUND,
-            Problem::Terminal => BAD_WORDS,
+            Problem::Show(Failure::NotFound) | Problem::View(NotShown::NotFound) => NOT_FOUND,
+            Problem::Terminal
+            | Problem::View(NotShown::NoPicture)
+            | Problem::View(NotShown::NoText)
+            | Problem::View(NotShown::ManyPictures) => BAD_WORDS,
             Problem::Show(Failure::Fork(_))
             | Problem::Show(Failure::NoFork(_))
             | Problem::Container { .. }
@@ -109,6 +120,8 @@ impl Problem {
             | Problem::Unknown(_) => NO_FORK,
             Problem::Read(_)
             | Problem::Save(_)
+            | Problem::Unpack(_)
+            | Problem::View(NotShown::HostFull)
             | Problem::Print(_)
             | Problem::Show(Failure::HostFull)
             | Problem::Show(Failure::Write(_)) => CANT_GO_ON,
