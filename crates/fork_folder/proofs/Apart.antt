@@ -17,7 +17,7 @@ use Rattle.fork_folder.specs.Laws.{AreApart, HaveOwnPaths, IsNamed, path_of}
 use Rattle.fork_folder.proofs.Symbols.{symbols_apart}
 use Rattle.fork_folder.proofs.Numbers.{names_apart}
 
-small_id : (id : ℤ) → FitsSigned w16 id → mag id < 2 ^ 63
+pub small_id : (id : ℤ) → FitsSigned w16 id → mag id < 2 ^ 63
 small_id (pos n) fits = omega (arith, fits)
 small_id (negsuc n) fits = omega (arith, fits)
 
@@ -62,7 +62,7 @@ rows_apart before mid row next named named' few e =
     absurd (omega arith)
 
 -- a file that is there or not, before others
-all_picked : (P : Unpacked → Type 0) (chosen : Bool) (file : Unpacked) (files : List Unpacked) → P file → AllByRecursion P files
+pub all_picked : (P : Unpacked → Type 0) (chosen : Bool) (file : Unpacked) (files : List Unpacked) → P file → AllByRecursion P files
     → AllByRecursion P ((if chosen then file ∷ [] else []) ++ files)
 all_picked P true file files one others = (one, others)
 all_picked P false file files one others = others

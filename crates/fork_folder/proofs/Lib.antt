@@ -2,3 +2,4 @@ pub mod Steps
 pub mod Symbols
 pub mod Numbers
 pub mod Apart
+pub mod Safe

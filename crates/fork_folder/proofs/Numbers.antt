@@ -15,7 +15,7 @@ abbrev IsOfNumber : ℕ → Type 0
 IsOfNumber byte = (byte < 58) × (46 ≢ byte) × (32 ≢ byte)
 
 -- a digit
-abbrev IsDigit : ℕ → Type 0
+abbrev pub IsDigit : ℕ → Type 0
 IsDigit byte = (48 ≤ byte) × (byte ≤ 57)
 
 -- where a number ends
@@ -26,7 +26,7 @@ push_digit : (ds : List ℕ) (d : ℕ) → AllByRecursion IsDigit ds → IsDigit
 push_digit [] d all one = (one, tt)
 push_digit (first ∷ ds) d all one = (all.0, push_digit ds d all.1 one)
 
-digits : (n : ℕ) → n < 2 ^ 64 → AllByRecursion IsDigit (decimal n)
+pub digits : (n : ℕ) → n < 2 ^ 64 → AllByRecursion IsDigit (decimal n)
 digits n small =
     decimal_by_steps (λ m ds. AllByRecursion IsDigit ds) (λ m few. ((omega arith, omega arith), tt)) (λ m ds many all. push_digit ds (48 + m % 10) all (omega arith, omega arith)) n small
 
@@ -75,7 +75,7 @@ ending_stops None = inl refl
 ending_stops (Some name) = inr refl
 
 -- a later one has a dot and its number
-later_text : (n : ℕ) → nth_text (suc n) ≡ 46 ∷ decimal (suc n + 1)
+pub later_text : (n : ℕ) → nth_text (suc n) ≡ 46 ∷ decimal (suc n + 1)
 later_text n = rw (eqb-suc-zero n) refl
 
 nth_stops : (n : ℕ) (name : Option (List ℕ)) → Stops (folded (nth_text n ++ ending name))

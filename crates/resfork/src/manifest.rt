@@ -65,10 +65,12 @@ fn origin_of(alloc: Global, file: &[u8]) -> Origin {
     };
     if is_bin_hex(file) {
         if let Ok(read) = read_bin_hex(alloc, file) {
+            let kind = read.kind;
+            let creator = read.creator;
             origin.container = Some("a BinHex file");
             origin.finder = Some(FinderInfo {
-                kind: read.kind,
-                creator: read.creator,
+                kind,
+                creator,
                 flags: read.flags,
             });
         }
