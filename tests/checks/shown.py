@@ -43,7 +43,7 @@ TEXTS = [
     (b"TEXT", b"a\tb\x1bc\r", "a\tb\\x1Bc\n"),
     (b"TEXT", b"", ""),
     (b"vers", b"\x07\x53\x80\0\0\0\0057.5.3\x0eSystem 7.5.3 \xa9", "version: 7.5.3f0\nregion: 0\nshort: 7.5.3\nlong: System 7.5.3 \u00a9\n"),
-    (b"vers", b"\x12\x00\x60\x0b\1\2\x02ab\0", "version: 12.0.0b11\nregion: 258\nshort: ab\nlong: "),
+    (b"vers", b"\x12\x00\x60\x0b\1\2\x02ab\0", "version: 12.0.0b11\nregion: 258\nshort: ab\nlong: \n"),
     (b"snd ", b"\0\1A\xa9 ~\x7f\0\0\0\0\0\0\0\0\0z", "000000  00 01 41 A9 20 7E 7F 00 00 00 00 00 00 00 00 00  ..A\u00a9 ~..........\n000010  7A" + " " * 47 + "z\n"),
     # they end before their texts do
     (b"STR ", b"\x05Hell", "000000  05 48 65 6C 6C" + " " * 35 + ".Hell\n"),

@@ -18,7 +18,7 @@ pub struct File<'a> {
     pub folder: String,
     pub name: String,
     /// The resource, whose bytes are those of the file.
-    pub row: &'a Row,
+    pub row: &'a Row<'a>,
 }
 
 /// Whether two resources have one type and one id.
@@ -37,7 +37,7 @@ fn count_same(rows: &[Row], row: &Row) -> usize
 }
 
 /// The bytes of a row's name, if it has one.
-fn name_of(row: &Row) -> Option<&[u8]>
+fn name_of<'r>(row: &'r Row) -> Option<&'r [u8]>
     ensures { option_map (λ name. name.now) result ≡ row.now.name }
 {
     match &row.name {
@@ -47,7 +47,7 @@ fn name_of(row: &Row) -> Option<&[u8]>
 }
 
 /// The file of a row after these rows.
-fn file_of<'a>(alloc: Global, before: &[Row], row: &'a Row) -> Result<File<'a>, AllocError>
+fn file_of<'a>(alloc: Global, before: &[Row], row: &'a Row<'a>) -> Result<File<'a>, AllocError>
     ensures { IfOk result (λ file. unpacked_file file ≡ file_of before.now row.now) }
 {
     let folder = FolderName(row.kind);
@@ -66,7 +66,7 @@ fn push_file<'a>(
     files: &mut Vec<File<'a>>,
     kinds: &[ResType],
     before: &[Row],
-    row: &'a Row,
+    row: &'a Row<'a>,
 ) -> Result<(), AllocError>
     ensures { OnOk result (map unpacked_file files.new.items
         ≡ map unpacked_file files.old.items ++ (if is_chosen kinds.now row.now.kind then file_of before.now row.now ∷ [] else [])) }
@@ -84,7 +84,7 @@ fn push_file<'a>(
 pub fn unpacked<'a>(
     alloc: Global,
     kinds: &[ResType],
-    rows: &'a [Row],
+    rows: &'a [Row<'a>],
 ) -> Result<Vec<File<'a>>, AllocError>
     ensures { IfOk result (λ files. map unpacked_file files.items ≡ unpacked kinds.now rows.now) }
 {

@@ -68,9 +68,9 @@ fn push_version(text: &mut String, version: &Version<'_>) -> Result<(), AllocErr
     writeln!(text, "version: {major}.{minor}.{correction}{stage}{prerelease}")?;
     writeln!(text, "region: {region}")?;
     text.push_str("short: ")?;
-    push_lines(text, version.short)?;
+    push_strings(text, &[version.short])?;
     text.push_str("long: ")?;
-    push_lines(text, version.long)
+    push_strings(text, &[version.long])
 }
 
 /// Whether the resources of a type are shown as text if nothing else is asked for.

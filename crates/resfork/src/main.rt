@@ -22,7 +22,7 @@ use input::read_all;
 use message::{BAD_WORDS, CANT_GO_ON, DONE, Problem, tell_bad_words, tell_problem};
 use fork_bytes::table::Table;
 use request::Request;
-use source::resource_fork;
+use source::{Found, resource_fork};
 use std::io::{ErrorKind, IsTerminal, Write};
 use std::process::ExitCode;
 use std::{env, fs, io};
@@ -137,14 +137,18 @@ fn end(rt: &HostRuntime, file: &str, outcome: Result<(), Problem>) -> u8 {
     }
 }
 
-/// The table of the resource fork in a file.
-fn table_in(rt: &HostRuntime, bytes: &[u8]) -> Result<Table, Problem> {
+/// The resource fork in a file.
+fn fork_found<'a>(rt: &HostRuntime, bytes: &'a [u8]) -> Result<Found<'a>, Problem> {
     let alloc = rt.alloc();
-    let table = match resource_fork(alloc, bytes) {
-        Ok(found) => read_table(alloc, found.fork()).map_err(Failure::Fork),
-        Err(fault) => Err(Failure::NoFork(fault)),
-    };
-    table.map_err(|failure| Problem::of_failure(alloc, failure, bytes))
+    resource_fork(alloc, bytes)
+        .map_err(|fault| Problem::of_failure(alloc, Failure::NoFork(fault), bytes))
+}
+
+/// The table of the resource fork that was found in a file.
+fn table_found<'a>(rt: &HostRuntime, found: &'a Found<'_>, bytes: &[u8]) -> Result<Table<'a>, Problem> {
+    let alloc = rt.alloc();
+    read_table(alloc, found.fork())
+        .map_err(|fault| Problem::of_failure(alloc, Failure::Fork(fault), bytes))
 }
 
 /// Shows resources of the file of this name to people. A picture isn't written to a terminal.
@@ -155,7 +159,8 @@ fn view_file(
     output: Option<&str>,
 ) -> Result<(), Problem> {
     let bytes = read(rt, file).map_err(Problem::Read)?;
-    let table = table_in(rt, &bytes)?;
+    let found = fork_found(rt, &bytes)?;
+    let table = table_found(rt, &found, &bytes)?;
     let sight = sight_of(rt.alloc(), view, table.rows.as_slice()).map_err(Problem::View)?;
     match output {
         Some(output) => fs::write(rt, output, sight.bytes.as_slice()).map_err(Problem::Save),
@@ -167,7 +172,8 @@ fn view_file(
 /// Writes the resources of the file of this name to a folder.
 fn unpack_file(rt: &HostRuntime, unpacking: &Unpacking<'_>, file: &str) -> Result<(), Problem> {
     let bytes = read(rt, file).map_err(Problem::Read)?;
-    let table = table_in(rt, &bytes)?;
+    let found = fork_found(rt, &bytes)?;
+    let table = table_found(rt, &found, &bytes)?;
     unpack(rt, unpacking, &bytes, &table).map_err(Problem::Unpack)
 }
 

@@ -122,7 +122,7 @@ fn four_of(alloc: Global, four: Option<[u8; 4]>) -> Result<Option<String>, Alloc
 pub fn manifest_of(
     alloc: Global,
     file: &[u8],
-    table: &Table,
+    table: &Table<'_>,
     files: &[File<'_>],
 ) -> Result<Manifest, AllocError> {
     let origin = origin_of(alloc, file);

@@ -121,7 +121,7 @@ pub fn unpack(
     rt: &HostRuntime,
     unpacking: &Unpacking<'_>,
     file: &[u8],
-    table: &Table,
+    table: &Table<'_>,
 ) -> Result<(), NotUnpacked> {
     let alloc = rt.alloc();
     let folder = unpacking.folder;
