@@ -145,7 +145,7 @@ def try_folders(program, path, top, count):
     """Unpacks forks: one with types and names that file systems don't take, and random ones."""
     kinds = [b"TEXT", b"text", b"Text", b"STR ", b"snd ", b"ics#", b"    ", b"..//", b"~a~A", b"%41_", b"\xa9abc", b"nul\0", b"CON:"]
     names = [None, b"", b"a/b", b"..", b"x" * 255, bytes(range(72)), b"\xff" * 255, b"Read me"]
-    rows = [Row(kind, at, names[at % len(names)], at, bytes([at])) for kind in kinds for at in (0, 1, 1, -1, 2, 3, 1, 7, 4, 5, 6)]
+    rows = [Row(kind, at, names[at % len(names)], at & 255, bytes([at & 255])) for kind in kinds for at in (0, 1, 1, -1, 2, 3, 1, 7, 4, 5, 6)]
     said = try_unpack(program, path, os.path.join(top, "odd"), fork_of(rows), rows)
     must((said["extra"], said["map_attributes"]) == (bytes(range(240)).hex().upper(), 3), "resources.json says other extra bytes or attributes")
     some = [row for row in rows if row.kind in (b"text", b"STR ")]
