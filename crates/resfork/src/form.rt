@@ -65,7 +65,10 @@ fn push_version(text: &mut String, version: &Version<'_>) -> Result<(), AllocErr
     let stage = letter_of(version.stage);
     let prerelease = version.prerelease;
     let region = version.region;
-    writeln!(text, "version: {major}.{minor}.{correction}{stage}{prerelease}")?;
+    writeln!(
+        text,
+        "version: {major}.{minor}.{correction}{stage}{prerelease}"
+    )?;
     writeln!(text, "region: {region}")?;
     text.push_str("short: ")?;
     push_strings(text, &[version.short])?;

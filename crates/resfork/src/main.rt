@@ -17,10 +17,10 @@ mod view;
 
 use answer::{Failure, answer, read_table};
 use asked::{Asked, NotAsked, asked_by};
+use fork_bytes::table::Table;
 use info::info_text;
 use input::read_all;
 use message::{BAD_WORDS, CANT_GO_ON, DONE, Problem, tell_bad_words, tell_problem};
-use fork_bytes::table::Table;
 use request::Request;
 use source::{Found, resource_fork};
 use std::io::{ErrorKind, IsTerminal, Write};
@@ -140,15 +140,25 @@ fn end(rt: &HostRuntime, file: &str, outcome: Result<(), Problem>) -> u8 {
 /// The resource fork in a file.
 fn fork_found<'a>(rt: &HostRuntime, bytes: &'a [u8]) -> Result<Found<'a>, Problem> {
     let alloc = rt.alloc();
-    resource_fork(alloc, bytes)
-        .map_err(|fault| Problem::of_failure(alloc, Failure::NoFork(fault), bytes))
+    resource_fork(alloc, bytes).map_err(|fault| Problem::of_failure(
+        alloc,
+        Failure::NoFork(fault),
+        bytes,
+    ))
 }
 
 /// The table of the resource fork that was found in a file.
-fn table_found<'a>(rt: &HostRuntime, found: &'a Found<'_>, bytes: &[u8]) -> Result<Table<'a>, Problem> {
+fn table_found<'a>(
+    rt: &HostRuntime,
+    found: &'a Found<'_>,
+    bytes: &[u8],
+) -> Result<Table<'a>, Problem> {
     let alloc = rt.alloc();
-    read_table(alloc, found.fork())
-        .map_err(|fault| Problem::of_failure(alloc, Failure::Fork(fault), bytes))
+    read_table(alloc, found.fork()).map_err(|fault| Problem::of_failure(
+        alloc,
+        Failure::Fork(fault),
+        bytes,
+    ))
 }
 
 /// Shows resources of the file of this name to people. A picture isn't written to a terminal.

@@ -67,7 +67,12 @@ pub struct Sight {
 }
 
 /// Adds a resource in a form, or else by its type as text or in hexadecimal digits.
-fn push_row(alloc: Global, text: &mut String, row: &Row, form: Option<Form>) -> Result<(), NotShown> {
+fn push_row(
+    alloc: Global,
+    text: &mut String,
+    row: &Row,
+    form: Option<Form>,
+) -> Result<(), NotShown> {
     let bytes = row.datum.as_slice();
     match form {
         Some(Form::Text) => {
